@@ -1,0 +1,4 @@
+pub mod Residues
+pub mod PolynomialLemmas
+pub mod OneDraw
+pub mod DrawLists

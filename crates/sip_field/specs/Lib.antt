@@ -1,0 +1,9 @@
+pub mod Residue
+pub mod Moduli
+pub mod Elements
+pub mod Ring
+pub mod Prime
+pub mod Polynomial
+pub mod Challenges
+pub mod Draw
+pub mod LawProofs
