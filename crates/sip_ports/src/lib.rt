@@ -1,0 +1,33 @@
+//! Ports: where the bytes of a run come from and go to.
+//!
+//! All that computes is generic over a [`Source`], a [`Sink`] or a [`Link`], which is a sink that can be
+//! heard. A port counts its faults, and answers [`PortStop::Failed`] only where that count rose. Where it
+//! tells its bytes, its calls say exactly which bytes were moved, whatever pieces they came in;
+//! [`read_exact_into`], [`write_whole`] and [`recv_whole`] move all that is asked for.
+//!
+//! The ports over memory tell everything and fail at chosen calls. Those over files and over the runtime's
+//! writers tell nothing: they are the edge to the machine.
+#![tactic(auto)]
+
+mod calls;
+mod faults;
+mod file;
+mod give;
+pub mod laws;
+mod memory;
+mod null;
+mod port;
+mod read_ahead;
+mod uninterrupted;
+mod whole;
+mod writer;
+
+pub use file::{FileLink, FileSink, FileSource};
+pub use memory::{MemoryLink, MemorySink, MemorySource};
+pub use null::NullSink;
+pub use port::{Link, PortStop, Sink, Source, TalkEvent};
+pub use whole::{read_exact_into, recv_whole, write_whole};
+pub use writer::{StderrSink, StdoutSink, WriterSink};
+
+#[cfg(test)]
+mod tests;

@@ -1,0 +1,290 @@
+// Ports over memory: calls of chosen numbers fail, and each call moves a chunk at most.
+ghost use Rattle.std.specs.Prelude.{◌≡◌, ◌↔◌, ◌<◌, ◌≤◌, ◌^◌, ◌+◌, ◌-◌, ◌++◌, [], min, length, take, true, false, Some, IfOk, MatchResult, IsErrOf};
+ghost use Rattle.std.specs.Io.{ReadsAtMost, WritesAtMost};
+ghost use Rattle.std.specs.Io.KnownBytes.{ReadConsumes};
+ghost use Rattle.sip_ports.specs.Ports.{Sends, Hears, outs, ins};
+ghost use Rattle.sip_ports.specs.Calls.{one_if, failed_of-fits, failed_of-sure};
+
+use crate::calls::Calls;
+use crate::give::give;
+use crate::{Link, PortStop, Sink, Source, TalkEvent};
+use std::alloc::{AllocError, Global};
+
+fn sent_events(alloc: Global, bytes: &[u8]) -> Result<Vec<TalkEvent>, AllocError>
+    ensures { IfOk result (λ events. events.items ≡ outs bytes.now) }
+{
+    bytes
+        .iter()
+        .map(|byte| TalkEvent::Out(*byte))
+        .collect(alloc)
+}
+
+fn received_events(alloc: Global, bytes: &[u8]) -> Result<Vec<TalkEvent>, AllocError>
+    ensures { IfOk result (λ events. events.items ≡ ins bytes.now) }
+{
+    bytes.iter().map(|byte| TalkEvent::In(*byte)).collect(alloc)
+}
+
+/// A source of bytes in memory. A call moves at most a chunk, and the calls whose numbers, from 1, are in a
+/// list fail. It takes no memory.
+#[derive(Drop)]
+pub struct MemorySource {
+    bytes: Vec<u8>,
+    at: usize,
+    chunk: usize,
+    calls: Calls,
+    ghost within: { at ≤ length bytes.items },
+    ghost moves: { 0 < chunk },
+}
+
+impl MemorySource {
+    ghost use Rattle.sip_ports.specs.Memory.{source_left, source_chunk, source_fails, source_calls};
+
+    /// A source of these bytes, of which no call was made.
+    pub fn new(bytes: Vec<u8>, chunk: usize, fails: Vec<u64>) -> Self
+        requires { 1 ≤ chunk }
+        ensures left { source_left result ≡ bytes.items }
+        ensures chunk { source_chunk result ≡ chunk }
+        ensures fails { source_fails result ≡ fails.items }
+        ensures calls { source_calls result ≡ 0 }
+    {
+        MemorySource {
+            bytes,
+            at: 0,
+            chunk,
+            calls: Calls::new(fails),
+        }
+    }
+}
+
+impl Source for MemorySource {
+    ghost use Rattle.std.specs.Prelude.{◌≡◌, ◌^◌, ◌+◌, ◌-◌, min, length, true, false, Some, MatchResult};
+    ghost use Rattle.std.specs.Io.{ReadsAtMost};
+    ghost use Rattle.std.specs.Io.KnownBytes.{ReadConsumes};
+    ghost use Rattle.sip_ports.specs.Calls.{one_if, failed_of-fits, failed_of-sure};
+    ghost use Rattle.sip_ports.specs.Memory.{source_left, source_chunk, source_fails, source_calls, source_next_fails, source_faults, source_is_sure};
+
+    ghost left = { λ source. Some (source_left source) };
+
+    ghost faults = { source_faults };
+
+    ghost is_sure = { source_is_sure };
+
+    ghost faults_fit = { λ source. failed_of-fits (source_fails source) (source_calls source) source.calls.counted };
+
+    ghost sure_counts = { λ source sure. failed_of-sure (source_fails source) (source_calls source) sure };
+
+    fn read(&mut self, buf: &mut [u8]) -> Result<usize, PortStop>
+        ensures bound { ReadsAtMost result buf.new }
+        ensures bytes { ReadConsumes (Some (source_left self.old)) (Some (source_left self.new))
+            result buf.new }
+        ensures answer { MatchResult result
+            (λ n. (source_next_fails self.old ≡ false)
+            × (n ≡ min (length buf.old) (min (source_chunk self.old) (length (source_left self.old)))))
+            (λ e. (source_next_fails self.old ≡ true) × (e ≡ PortStop.Failed)) }
+        ensures faults { source_faults self.new
+            ≡ source_faults self.old + one_if (source_next_fails self.old) }
+        ensures chunk { source_chunk self.new ≡ source_chunk self.old }
+        ensures fails { source_fails self.new ≡ source_fails self.old }
+        ensures calls { source_calls self.new ≡ min (source_calls self.old + 1) (2 ^ 64 - 1) }
+    {
+        if self.calls.next_fails() {
+            return Err(PortStop::Failed);
+        }
+        let count = buf.len().min(self.chunk).min(self.bytes.len() - self.at);
+        give(&self.bytes, self.at, count, buf);
+        self.at += count;
+        Ok(count)
+    }
+}
+
+/// A sink that keeps its bytes in memory. A call takes at most a chunk, and the calls whose numbers, from 1,
+/// are in a list fail.
+#[derive(Drop)]
+pub struct MemorySink {
+    bytes: Vec<u8>,
+    chunk: usize,
+    calls: Calls,
+    ghost moves: { 0 < chunk },
+}
+
+impl MemorySink {
+    ghost use Rattle.sip_ports.specs.Memory.{sink_bytes, sink_chunk, sink_fails, sink_calls};
+
+    /// An empty sink, of which no call was made.
+    pub fn new(alloc: Global, chunk: usize, fails: Vec<u64>) -> Self
+        requires { 1 ≤ chunk }
+        ensures bytes { sink_bytes result ≡ [] }
+        ensures chunk { sink_chunk result ≡ chunk }
+        ensures fails { sink_fails result ≡ fails.items }
+        ensures calls { sink_calls result ≡ 0 }
+    {
+        MemorySink {
+            bytes: Vec::new(alloc),
+            chunk,
+            calls: Calls::new(fails),
+        }
+    }
+
+    /// All bytes that it has taken.
+    pub fn bytes(&self) -> &[u8]
+        ensures { result.now ≡ sink_bytes self.now }
+    {
+        &self.bytes
+    }
+}
+
+impl Sink for MemorySink {
+    ghost use Rattle.sip_ports.specs.Memory.{sink_bytes, sink_chunk, sink_fails, sink_calls, sink_next_fails, sink_faults, sink_is_sure};
+
+    ghost talk = { λ sink. Some (outs (sink_bytes sink)) };
+
+    ghost faults = { sink_faults };
+
+    ghost is_sure = { sink_is_sure };
+
+    ghost faults_fit = { λ sink. failed_of-fits (sink_fails sink) (sink_calls sink) sink.calls.counted };
+
+    ghost sure_counts = { λ sink sure. failed_of-sure (sink_fails sink) (sink_calls sink) sure };
+
+    fn write(&mut self, buf: &[u8]) -> Result<usize, PortStop>
+        ensures bound { WritesAtMost result buf.now }
+        ensures takes { 0 < length buf.now → IfOk result (λ n. 0 < n) }
+        ensures talk { Sends (Some (outs (sink_bytes self.old))) (Some (outs (sink_bytes self.new)))
+            result buf.now }
+        ensures failed { IsErrOf result PortStop.Failed ↔ (sink_next_fails self.old ≡ true) }
+        ensures bytes { MatchResult result
+            (λ n. (n ≡ min (length buf.now) (sink_chunk self.old))
+            × (sink_bytes self.new ≡ sink_bytes self.old ++ take n buf.now))
+            (λ _. sink_bytes self.new ≡ sink_bytes self.old) }
+        ensures faults { sink_faults self.new
+            ≡ sink_faults self.old + one_if (sink_next_fails self.old) }
+        ensures chunk { sink_chunk self.new ≡ sink_chunk self.old }
+        ensures fails { sink_fails self.new ≡ sink_fails self.old }
+        ensures calls { sink_calls self.new ≡ min (sink_calls self.old + 1) (2 ^ 64 - 1) }
+    {
+        if self.calls.next_fails() {
+            return Err(PortStop::Failed);
+        }
+        let count = buf.len().min(self.chunk);
+        self.bytes.extend_from_slice(&buf[..count])?;
+        Ok(count)
+    }
+}
+
+/// A link over memory: what it gives is set, and what happens on it is kept. A call moves at most a chunk,
+/// and the calls whose numbers, from 1, are in a list fail. Writes and receives are numbered together, with
+/// empty ones too.
+#[derive(Drop)]
+pub struct MemoryLink {
+    alloc: Global,
+    incoming: Vec<u8>,
+    at: usize,
+    talk: Vec<TalkEvent>,
+    chunk: usize,
+    calls: Calls,
+    ghost within: { at ≤ length incoming.items },
+    ghost moves: { 0 < chunk },
+}
+
+impl MemoryLink {
+    ghost use Rattle.sip_ports.specs.Memory.{link_incoming, link_talk, link_chunk, link_fails, link_calls};
+
+    /// A link that gives these bytes and then has ended. Nothing has happened on it.
+    pub fn new(alloc: Global, incoming: Vec<u8>, chunk: usize, fails: Vec<u64>) -> Self
+        requires { 1 ≤ chunk }
+        ensures incoming { link_incoming result ≡ incoming.items }
+        ensures talk { link_talk result ≡ [] }
+        ensures chunk { link_chunk result ≡ chunk }
+        ensures fails { link_fails result ≡ fails.items }
+        ensures calls { link_calls result ≡ 0 }
+    {
+        MemoryLink {
+            alloc,
+            incoming,
+            at: 0,
+            talk: Vec::new(alloc),
+            chunk,
+            calls: Calls::new(fails),
+        }
+    }
+
+    /// All that has happened on it.
+    pub fn talk(&self) -> &[TalkEvent]
+        ensures { result.now ≡ link_talk self.now }
+    {
+        &self.talk
+    }
+}
+
+impl Sink for MemoryLink {
+    ghost use Rattle.sip_ports.specs.Memory.{link_incoming, link_talk, link_chunk, link_fails, link_calls, link_next_fails, link_faults, link_is_sure};
+
+    ghost talk = { λ link. Some (link_talk link) };
+
+    ghost faults = { link_faults };
+
+    ghost is_sure = { link_is_sure };
+
+    ghost faults_fit = { λ link. failed_of-fits (link_fails link) (link_calls link) link.calls.counted };
+
+    ghost sure_counts = { λ link sure. failed_of-sure (link_fails link) (link_calls link) sure };
+
+    fn write(&mut self, buf: &[u8]) -> Result<usize, PortStop>
+        ensures bound { WritesAtMost result buf.now }
+        ensures takes { 0 < length buf.now → IfOk result (λ n. 0 < n) }
+        ensures talk { Sends (Some (link_talk self.old)) (Some (link_talk self.new)) result buf.now }
+        ensures failed { IsErrOf result PortStop.Failed ↔ (link_next_fails self.old ≡ true) }
+        ensures count { IfOk result (λ n. n ≡ min (length buf.now) (link_chunk self.old)) }
+        ensures incoming { link_incoming self.new ≡ link_incoming self.old }
+        ensures faults { link_faults self.new
+            ≡ link_faults self.old + one_if (link_next_fails self.old) }
+        ensures chunk { link_chunk self.new ≡ link_chunk self.old }
+        ensures fails { link_fails self.new ≡ link_fails self.old }
+        ensures calls { link_calls self.new ≡ min (link_calls self.old + 1) (2 ^ 64 - 1) }
+    {
+        if self.calls.next_fails() {
+            return Err(PortStop::Failed);
+        }
+        let count = buf.len().min(self.chunk);
+        let events = sent_events(self.alloc, &buf[..count])?;
+        self.talk.extend_from_slice(&events)?;
+        Ok(count)
+    }
+}
+
+impl Link for MemoryLink {
+    ghost use Rattle.sip_ports.specs.Memory.{link_incoming, link_talk, link_chunk, link_fails, link_calls, link_next_fails, link_faults};
+
+    fn recv(&mut self, buf: &mut [u8]) -> Result<usize, PortStop>
+        ensures bound { ReadsAtMost result buf.new }
+        ensures talk { Hears (Some (link_talk self.old)) (Some (link_talk self.new)) result buf.new }
+        ensures failed { IsErrOf result PortStop.Failed ↔ (link_next_fails self.old ≡ true) }
+        ensures count { IfOk result
+            (λ n. n ≡ min (length buf.old) (min (link_chunk self.old) (length (link_incoming self.old)))) }
+        ensures bytes { MatchResult result
+            (λ n. link_incoming self.old ≡ take n buf.new ++ link_incoming self.new)
+            (λ _. link_incoming self.new ≡ link_incoming self.old) }
+        ensures faults { link_faults self.new
+            ≡ link_faults self.old + one_if (link_next_fails self.old) }
+        ensures chunk { link_chunk self.new ≡ link_chunk self.old }
+        ensures fails { link_fails self.new ≡ link_fails self.old }
+        ensures calls { link_calls self.new ≡ min (link_calls self.old + 1) (2 ^ 64 - 1) }
+    {
+        if self.calls.next_fails() {
+            return Err(PortStop::Failed);
+        }
+        let count = buf.len().min(self.chunk).min(self.incoming.len() - self.at);
+        if count == 0 {
+            if !buf.is_empty() {
+                self.talk.push(TalkEvent::Ended)?;
+            }
+            return Ok(0);
+        }
+        let events = received_events(self.alloc, &self.incoming[self.at..self.at + count])?;
+        self.talk.extend_from_slice(&events)?;
+        give(&self.incoming, self.at, count, buf);
+        self.at += count;
+        Ok(count)
+    }
+}

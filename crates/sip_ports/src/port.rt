@@ -1,0 +1,107 @@
+// What bytes come from and go to: a source, a sink, and a link, which is a sink that can be heard.
+ghost use Rattle.std.specs.Prelude.{◌≡◌, ◌<◌, ◌^◌, ◌-◌, List, ℕ, length, IfOk, OnOk};
+ghost use Rattle.std.specs.declared.option.Option.{Option};
+ghost use Rattle.std.specs.Io.{ReadsAtMost, WritesAtMost};
+ghost use Rattle.std.specs.Io.KnownBytes.{ReadConsumes};
+ghost use Rattle.sip_ports.specs.declared.port.PortStop.TheVariants.{OutOfMemory};
+ghost use Rattle.sip_ports.specs.declared.port.TalkEvent.{TalkEvent};
+ghost use Rattle.sip_ports.specs.Ports.{HasCause, Sends, Hears};
+
+use std::alloc::{AllocError, AllocFailed};
+
+/// Why a call of a port stopped. It moved no byte, as far as the port tells its bytes.
+#[derive(Clone, Copy, Debug, PartialEq, Eq)]
+pub enum PortStop {
+    /// The port failed. It is answered only where the port's count of faults rose in this call.
+    Failed,
+    /// Memory was refused to a port that keeps what passes through it. No fault is counted.
+    OutOfMemory,
+}
+
+impl From<AllocError> for PortStop {
+    ghost from_gives = { λ _ e. e ≡ OutOfMemory };
+
+    fn from(_: AllocError) -> Self {
+        PortStop::OutOfMemory
+    }
+}
+
+impl<T: Drop> From<AllocFailed<T>> for PortStop {
+    ghost from_gives = { λ _ e. e ≡ OutOfMemory };
+
+    fn from(_: AllocFailed<T>) -> Self {
+        PortStop::OutOfMemory
+    }
+}
+
+/// One thing that happened on a sink or a link, in the order in which it happened.
+#[derive(Clone, Copy, Debug, PartialEq, Eq)]
+pub enum TalkEvent {
+    /// A byte was sent.
+    Out(u8),
+    /// A byte was received.
+    In(u8),
+    /// A receive found that the other end had closed.
+    Ended,
+}
+
+/// Bytes that come. A source over memory tells those that are left, and one over a file tells none.
+pub trait Source {
+    /// The bytes to come, where they are told.
+    ghost left: { Self → Option (List ℕ) };
+
+    /// How often it has failed. The count never falls, and stands still at 2^64 - 1.
+    ghost faults: { Self → ℕ };
+
+    /// It never fails.
+    ghost is_sure: { Self → Type 0 };
+
+    /// Moves some of the bytes to come to the front of the buffer, and answers how many. It answers 0 at the
+    /// end, or where the buffer is empty. A call that stops moves nothing, where the bytes are told.
+    fn read(&mut self, buf: &mut [u8]) -> Result<usize, PortStop>
+        ensures bound { ReadsAtMost result buf.new }
+        ensures bytes { ReadConsumes (left self.old) (left self.new) result buf.new }
+        ensures empty { length buf.old ≡ 0 → OnOk result (faults self.new ≡ faults self.old) }
+        ensures cause { HasCause faults is_sure self.old self.new result };
+
+    ghost faults_fit: { (source : Self) → faults source < 2 ^ 64 };
+
+    ghost sure_counts: { (source : Self) → is_sure source → faults source ≡ 0 };
+}
+
+/// Where bytes go. A sink over memory tells what happened on it, and one over a file does not.
+pub trait Sink {
+    /// What happened on it, where it is told.
+    ghost talk: { Self → Option (List TalkEvent) };
+
+    /// How often it has failed. The count never falls, and stands still at 2^64 - 1.
+    ghost faults: { Self → ℕ };
+
+    /// It never fails.
+    ghost is_sure: { Self → Type 0 };
+
+    /// Sends bytes from the front of the buffer, and answers how many: at least one, unless the buffer is
+    /// empty. A call that stops sends nothing, where the talk is told.
+    fn write(&mut self, buf: &[u8]) -> Result<usize, PortStop>
+        ensures bound { WritesAtMost result buf.now }
+        ensures takes { 0 < length buf.now → IfOk result (λ n. 0 < n) }
+        ensures talk { Sends (talk self.old) (talk self.new) result buf.now }
+        ensures empty { length buf.now ≡ 0 → OnOk result (faults self.new ≡ faults self.old) }
+        ensures cause { HasCause faults is_sure self.old self.new result };
+
+    ghost faults_fit: { (sink : Self) → faults sink < 2 ^ 64 };
+
+    ghost sure_counts: { (sink : Self) → is_sure sink → faults sink ≡ 0 };
+}
+
+/// A sink whose other end can be heard. What is received joins the talk, and faults join the sink's count.
+pub trait Link: Sink {
+    /// Receives some bytes into the front of the buffer, and answers how many. It answers 0 where the other
+    /// end has closed, or where the buffer is empty. A call that stops receives nothing, where the talk is
+    /// told.
+    fn recv(&mut self, buf: &mut [u8]) -> Result<usize, PortStop>
+        ensures bound { ReadsAtMost result buf.new }
+        ensures talk { Hears (Self.talk self.old) (Self.talk self.new) result buf.new }
+        ensures empty { length buf.old ≡ 0 → OnOk result (Self.faults self.new ≡ Self.faults self.old) }
+        ensures cause { HasCause Self.faults Self.is_sure self.old self.new result };
+}
