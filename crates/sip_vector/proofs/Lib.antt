@@ -1,0 +1,15 @@
+pub mod Dense
+pub mod Folds
+pub mod Sums
+pub mod Sides
+pub mod Kept
+pub mod Filters
+pub mod SpotsAbove
+pub mod Searches
+pub mod Walks
+pub mod TreeResidues
+pub mod TreeUpdates
+pub mod TreeCounted
+pub mod TreeZeros
+pub mod TreeSums
+pub mod TreeStreams

@@ -1,0 +1,11 @@
+pub mod Streams
+pub mod Answers
+pub mod Trees
+pub mod Extensions
+pub mod Sparse
+pub mod Vectors
+pub mod Levels
+pub mod Examples
+pub mod Pieces
+pub mod Steps
+pub mod Weights

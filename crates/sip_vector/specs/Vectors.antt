@@ -1,0 +1,73 @@
+-- What a vector shows, and how it stands for one side of a stream.
+use Rattle.std.specs.Prelude.{◌≡◌, ℕ, ◌+◌, ◌^◌, ◌≤◌, ℤ, pos, ◌+ℤ◌, nat_abs, Bool, not, ◌&&◌, List, replicate, unwrap_or, sum_by, filter, slice_set, slice_index_or, if◌then◌else◌}
+use Rattle.std.specs.BTreeMap.{insert_entry, is_at}
+use Rattle.std.specs.Map.{lookup, remove_entry}
+use Rattle.std.specs.Ordering.{nat_cmp}
+use Rattle.sip_vector.specs.declared.update.Side.{Side}
+use Rattle.sip_vector.specs.declared.update.Update.{Update}
+use Rattle.sip_vector.specs.declared.update.Entry.{Entry}
+use Rattle.sip_vector.specs.Answers.{entries, is_within, is_zero}
+use Rattle.sip_vector.specs.Sparse.{dense, IsSparse}
+use Rattle.sip_vector.specs.Streams.{int_sum, same_side, vector, weight, most_weight}
+
+-- the 2 ^ depth numbers of a vector, and the sum of the absolute values of what was added to them
+pub record SideVector : Type 0 where
+  pub depth : ℕ
+  pub numbers : List ℤ
+  pub weight : ℕ
+
+-- the entry at an index
+abbrev pub number_at : List ℤ → ℕ → ℤ
+number_at numbers index = slice_index_or numbers index (pos 0)
+
+-- nothing but zeros
+unfoldable pub zeros : ℕ → List ℤ
+zeros depth = replicate (2 ^ depth) (pos 0)
+
+-- the vector to which nothing was added
+abbrev pub zero_vector : ℕ → SideVector
+zero_vector depth = record { depth = depth; numbers = zeros depth; weight = 0 }
+
+-- the vector once delta is added to one entry
+abbrev pub with_added : SideVector → ℕ → ℤ → SideVector
+with_added v index delta = record {
+  depth = v.depth;
+  numbers = slice_set v.numbers index (number_at v.numbers index +ℤ delta);
+  weight = v.weight + nat_abs delta;
+}
+
+-- what a side of a stream adds up to
+abbrev pub side_vector : ℕ → List Update → Side → SideVector
+side_vector depth stream side = record { depth = depth; numbers = vector depth stream side; weight = weight stream side }
+
+-- the same once an update of the stream is added, which may be of the other side
+abbrev pub with_update : Side → SideVector → Update → SideVector
+with_update side v u = if same_side u.side side then with_added v u.item u.delta else v
+
+-- an entry that is not 0, at an index from lo to hi
+abbrev pub is_nonzero_within : ℕ → ℕ → Entry → Bool
+is_nonzero_within lo hi e = is_within lo hi e.index && not (is_zero e.value)
+
+-- these entries, in the order of their indices
+abbrev pub nonzero_within : ℕ → ℕ → List ℤ → List Entry
+nonzero_within lo hi numbers = filter (is_nonzero_within lo hi) (entries numbers)
+
+-- the numbers of which these are the entries that are not 0
+abbrev pub numbers_of : ℕ → List (ℕ × ℤ) → List ℤ
+numbers_of depth kept = dense (pos 0) (2 ^ depth) kept
+
+-- the value that is kept at an index, or 0
+abbrev pub kept_value : List (ℕ × ℤ) → ℕ → ℤ
+kept_value kept index = unwrap_or (lookup (is_at (nat_cmp index)) kept) (pos 0)
+
+-- the entries with this value at an index, where 0 is not kept
+abbrev pub kept_with : List (ℕ × ℤ) → ℕ → ℤ → List (ℕ × ℤ)
+kept_with kept index value =
+    if is_zero value then remove_entry (is_at (nat_cmp index)) kept else insert_entry nat_cmp kept index value
+
+-- entries that are not 0, with their sum and a weight that bounds them
+pub record IsKept (depth : ℕ) (kept : List (ℕ × ℤ)) (total : ℤ) (weight : ℕ) : Type 0 where
+  pub sparse : IsSparse (pos 0) 0 (2 ^ depth) kept
+  pub sums : total ≡ int_sum (numbers_of depth kept)
+  pub light : sum_by nat_abs (numbers_of depth kept) ≤ weight
+  pub most : weight ≤ most_weight

@@ -1,0 +1,56 @@
+//! How many items a vector has.
+
+ghost use Rattle.std.specs.Prelude.{◌≡◌, ◌≤◌, ◌↔◌, IsSome, IfSome};
+
+use std::marker::Model;
+
+/// The depth of a tree over 2^d items, from 1 to 32. Contracts see it as the number.
+#[derive(Clone, Copy, Debug, PartialEq, Eq)]
+pub struct Depth {
+    levels: u8,
+}
+
+impl Model for Depth {
+    ghost use Rattle.std.specs.Prelude.{ℕ, ◌≤◌};
+
+    ghost Value = { ℕ };
+
+    ghost view = { λ d. d.levels };
+
+    ghost invariant = { λ d. (1 ≤ d.levels) × (d.levels ≤ 32) };
+
+    ghost inverse = { λ n. record { levels = n } };
+}
+
+impl Depth {
+    /// The greatest depth.
+    pub const MOST: u8 = 32;
+
+    /// The depth `d`; `None` exactly where `d` is not 1 to 32.
+    pub fn new(d: u8) -> Option<Depth>
+        ensures fits { IsSome result ↔ ((1 ≤ d) × (d ≤ 32)) }
+        ensures same { IfSome result (λ depth. depth ≡ d) }
+    {
+        if (1..=Depth::MOST).contains(&d) {
+            Some(Depth { levels: d })
+        } else {
+            None
+        }
+    }
+
+    /// The number of levels.
+    pub fn get(self) -> u8
+        ensures same { result ≡ self }
+        ensures some { 1 ≤ result }
+        ensures most { result ≤ 32 }
+    {
+        self.levels
+    }
+}
+
+/// The depth 1.
+impl Default for Depth {
+    fn default() -> Depth {
+        Depth { levels: 1 }
+    }
+}

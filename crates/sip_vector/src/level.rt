@@ -1,0 +1,196 @@
+//! The nodes of one height over a vector, kept by those that are not 0.
+
+ghost use Rattle.std.specs.Prelude.{◌≡◌, ◌*◌, ◌^◌, ◌<◌, ◌≤◌, ◌↔◌, length, map, drop, slice_get, slice_index, IfOk, IsTrue};
+ghost use Rattle.std.specs.Option.{option_map};
+ghost use Rattle.sip_field.specs.Residue.{residue};
+ghost use Rattle.sip_vector.specs.Trees.{up};
+ghost use Rattle.sip_vector.specs.Extensions.{line};
+ghost use Rattle.sip_vector.specs.Levels.{index_and_residue, nonzero_from, level_above, residue_above, before, begins_with_pair, folded};
+
+use crate::Vector;
+use sip_field::{Field, OutOfMemory};
+use std::alloc::Global;
+use std::marker::Model;
+
+/// A place in a list of field values.
+#[derive(Clone, Copy, Debug, PartialEq, Eq)]
+pub struct Spot<F> {
+    pub index: u64,
+    pub value: F,
+}
+
+/// The rule by which a pair of neighbours becomes one entry of the level above.
+#[derive(Clone, Copy)]
+enum Rule {
+    /// `left + r * right`.
+    Tree,
+    /// `left + r * (right - left)`.
+    Line,
+}
+
+impl Rule {
+    #[tactic(auto, using(sip_field::proofs::Residues::residues))]
+    fn above<F: Field>(self, r: F, left: F, right: F) -> F
+        ensures { F.number result ≡ residue_above F.MODULUS self (F.number r) (F.number left) (F.number right) }
+    {
+        match self {
+            Rule::Tree => left.plus(r.times(right)),
+            Rule::Line => left.plus(r.times(right.minus(left))),
+        }
+    }
+}
+
+/// The nodes of one height over a vector: at first its residues, and half as many after each fold.
+///
+/// A contract sees the list of all their residues. Only the nodes that are not 0 take memory, no call goes over the others, and
+/// no fold takes memory or makes their list longer. In the costs below m is their number.
+#[derive(Drop)]
+pub struct Level<F: Field> {
+    folds_left: u8,
+    spots: Vec<Spot<F>>,
+}
+
+impl<F: Field> Model for Level<F> {
+    ghost use Rattle.std.specs.Prelude.{ℕ, List, ◌^◌, ◌≤◌, map};
+    ghost use Rattle.sip_vector.specs.Sparse.{dense, IsSparse};
+
+    ghost Value = { List ℕ };
+
+    ghost use Rattle.sip_vector.specs.Levels.{index_and_residue};
+
+    ghost view = { λ l. dense 0 (2 ^ l.folds_left) (map (index_and_residue F.number) l.spots.items) };
+
+    ghost invariant = { λ l. (l.folds_left ≤ 32) × IsSparse 0 0 (2 ^ l.folds_left) (map (index_and_residue F.number) l.spots.items) };
+}
+
+impl<F: Field> Level<F> {
+    /// The residues of a vector's numbers. O(m) in time and memory.
+    pub fn of(alloc: Global, vector: &Vector) -> Result<Level<F>, OutOfMemory>
+        ensures residues { IfOk result (λ level. level ≡ map (residue F.MODULUS) vector.now.numbers) }
+        ensures length { IfOk result (λ level. length level ≡ 2 ^ vector.now.depth) }
+    {
+        let mut spots = Vec::new(alloc);
+        for (index, value) in &vector.entries {
+            let value = F::of_signed(*value);
+            if value.number() != 0 {
+                spots.push(Spot {
+                    index: *index,
+                    value,
+                })?;
+            }
+        }
+        Ok(Level {
+            folds_left: vector.depth().get(),
+            spots,
+        })
+    }
+
+    /// The level above by the rule of the hash tree: each pair becomes `left + r * right`. O(m), one `times` a pair.
+    pub fn fold_tree(&mut self, r: F)
+        requires { 2 ≤ length self.old }
+        ensures above { self.new ≡ up F.MODULUS self.old (F.number r) }
+        ensures half { 2 * length self.new ≡ length self.old }
+    {
+        self.fold(Rule::Tree, r);
+    }
+
+    /// The level above by the rule of the multilinear extension: each pair becomes `left + r * (right - left)`. O(m), one
+    /// `times` a pair.
+    pub fn fold_line(&mut self, r: F)
+        requires { 2 ≤ length self.old }
+        ensures above { self.new ≡ line F.MODULUS self.old (F.number r) }
+        ensures half { 2 * length self.new ≡ length self.old }
+    {
+        self.fold(Rule::Line, r);
+    }
+
+    /// How many folds are left. A list of two or more entries can be folded.
+    pub fn folds_left(&self) -> u8
+        ensures exact { length self.now ≡ 2 ^ result }
+        ensures some { (0 < result) ↔ (2 ≤ length self.now) }
+        ensures most { result ≤ 32 }
+    {
+        self.folds_left
+    }
+
+    fn fold(&mut self, rule: Rule, r: F)
+        requires { 2 ≤ length self.old }
+        ensures above { self.new ≡ level_above F.MODULUS rule (F.number r) self.old }
+        ensures half { 2 * length self.new ≡ length self.old }
+    {
+        fold_spots(&mut self.spots, rule, r);
+        self.folds_left -= 1;
+    }
+
+    /// The node at `index`. O(log m).
+    pub fn at(&self, index: u64) -> F
+        requires { index < length self.now }
+        ensures { F.number result ≡ slice_index self.now index }
+    {
+        match self.next_nonzero(index) {
+            Some(spot) if spot.index == index => spot.value,
+            _ => F::of(0),
+        }
+    }
+
+    /// The first node that is not 0, at `from` or after it. `None` where there is none. O(log m), without memory.
+    pub fn next_nonzero(&self, from: u64) -> Option<Spot<F>>
+        ensures { option_map (index_and_residue F.number) result ≡ slice_get (nonzero_from from self.now) 0 }
+    {
+        let at = self.spots.partition_point(|spot| spot.index < from);
+        self.spots.get(at).copied()
+    }
+}
+
+// Writes the spots above over these. A spot above comes after one spot or two, so it never takes the place of one that is
+// still to be read.
+fn fold_spots<F: Field>(spots: &mut Vec<Spot<F>>, rule: Rule, r: F)
+    ensures { map (index_and_residue F.number) spots.new.items
+        ≡ folded (residue_above F.MODULUS rule (F.number r)) (map (index_and_residue F.number) spots.old.items) }
+{
+    let mut written = 0;
+    let mut read = 0;
+    while read < spots.len() {
+        let (spot, count) = spot_above(&spots[read..], rule, r);
+        read += count;
+        if spot.value.number() != 0 {
+            spots[written] = spot;
+            written += 1;
+        }
+    }
+    spots.truncate(written);
+}
+
+// The spot above the first one, and how many lie below it: 2 where the second is the first one's neighbour, and else 1.
+fn spot_above<F: Field>(spots: &[Spot<F>], rule: Rule, r: F) -> (Spot<F>, usize)
+    requires { 0 < length spots.now }
+    ensures some { 1 ≤ result.1 }
+    ensures within { result.1 ≤ length spots.now }
+    ensures above { let join = residue_above F.MODULUS rule (F.number r) in
+        let entries = map (index_and_residue F.number) spots.now in
+        folded join entries ≡ before result.0.index (F.number result.0.value) (folded join (drop result.1 entries)) }
+{
+    let first = spots[0];
+    let index = first.index / 2;
+    if begins_with_pair(spots) {
+        let value = rule.above(r, first.value, spots[1].value);
+        return (Spot { index, value }, 2);
+    }
+    if first.index % 2 == 0 {
+        let value = rule.above(r, first.value, F::of(0));
+        return (Spot { index, value }, 1);
+    }
+    let value = rule.above(r, F::of(0), first.value);
+    (Spot { index, value }, 1)
+}
+
+// Whether the first two spots lie below one node.
+fn begins_with_pair<F>(spots: &[Spot<F>]) -> bool
+    ensures same { result ≡ begins_with_pair (map (λ s. s.index) spots.now) }
+    ensures two { IsTrue result → 1 < length spots.now }
+{
+    match spots {
+        [first, second, ..] => first.index / 2 == second.index / 2,
+        _ => false,
+    }
+}

@@ -1,0 +1,55 @@
+//! Streams of updates of two vectors, the answers to queries about them, and the folds that a verifier checks them by.
+//!
+//! - [`Update`] is a record of a stream, [`Query`] a question about the vectors, and [`Entry`] a part of an answer. [`Depth`]
+//!   says how many items there are.
+//! - [`Vector`] is one side's vector, for whoever keeps it: the helper.
+//! - [`Level`] is the list of the nodes of one height over a vector, folded in place by the rule of the hash tree or by that of
+//!   the multilinear extension.
+//!
+//! # What the contracts say
+//!
+//! `specs/` has the definitions that every layer above cites:
+//!
+//! | Module | Definitions |
+//! |---|---|
+//! | `Streams`, `Vectors` | the vector of a side of a stream; what a [`Vector`] shows, and its entries that are not 0 |
+//! | `Answers` | what each query asks for |
+//! | `Trees`, `Extensions`, `Levels` | the two hash trees over a vector; its multilinear extension; the level above |
+//! | `Sparse` | lists that are kept by the entries at which they are not 0 |
+//!
+//! A contract sees a [`Vector`] as the list of its `2^depth` numbers with its weight, and a [`Level`] as the list of all its
+//! residues, though both keep only what is not 0. [`laws::vectors_add_up`] ties a vector to a stream: the vector to which the
+//! updates of a side were added is `side_vector` of the stream.
+//!
+//! # Cost
+//!
+//! In these m is the number of entries, or nodes, that are not 0.
+//!
+//! | Call | Time | Memory |
+//! |---|---|---|
+//! | `Vector::add` | O(log m) | one entry |
+//! | `Vector::get`, `Vector::next_entry` | O(log m) | none |
+//! | `Vector::count_in` | O(log m), and the number that is counted | none |
+//! | `Vector::is_strict` | O(m) | none |
+//! | `Level::of` | O(m) | one spot for each node that is not 0 |
+//! | `Level::fold_tree`, `Level::fold_line` | O(m), one `times` for each node above | none |
+//! | `Level::at`, `Level::next_nonzero` | O(log m) | none |
+//!
+//! The other calls take O(1) and no memory.
+#![tactic(auto)]
+
+mod depth;
+pub mod laws;
+mod level;
+mod query;
+mod update;
+mod vector;
+
+pub use depth::Depth;
+pub use level::{Level, Spot};
+pub use query::Query;
+pub use update::{Entry, Side, Update};
+pub use vector::Vector;
+
+#[cfg(test)]
+mod tests;

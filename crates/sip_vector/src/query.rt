@@ -1,0 +1,43 @@
+//! What can be asked of the vectors.
+
+ghost use Rattle.std.specs.Prelude.{◌↔◌, IsTrue};
+ghost use Rattle.sip_vector.specs.Answers.{Fits};
+
+use crate::{Depth, Side};
+
+/// A question about the two vectors.
+#[derive(Clone, Copy, Debug, PartialEq, Eq)]
+pub enum Query {
+    /// The entries of side `First` from `lo` to `hi` that are not 0.
+    Sub { lo: u64, hi: u64 },
+    /// The sum of a side's entries from `lo` to `hi`.
+    Range { side: Side, lo: u64, hi: u64 },
+    /// The sum of the squares of a side's entries.
+    F2 { side: Side },
+    /// The inner product of the two vectors.
+    Inner,
+    /// The entries of a side that are at least `at_least`.
+    Heavy { side: Side, at_least: u64 },
+}
+
+impl Query {
+    /// Whether the query can be asked at this depth: an interval is in order and within the items, and a threshold
+    /// is from 1 to 2^63 - 1.
+    pub fn fits(&self, depth: Depth) -> bool
+        ensures { IsTrue result ↔ Fits depth self.now }
+    {
+        let items = 1u64 << depth.get();
+        match self {
+            Query::Sub { lo, hi } | Query::Range { lo, hi, .. } => lo <= hi && *hi < items,
+            Query::F2 { .. } | Query::Inner => true,
+            Query::Heavy { at_least, .. } => 1 <= *at_least && *at_least < 1 << 63,
+        }
+    }
+}
+
+/// The inner product.
+impl Default for Query {
+    fn default() -> Query {
+        Query::Inner
+    }
+}
