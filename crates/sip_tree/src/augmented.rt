@@ -1,0 +1,102 @@
+//! The root of a vector's augmented tree, as two running numbers.
+ghost use Rattle.std.specs.Prelude.{◌≡◌, ◌+◌, ◌*◌, ◌%◌, ◌^◌, ◌<◌, ◌≤◌, ℤ, pos, ◌+ℤ◌, nat_abs, List, length, min, replicate};
+ghost use Rattle.sip_field.specs.Residue.{residue};
+ghost use Rattle.sip_tree.specs.StandsFor.{AugRootStandsFor};
+ghost use Rattle.sip_vector.specs.Streams.{most_weight};
+ghost use Rattle.sip_vector.specs.Weights.{raised_numbers, hash_weight};
+
+use sip_field::{Field, Seat};
+
+/// The augmented root of a vector of 2^d numbers, for the d challenges of a seat: a hash, and the sum of the numbers.
+#[derive(Drop)]
+pub struct AugRoot<F: Field, const CAP: usize> {
+    /// The challenges, the lowest level's first.
+    pub seat: Seat<F, CAP>,
+    /// The hash, from 0 to `F::MODULUS - 1`.
+    pub hash: u64,
+    /// The sum of the numbers, at most 2^30 - 1 and at least the negative of that.
+    pub total: i64,
+    ghost below: { hash < F.MODULUS },
+    ghost within: { nat_abs total ≤ most_weight },
+}
+
+impl<F: Field, const CAP: usize> AugRoot<F, CAP> {
+    /// The root of zeros.
+    pub fn new(seat: Seat<F, CAP>) -> AugRoot<F, CAP>
+        ensures seat { result.seat ≡ seat }
+        ensures hash { result.hash ≡ 0 }
+        ensures total { result.total ≡ pos 0 }
+        ensures stands { let zeros = replicate (2 ^ length seat) (pos 0) in
+            AugRootStandsFor F.MODULUS seat result.hash result.total zeros }
+    {
+        AugRoot {
+            seat,
+            hash: 0,
+            total: 0,
+        }
+    }
+
+    /// The root after `delta` is added to the entry `index`.
+    ///
+    /// Two `times` for each bit of the index that is 1, and one more: 2d + 1 at most.
+    pub fn update(&mut self, index: u64, delta: i64)
+        requires index { index < 2 ^ length self.old.seat }
+        requires weight { nat_abs (self.old.total +ℤ delta) ≤ most_weight }
+        ensures seat { self.new.seat ≡ self.old.seat }
+        ensures hash { let weight = hash_weight F.MODULUS index self.old.seat in
+            self.new.hash ≡ (self.old.hash + residue F.MODULUS delta * weight) % F.MODULUS }
+        ensures total { self.new.total ≡ self.old.total +ℤ delta }
+        ensures stands { (numbers : List ℤ)
+            → AugRootStandsFor F.MODULUS self.old.seat self.old.hash self.old.total numbers
+            → AugRootStandsFor F.MODULUS self.new.seat self.new.hash self.new.total
+            (raised_numbers numbers index delta) }
+    {
+        let term = F::of_signed(delta).times(hash_weight(&self.seat, index));
+        self.hash = F::of(self.hash).plus(term).number();
+        self.total += delta;
+    }
+
+    /// The hash.
+    pub fn hash(&self) -> F
+        ensures { F.number result ≡ self.now.hash }
+    {
+        F::of(self.hash)
+    }
+
+    /// The sum of the numbers.
+    pub fn total(&self) -> i64
+        ensures same { result ≡ self.now.total }
+        ensures most { nat_abs result ≤ most_weight }
+    {
+        self.total
+    }
+}
+
+/// The root of zeros at the default seat.
+impl<F: Field, const CAP: usize> Default for AugRoot<F, CAP> {
+    ghost is_default = { λ root. (root.seat ≡ replicate (min 1 CAP) 0) × (root.hash ≡ 0) × (root.total ≡ pos 0) };
+
+    fn default() -> AugRoot<F, CAP> {
+        AugRoot::new(Seat::default())
+    }
+}
+
+// The factor of an entry in the hash. A level makes it h + r where the node stands left, and h * r^2 + r^3, which is
+// (h + r) * r^2, where it stands right: the second form has two products and not three.
+fn hash_weight<F: Field, const CAP: usize>(seat: &Seat<F, CAP>, index: u64) -> F
+    ensures { F.number result ≡ hash_weight F.MODULUS index seat.now }
+{
+    let mut weight = F::of(1);
+    let mut path = index;
+    for below in 0..seat.depth() {
+        let r = seat.at(below + 1);
+        let sum = weight.plus(r);
+        weight = if path % 2 == 1 {
+            sum.times(r.times(r))
+        } else {
+            sum
+        };
+        path /= 2;
+    }
+    weight
+}

@@ -1,0 +1,74 @@
+//! The root of a vector's tree, as a running number.
+ghost use Rattle.std.specs.Prelude.{◌≡◌, ◌+◌, ◌-◌, ◌*◌, ◌%◌, ◌^◌, ◌<◌, ◌≤◌, ℤ, pos, List, length, min, replicate};
+ghost use Rattle.sip_field.specs.Residue.{residue};
+ghost use Rattle.sip_tree.specs.StandsFor.{RootStandsFor};
+ghost use Rattle.sip_vector.specs.Weights.{raised_numbers, node_weight, weight_above};
+
+use crate::weight::weighted;
+use sip_field::{Field, Seat};
+
+/// The root of a vector of 2^d numbers, for the d challenges of a seat.
+#[derive(Drop)]
+pub struct Root<F: Field, const CAP: usize> {
+    /// The challenges, the lowest level's first.
+    pub seat: Seat<F, CAP>,
+    /// The root, from 0 to `F::MODULUS - 1`.
+    pub value: u64,
+    ghost below: { value < F.MODULUS },
+}
+
+impl<F: Field, const CAP: usize> Root<F, CAP> {
+    /// The root of zeros.
+    pub fn new(seat: Seat<F, CAP>) -> Root<F, CAP>
+        ensures seat { result.seat ≡ seat }
+        ensures value { result.value ≡ 0 }
+        ensures stands { RootStandsFor F.MODULUS seat result.value (replicate (2 ^ length seat) (pos 0)) }
+    {
+        Root { seat, value: 0 }
+    }
+
+    /// The root after `delta` is added to the entry `index`.
+    ///
+    /// One `times` for each bit of the index that is 1: d at most.
+    pub fn update(&mut self, index: u64, delta: i64)
+        requires { index < 2 ^ length self.old.seat }
+        ensures seat { self.new.seat ≡ self.old.seat }
+        ensures value { let weight = node_weight F.MODULUS index self.old.seat in
+            self.new.value ≡ (self.old.value + residue F.MODULUS delta * weight) % F.MODULUS }
+        ensures stands { (numbers : List ℤ)
+            → RootStandsFor F.MODULUS self.old.seat self.old.value numbers
+            → RootStandsFor F.MODULUS self.new.seat self.new.value
+            (raised_numbers numbers index delta) }
+    {
+        let term = weighted(F::of_signed(delta), &self.seat, 0, index);
+        self.value = F::of(self.value).plus(term).number();
+    }
+
+    /// The root.
+    pub fn value(&self) -> F
+        ensures { F.number result ≡ self.now.value }
+    {
+        F::of(self.value)
+    }
+
+    /// The factor of a node of this level in the root: the product of the challenges of the levels above for which the
+    /// index has the bit 1, the lowest bit first.
+    ///
+    /// One `times` for each of them: d - level at most.
+    pub fn weight_above(&self, level: usize, index: u64) -> F
+        requires level { level ≤ length self.now.seat }
+        requires index { index < 2 ^ (length self.now.seat - level) }
+        ensures { F.number result ≡ weight_above F.MODULUS self.now.seat level index }
+    {
+        weighted(F::of(1), &self.seat, level, index)
+    }
+}
+
+/// The root of zeros at the default seat.
+impl<F: Field, const CAP: usize> Default for Root<F, CAP> {
+    ghost is_default = { λ root. (root.seat ≡ replicate (min 1 CAP) 0) × (root.value ≡ 0) };
+
+    fn default() -> Root<F, CAP> {
+        Root::new(Seat::default())
+    }
+}
