@@ -1,0 +1,5 @@
+pub mod FactorSteps
+pub mod Weighing
+pub mod Folding
+pub mod IntervalLemmas
+pub mod IntervalSums
