@@ -1,0 +1,100 @@
+-- The lengths of a kind are those that its marks give, and no other.
+use Rattle.std.proofs.Common.{◌≡◌, ℕ, ◌+◌, ◌*◌, ◌-◌, ◌%◌, ◌/◌, ◌<◌, ◌≤◌, Bool, true, ◌&&◌, nat_le, ◌==◌, List, [], ◌∷◌, refl, sym, ap, ◌∙◌, arith, inl, inr}
+use Rattle.std.specs.List.{list_any}
+use Rattle.std.proofs.lemmas.Bool.{and_parts, or_cases, or_left, or_right, eqb-true, eq-eqb}
+use Rattle.std.proofs.lemmas.Bool.Decides.{nat_tests}
+use Rattle.std.proofs.Math.Nat.{le_of_mul-le-mul_left}
+use Rattle.sip_wire.specs.declared.kind.Kind.{Kind}
+use Rattle.sip_wire.specs.declared.kind.Kind.TheVariants as kinds
+use Rattle.sip_wire.specs.Table.{Field, Shape, size, plain, marked, counted, query_fields, sibling_fields, query_codes, sibling_flags, ends_in_order, shape, IsLengthOfMark}
+use Rattle.sip_wire.proofs.Counting.{size_repeat}
+use Rattle.sip_wire.proofs.Shapes.{is_shape}
+
+-- some mark of a shape gives this length
+record HasMark (s : Shape) (n : ℕ) : Type 0 where
+  mark : ℕ
+  is_mark : s.is_mark mark ≡ true
+  long : n ≡ s.mark_width + size (s.fields mark)
+
+-- a shape without marks has the mark 0
+plain_mark : (fs : List Field) (n : ℕ) → (plain fs).has_length n ≡ true → HasMark (plain fs) n
+plain_mark fs n h = record { mark = 0; is_mark = refl; long = let e = eqb-true n (size fs) h in omega arith }
+
+-- one of these marks gives this length
+marks_with : (ℕ → List Field) → List ℕ → ℕ → Type 0
+marks_with fields marks n = (mark : ℕ) × (list_any (λ m. mark == m) marks ≡ true) × (n ≡ 1 + size (fields mark))
+
+-- the first does
+first_mark : (fields : ℕ → List Field) (x : ℕ) (xs : List ℕ) (n : ℕ) → (n == 1 + size (fields x)) ≡ true → marks_with fields (x ∷ xs) n
+unfolding marks_with
+first_mark fields x xs n e = (x, or_left (x == x) (list_any (λ m. x == m) xs) (eq-eqb x x refl), eqb-true n (1 + size (fields x)) e)
+
+-- a later one does
+later_mark : (fields : ℕ → List Field) (x : ℕ) (xs : List ℕ) (n : ℕ) → marks_with fields xs n → marks_with fields (x ∷ xs) n
+unfolding marks_with
+later_mark fields x xs n h = (h.0, or_right (h.0 == x) (list_any (λ m. h.0 == m) xs) h.1, h.2)
+
+-- where the test of all finds one, one does
+some_mark : (fields : ℕ → List Field) (marks : List ℕ) (n : ℕ) → list_any (λ mark. n == 1 + size (fields mark)) marks ≡ true → marks_with fields marks n
+some_mark fields [] n h = absurd cc
+some_mark fields (x ∷ xs) n h =
+    elim (or_cases (n == 1 + size (fields x)) (list_any (λ mark. n == 1 + size (fields mark)) xs) h) [
+      | inl e ↦ first_mark fields x xs n e
+      | inr e ↦ later_mark fields x xs n (some_mark fields xs n e)
+    ]
+
+-- a length of marks is that of one of them
+marked_mark : (marks : List ℕ) (fields : ℕ → List Field) (in_order : ℕ → List ℕ → Bool) (n : ℕ) → (marked marks fields in_order).has_length n ≡ true → HasMark (marked marks fields in_order) n
+unfolding marks_with
+marked_mark marks fields in_order n h = let x = some_mark fields marks n h in record { mark = x.0; is_mark = x.1; long = x.2 }
+
+-- what the test says
+le_from : (a b : ℕ) → nat_le a b ≡ true → a ≤ b
+le_from a b h = grind (arith, nat_tests)
+
+-- and what makes it true
+in_range : (n most : ℕ) → 1 ≤ n → n ≤ most → (nat_le 1 n && nat_le n most) ≡ true
+in_range n most a b = grind (arith, nat_tests)
+
+-- the count of rows by the length of the body
+count_of : (most c n : ℕ) → 0 < c → 2 + c ≤ n → n ≤ 2 + most * c → (n - 2) % c ≡ 0 → (k : ℕ) × (1 ≤ k) × (k ≤ most) × (n ≡ 2 + k * c)
+count_of most c n some low high whole =
+    let k = (n - 2) / c in
+    let exact : c * k ≡ n - 2 = omega arith in
+    let one : c * 1 ≤ c * k = omega arith in
+    let all : c * k ≤ c * most = omega arith in
+    (k, le_of_mul-le-mul_left one some, le_of_mul-le-mul_left all some, omega arith)
+
+-- a length of counted rows is that of their count
+counted_mark : (most : ℕ) (layout : List Field) (n : ℕ) → 0 < size layout → (counted most layout).has_length n ≡ true → HasMark (counted most layout) n
+counted_mark most layout n some h =
+    let c = size layout in
+    let a = and_parts (nat_le (2 + c) n && nat_le n (2 + most * c)) ((n - 2) % c == 0) h in
+    let b = and_parts (nat_le (2 + c) n) (nat_le n (2 + most * c)) a.0 in
+    let x = count_of most c n some (le_from _ _ b.0) (le_from _ _ b.1) (eqb-true _ _ a.1) in
+    record { mark = x.0; is_mark = in_range x.0 most x.1 x.2; long = x.3 ∙ ap (λ (m : ℕ). 2 + m) (sym (size_repeat x.0 layout)) }
+
+-- so for each kind
+by_kind : (kind : Kind) (n : ℕ) → (shape kind).has_length n ≡ true → HasMark (shape kind) n
+by_kind kinds.Open n h = plain_mark _ n h
+by_kind kinds.Updates n h = counted_mark _ _ n (omega arith) h
+by_kind kinds.EndStream n h = plain_mark _ n h
+by_kind kinds.Query n h = marked_mark query_codes query_fields ends_in_order n h
+by_kind kinds.Reveal n h = plain_mark _ n h
+by_kind kinds.Bye n h = plain_mark _ n h
+by_kind kinds.Claim n h = plain_mark _ n h
+by_kind kinds.Poly n h = plain_mark _ n h
+by_kind kinds.Entries n h = counted_mark _ _ n (omega arith) h
+by_kind kinds.Siblings n h = marked_mark sibling_flags sibling_fields (λ _ _. true) n h
+by_kind kinds.Leaves n h = counted_mark _ _ n (omega arith) h
+by_kind kinds.Nodes n h = counted_mark _ _ n (omega arith) h
+by_kind kinds.LevelEnd n h = plain_mark _ n h
+by_kind kinds.Refuse n h = plain_mark _ n h
+
+-- a length that a kind has is that of a mark
+pub length_of_mark : (kind : Kind) (n : ℕ) → (shape kind).has_length n ≡ true → IsLengthOfMark kind n
+length_of_mark kind n h = let x = by_kind kind n h in record { mark = x.mark; is_mark = x.is_mark; long = x.long }
+
+-- and the length of a mark is one that the kind has
+pub has_length_of_mark : (kind : Kind) (n : ℕ) → IsLengthOfMark kind n → (shape kind).has_length n ≡ true
+has_length_of_mark kind n h = rw h.long ((is_shape kind).lengths h.mark h.is_mark)

@@ -1,0 +1,17 @@
+pub mod Bytes
+pub mod Fields
+pub mod Repeated
+pub mod Counting
+pub mod Shapes
+pub mod Receiving
+pub mod Whole
+pub mod Putting
+pub mod Unique
+pub mod Same
+pub mod ReadingLaws
+pub mod Answering
+pub mod Asking
+pub mod Made
+pub mod ReadsBack
+pub mod Lengths
+pub mod Longest

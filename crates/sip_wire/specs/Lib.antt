@@ -1,0 +1,10 @@
+pub mod Table
+pub mod Values
+pub mod Spelling
+pub mod Rows
+pub mod Reading
+pub mod Faults
+pub mod Decoding
+pub mod Frames
+pub mod Transcript
+pub mod Examples

@@ -1,0 +1,261 @@
+-- The table of frames: which byte stands for each kind, where it may stand, and the fields of its body. A frame is the byte of
+-- its kind, the length of the body in two bytes, and the body.
+use Rattle.std.specs.Prelude.{◌≡◌, ℕ, zero, suc, ◌+◌, ◌*◌, ◌-◌, ◌%◌, ◌^◌, nat_abs, Bool, true, false, not, ◌&&◌, ◌==◌, nat_lt, nat_le, List, [], ◌∷◌, ◌++◌, find, Option}
+use Rattle.std.specs.Int.{w64, cast_signed}
+use Rattle.std.specs.List.{list_any}
+use Rattle.sip_field.specs.Moduli.{m61_modulus}
+use Rattle.sip_wire.specs.declared.kind.Kind.{Kind}
+use Rattle.sip_wire.specs.declared.kind.Kind.TheVariants as kinds
+use Rattle.sip_wire.specs.declared.kind.Place.{Place}
+use Rattle.sip_wire.specs.declared.kind.Place.TheVariants as places
+
+-- the byte of a kind
+abbrev pub byte_of : Kind → ℕ
+byte_of kinds.Open = 0x01
+byte_of kinds.Updates = 0x02
+byte_of kinds.EndStream = 0x03
+byte_of kinds.Query = 0x04
+byte_of kinds.Reveal = 0x05
+byte_of kinds.Bye = 0x06
+byte_of kinds.Claim = 0x11
+byte_of kinds.Poly = 0x12
+byte_of kinds.Entries = 0x13
+byte_of kinds.Siblings = 0x14
+byte_of kinds.Leaves = 0x15
+byte_of kinds.Nodes = 0x16
+byte_of kinds.LevelEnd = 0x17
+byte_of kinds.Refuse = 0x18
+
+-- each kind
+abbrev pub all_kinds : List Kind
+all_kinds = kinds.Open ∷ kinds.Updates ∷ kinds.EndStream ∷ kinds.Query ∷ kinds.Reveal ∷ kinds.Bye ∷ kinds.Claim ∷ kinds.Poly ∷ kinds.Entries ∷ kinds.Siblings ∷ kinds.Leaves ∷ kinds.Nodes ∷ kinds.LevelEnd ∷ kinds.Refuse ∷ []
+
+-- the kind that a byte stands for
+abbrev pub kind_at : ℕ → Option Kind
+kind_at byte = find (λ kind. byte == byte_of kind) all_kinds
+
+-- which kinds may stand at a place
+abbrev pub allows : Place → Kind → Bool
+allows places.ToHelper kinds.Open = true
+allows places.ToHelper kinds.Updates = true
+allows places.ToHelper kinds.EndStream = true
+allows places.ToHelper kinds.Query = true
+allows places.ToHelper kinds.Reveal = true
+allows places.ToHelper kinds.Bye = true
+allows places.ToHelper _ = false
+allows places.ToVerifier kinds.Open = false
+allows places.ToVerifier kinds.Updates = false
+allows places.ToVerifier kinds.EndStream = false
+allows places.ToVerifier kinds.Query = false
+allows places.ToVerifier kinds.Reveal = false
+allows places.ToVerifier kinds.Bye = false
+allows places.ToVerifier _ = true
+allows places.Entries kinds.Entries = true
+allows places.Entries kinds.Siblings = true
+allows places.Siblings kinds.Siblings = true
+allows places.Claim kinds.Claim = true
+allows places.Poly kinds.Poly = true
+allows places.Leaves kinds.Leaves = true
+allows places.Leaves kinds.LevelEnd = true
+allows places.Nodes kinds.Nodes = true
+allows places.Nodes kinds.LevelEnd = true
+allows _ kinds.Refuse = true
+allows _ _ = false
+
+-- ---- numbers
+
+-- how many bytes an index has, of an item or of a node
+abbrev pub index_width : ℕ
+index_width = 4
+
+-- the version of the talk
+abbrev pub version : ℕ
+version = 1
+
+-- the greatest depth of a talk in this version
+abbrev pub most_depth : ℕ
+most_depth = 32
+
+-- the codes of a refusal are 1 to 4
+abbrev pub most_refusal : ℕ
+most_refusal = 4
+
+-- how many updates, entries or leaves a frame has at most
+abbrev pub most_rows : ℕ
+most_rows = 512
+
+-- how many nodes it has at most
+abbrev pub most_nodes : ℕ
+most_nodes = 256
+
+-- the greatest absolute value of a claim and of an entry
+abbrev pub most_claim : ℕ
+most_claim = 2 ^ 60 - 1
+
+-- the greatest threshold
+abbrev pub most_threshold : ℕ
+most_threshold = 2 ^ 63 - 1
+
+-- how many bytes a body has at most, that of updates in full, and the frame around it
+abbrev pub longest_body : ℕ
+longest_body = 6658
+
+abbrev pub longest_frame : ℕ
+longest_frame = 6661
+
+-- a residue modulo 2^61 - 1
+abbrev pub is_element : ℕ → Bool
+is_element n = nat_lt n m61_modulus
+
+-- the two's complement of a signed number that a claim may be
+abbrev pub is_small : ℕ → Bool
+is_small n = nat_le (nat_abs (cast_signed w64 n)) most_claim
+
+-- ---- fields
+
+-- a field of a body: its width in bytes, and which numbers it may hold
+pub record Field : Type 0 where
+  pub width : ℕ
+  pub holds : ℕ → Bool
+
+-- a field by its parts
+abbrev pub field : ℕ → (ℕ → Bool) → Field
+field width holds = record { width = width; holds = holds }
+
+-- a number from `least` to `most`
+abbrev pub ranging : ℕ → ℕ → ℕ → Field
+ranging width least most = field width (λ n. nat_le least n && nat_le n most)
+
+-- an item, or the index of an entry or a node
+abbrev pub index : Field
+index = field index_width (λ _. true)
+
+-- 0 or 1
+abbrev pub side : Field
+side = ranging 1 0 1
+
+-- an element of the field
+abbrev pub element : Field
+element = field 8 is_element
+
+-- a record of the stream: its side, its item and its delta
+abbrev pub update_fields : List Field
+update_fields = side ∷ index ∷ field 8 (λ n. not (n == 0)) ∷ []
+
+-- an entry: its index and its value
+abbrev pub entry_fields : List Field
+entry_fields = index ∷ field 8 (λ n. not (n == 0) && is_small n) ∷ []
+
+-- an item and its count
+abbrev pub leaf_fields : List Field
+leaf_fields = index ∷ element ∷ []
+
+-- a node's index, hash and count
+abbrev pub node_fields : List Field
+node_fields = index ∷ element ∷ element ∷ []
+
+-- the codes of the queries
+abbrev pub query_codes : List ℕ
+query_codes = 1 ∷ 2 ∷ 3 ∷ 4 ∷ 5 ∷ []
+
+-- the flags of siblings
+abbrev pub sibling_flags : List ℕ
+sibling_flags = 0 ∷ 1 ∷ 2 ∷ 3 ∷ []
+
+-- the fields behind the code of a query: the sub-vector, the range, the second moment, the inner product, the heavy items
+abbrev pub query_fields : ℕ → List Field
+query_fields (suc zero) = index ∷ index ∷ []
+query_fields (suc (suc zero)) = side ∷ index ∷ index ∷ []
+query_fields (suc (suc (suc zero))) = side ∷ []
+query_fields (suc (suc (suc (suc (suc zero))))) = side ∷ ranging 8 1 most_threshold ∷ []
+query_fields _ = []
+
+-- the fields behind the flags of siblings: the left one at bit 0, the right one at bit 1
+abbrev pub sibling_fields : ℕ → List Field
+sibling_fields (suc zero) = element ∷ []
+sibling_fields (suc (suc zero)) = element ∷ []
+sibling_fields (suc (suc (suc zero))) = element ∷ element ∷ []
+sibling_fields _ = []
+
+-- the fields of so many rows
+abbrev pub repeat : ℕ → List Field → List Field
+repeat zero fields = []
+repeat (suc n) fields = fields ++ repeat n fields
+
+-- how many bytes fields take
+abbrev pub size : List Field → ℕ
+size [] = 0
+size (f ∷ fs) = f.width + size fs
+
+-- ---- shapes
+
+-- What bodies look like. A body begins with a mark, in so many bytes: a count, the code of a query or the flags of
+-- siblings. The mark of the other kinds is 0 and takes none. Behind it stand the fields that go with the mark.
+-- `in_order` is what is asked of several numbers at once, and `has_length` says which lengths the marks give a body.
+pub record Shape : Type 0 where
+  pub mark_width : ℕ
+  pub is_mark : ℕ → Bool
+  pub fields : ℕ → List Field
+  pub in_order : ℕ → List ℕ → Bool
+  pub has_length : ℕ → Bool
+
+-- one of a few marks of one byte, and the fields that go with it
+abbrev pub marked : List ℕ → (ℕ → List Field) → (ℕ → List ℕ → Bool) → Shape
+marked marks fields in_order = record {
+  mark_width = 1;
+  is_mark = λ n. list_any (λ mark. n == mark) marks;
+  fields = fields;
+  in_order = in_order;
+  has_length = λ n. list_any (λ mark. n == 1 + size (fields mark)) marks;
+}
+
+-- the same fields in each body
+abbrev pub plain : List Field → Shape
+plain fs = record { mark_width = 0; is_mark = λ n. n == 0; fields = λ _. fs; in_order = λ _ _. true; has_length = λ n. n == size fs }
+
+-- a count from 1 to `most` in two bytes, and that many rows
+abbrev pub counted : ℕ → List Field → Shape
+counted most layout = record {
+  mark_width = 2;
+  is_mark = λ n. nat_le 1 n && nat_le n most;
+  fields = λ n. repeat n layout;
+  in_order = λ _ _. true;
+  has_length = λ n. nat_le (2 + size layout) n && nat_le n (2 + most * size layout) && ((n - 2) % size layout == 0);
+}
+
+-- the ends of an interval are in order
+abbrev pub ends_in_order : ℕ → List ℕ → Bool
+ends_in_order (suc zero) (lo ∷ hi ∷ []) = nat_le lo hi
+ends_in_order (suc (suc zero)) (_ ∷ lo ∷ hi ∷ []) = nat_le lo hi
+ends_in_order _ _ = true
+
+-- the code of a query, and its fields
+abbrev pub query_shape : Shape
+query_shape = marked query_codes query_fields ends_in_order
+
+-- flags, and the siblings that are present
+abbrev pub siblings_shape : Shape
+siblings_shape = marked sibling_flags sibling_fields (λ _ _. true)
+
+-- what bodies of each kind look like
+abbrev pub shape : Kind → Shape
+shape kinds.Open = plain (ranging 1 version version ∷ ranging 1 1 most_depth ∷ [])
+shape kinds.Updates = counted most_rows update_fields
+shape kinds.EndStream = plain []
+shape kinds.Query = query_shape
+shape kinds.Reveal = plain (element ∷ [])
+shape kinds.Bye = plain []
+shape kinds.Claim = plain (field 8 is_small ∷ [])
+shape kinds.Poly = plain (element ∷ element ∷ element ∷ [])
+shape kinds.Entries = counted most_rows entry_fields
+shape kinds.Siblings = siblings_shape
+shape kinds.Leaves = counted most_rows leaf_fields
+shape kinds.Nodes = counted most_nodes node_fields
+shape kinds.LevelEnd = plain []
+shape kinds.Refuse = plain (ranging 1 1 most_refusal ∷ [])
+
+-- a body of this kind is so long with some mark
+pub record IsLengthOfMark (kind : Kind) (n : ℕ) : Type 0 where
+  pub mark : ℕ
+  pub is_mark : (shape kind).is_mark mark ≡ true
+  pub long : n ≡ (shape kind).mark_width + size ((shape kind).fields mark)

@@ -1,0 +1,36 @@
+//! Worked examples of the definitions: each holds by computation.
+#![tactic(auto, unfolding(crate::specs::Spelling::in_bytes, crate::specs::Spelling::spelled, crate::specs::Spelling::numbers_in, crate::specs::Spelling::has_room, crate::specs::Spelling::all_hold, crate::specs::Spelling::body_fault, crate::specs::Spelling::fits, crate::specs::Spelling::spelling, crate::specs::Spelling::kind_fault, crate::specs::Spelling::frame_fault, crate::specs::Spelling::asked, crate::specs::Reading::read_frame, crate::specs::Transcript::ask_bytes))]
+
+ghost use Rattle.std.specs.Prelude.{◌≡◌, ℕ, List, [], ◌∷◌, ◌++◌};
+ghost use Rattle.sip_vector.specs.declared.query.Query.TheVariants as queries;
+ghost use Rattle.sip_wire.specs.Examples.{AreSpelled, sent, items_replies, moment_replies, heavy_replies};
+ghost use Rattle.sip_wire.specs.Transcript.{transcript};
+
+/// What the verifier sends in the worked talk is spelled by its bytes, and read back off them.
+pub fn sent_are_spelled()
+    ensures { (rest : List ℕ) → AreSpelled sent rest }
+{}
+
+/// So are the replies to its query for items.
+pub fn items_replies_are_spelled()
+    ensures { (rest : List ℕ) → AreSpelled items_replies rest }
+{}
+
+/// So are the replies to a query for the second moment.
+pub fn moment_replies_are_spelled()
+    ensures { (rest : List ℕ) → AreSpelled moment_replies rest }
+{}
+
+/// So are the replies to a query for heavy items.
+pub fn heavy_replies_are_spelled()
+    ensures { (rest : List ℕ) → AreSpelled heavy_replies rest }
+{}
+
+/// The transcript of the worked talk: its head, the query and both challenges, and then the replies.
+pub fn transcript_of_the_talk()
+    ensures { (replies : List ℕ) → transcript 2 ((queries.Sub 1 2, 2 ∷ 10 ∷ []) ∷ []) replies
+        ≡ 0x53 ∷ 0x49 ∷ 0x50 ∷ 0x54 ∷ 1 ∷ 2 ∷ 1
+        ∷ 0x04 ∷ 0 ∷ 9 ∷ 1 ∷ 0 ∷ 0 ∷ 0 ∷ 1 ∷ 0 ∷ 0 ∷ 0 ∷ 2
+        ∷ 0 ∷ 0 ∷ 0 ∷ 0 ∷ 0 ∷ 0 ∷ 0 ∷ 2
+        ∷ 0 ∷ 0 ∷ 0 ∷ 0 ∷ 0 ∷ 0 ∷ 0 ∷ 10 ∷ replies }
+{}

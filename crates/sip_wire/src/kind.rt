@@ -1,0 +1,162 @@
+//! The kinds of message, and where each may stand. A refusal may stand wherever a reply is awaited.
+
+ghost use Rattle.std.specs.Prelude.{◌≡◌, ◌<◌, ◌≤◌, ◌^◌, ◌+◌, IsTrue, ◌*◌, ◌-◌, ◌%◌, ◌==◌, ◌&&◌, nat_le};
+ghost use Rattle.sip_wire.specs.Table.{byte_of, kind_at, allows, shape, longest_body};
+
+use crate::message::{Leaf, MOST_NODES, MOST_ROWS, Node};
+use crate::row::Row;
+use sip_vector::{Entry, Update};
+
+/// What a frame's first byte says.
+#[derive(Clone, Copy, Debug, PartialEq, Eq)]
+pub enum Kind {
+    Open,
+    Updates,
+    EndStream,
+    Query,
+    Reveal,
+    Bye,
+    Claim,
+    Poly,
+    Entries,
+    Siblings,
+    Leaves,
+    Nodes,
+    LevelEnd,
+    Refuse,
+}
+
+/// Where a message is awaited, and so which kinds may stand there.
+#[derive(Clone, Copy, Debug, PartialEq, Eq)]
+pub enum Place {
+    /// Whatever goes to the helper.
+    ToHelper,
+    /// Whatever comes from the helper.
+    ToVerifier,
+    /// Entries, and the siblings behind them.
+    Entries,
+    /// Siblings.
+    Siblings,
+    /// The claim of a sum.
+    Claim,
+    /// A round polynomial.
+    Poly,
+    /// Leaves, and the end of their level.
+    Leaves,
+    /// Nodes, and the end of their level.
+    Nodes,
+}
+
+impl Kind {
+    /// The byte that stands for the kind.
+    pub fn byte(self) -> u8
+        ensures { result ≡ byte_of self }
+    {
+        match self {
+            Kind::Open => 0x01,
+            Kind::Updates => 0x02,
+            Kind::EndStream => 0x03,
+            Kind::Query => 0x04,
+            Kind::Reveal => 0x05,
+            Kind::Bye => 0x06,
+            Kind::Claim => 0x11,
+            Kind::Poly => 0x12,
+            Kind::Entries => 0x13,
+            Kind::Siblings => 0x14,
+            Kind::Leaves => 0x15,
+            Kind::Nodes => 0x16,
+            Kind::LevelEnd => 0x17,
+            Kind::Refuse => 0x18,
+        }
+    }
+
+    /// The kind that a byte stands for.
+    pub fn of(byte: u8) -> Option<Kind>
+        ensures { result ≡ kind_at byte }
+    {
+        Some(match byte {
+            0x01 => Kind::Open,
+            0x02 => Kind::Updates,
+            0x03 => Kind::EndStream,
+            0x04 => Kind::Query,
+            0x05 => Kind::Reveal,
+            0x06 => Kind::Bye,
+            0x11 => Kind::Claim,
+            0x12 => Kind::Poly,
+            0x13 => Kind::Entries,
+            0x14 => Kind::Siblings,
+            0x15 => Kind::Leaves,
+            0x16 => Kind::Nodes,
+            0x17 => Kind::LevelEnd,
+            0x18 => Kind::Refuse,
+            _ => return None,
+        })
+    }
+
+    /// Whether a body of this kind may be so long.
+    pub fn has_length(self, length: usize) -> bool
+        ensures answer { result ≡ (shape self).has_length length }
+        ensures short { IsTrue result → length ≤ longest_body }
+    {
+        match self {
+            Kind::Open => length == 2,
+            Kind::Updates => is_counted(length, MOST_ROWS, Update::size()),
+            Kind::Query => length == 1 || length == 2 || length == 9 || length == 10,
+            Kind::Reveal | Kind::Claim => length == 8,
+            Kind::Poly => length == 24,
+            Kind::Entries => is_counted(length, MOST_ROWS, Entry::size()),
+            Kind::Leaves => is_counted(length, MOST_ROWS, Leaf::size()),
+            Kind::Siblings => length == 1 || length == 9 || length == 17,
+            Kind::Nodes => is_counted(length, MOST_NODES, Node::size()),
+            Kind::Refuse => length == 1,
+            Kind::EndStream | Kind::Bye | Kind::LevelEnd => length == 0,
+        }
+    }
+}
+
+/// Whether a body that begins with a count from 1 to `most`, of rows of so many bytes, may be so long.
+fn is_counted(length: usize, most: usize, row: usize) -> bool
+    requires most { most < 2 ^ 16 }
+    requires row { row < 2 ^ 16 }
+    requires some { 0 < row }
+    ensures { result ≡ (nat_le (2 + row) length && nat_le length (2 + most * row) && ((length - 2) % row == 0)) }
+{
+    length >= 2 + row && length <= 2 + most * row && (length - 2) % row == 0
+}
+
+impl Place {
+    /// Whether a message of this kind may stand here.
+    pub fn allows(self, kind: Kind) -> bool
+        ensures { result ≡ allows self kind }
+    {
+        match (self, kind) {
+            (
+                Place::ToHelper,
+                Kind::Open
+                | Kind::Updates
+                | Kind::EndStream
+                | Kind::Query
+                | Kind::Reveal
+                | Kind::Bye,
+            ) => true,
+            (
+                Place::ToVerifier,
+                Kind::Claim
+                | Kind::Poly
+                | Kind::Entries
+                | Kind::Siblings
+                | Kind::Leaves
+                | Kind::Nodes
+                | Kind::LevelEnd
+                | Kind::Refuse,
+            ) => true,
+            (Place::Entries, Kind::Entries | Kind::Siblings | Kind::Refuse) => true,
+            (Place::Siblings, Kind::Siblings | Kind::Refuse) => true,
+            (Place::Claim, Kind::Claim | Kind::Refuse) => true,
+            (Place::Poly, Kind::Poly | Kind::Refuse) => true,
+            (Place::Leaves, Kind::Leaves | Kind::LevelEnd | Kind::Refuse) => true,
+            (Place::Nodes, Kind::Nodes | Kind::LevelEnd | Kind::Refuse) => true,
+            _ => false,
+        }
+    }
+}

@@ -1,0 +1,54 @@
+//! Messages of the talk, each with its one spelling as a frame.
+//!
+//! A frame is the kind (1 byte), the length of the body (2 bytes) and the body, numbers with the high byte first. [`encode`]
+//! writes the one spelling of a message in one piece, and [`decode`] receives exactly one frame into a [`Frame`] and answers its
+//! message or its first fault. [`put_head`] and [`put_ask`] write the two parts of a transcript's head. Only [`Frame::new`] takes
+//! memory.
+//!
+//! # What is proved
+//!
+//! - `encode` sends `spelling` of the message, or after a fault of the sink a shorter front of it.
+//! - `decode` answers a message exactly where the bytes that it received are the message's spelling and the place allows its
+//!   kind, and else the fault that `read_frame` gives for these bytes. It receives no byte that the answer does not need.
+//! - No spelling begins another, a spelling is read as its message whatever follows, and what is read is spelled in front of the
+//!   bytes ([`laws`]).
+//! - The frames of a whole talk by hand are the spellings of their messages ([`examples`]).
+//!
+//! # The definitions to read
+//!
+//! `specs/Table.antt` says which kinds there are and what their bodies look like: a wider index or another length changes this
+//! table and no proof over shapes. `specs/Spelling.antt` has `fits`, `spelling` and the first fault of bytes, `specs/Reading.antt`
+//! `read_frame`, the message at the front of bytes or their fault, `specs/Decoding.antt` `Decodes`, what a call of `decode` did by
+//! the bytes that it received, and `specs/Transcript.antt` the transcript. The laws of `read_frame` that a proof cites stand in
+//! `proofs/ReadingLaws.antt` and `proofs/ReadsBack.antt`.
+//!
+//! `fits`, `spelling` and `read_frame` compute at a message or at bytes that are written out. A crate that states such a row
+//! proves it by unfolding, of `specs::Spelling`, `in_bytes`, `spelled`, `numbers_in`, `has_room`, `all_hold`, `body_fault`,
+//! `fits`, `spelling`, `kind_fault`, `frame_fault` and `asked`, of `specs::Reading`, `read_frame`, and, of `specs::Transcript`,
+//! `ask_bytes`: the file of [`examples`] shows the attribute.
+#![tactic(auto)]
+
+mod decoding;
+mod encoding;
+pub mod examples;
+mod fitting;
+mod frame;
+mod kind;
+pub mod laws;
+mod message;
+mod numbers;
+mod reading;
+mod row;
+mod rows;
+mod transcript;
+mod writing;
+
+pub use decoding::decode;
+pub use encoding::encode;
+pub use frame::{Frame, LONGEST_FRAME};
+pub use kind::Place;
+pub use message::{Leaf, MOST_NODES, MOST_ROWS, Message, Node, Reason, WireFault};
+pub use transcript::{put_ask, put_head};
+
+#[cfg(test)]
+mod tests;

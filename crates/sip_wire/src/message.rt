@@ -1,0 +1,152 @@
+//! What the two ends say to each other.
+
+use arrayvec::ArrayVec;
+use sip_ports::PortStop;
+use sip_vector::{Entry, Query, Update};
+
+/// The version of the talk.
+pub const VERSION: u8 = 1;
+
+/// The greatest depth of a talk.
+pub const MOST_DEPTH: u8 = 32;
+
+/// How many updates, entries or leaves a frame has at most.
+pub const MOST_ROWS: usize = 512;
+
+/// How many nodes a frame has at most.
+pub const MOST_NODES: usize = 256;
+
+/// The greatest code of a refusal; the least is 1.
+pub const MOST_REFUSAL: u8 = 4;
+
+/// An item, below 2^32, and its count, below 2^61 - 1.
+#[derive(Clone, Copy, Debug, PartialEq, Eq, Default)]
+pub struct Leaf {
+    pub item: u64,
+    pub count: u64,
+}
+
+/// A node of a level, by its index, below 2^32, its hash and its count, both below 2^61 - 1.
+#[derive(Clone, Copy, Debug, PartialEq, Eq, Default)]
+pub struct Node {
+    pub index: u64,
+    pub hash: u64,
+    pub count: u64,
+}
+
+/// What one frame says. The first six go to the helper, and the others come from it.
+#[derive(Drop)]
+pub enum Message {
+    /// The talk begins, in a version and over 2^depth items.
+    Open {
+        version: u8,
+        depth: u8,
+    },
+    /// Records of the stream, one at least.
+    Updates(ArrayVec<Update, MOST_ROWS>),
+    /// The stream ended.
+    EndStream,
+    /// A query is asked.
+    Query(Query),
+    /// The challenge of the level that was answered, an element of the field.
+    Reveal {
+        challenge: u64,
+    },
+    /// The talk ends.
+    Bye,
+    /// What a sum is claimed to be, of absolute value at most 2^60 - 1.
+    Claim {
+        value: i64,
+    },
+    /// A round polynomial, c0 + c1·x + c2·x², by elements of the field.
+    Poly {
+        c0: u64,
+        c1: u64,
+        c2: u64,
+    },
+    /// Entries that are not 0, one at least.
+    Entries(ArrayVec<Entry, MOST_ROWS>),
+    /// The nodes of a level beside an interval, those that are asked for, by elements of the field.
+    Siblings {
+        left: Option<u64>,
+        right: Option<u64>,
+    },
+    /// Nodes of the lowest level, one at least.
+    Leaves(ArrayVec<Leaf, MOST_ROWS>),
+    /// Nodes of a level above, one at least.
+    Nodes(ArrayVec<Node, MOST_NODES>),
+    /// No more nodes of the level come.
+    LevelEnd,
+    /// The helper refuses, with a code from 1 to 4.
+    Refuse {
+        code: u8,
+    },
+}
+
+/// Why no message was received, the faults of the bytes in the order in which they are tested.
+#[derive(Clone, Copy, Debug, PartialEq, Eq)]
+pub enum WireFault {
+    /// The link ended inside the frame.
+    Closed,
+    /// The kind may not stand at this place.
+    BadKind,
+    /// The length is none that the kind has.
+    BadLength,
+    /// The count, the code or the flags do not fit the length.
+    BadCount,
+    /// A number is outside the range of its field.
+    BadNumber,
+    /// The link failed.
+    PeerFault,
+    /// The link ran out of memory.
+    OutOfMemory,
+}
+
+impl From<PortStop> for WireFault {
+    ghost use Rattle.std.specs.Prelude.{◌≡◌};
+    ghost use Rattle.sip_wire.specs.Faults.{fault_of_stop};
+
+    ghost from_gives = { λ stop fault. fault ≡ fault_of_stop stop };
+
+    fn from(stop: PortStop) -> Self {
+        match stop {
+            PortStop::Failed => WireFault::PeerFault,
+            PortStop::OutOfMemory => WireFault::OutOfMemory,
+        }
+    }
+}
+
+/// Why a reply is rejected, in the order in which a message is tested.
+#[derive(Clone, Copy, Debug, PartialEq, Eq)]
+pub enum Reason {
+    /// The link ended inside the reply.
+    Closed,
+    /// The kind may not stand at this place.
+    BadKind,
+    /// The length is none that the kind has.
+    BadLength,
+    /// The count, the code or the flags do not fit the length.
+    BadCount,
+    /// A number is outside the range of its field.
+    BadNumber,
+    /// The helper refused, with this code.
+    Refused(u8),
+    /// An index is not above the one before, or outside the interval or the level, or already known.
+    BadOrder,
+    /// There are more entries or nodes than an answer may have.
+    TooMany,
+    /// The siblings present are not those that the interval asks for.
+    BadFlags,
+    /// A received node is heavy.
+    HeavySibling,
+    /// A node has no sibling, or the last level has none.
+    Pairs,
+    /// A pair is light.
+    LightParent,
+    /// A round polynomial does not sum to the expected value.
+    Sum,
+    /// A count is not the total, or above it.
+    Total,
+    /// The value at the end is not the verifier's own.
+    Root,
+}

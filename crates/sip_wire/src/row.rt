@@ -1,0 +1,237 @@
+//! A row of numbers: an update, an entry, a leaf or a node.
+#![tactic(auto, using(std::proofs::lemmas::Grind::common_steps), unfolding(crate::specs::Spelling::numbers_in, crate::specs::Spelling::all_hold, crate::specs::Spelling::has_room, crate::specs::Spelling::spelled))]
+
+ghost use Rattle.std.specs.Prelude.{◌≡◌, ◌≤◌, refl, ◌^◌, ◌<◌, ◌+◌, ◌++◌, ◌&&◌, ℕ, List, true, false, length, drop, IfSome, IfNone, FitsSigned, ⊤};
+ghost use Rattle.std.specs.Int.{w64};
+ghost use Rattle.arrayvec.specs.ArrayVec.{array_vec_len};
+ghost use Rattle.sip_wire.specs.Table.{Field, size, longest_frame, update_fields, entry_fields, leaf_fields, node_fields};
+ghost use Rattle.sip_wire.specs.Spelling.{numbers_in, all_hold, has_room, spelled, side_number, update_numbers, entry_numbers, leaf_numbers, node_numbers};
+
+use crate::message::{Leaf, Node};
+use crate::numbers::{
+    Bytes, is_element, is_small, put_u8, put_u32, put_u64, take_u8, take_u32, take_u64,
+};
+use sip_vector::{Entry, Side, Update};
+
+/// How many indices there are.
+pub const INDICES: u64 = 1 << 32;
+
+/// What stands in a frame as a row of numbers.
+pub trait Row: Copy + Default {
+    ghost layout: { List Field };
+
+    ghost said: { Self → List ℕ };
+
+    /// Its signed numbers are values of their type.
+    ghost in_range: { Self → Type 0 };
+
+    /// How many bytes a row has.
+    fn size() -> usize
+        ensures exact { result ≡ size layout }
+        ensures some { 0 < result }
+        ensures narrow { result < 2 ^ 16 };
+
+    /// The row at the front of these bytes and what follows, if each number is one that its field may hold.
+    fn take(bytes: &[u8]) -> Option<(Self, &[u8])>
+        requires { size layout ≤ length bytes.now }
+        ensures said { IfSome result (λ x. said x.0 ≡ numbers_in layout bytes.now) }
+        ensures rest { IfSome result (λ x. x.1.now ≡ drop (size layout) bytes.now) }
+        ensures some { IfSome result (λ x. all_hold layout (numbers_in layout bytes.now) ≡ true) }
+        ensures in_range { IfSome result (λ x. in_range x.0) }
+        ensures none { IfNone result (all_hold layout (numbers_in layout bytes.now) ≡ false) };
+
+    /// Whether each number has room in its field, and is one that it may hold.
+    fn fits(&self) -> bool
+        ensures { result ≡ (has_room layout (said self.now) && all_hold layout (said self.now)) };
+
+    /// Appends the row's bytes.
+    fn put(&self, out: &mut Bytes)
+        requires fits { has_room layout (said self.now) ≡ true }
+        requires room { array_vec_len out.old + size layout ≤ longest_frame }
+        ensures bytes { out.new.items ≡ out.old.items ++ spelled layout (said self.now) }
+        ensures len { array_vec_len out.new ≡ array_vec_len out.old + size layout };
+
+    ghost one_each: { (x : Self) → length (said x) ≡ length layout };
+}
+
+/// The side that a number stands for.
+pub fn side_of(number: u8) -> Side
+    requires { number < 2 }
+    ensures { side_number result ≡ number }
+{
+    if number == 0 {
+        Side::First
+    } else {
+        Side::Second
+    }
+}
+
+/// The number that stands for a side.
+pub fn number_of(side: Side) -> u8
+    ensures { result ≡ side_number side }
+{
+    match side {
+        Side::First => 0,
+        Side::Second => 1,
+    }
+}
+
+impl Row for Update {
+    ghost layout = { update_fields };
+
+    ghost said = { update_numbers };
+
+    ghost in_range = { λ x. FitsSigned w64 x.delta };
+
+    ghost one_each = { λ x. refl };
+
+    fn size() -> usize {
+        13
+    }
+
+    fn take(bytes: &[u8]) -> Option<(Self, &[u8])> {
+        let (side, rest) = take_u8(bytes);
+        let (item, rest) = take_u32(rest);
+        let (delta, rest) = take_u64(rest);
+        if side > 1 || delta == 0 {
+            return None;
+        }
+        Some((
+            Update {
+                side: side_of(side),
+                item: item as u64,
+                delta: delta.cast_signed(),
+            },
+            rest,
+        ))
+    }
+
+    fn fits(&self) -> bool {
+        let delta = self.delta.cast_unsigned();
+        self.item < INDICES && delta != 0
+    }
+
+    fn put(&self, out: &mut Bytes) {
+        put_u8(out, number_of(self.side));
+        put_u32(out, self.item as u32);
+        put_u64(out, self.delta.cast_unsigned());
+    }
+}
+
+impl Row for Entry {
+    ghost layout = { entry_fields };
+
+    ghost said = { entry_numbers };
+
+    ghost in_range = { λ x. FitsSigned w64 x.value };
+
+    ghost one_each = { λ x. refl };
+
+    fn size() -> usize {
+        12
+    }
+
+    fn take(bytes: &[u8]) -> Option<(Self, &[u8])> {
+        let (index, rest) = take_u32(bytes);
+        let (value, rest) = take_u64(rest);
+        if value == 0 || !is_small(value) {
+            return None;
+        }
+        Some((
+            Entry {
+                index: index as u64,
+                value: value.cast_signed(),
+            },
+            rest,
+        ))
+    }
+
+    fn fits(&self) -> bool {
+        let value = self.value.cast_unsigned();
+        self.index < INDICES && value != 0 && is_small(value)
+    }
+
+    fn put(&self, out: &mut Bytes) {
+        put_u32(out, self.index as u32);
+        put_u64(out, self.value.cast_unsigned());
+    }
+}
+
+impl Row for Leaf {
+    ghost layout = { leaf_fields };
+
+    ghost said = { leaf_numbers };
+
+    ghost in_range = { λ _. ⊤ };
+
+    ghost one_each = { λ x. refl };
+
+    fn size() -> usize {
+        12
+    }
+
+    fn take(bytes: &[u8]) -> Option<(Self, &[u8])> {
+        let (item, rest) = take_u32(bytes);
+        let (count, rest) = take_u64(rest);
+        if !is_element(count) {
+            return None;
+        }
+        Some((
+            Leaf {
+                item: item as u64,
+                count,
+            },
+            rest,
+        ))
+    }
+
+    fn fits(&self) -> bool {
+        self.item < INDICES && is_element(self.count)
+    }
+
+    fn put(&self, out: &mut Bytes) {
+        put_u32(out, self.item as u32);
+        put_u64(out, self.count);
+    }
+}
+
+impl Row for Node {
+    ghost layout = { node_fields };
+
+    ghost said = { node_numbers };
+
+    ghost in_range = { λ _. ⊤ };
+
+    ghost one_each = { λ x. refl };
+
+    fn size() -> usize {
+        20
+    }
+
+    fn take(bytes: &[u8]) -> Option<(Self, &[u8])> {
+        let (index, rest) = take_u32(bytes);
+        let (hash, rest) = take_u64(rest);
+        let (count, rest) = take_u64(rest);
+        if !is_element(hash) || !is_element(count) {
+            return None;
+        }
+        Some((
+            Node {
+                index: index as u64,
+                hash,
+                count,
+            },
+            rest,
+        ))
+    }
+
+    fn fits(&self) -> bool {
+        self.index < INDICES && is_element(self.hash) && is_element(self.count)
+    }
+
+    fn put(&self, out: &mut Bytes) {
+        put_u32(out, self.index as u32);
+        put_u64(out, self.hash);
+        put_u64(out, self.count);
+    }
+}

@@ -1,0 +1,52 @@
+//! The two parts of a transcript's head.
+
+ghost use Rattle.std.specs.Prelude.{◌≤◌, length};
+ghost use Rattle.sip_ports.specs.Ports.{HasCause, SendsWhole};
+ghost use Rattle.sip_vector.specs.Answers.{Fits};
+ghost use Rattle.sip_wire.specs.Transcript.{head_bytes, ask_bytes};
+
+use crate::encoding::put_frame;
+use crate::message::Message;
+use crate::numbers::put_u64;
+use arrayvec::ArrayVec;
+use sip_field::{Field, M61, Seat};
+use sip_ports::{PortStop, Sink, write_whole};
+use sip_vector::{Depth, Query};
+
+/// The version of transcripts.
+const TRANSCRIPT_VERSION: u8 = 1;
+
+/// Writes what a transcript begins with: that it is one, its version, the depth and the number of queries, from 1 to 16.
+/// After an `Err` a part of it was written, and not all.
+pub fn put_head<K: Sink>(depth: Depth, queries: u8, sink: &mut K) -> Result<(), PortStop>
+    requires some { 1 ≤ queries }
+    requires most { queries ≤ 16 }
+    ensures talk { SendsWhole (K.talk sink.old) (K.talk sink.new) result (head_bytes depth queries) }
+    ensures cause { HasCause K.faults K.is_sure sink.old sink.new result }
+{
+    let head = [
+        b'S',
+        b'I',
+        b'P',
+        b'T',
+        TRANSCRIPT_VERSION,
+        depth.get(),
+        queries,
+    ];
+    write_whole(sink, &head)
+}
+
+/// Writes a query that was asked, and its challenges, at once. After an `Err` a part of it was written, and not all.
+pub fn put_ask<K: Sink>(query: &Query, seat: &Seat<M61, 32>, sink: &mut K) -> Result<(), PortStop>
+    requires { Fits (length seat.now) query.now }
+    ensures talk { SendsWhole (K.talk sink.old) (K.talk sink.new) result (ask_bytes query.now seat.now) }
+    ensures cause { HasCause K.faults K.is_sure sink.old sink.new result }
+{
+    let depth = seat.depth();
+    let mut out = ArrayVec::new();
+    put_frame(&Message::Query(*query), &mut out);
+    for level in 0..depth {
+        put_u64(&mut out, seat.at(level + 1).number());
+    }
+    write_whole(sink, &out)
+}
