@@ -1,0 +1,3 @@
+pub mod FirstReply
+pub mod LaterReply
+pub mod Verdicts

@@ -1,0 +1,3 @@
+pub mod AcceptsSub
+pub mod Replies
+pub mod Examples
