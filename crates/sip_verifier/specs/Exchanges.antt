@@ -1,0 +1,49 @@
+-- What one call moved through its ports.
+use Rattle.std.specs.Prelude.{◌≡◌, ℕ, List, ◌++◌, Option, Some, IsSome, ◌≤◌, length}
+use Rattle.std.specs.Io.KnownBytes.{Consumes}
+use Rattle.sip_ports.specs.declared.port.TalkEvent.{TalkEvent}
+use Rattle.sip_ports.specs.Ports.{outs}
+
+-- what the ports tell at one moment: the bytes to come, and the events so far
+pub record Told : Type 0 where
+  pub first : Option (List ℕ)
+  pub second : Option (List ℕ)
+  pub talk : Option (List TalkEvent)
+  pub report : Option (List TalkEvent)
+
+abbrev pub told : Option (List ℕ) → Option (List ℕ) → Option (List TalkEvent) → Option (List TalkEvent) → Told
+told first second talk report = record { first = first; second = second; talk = talk; report = report }
+
+-- each port tells
+pub record IsTold (t : Told) : Type 0 where
+  pub first : IsSome t.first
+  pub second : IsSome t.second
+  pub talk : IsSome t.talk
+  pub report : IsSome t.report
+
+-- What there was to read, and what was said and written.
+pub record Exchange : Type 0 where
+  -- the bytes that `first` had to give, and those that it still has
+  pub stream : List ℕ
+  pub unread : List ℕ
+  -- the bytes that `second` had to give
+  pub seed : List ℕ
+  -- the events that are new on the link, and the bytes that are new on the report
+  pub talk : List TalkEvent
+  pub report : List ℕ
+
+-- the ports tell this exchange by what they told before and what they tell after
+pub record Tells (old new : Told) (x : Exchange) : Type 0 where
+  pub stream : old.first ≡ Some x.stream
+  pub unread : new.first ≡ Some x.unread
+  pub seed : old.second ≡ Some x.seed
+  pub talk : (had : List TalkEvent) × (old.talk ≡ Some had) × (new.talk ≡ Some (had ++ x.talk))
+  pub report : (had : List TalkEvent) × (old.report ≡ Some had) × (new.report ≡ Some (had ++ outs x.report))
+
+-- ys is xs, with more at its end
+abbrev pub IsPrefix : {X : Type 0} → List X → List X → Type 0
+IsPrefix {X} xs ys = (more : List X) × (ys ≡ xs ++ more)
+
+-- of the bytes that were left, at most so many were taken, from the front
+abbrev pub TakesAtMost : ℕ → Option (List ℕ) → Option (List ℕ) → Type 0
+TakesAtMost most old new = (bytes : List ℕ) × (length bytes ≤ most) × Consumes old new bytes

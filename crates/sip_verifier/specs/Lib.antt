@@ -1,0 +1,9 @@
+pub mod Draws
+pub mod Talks
+pub mod Reports
+pub mod Exchanges
+pub mod Turns
+pub mod VerdictClause
+pub mod TalkClause
+pub mod CauseClause
+pub mod Examples

@@ -1,0 +1,61 @@
+-- The talk.
+--
+-- Where every query was accepted, the talk is the whole one, in its order. Where a query's replies have a fault, it is
+-- the talk up to the last byte that the fault needed, followed by the end of the link exactly where that is the fault.
+-- With an illegal stream it ends before the end of the stream is sent: the opening, and a frame for each 512 legal
+-- records. With bad words or a bad seed nothing is said. With any other answer it is a front of that same talk: so each
+-- reply was taken and passed its tests before the next challenge leaves, and the last challenge never leaves; and a
+-- query's line was written before anything is said after its last reply.
+use Rattle.std.specs.Prelude.{◌≡◌, ◌≢◌, ◌==◌, List, [], ◌∷◌, ◌++◌, length, flat_map, option_to_list, Option, IfSome, if◌then◌else◌}
+use Rattle.sip_ports.specs.declared.port.TalkEvent.{TalkEvent}
+use Rattle.sip_subvec.specs.Replies.{Fault}
+use Rattle.sip_verifier.specs.declared.status.Port.TheVariants as ports
+use Rattle.sip_verifier.specs.declared.status.Status.{Status}
+use Rattle.sip_verifier.specs.declared.status.Status.TheVariants as statuses
+use Rattle.sip_verifier.specs.declared.task.Task.{Task}
+use Rattle.sip_verifier.specs.Exchanges.{Exchange, IsPrefix}
+use Rattle.sip_verifier.specs.Talks.{whole_frames, opening_sent, stream_sent, bye_sent}
+use Rattle.sip_verifier.specs.Turns.{Turn, IsFaulty, IsUnfinished, ending, said_in_turn, updates, IsLegalToEnd, Done, turns_of, lines, AreTurns, Reached}
+
+module _ (task : Task) (x : Exchange) where
+  -- the whole talk
+  pub record IsWhole : Type 0 where
+    pub done : Done task x
+    pub all : length done ≡ length task.queries.items
+    pub reached : Reached task x (turns_of task x done) bye_sent
+
+  -- the talk up to a fault
+  pub record EndsAtFault : Type 0 where
+    pub done : Done task x
+    pub last : Turn
+    pub fault : Fault
+    pub faulty : IsFaulty task.depth (updates task x) last fault
+    pub reached : Reached task x (turns_of task x done ++ last ∷ []) (ending fault.reason)
+
+  -- the farewell, which comes once every query was accepted
+  abbrev pub farewell : Done task x → List TalkEvent
+  farewell done = if length done == length task.queries.items then bye_sent else []
+
+  -- what was said while the stream was read
+  abbrev pub before_end : List TalkEvent
+  before_end = opening_sent task.depth (whole_frames (updates task x))
+
+  -- The talk stopped somewhere: it is a front of the talk of some accepted turns and perhaps one that is under way.
+  pub record IsUnderWay : Type 0 where
+    pub done : Done task x
+    pub current : Option Turn
+    pub unfinished : IfSome current IsUnfinished
+    pub turns : x.talk ≢ [] → AreTurns task x (turns_of task x done ++ option_to_list current)
+    pub order : IsPrefix x.talk (stream_sent task.depth (updates task x) ++ flat_map said_in_turn (turns_of task x done ++ option_to_list current) ++ farewell done)
+    pub legal : ¬ IsLegalToEnd task x → IsPrefix x.talk before_end
+    -- what is said after the accepted turns is said only once all their lines were written
+    pub written : ¬ IsPrefix x.talk (stream_sent task.depth (updates task x) ++ flat_map said_in_turn (turns_of task x done)) → x.report ≡ lines task x done
+
+  abbrev pub TalkClause : Status → Type 0
+  TalkClause statuses.Accepted = IsWhole
+  TalkClause statuses.Rejected = EndsAtFault
+  TalkClause (statuses.Usage word) = x.talk ≡ []
+  TalkClause (statuses.BadInput ports.First) = x.talk ≡ before_end
+  TalkClause (statuses.BadInput _) = x.talk ≡ []
+  TalkClause statuses.Fault = IsUnderWay
+  TalkClause statuses.OutOfMemory = IsUnderWay

@@ -1,0 +1,38 @@
+//! Worked examples of the definitions: each holds by computation.
+#![tactic(auto, unfolding(sip_wire::specs::Spelling::spelling, sip_wire::specs::Spelling::in_bytes, sip_wire::specs::Spelling::spelled))]
+
+ghost use Rattle.std.specs.Prelude.{◌≡◌, ◌++◌, [], ◌∷◌, codes, negsuc, pos, length, replicate};
+ghost use Rattle.sip_subvec.specs.Examples.{reply_0, reply_1};
+ghost use Rattle.sip_vector.specs.declared.query.Query.TheVariants as queries;
+ghost use Rattle.sip_vector.specs.declared.update.Side.TheVariants as sides;
+ghost use Rattle.sip_vector.specs.Answers.{pairs, number};
+ghost use Rattle.sip_vector.specs.Examples.{stream};
+ghost use Rattle.sip_verifier.specs.Draws.{blocks};
+ghost use Rattle.sip_verifier.specs.Examples.{whole_talk, two_queries};
+ghost use Rattle.sip_verifier.specs.Reports.{line};
+ghost use Rattle.sip_verifier.specs.Talks.{stream_sent, update_frames, whole_frames, asked, bye_sent};
+
+/// A whole talk of one query is these bytes in this order.
+pub fn talk_of_one_query()
+    ensures { stream_sent 2 stream ++ asked (queries.Sub 1 2) (2 ∷ 10 ∷ []) (reply_0 ∷ reply_1 ∷ []) ++ bye_sent ≡ whole_talk }
+{}
+
+/// An empty stream has no frame of updates, and 513 updates have two frames, of which one is whole.
+pub fn frames_of_updates()
+    ensures none { update_frames [] ≡ [] }
+    ensures two { length (update_frames (replicate 513 (record { side = sides.First; item = 0; delta = pos 1 }))) ≡ 2 }
+    ensures whole { length (whole_frames (replicate 513 (record { side = sides.First; item = 0; delta = pos 1 }))) ≡ 512 }
+{}
+
+/// The lines of answers: pairs, a negative value, none, and a number.
+pub fn lines_of_answers()
+    ensures one { line (queries.Sub 1 2) (pairs (record { index = 2; value = pos 5 } ∷ [])) ≡ codes "sub:1:2 2:5" ++ 10 ∷ [] }
+    ensures two { line (queries.Sub 0 1) (pairs (record { index = 0; value = negsuc 1 } ∷ record { index = 1; value = pos 5 } ∷ [])) ≡ codes "sub:0:1 0:-2 1:5" ++ 10 ∷ [] }
+    ensures none { line (queries.Sub 0 3) (pairs []) ≡ codes "sub:0:3 none" ++ 10 ∷ [] }
+    ensures sum { line (queries.Range sides.First 1 3) (number (pos 6)) ≡ codes "range:0:1:3 6" ++ 10 ∷ [] }
+{}
+
+/// Each query has its own block of challenges.
+pub fn blocks_of_two_queries()
+    ensures { blocks two_queries (7 ∷ 8 ∷ 9 ∷ 10 ∷ []) ≡ (7 ∷ 8 ∷ []) ∷ (9 ∷ 10 ∷ []) ∷ [] }
+{}
