@@ -1,0 +1,72 @@
+-- The word of a query: where its parts stand, and that no two queries share one.
+use Rattle.std.proofs.Common.{◌≡◌, ◌≢◌, ◌↔◌, Bool, true, false, IsTrue, ℕ, ◌^◌, ◌<◌, suc, List, [], ◌∷◌, ◌++◌, length, get_or, Option, Some, Bor, MatchOption, refl, arith}
+use Rattle.std.specs.Prelude.{codes, decimal}
+use Rattle.std.proofs.lemmas.Fmt.{decimal_injective, digits_decimal}
+use Rattle.std.specs.Bool.{then_some}
+use Rattle.std.specs.Str.Pattern.{StripsPrefix, FindsTextPrefix}
+use Rattle.std.proofs.lemmas.Str.Parse.{not_in_digits}
+use Rattle.std.proofs.lemmas.Str.Pattern.{IsSplitOnceResult, split_after, split_parts}
+use Rattle.sip_vector.specs.declared.query.Query.TheVariants.{Sub}
+use Rattle.sip_vector.specs.Answers.{Fits}
+use Rattle.sip_verifier.specs.Reports.{query_word}
+use Rattle.sip_cli.proofs.Decimals.{digits}
+
+-- no element is c
+abbrev pub Lacks : ℕ → List ℕ → Type 0
+Lacks c xs = (i : ℕ) → i < length xs → get_or xs i 0 ≢ c
+
+-- two texts that are cut at their first c are cut alike
+pub same_parts : (c : ℕ) (xs xs' ys ys' : List ℕ) → Lacks c xs → Lacks c xs' → xs ++ c ∷ ys ≡ xs' ++ c ∷ ys' → (xs ≡ xs') × (ys ≡ ys')
+same_parts c [] [] ys ys' none none' same = (refl, cc)
+same_parts c [] (x ∷ xs') ys ys' none none' same = absurd (none' 0 (omega arith) cc)
+same_parts c (x ∷ xs) [] ys ys' none none' same = absurd (none 0 (omega arith) cc)
+same_parts c (x ∷ xs) (x' ∷ xs') ys ys' none none' same =
+    let rest = same_parts c xs xs' ys ys' (λ i h. none (suc i) (omega arith)) (λ i h. none' (suc i) (omega arith)) cc in
+    let first : x ≡ x' = cc in
+    let front = rest.0 in
+    (cc, rest.1)
+
+-- a decimal number has no colon
+pub decimal_lacks_colon : (n : ℕ) → n < 2 ^ 64 → Lacks 58 (decimal n)
+decimal_lacks_colon n small = not_in_digits digits (decimal n) 58 (digits_decimal digits n small) (λ within. omega arith)
+
+-- what follows `sub:`
+abbrev pub bounds : ℕ → ℕ → List ℕ
+bounds lo hi = decimal lo ++ 58 ∷ decimal hi
+
+-- the word of an interval
+pub query_word_sub : (lo hi : ℕ) → query_word (Sub lo hi) ≡ codes "sub:" ++ bounds lo hi
+query_word_sub lo hi = refl
+
+-- two intervals with one word are one
+pub same_interval : (lo hi lo' hi' : ℕ) → lo < 2 ^ 64 → hi < 2 ^ 64 → lo' < 2 ^ 64 → hi' < 2 ^ 64 → query_word (Sub lo hi) ≡ query_word (Sub lo' hi') → (lo ≡ lo') × (hi ≡ hi')
+same_interval lo hi lo' hi' low high low' high' same =
+    let rest : bounds lo hi ≡ bounds lo' hi' = cc in
+    let parts = same_parts 58 (decimal lo) (decimal lo') (decimal hi) (decimal hi') (decimal_lacks_colon lo low) (decimal_lacks_colon lo' low') rest in
+    (decimal_injective lo lo' low low' parts.0, decimal_injective hi hi' high high' parts.1)
+
+-- what `strip_prefix` leaves
+pub stripped : (word rest : List ℕ) → StripsPrefix (FindsTextPrefix (codes "sub:")) word rest → word ≡ codes "sub:" ++ rest
+stripped word rest (n, found, is, _) = rw is found.1
+
+-- the cut at the first colon gives the two numbers
+pub cut : (word rest : List ℕ) (r : Option (Bor (List ℕ) × Bor (List ℕ))) → word ≡ codes "sub:" ++ rest → IsSplitOnceResult 58 rest r → (lo hi : ℕ) → lo < 2 ^ 64 → word ≡ query_word (Sub lo hi) → MatchOption r ⊥ (λ x. (x.0.now ≡ decimal lo) × (x.1.now ≡ decimal hi))
+cut word rest r front split lo hi low same =
+    let behind : rest ≡ bounds lo hi = cc in
+    split_after 58 rest (decimal lo) (decimal hi) r split (omega arith) behind (decimal_lacks_colon lo low)
+
+-- the two parts that the cut gave make the word
+pub joined : (word rest : List ℕ) (x : Bor (List ℕ) × Bor (List ℕ)) → word ≡ codes "sub:" ++ rest → IsSplitOnceResult 58 rest (Some x) → (lo hi : ℕ) → x.0.now ≡ decimal lo → x.1.now ≡ decimal hi → word ≡ query_word (Sub lo hi)
+joined word rest x front split lo hi first second =
+    let parts = split_parts 58 rest (Some x) split (omega arith) in
+    let behind = parts.0 in
+    cc
+
+-- the query of the word, where it fits
+pub chosen : (depth a b : ℕ) (word : List ℕ) (fits : Bool) → a < 2 ^ 64 → b < 2 ^ 64 → IsTrue fits ↔ Fits depth (Sub a b) → word ≡ query_word (Sub a b) → MatchOption (then_some fits (Sub a b)) ((lo hi : ℕ) → hi < 2 ^ 64 → Fits depth (Sub lo hi) → word ≢ query_word (Sub lo hi)) (λ query. (lo : ℕ) × (hi : ℕ) × (query ≡ Sub lo hi) × (hi < 2 ^ 64) × Fits depth query × (word ≡ query_word query))
+chosen depth a b word true low high fits same = (a, b, refl, high, fits.0 refl, same)
+chosen depth a b word false low high fits same =
+    λ lo hi small within other.
+    let one = same_interval a b lo hi low high (omega (arith, within.0)) small cc in
+    let never : false ≡ true = fits.1 (rw (one.0, one.1) within) in
+    cc

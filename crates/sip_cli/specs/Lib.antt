@@ -1,0 +1,14 @@
+pub mod Words
+pub mod Feeding
+pub mod Asking
+pub mod Taking
+pub mod Drawing
+pub mod Promises
+pub mod Ending
+pub mod Command
+pub mod Plan
+pub mod Exit
+pub mod Tallies
+pub mod Sending
+pub mod Rows
+pub mod Reading

@@ -1,0 +1,163 @@
+//! The lines of a report.
+
+ghost use Rattle.std.specs.Prelude.{◌≡◌, ℕ, ◌+◌, ◌<◌, ◌≤◌, List, ◌++◌, ◌∷◌, [], length, take, codes, decimal, if◌then◌else◌, MatchResult, OnOk};
+ghost use Rattle.arrayvec.specs.ArrayVec.{array_vec_len};
+ghost use Rattle.sip_ports.specs.Ports.{GoesOn, HasCause, SendsWhole, outs};
+ghost use Rattle.sip_vector.specs.Answers.{pairs};
+ghost use Rattle.sip_verifier.specs.Reports.{line, pair_text, query_word};
+
+use arrayvec::ArrayVec;
+use itoa::Buffer;
+use sip_ports::{PortStop, Sink, write_whole};
+use sip_vector::{Entry, Query};
+
+/// How many bytes of a line are gathered before they are written.
+const ROOM: usize = 1024;
+
+/// The most bytes of a pair and the space before it: two numbers of at most 20 bytes, a colon, a space.
+const MOST_PAIR: usize = 42;
+
+// Adds a text.
+fn put(gathered: &mut ArrayVec<u8, ROOM>, text: &[u8])
+    requires { array_vec_len gathered.old + length text.now ≤ ROOM }
+    ensures items { gathered.new.items ≡ gathered.old.items ++ text.now }
+    ensures len { array_vec_len gathered.new ≡ array_vec_len gathered.old + length text.now }
+{
+    let added = gathered.try_extend_from_slice(text).is_ok();
+    prove!(added);
+}
+
+// Adds a number.
+fn put_number(gathered: &mut ArrayVec<u8, ROOM>, number: u64)
+    requires { array_vec_len gathered.old + 20 ≤ ROOM }
+    ensures items { gathered.new.items ≡ gathered.old.items ++ decimal number }
+    ensures len { array_vec_len gathered.new ≤ array_vec_len gathered.old + 20 }
+{
+    let mut digits = Buffer::new();
+    put(gathered, digits.format(number).as_bytes());
+}
+
+// Adds a space and a pair.
+fn put_pair(gathered: &mut ArrayVec<u8, ROOM>, entry: &Entry)
+    requires { array_vec_len gathered.old + MOST_PAIR ≤ ROOM }
+    ensures items { gathered.new.items ≡ gathered.old.items ++ 32 ∷ pair_text entry.now }
+    ensures len { array_vec_len gathered.new ≤ array_vec_len gathered.old + MOST_PAIR }
+{
+    let mut digits = Buffer::new();
+    put(gathered, b" ");
+    put_number(gathered, entry.index);
+    put(gathered, b":");
+    put(gathered, digits.format(entry.value).as_bytes());
+}
+
+// The query's word, and that nothing follows where there are no pairs.
+fn begin(lo: u64, hi: u64, is_empty: bool) -> ArrayVec<u8, ROOM>
+    ensures items { result.items ≡ query_word (Query.Sub lo hi) ++ (if is_empty then codes " none" else []) }
+    ensures len { array_vec_len result ≤ 50 }
+{
+    let mut gathered = ArrayVec::new();
+    put(&mut gathered, b"sub:");
+    put_number(&mut gathered, lo);
+    put(&mut gathered, b":");
+    put_number(&mut gathered, hi);
+    if is_empty {
+        put(&mut gathered, b" none");
+    }
+    gathered
+}
+
+// Writes what is gathered where it leaves no room for a pair and a byte more.
+fn make_room<K: Sink>(sink: &mut K, gathered: &mut ArrayVec<u8, ROOM>) -> Result<(), PortStop>
+    ensures talk { MatchResult result
+        (λ _. (sent : List ℕ) × (gathered.old.items ≡ sent ++ gathered.new.items)
+        × GoesOn (K.talk sink.old) (K.talk sink.new) (outs sent))
+        (λ _. (n : ℕ) × (n < array_vec_len gathered.old)
+        × GoesOn (K.talk sink.old) (K.talk sink.new) (outs (take n gathered.old.items))) }
+    ensures room { OnOk result (array_vec_len gathered.new + MOST_PAIR < ROOM) }
+    ensures cause { HasCause K.faults K.is_sure sink.old sink.new result }
+{
+    if gathered.remaining_capacity() > MOST_PAIR {
+        return Ok(());
+    }
+    write_whole(sink, gathered.as_slice())?;
+    gathered.clear();
+    Ok(())
+}
+
+/// Writes the line of an accepted query: its word, and the entries from `lo` to `hi` that are not 0 as pairs
+/// `INDEX:VALUE`, or `none`. A long line is written in parts, without memory beyond a fixed buffer.
+///
+/// # Errors
+///
+/// Those of the sink, which a front of the line has then reached that is shorter than it.
+pub(crate) fn write_line<K: Sink>(
+    sink: &mut K,
+    lo: u64,
+    hi: u64,
+    entries: &[Entry],
+) -> Result<(), PortStop>
+    ensures talk { SendsWhole (K.talk sink.old) (K.talk sink.new) result (line (Query.Sub lo hi) (pairs entries.now)) }
+    ensures cause { HasCause K.faults K.is_sure sink.old sink.new result }
+{
+    let mut gathered = begin(lo, hi, entries.is_empty());
+    for entry in entries {
+        make_room(sink, &mut gathered)?;
+        put_pair(&mut gathered, entry);
+    }
+    put(&mut gathered, b"\n");
+    write_whole(sink, gathered.as_slice())
+}
+
+#[cfg(test)]
+mod tests {
+    use super::write_line;
+    use sip_ports::{MemorySink, PortStop};
+    use sip_vector::Entry;
+    use std::test::Fail;
+
+    #[test]
+    fn writes_pairs_or_none(rt: HostRuntime) -> Result<(), Fail> {
+        let alloc = rt.alloc();
+        let mut sink = MemorySink::new(alloc, 4096, Vec::new(alloc));
+        let entries = [
+            Entry {
+                index: 0,
+                value: -2,
+            },
+            Entry { index: 1, value: 5 },
+        ];
+        let one = [Entry { index: 2, value: 5 }];
+        assert_eq!(rt; write_line(&mut sink, 1, 2, &one), Ok(()));
+        assert_eq!(rt; write_line(&mut sink, 0, 3, &[]), Ok(()));
+        assert_eq!(rt; write_line(&mut sink, 0, 1, &entries), Ok(()));
+        let want = b"sub:1:2 2:5\nsub:0:3 none\nsub:0:1 0:-2 1:5\n";
+        assert_eq!(rt; sink.bytes(), want.as_slice());
+        Ok(())
+    }
+
+    // One byte a call, and the seventh call fails.
+    #[test]
+    fn a_failing_write_leaves_a_front_of_the_line(rt: HostRuntime) -> Result<(), Fail> {
+        let alloc = rt.alloc();
+        let mut sink = MemorySink::new(alloc, 1, vec![in alloc; 7]?);
+        let ended = write_line(&mut sink, 1, 2, &[Entry { index: 2, value: 5 }]);
+        assert_eq!(rt; ended, Err(PortStop::Failed));
+        assert_eq!(rt; sink.bytes(), b"sub:1:".as_slice());
+        Ok(())
+    }
+
+    // A line that is longer than what is gathered: 12 bytes, 300 pairs of 10 bytes, a line feed.
+    #[test]
+    fn a_long_line_is_written_in_parts(rt: HostRuntime) -> Result<(), Fail> {
+        let alloc = rt.alloc();
+        let mut sink = MemorySink::new(alloc, 4096, Vec::new(alloc));
+        let entries = [Entry {
+            index: 123,
+            value: -4567,
+        }; 300];
+        assert_eq!(rt; write_line(&mut sink, 100, 1000, &entries), Ok(()));
+        assert_eq!(rt; sink.bytes().len(), 12 + 300 * 10 + 1);
+        assert_eq!(rt; sink.bytes().ends_with(b" 123:-4567 123:-4567\n"), true);
+        Ok(())
+    }
+}
