@@ -1,0 +1,107 @@
+// The bytes of the worked runs, written out by hand. Numbers are big endian.
+
+// The records (0, 0, 3), (0, 2, 5), (0, 3, 1): side, item in 4 bytes, delta in 8 bytes.
+pub const THREE_RECORDS: [u8; 39] = [
+    0, 0, 0, 0, 0, 0, 0, 0, 0, 0, 0, 0, 3, // item 0
+    0, 0, 0, 0, 2, 0, 0, 0, 0, 0, 0, 0, 5, // item 2
+    0, 0, 0, 0, 3, 0, 0, 0, 0, 0, 0, 0, 1, // item 3
+];
+
+// The records (0, 0, 3), (0, 1, 5).
+pub const TWO_RECORDS: [u8; 26] = [
+    0, 0, 0, 0, 0, 0, 0, 0, 0, 0, 0, 0, 3, // item 0
+    0, 0, 0, 0, 1, 0, 0, 0, 0, 0, 0, 0, 5, // item 1
+];
+
+// One byte less than a record.
+pub const TWELVE_BYTES: [u8; 12] = [0; 12];
+
+pub const ZERO_SEED: [u8; 32] = [0; 32];
+
+// One byte less than a seed.
+pub const SHORT_SEED: [u8; 31] = [0; 31];
+
+// Version 1 at depths 1 and 2.
+pub const OPEN_1: [u8; 5] = [0x01, 0, 2, 1, 1];
+
+pub const OPEN_2: [u8; 5] = [0x01, 0, 2, 1, 2];
+
+// The records follow: 2 + 3 * 13 = 0x29 bytes, and 2 + 2 * 13 = 0x1c.
+pub const UPDATES_OF_THREE: [u8; 5] = [0x02, 0, 0x29, 0, 3];
+
+pub const UPDATES_OF_TWO: [u8; 5] = [0x02, 0, 0x1c, 0, 2];
+
+pub const END_STREAM: [u8; 3] = [0x03, 0, 0];
+
+pub const SUB_1_2: [u8; 12] = [0x04, 0, 9, 1, 0, 0, 0, 1, 0, 0, 0, 2];
+
+pub const SUB_0_3: [u8; 12] = [0x04, 0, 9, 1, 0, 0, 0, 0, 0, 0, 0, 3];
+
+pub const SUB_0_1: [u8; 12] = [0x04, 0, 9, 1, 0, 0, 0, 0, 0, 0, 0, 1];
+
+// The key stream of ChaCha20 for a key of zeros begins 76 b8 e0 ad a0 f1 3d 90. Its first word, the low byte first, is
+// 0x903df1a0ade0b876, and without the last three bits 0x1207be3415bc170e = 1299216148431902478.
+pub const REVEAL: [u8; 11] = [0x05, 0, 8, 0x12, 0x07, 0xbe, 0x34, 0x15, 0xbc, 0x17, 0x0e];
+
+pub const BYE: [u8; 3] = [0x06, 0, 0];
+
+// Entry 2 has value 5.
+pub const ENTRY_2: [u8; 17] = [0x13, 0, 0x0e, 0, 1, 0, 0, 0, 2, 0, 0, 0, 0, 0, 0, 0, 5];
+// Entries 0 and 1 have values 3 and 5.
+pub const ENTRIES_0_1: [u8; 29] = [
+    0x13, 0, 0x1a, 0, 2, 0, 0, 0, 0, 0, 0, 0, 0, 0, 0, 0, 3, 0, 0, 0, 1, 0, 0, 0, 0, 0, 0, 0, 5,
+];
+// Leaf 0 is 3 and leaf 3 is 1.
+pub const SIBLINGS_3_1: [u8; 20] = [
+    0x14, 0, 0x11, 3, 0, 0, 0, 0, 0, 0, 0, 3, 0, 0, 0, 0, 0, 0, 0, 1,
+];
+
+pub const NO_SIBLINGS: [u8; 4] = [0x14, 0, 1, 0];
+
+// Frames and replies with a fault.
+
+// Entry 2 is 0; entry 3 is 1, which is not asked for; entries 2 and 1 are 5 and 7; entries 1 and 2 are 7 and 5.
+pub const ENTRY_2_OF_ZERO: [u8; 17] = [0x13, 0, 0x0e, 0, 1, 0, 0, 0, 2, 0, 0, 0, 0, 0, 0, 0, 0];
+
+pub const ENTRY_3: [u8; 17] = [0x13, 0, 0x0e, 0, 1, 0, 0, 0, 3, 0, 0, 0, 0, 0, 0, 0, 1];
+
+pub const ENTRIES_2_1: [u8; 29] = [
+    0x13, 0, 0x1a, 0, 2, 0, 0, 0, 2, 0, 0, 0, 0, 0, 0, 0, 5, 0, 0, 0, 1, 0, 0, 0, 0, 0, 0, 0, 7,
+];
+
+pub const ENTRIES_1_2: [u8; 29] = [
+    0x13, 0, 0x1a, 0, 2, 0, 0, 0, 1, 0, 0, 0, 0, 0, 0, 0, 7, 0, 0, 0, 2, 0, 0, 0, 0, 0, 0, 0, 5,
+];
+// The length is that of one entry and the count is two.
+pub const ONE_AS_TWO: [u8; 17] = [0x13, 0, 0x0e, 0, 2, 0, 0, 0, 2, 0, 0, 0, 0, 0, 0, 0, 5];
+// The length is that of one sibling and the flags are those of both.
+pub const ONE_AS_BOTH: [u8; 12] = [0x14, 0, 9, 3, 0, 0, 0, 0, 0, 0, 0, 3];
+
+pub const RIGHT_SIBLING_1: [u8; 12] = [0x14, 0, 9, 2, 0, 0, 0, 0, 0, 0, 0, 1];
+
+pub const SIBLINGS_4_1: [u8; 20] = [
+    0x14, 0, 0x11, 3, 0, 0, 0, 0, 0, 0, 0, 4, 0, 0, 0, 0, 0, 0, 0, 1,
+];
+// Elements are below p = 2^61 - 1.
+pub const SIBLINGS_P_1: [u8; 20] = [
+    0x14, 0, 0x11, 3, 0x1f, 0xff, 0xff, 0xff, 0xff, 0xff, 0xff, 0xff, 0, 0, 0, 0, 0, 0, 0, 1,
+];
+// No memory.
+pub const REFUSE_1: [u8; 4] = [0x18, 0, 1, 1];
+
+pub const REFUSE_5: [u8; 4] = [0x18, 0, 1, 5];
+
+// Headers, and frames that are cut short.
+pub const CLAIM_HEADER: [u8; 3] = [0x11, 0, 8];
+
+pub const ENTRY_HEADER: [u8; 3] = [0x13, 0, 0x0e];
+
+pub const SHORT_ENTRIES_HEADER: [u8; 3] = [0x13, 0, 0x0d];
+
+pub const PART_OF_HEADER: [u8; 2] = [0x13, 0];
+
+pub const PART_OF_SIBLINGS: [u8; 6] = [0x14, 0, 0x11, 3, 0, 0];
+
+pub const PART_OF_NO_SIBLINGS: [u8; 2] = [0x14, 0];
+
+pub const ZEROS: [u8; 13] = [0; 13];

@@ -1,0 +1,19 @@
+//! Whole runs over ports in memory: what the promises of a run come to where every port tells its bytes, and worked
+//! runs as tables.
+#![tactic(auto)]
+
+pub mod laws;
+mod memory;
+
+pub use memory::run_in_memory;
+
+#[cfg(test)]
+mod failing_tests;
+#[cfg(test)]
+mod fault_tests;
+#[cfg(test)]
+mod frames;
+#[cfg(test)]
+mod row;
+#[cfg(test)]
+mod row_tests;

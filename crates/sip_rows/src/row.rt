@@ -1,0 +1,204 @@
+// A worked run: what goes in, and what has to come out.
+ghost use Rattle.std.specs.Prelude.{◌≤◌};
+
+use crate::frames::*;
+use crate::run_in_memory;
+use sip_cli::{Words, exit_code};
+use sip_ports::{MemoryLink, MemorySink, MemorySource, TalkEvent};
+use sip_verifier::Status;
+use std::alloc::Global;
+use std::process::Abort;
+use std::test::Fail;
+
+// What a run is given. Replies are parts that come one after another.
+#[derive(Clone, Copy)]
+pub struct Given<'a> {
+    pub words: &'a str,
+    pub stream: &'a [u8],
+    pub seed: &'a [u8],
+    pub replies: &'a [&'a [u8]],
+}
+
+// One of the ports of a run.
+#[derive(Clone, Copy, Debug, PartialEq, Eq)]
+pub enum At {
+    First,
+    Second,
+    Peer,
+    Report,
+}
+
+// The call of a port that is to fail; the first call has number 1.
+#[derive(Clone, Copy)]
+pub struct Failing {
+    pub at: At,
+    pub number: u64,
+}
+
+// What a run showed.
+#[derive(Drop)]
+pub struct Shown {
+    pub status: Status,
+    pub peer: MemoryLink,
+    pub report: MemorySink,
+}
+
+// A part of a talk.
+#[derive(Clone, Copy)]
+pub enum Said<'a> {
+    Out(&'a [u8]),
+    In(&'a [u8]),
+    Ended,
+}
+
+// What a run has to show: how it ends, with which exit code, the line that it writes, what it sends before it hears a
+// reply, and what is said after that.
+#[derive(Clone, Copy)]
+pub struct Row<'a> {
+    pub name: &'a str,
+    pub given: Given<'a>,
+    pub status: Status,
+    pub code: u8,
+    pub report: &'a str,
+    pub sent: &'a [Said<'a>],
+    pub then: &'a [Said<'a>],
+}
+
+fn words_of(alloc: Global, text: &str) -> Result<Words, Fail> {
+    let mut list = Vec::new(alloc);
+    for word in text.split_whitespace() {
+        list.push(String::from_str(alloc, word)?)?;
+    }
+    Ok(Words::of(list))
+}
+
+fn bytes_of(alloc: Global, parts: &[&[u8]]) -> Result<Vec<u8>, Fail> {
+    let mut bytes = Vec::new(alloc);
+    for part in parts {
+        bytes.extend_from_slice(part)?;
+    }
+    Ok(bytes)
+}
+
+fn push_events(events: &mut Vec<TalkEvent>, talk: &[Said]) -> Result<(), Fail> {
+    for said in talk {
+        match said {
+            Said::Out(bytes) => {
+                for byte in *bytes {
+                    events.push(TalkEvent::Out(*byte))?;
+                }
+            }
+            Said::In(bytes) => {
+                for byte in *bytes {
+                    events.push(TalkEvent::In(*byte))?;
+                }
+            }
+            Said::Ended => events.push(TalkEvent::Ended)?,
+        }
+    }
+    Ok(())
+}
+
+// The numbers of the calls of this port that are to fail.
+fn fails(alloc: Global, failing: Option<Failing>, at: At) -> Result<Vec<u64>, Fail> {
+    let mut numbers = Vec::new(alloc);
+    if let Some(call) = failing
+        && call.at == at
+    {
+        numbers.push(call.number)?;
+    }
+    Ok(numbers)
+}
+
+impl Given<'_> {
+    // Runs it over ports that move at most a chunk in a call.
+    pub fn run(&self, alloc: Global, chunk: usize, failing: Option<Failing>) -> Result<Shown, Fail>
+        requires { 1 ≤ chunk }
+    {
+        let words = words_of(alloc, self.words)?;
+        let replies = bytes_of(alloc, self.replies)?;
+        let mut first = MemorySource::new(
+            self.stream.to_vec(alloc)?,
+            chunk,
+            fails(alloc, failing, At::First)?,
+        );
+        let mut second = MemorySource::new(
+            self.seed.to_vec(alloc)?,
+            chunk,
+            fails(alloc, failing, At::Second)?,
+        );
+        let mut peer = MemoryLink::new(alloc, replies, chunk, fails(alloc, failing, At::Peer)?);
+        let mut report = MemorySink::new(alloc, chunk, fails(alloc, failing, At::Report)?);
+        let status = run_in_memory(
+            alloc,
+            &words,
+            &mut first,
+            &mut second,
+            &mut peer,
+            &mut report,
+        );
+        Ok(Shown {
+            status,
+            peer,
+            report,
+        })
+    }
+}
+
+impl Row<'_> {
+    // All that is to be said.
+    pub fn talk(&self, alloc: Global) -> Result<Vec<TalkEvent>, Fail> {
+        let mut events = Vec::new(alloc);
+        push_events(&mut events, self.sent)?;
+        push_events(&mut events, self.then)?;
+        Ok(events)
+    }
+
+    // Runs it in single bytes, and in pieces that are as long as is asked for.
+    pub fn check(&self, rt: &impl Abort, alloc: Global) -> Result<(), Fail> {
+        let talk = self.talk(alloc)?;
+        for chunk in [1, 10_000] {
+            let shown = self.given.run(alloc, chunk, None)?;
+            let name = self.name;
+            assert_eq!(rt; shown.status, self.status, "{name}, chunk {chunk}");
+            assert_eq!(rt; exit_code(&shown.status), self.code, "{name}");
+            assert_eq!(rt;
+                shown.report.bytes(),
+                self.report.as_bytes(),
+                "{name}, chunk {chunk}"
+            );
+            assert_eq!(rt; shown.peer.talk(), talk.as_slice(), "{name}, chunk {chunk}");
+        }
+        Ok(())
+    }
+}
+
+// The leaves 3, 0, 5, 1, of which 1 to 2 are asked for.
+pub fn first_run() -> Row<'static> {
+    Row {
+        name: "entry 2 is 5",
+        given: Given {
+            words: "verify s seed a b - 2 sub:1:2",
+            stream: &THREE_RECORDS,
+            seed: &ZERO_SEED,
+            replies: &[&ENTRY_2, &SIBLINGS_3_1, &NO_SIBLINGS],
+        },
+        status: Status::Accepted,
+        code: 0,
+        report: "sub:1:2 2:5\n",
+        sent: &[
+            Said::Out(&OPEN_2),
+            Said::Out(&UPDATES_OF_THREE),
+            Said::Out(&THREE_RECORDS),
+            Said::Out(&END_STREAM),
+            Said::Out(&SUB_1_2),
+        ],
+        then: &[
+            Said::In(&ENTRY_2),
+            Said::In(&SIBLINGS_3_1),
+            Said::Out(&REVEAL),
+            Said::In(&NO_SIBLINGS),
+            Said::Out(&BYE),
+        ],
+    }
+}
