@@ -1,3 +1,4 @@
 pub mod FirstReply
 pub mod LaterReply
 pub mod Verdicts
+pub mod Provers

@@ -1,3 +1,4 @@
 pub mod AcceptsSub
 pub mod Replies
 pub mod Examples
+pub mod Honest

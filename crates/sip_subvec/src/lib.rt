@@ -5,3 +5,6 @@
 #![tactic(auto)]
 
 pub mod laws;
+mod prover;
+
+pub use prover::{SiblingPair, SubProver};
