@@ -2,3 +2,10 @@ pub mod FirstReply
 pub mod LaterReply
 pub mod Verdicts
 pub mod Provers
+pub mod Windows
+pub mod HonestEntries
+pub mod HonestFrames
+pub mod HonestReading
+pub mod HonestStates
+pub mod HonestStreams
+pub mod HonestLaws

@@ -2,8 +2,9 @@
 --
 -- Reply 0 has the entries, in full frames and a last one of the rest, and the siblings of the lowest level. Each later reply has
 -- the siblings of the level above, which the next challenge gives.
-use Rattle.std.specs.Prelude.{ℕ, ◌+◌, ◌-◌, ◌/◌, ◌%◌, ◌^◌, ◌==◌, ◌≡◌, ◌<◌, ◌≤◌, ℤ, List, [], ◌∷◌, ◌++◌, length, map, take, slice_index, Some, None, if◌then◌else◌}
+use Rattle.std.specs.Prelude.{ℕ, ◌+◌, ◌-◌, ◌/◌, ◌%◌, ◌^◌, ◌==◌, ◌≡◌, ◌<◌, ◌≤◌, ℤ, nat_abs, All, List, [], ◌∷◌, ◌++◌, length, map, take, slice_index, Some, None, if◌then◌else◌}
 use Rattle.std.specs.List.{range_with_len, flat_map}
+use Rattle.sip_field.specs.Moduli.{m61_modulus}
 use Rattle.sip_field.specs.Residue.{residue}
 use Rattle.sip_vector.specs.declared.update.Entry.{Entry}
 use Rattle.sip_vector.specs.Pieces.{cut}
@@ -12,8 +13,9 @@ use Rattle.sip_vector.specs.Vectors.{nonzero_within}
 use Rattle.sip_wire.specs.declared.message.Message.{Message}
 use Rattle.sip_wire.specs.declared.message.Message.TheVariants as messages
 use Rattle.sip_wire.specs.Spelling.{spelling}
-use Rattle.sip_wire.specs.Table.{most_rows}
+use Rattle.sip_wire.specs.Table.{most_rows, most_depth, most_claim}
 use Rattle.sip_subvec.specs.AcceptsSub.{Siblings}
+use Rattle.sip_subvec.specs.Replies.{most_entries}
 
 -- ---- levels
 
@@ -71,6 +73,19 @@ honest_reply p numbers lo hi prefix = flat_map spelling (honest_messages p numbe
 -- all replies: reply j is the one due once the first j challenges are revealed
 abbrev pub honest_replies : ℕ → List ℤ → ℕ → ℕ → List ℕ → List (List ℕ)
 honest_replies p numbers lo hi challenges = map (λ j. honest_reply p numbers lo hi (take j challenges)) (range_with_len 0 (length challenges))
+
+-- The entries of an interval can be shown: the vector is of a depth and a field that messages have room for, its numbers are
+-- no greater than an entry may be, and no more of them are asked for than an answer may have.
+pub record CanBeShown (p depth lo hi : ℕ) (numbers : List ℤ) : Type 0 where
+  pub some : 0 < p
+  pub elements : p ≤ m61_modulus
+  pub levels : 1 ≤ depth
+  pub indices : depth ≤ most_depth
+  pub size : length numbers ≡ 2 ^ depth
+  pub order : lo ≤ hi
+  pub within : hi < 2 ^ depth
+  pub small : All (λ a. nat_abs a ≤ most_claim) numbers
+  pub few : length (nonzero_within lo hi numbers) ≤ most_entries
 
 -- ---- the prover
 

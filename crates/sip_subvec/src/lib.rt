@@ -4,6 +4,7 @@
 //! replies are read from bytes, with their first fault (`Replies`).
 #![tactic(auto)]
 
+pub mod completeness;
 pub mod laws;
 mod prover;
 

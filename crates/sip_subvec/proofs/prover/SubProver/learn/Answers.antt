@@ -1,4 +1,4 @@
-use Rattle.std.proofs.Common.{◌≡◌, ◌≤◌, length, subst, sym}
+use Rattle.std.proofs.Common.{◌≤◌, length, subst, sym}
 use Rattle.sip_subvec.specs.Honest.{Proving}
 use Rattle.sip_subvec.proofs.Provers.{learnt_is}
 use Rattle.sip_subvec.proofs.prover.SubProver.learn.Goals as goal

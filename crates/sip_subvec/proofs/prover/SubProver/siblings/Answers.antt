@@ -1,4 +1,4 @@
-use Rattle.std.proofs.Common.{◌≡◌, ◌≤◌, length, subst, sym}
+use Rattle.std.proofs.Common.{◌≤◌, length, subst, sym}
 use Rattle.sip_subvec.specs.Honest.{Proving}
 use Rattle.sip_subvec.proofs.Provers.{right_within}
 use Rattle.sip_subvec.proofs.prover.SubProver.siblings.Goals as goal

@@ -1,0 +1,145 @@
+-- All honest replies: what they state, and that it gives the root.
+use Rattle.std.proofs.Common.{◌≡◌, ℕ, suc, ◌+◌, ◌*◌, ◌/◌, ◌^◌, ◌<◌, ◌≤◌, true, List, [], ◌∷◌, ◌++◌, length, take, map, fold, zip, ℤ, Ok, All, refl, sym, ap, ◌∙◌, arith}
+use Rattle.std.specs.Prelude.{nat_eq}
+use Rattle.std.specs.Cmp.Lexicographic.{pointwise}
+use Rattle.std.specs.List.{flat_map, range_with_len}
+use Rattle.std.proofs.Math.Nat.{pow-succ', div-div-eq-div-mul}
+use Rattle.std.proofs.lemmas.List.{append_assoc, length-append, length-map, take_at}
+use Rattle.std.proofs.lemmas.List.Concat.{flat_map-cons}
+use Rattle.std.proofs.lemmas.List.Sums.{fold-append}
+use Rattle.sip_field.specs.Moduli.{m61_modulus}
+use Rattle.sip_field.specs.Residue.{residue}
+use Rattle.sip_vector.specs.declared.update.Entry.{Entry}
+use Rattle.sip_vector.specs.Trees.{up, root}
+use Rattle.sip_vector.specs.Vectors.{nonzero_within}
+use Rattle.sip_wire.specs.Spelling.{spelling}
+use Rattle.sip_subvec.specs.AcceptsSub.{Siblings, Stated, next_level, folded, gives_root}
+use Rattle.sip_subvec.specs.Honest.{Proving, begun, learnt, proving, honest_siblings, its_siblings, siblings_message, entry_frames, honest_messages, honest_reply, honest_replies}
+use Rattle.sip_subvec.specs.Replies.{later_replies, stated, verdict, most_entries}
+use Rattle.sip_subvec.proofs.FirstReply.{read_first}
+use Rattle.sip_subvec.proofs.HonestEntries.{nonzero_pass, stated_window}
+use Rattle.sip_subvec.proofs.HonestFrames.{IsRow, lowest_below, above_below}
+use Rattle.sip_subvec.proofs.HonestReading.{first_read, replies_above, above_read}
+use Rattle.sip_subvec.proofs.Windows.{siblings_above, windows_fold, top_alone}
+
+-- ---- what a prover knows
+
+same_proving : (a b : List ℕ) (lo low hi high : ℕ) → a ≡ b → lo ≡ low → hi ≡ high
+    → ◌≡◌ {A = Proving} (record { level = a; lo = lo; hi = hi }) (record { level = b; lo = low; hi = high })
+same_proving a b lo low hi high e f g = rw (e, f, g) refl
+
+whole : (n : ℕ) → n / 2 ^ 0 ≡ n
+whole n = omega arith
+
+halved : (n k m : ℕ) → m ≡ suc k → n / 2 ^ m ≡ n / 2 ^ k / 2
+halved n k m e = ap (λ j. n / 2 ^ j) e ∙ ap (λ w. n / w) (pow-succ' 2 k ∙ (let same : 2 * 2 ^ k ≡ 2 ^ k * 2 = omega arith in same)) ∙ sym (div-div-eq-div-mul n (2 ^ k) 2)
+
+-- before any challenge it is what it began with
+pub proving-nil : (p : ℕ) (numbers : List ℤ) (lo hi : ℕ) → proving p numbers lo hi [] ≡ begun p numbers lo hi
+proving-nil p numbers lo hi = same_proving _ _ _ _ _ _ refl (whole lo) (whole hi)
+
+-- and one more challenge leads to the level above
+pub proving-push : (p : ℕ) (numbers : List ℤ) (lo hi : ℕ) (prefix : List ℕ) (r : ℕ) → proving p numbers lo hi (prefix ++ r ∷ []) ≡ learnt p (proving p numbers lo hi prefix) r
+proving-push p numbers lo hi prefix r =
+    let longer : length (prefix ++ r ∷ []) ≡ suc (length prefix) = omega (arith, length-append prefix (r ∷ [])) in
+    same_proving _ _ _ _ _ _ (fold-append (up p) (map (residue p) numbers) prefix (r ∷ [])) (halved lo (length prefix) _ longer) (halved hi (length prefix) _ longer)
+
+-- ---- reply by reply
+
+-- g of each front of front ++ challenges that has front
+walk : {X : Type 0} → (List ℕ → X) → List ℕ → List ℕ → List X
+walk g front [] = []
+walk g front (r ∷ challenges) = g front ∷ walk g (front ++ r ∷ []) challenges
+
+fronts_walk : {X : Type 0} (g : List ℕ → X) (front challenges : List ℕ) → map (λ j. g (take j (front ++ challenges))) (range_with_len (length front) (length challenges)) ≡ walk g front challenges
+unfolding walk
+fronts_walk g front [] = refl
+fronts_walk g front (r ∷ challenges) =
+    let here : take (length front) (front ++ r ∷ challenges) ≡ front = take_at front (r ∷ challenges) (length front) refl in
+    let same : (front ++ r ∷ []) ++ challenges ≡ front ++ r ∷ challenges = append_assoc front (r ∷ []) challenges in
+    let longer : length front + 1 ≡ length (front ++ r ∷ []) = omega (arith, length-append front (r ∷ [])) in
+    ap (λ x. g x ∷ map (λ j. g (take j (front ++ r ∷ challenges))) (range_with_len (length front + 1) (length challenges))) here
+    ∙ ap (λ xs. g front ∷ map (λ j. g (take j xs)) (range_with_len (length front + 1) (length challenges))) (sym same)
+    ∙ ap (λ k. g front ∷ map (λ j. g (take j ((front ++ r ∷ []) ++ challenges))) (range_with_len k (length challenges))) longer
+    ∙ ap (λ xs. g front ∷ xs) (fronts_walk g (front ++ r ∷ []) challenges)
+
+-- the siblings of a level alone
+abbrev siblings_reply : Proving → List ℕ
+siblings_reply s = spelling (siblings_message (its_siblings s)) ++ []
+
+abbrev above : ℕ → Proving → List ℕ → List (List ℕ)
+above p s challenges = replies_above p s.level s.lo s.hi challenges
+
+module _ (p : ℕ) (numbers : List ℤ) (lo hi : ℕ) where
+  later_reply_is : (c : ℕ) (front : List ℕ) → honest_reply p numbers lo hi (c ∷ front) ≡ siblings_reply (proving p numbers lo hi (c ∷ front))
+  unfolding honest_messages
+  later_reply_is c front = flat_map-cons spelling _ []
+
+  later_walk : (c : ℕ) (front challenges : List ℕ) → walk (honest_reply p numbers lo hi) (c ∷ front) challenges ≡ above p (proving p numbers lo hi (c ∷ front)) challenges
+  unfolding walk
+  later_walk c front [] = refl
+  later_walk c front (r ∷ challenges) =
+      ap (λ x. x ∷ walk (honest_reply p numbers lo hi) (c ∷ (front ++ r ∷ [])) challenges) (later_reply_is c front)
+      ∙ ap (λ xs. siblings_reply (proving p numbers lo hi (c ∷ front)) ∷ xs) (later_walk c (front ++ r ∷ []) challenges ∙ ap (λ s. above p s challenges) (proving-push p numbers lo hi (c ∷ front) r))
+
+  -- reply 0, and those of the levels above
+  replies_are : (r : ℕ) (challenges : List ℕ) → honest_replies p numbers lo hi (r ∷ challenges) ≡ honest_reply p numbers lo hi [] ∷ replies_above p (up p (map (residue p) numbers) r) (lo / 2) (hi / 2) challenges
+  unfolding walk
+  replies_are r challenges =
+      fronts_walk (honest_reply p numbers lo hi) [] (r ∷ challenges)
+      ∙ ap (λ xs. honest_reply p numbers lo hi [] ∷ xs) (later_walk r [] challenges ∙ ap (λ s. above p s challenges) (proving-push p numbers lo hi [] r ∙ ap (λ s. learnt p s r) (proving-nil p numbers lo hi)))
+
+  first_reply_is : honest_reply p numbers lo hi [] ≡ flat_map spelling (entry_frames (nonzero_within lo hi numbers) ++ siblings_message (honest_siblings (map (residue p) numbers) lo hi) ∷ [])
+  unfolding honest_messages
+  first_reply_is = ap (λ (s : Proving). flat_map spelling (entry_frames (nonzero_within lo hi numbers) ++ siblings_message (honest_siblings s.level s.lo s.hi) ∷ [])) (proving-nil p numbers lo hi)
+
+  -- ---- what they state
+
+  pub all_stated : List ℕ → Stated
+  all_stated [] = record { entries = []; siblings = [] }
+  all_stated (r ∷ challenges) = record { entries = nonzero_within lo hi numbers; siblings = siblings_above p (map (residue p) numbers) lo hi (r ∷ challenges) }
+
+  stated_by : (bytes : List ℕ) (more : List (List ℕ)) (es : List Entry) (s : Siblings) (others : List Siblings) → read_first lo hi [] bytes ≡ Ok (es, s) → later_replies 1 (lo / 2) (hi / 2) more ≡ Ok others
+      → stated lo hi (bytes ∷ more) ≡ Ok (record { entries = es; siblings = s ∷ others })
+  unfolding stated
+  stated_by bytes more es s others first rest = rw (first, rest) refl
+
+  module _ (some : 0 < p) (small : p ≤ m61_modulus) (rows : All IsRow (nonzero_within lo hi numbers)) (few : length (nonzero_within lo hi numbers) ≤ most_entries) where
+    pub reply_0_read : read_first lo hi [] (honest_reply p numbers lo hi []) ≡ Ok (nonzero_within lo hi numbers, honest_siblings (map (residue p) numbers) lo hi)
+    reply_0_read =
+        ap (read_first lo hi []) first_reply_is
+        ∙ first_read p (map (residue p) numbers) lo hi small (lowest_below p numbers some) (nonzero_within lo hi numbers) rows (nonzero_pass lo hi numbers few)
+
+    pub honest_stated : (challenges : List ℕ) → stated lo hi (honest_replies p numbers lo hi challenges) ≡ Ok (all_stated challenges)
+    unfolding stated all_stated
+    honest_stated [] = refl
+    honest_stated (r ∷ challenges) =
+        let level = map (residue p) numbers in
+        ap (stated lo hi) (replies_are r challenges)
+        ∙ stated_by (honest_reply p numbers lo hi []) (replies_above p (up p level r) (lo / 2) (hi / 2) challenges) (nonzero_within lo hi numbers) (honest_siblings level lo hi) (siblings_above p (up p level r) (lo / 2) (hi / 2) challenges)
+        reply_0_read (above_read p challenges 1 (up p level r) (lo / 2) (hi / 2) some small (above_below p r level some))
+
+    -- what they state gives the root
+    pub honest_root : (r : ℕ) (challenges : List ℕ) → length numbers ≡ 2 ^ length (r ∷ challenges) → lo ≤ hi → hi < length numbers
+        → gives_root p (root p numbers (r ∷ challenges)) lo hi (r ∷ challenges) (all_stated (r ∷ challenges)) ≡ true
+    unfolding all_stated
+    honest_root r challenges size order within =
+        let cs = r ∷ challenges in
+        let level = map (residue p) numbers in
+        let long : length level ≡ 2 ^ length cs = length-map numbers (residue p) ∙ size in
+        let inside : hi < length level = omega (arith, length-map numbers (residue p)) in
+        let folds : folded p lo hi cs (all_stated cs) ≡ fold (up p) level cs =
+        ap (λ xs. fold (next_level p) xs (zip (siblings_above p level lo hi cs) cs)) (stated_window p lo hi numbers order within) ∙ windows_fold p cs level lo hi long order inside in
+        ap (λ xs. pointwise nat_eq xs (root p numbers cs ∷ [])) folds ∙ top_alone p cs level long
+
+    verdict_by : (top : ℕ) (challenges : List ℕ) (replies : List (List ℕ)) (s : Stated) → stated lo hi replies ≡ Ok s → gives_root p top lo hi challenges s ≡ true → verdict p top lo hi challenges replies ≡ Ok s.entries
+    unfolding verdict
+    verdict_by top challenges replies s is test = rw (is, test) refl
+
+    -- and they are accepted
+    pub honest_verdict : (challenges : List ℕ) → 0 < length challenges → length numbers ≡ 2 ^ length challenges → lo ≤ hi → hi < length numbers
+        → verdict p (root p numbers challenges) lo hi challenges (honest_replies p numbers lo hi challenges) ≡ Ok (nonzero_within lo hi numbers)
+    unfolding all_stated
+    honest_verdict [] one size order within = absurd (omega arith)
+    honest_verdict (r ∷ challenges) one size order within =
+        verdict_by (root p numbers (r ∷ challenges)) (r ∷ challenges) (honest_replies p numbers lo hi (r ∷ challenges)) (all_stated (r ∷ challenges)) (honest_stated (r ∷ challenges)) (honest_root r challenges size order within)

@@ -1,0 +1,101 @@
+-- The vectors of legal streams, and of what can be shown: their entries fit frames.
+use Rattle.std.proofs.Common.{◌≡◌, ◌≢◌, ℕ, ◌+◌, ◌^◌, ◌<◌, ◌≤◌, ◌==◌, Bool, true, false, not, List, [], ◌∷◌, length, map, filter, ℤ, pos, nat_abs, sum_by, All, inl, inr, refl, sym, subst, arith}
+use Rattle.std.proofs.Math.Nat.{pow-le-pow_right}
+use Rattle.std.proofs.lemmas.Bool.{and_parts}
+use Rattle.std.proofs.lemmas.Int.{ints}
+use Rattle.std.proofs.lemmas.List.Elements.{All-cons, All-nil, All-head, All-tail, All-map}
+use Rattle.std.proofs.lemmas.List.Sums.{sum_by-cons}
+use Rattle.sip_field.specs.Moduli.{m61_modulus}
+use Rattle.sip_vector.specs.declared.update.Side.{Side}
+use Rattle.sip_vector.specs.declared.update.Side.TheVariants.{First}
+use Rattle.sip_vector.specs.declared.update.Update.{Update}
+use Rattle.sip_vector.specs.Answers.{is_within, is_zero}
+use Rattle.sip_vector.specs.Streams.{int_sum, same_side, of_side, weight, frequency, vector, IsLegal}
+use Rattle.sip_vector.specs.Vectors.{is_nonzero_within, nonzero_within}
+use Rattle.sip_vector.proofs.Filters.{as_entry, bool_tells}
+use Rattle.sip_vector.proofs.Sides.{length-vector}
+use Rattle.std.specs.List.{range_with_len}
+use Rattle.sip_wire.specs.Table.{most_claim, most_depth}
+use Rattle.sip_subvec.specs.Honest.{CanBeShown}
+use Rattle.sip_subvec.specs.Replies.{most_entries}
+use Rattle.sip_subvec.proofs.HonestEntries.{found, found-cons}
+use Rattle.sip_subvec.proofs.HonestFrames.{IsRow}
+
+-- ---- entries of small numbers
+
+abbrev IsSmall : ℤ → Type 0
+IsSmall a = nat_abs a ≤ most_claim
+
+not_zero : (x : ℤ) → not (is_zero x) ≡ true → x ≢ pos 0
+not_zero x h e = absurd (let zero : not (is_zero x) ≡ false = rw e refl in cc)
+
+found_rows : (lo hi k : ℕ) (xs : List ℤ) → k + length xs ≤ 2 ^ 32 → All IsSmall xs → All IsRow (found lo hi k xs)
+found_rows lo hi k [] room small = All-nil IsRow
+found_rows lo hi k (x ∷ xs) room small =
+    let later = found_rows lo hi (k + 1) xs (omega arith) (All-tail IsSmall x xs small) in
+    elim (bool_tells (is_nonzero_within lo hi (as_entry (k, x)))) [
+      | inl t ↦
+          let row : IsRow (as_entry (k, x)) = record {
+            index = omega arith;
+            some = not_zero x (and_parts (is_within lo hi k) (not (is_zero x)) t).1;
+            small = All-head IsSmall x xs small;
+          } in
+          subst (All IsRow) (sym (found-cons lo hi k x xs true t)) (All-cons IsRow (as_entry (k, x)) (found lo hi (k + 1) xs) row later)
+      | inr t ↦ subst (All IsRow) (sym (found-cons lo hi k x xs false t)) later
+    ]
+
+pub shown_rows : (p depth lo hi : ℕ) (numbers : List ℤ) → CanBeShown p depth lo hi numbers → All IsRow (nonzero_within lo hi numbers)
+shown_rows p depth lo hi numbers shown =
+    let powers : 2 ^ depth ≤ 2 ^ 32 = pow-le-pow_right {n = 2} (omega arith) shown.indices in
+    found_rows lo hi 0 numbers (omega (arith, shown.size)) shown.small
+
+-- ---- numbers of streams
+
+abbrev delta_size : Update → ℕ
+delta_size u = nat_abs u.delta
+
+sum_small : (us : List Update) → nat_abs (int_sum (map (λ (u : Update). u.delta) us)) ≤ sum_by delta_size us
+sum_small [] = omega arith
+sum_small (u ∷ us) = omega (arith, ints, sum_small us, sum_by-cons delta_size u us)
+
+-- a part of a stream weighs no more
+part_light : (p : Update → Bool) (s : List Update) (side : Side) → weight (filter p s) side ≤ weight s side
+part_light p [] side = omega arith
+part_light p (u ∷ s) side =
+    let same = λ (x : Update). same_side x.side side in
+    let rest = part_light p s side in
+    let one = sum_by-cons delta_size u (filter same s) in
+    let other = sum_by-cons delta_size u (filter same (filter p s)) in
+    elim (bool_tells (p u)) [
+      | inl a ↦ elim (bool_tells (same u)) [
+        | inl b ↦ rw (a, b) (omega (arith, rest, one, other))
+        | inr b ↦ rw (a, b) rest
+      ]
+      | inr a ↦ elim (bool_tells (same u)) [
+        | inl b ↦ rw (a, b) (omega (arith, rest, one))
+        | inr b ↦ rw (a, b) rest
+      ]
+    ]
+
+frequency_light : (s : List Update) (side : Side) (item : ℕ) → nat_abs (frequency s side item) ≤ weight s side
+frequency_light s side item =
+    omega (arith, sum_small (of_side (filter (λ (u : Update). u.item == item) s) side), part_light (λ (u : Update). u.item == item) s side)
+
+all_of : {X : Type 0} (P : X → Type 0) (xs : List X) → ((x : X) → P x) → All P xs
+all_of P [] h = All-nil P
+all_of P (x ∷ xs) h = All-cons P x xs (h x) (all_of P xs h)
+
+-- an interval of a legal stream's vector can be shown, where it does not have too many entries
+pub legal_shown : (depth lo hi : ℕ) (stream : List Update) → IsLegal depth stream → 1 ≤ depth → depth ≤ most_depth → lo ≤ hi → hi < 2 ^ depth → length (nonzero_within lo hi (vector depth stream First)) ≤ most_entries
+    → CanBeShown m61_modulus depth lo hi (vector depth stream First)
+legal_shown depth lo hi stream legal levels indices order within few = record {
+  some = omega arith;
+  elements = omega arith;
+  levels = levels;
+  indices = indices;
+  size = length-vector depth stream First;
+  order = order;
+  within = within;
+  small = All-map IsSmall (frequency stream First) (range_with_len 0 (2 ^ depth)) (all_of (λ (i : ℕ). IsSmall (frequency stream First i)) (range_with_len 0 (2 ^ depth)) (λ i. omega (arith, frequency_light stream First i, legal.first)));
+  few = few;
+}

@@ -1,0 +1,44 @@
+//! Laws: honest replies are accepted, and what they state is the answer. These functions do nothing: each contract is a fact
+//! that holds.
+
+ghost use Rattle.std.specs.Prelude.{◌≡◌, ℕ, ◌^◌, ◌≤◌, ◌<◌, ℤ, List, [], ◌∷◌, ◌++◌, length};
+ghost use Rattle.sip_field.specs.Moduli.{m61_modulus};
+ghost use Rattle.sip_vector.specs.declared.query.Query.TheVariants as queries;
+ghost use Rattle.sip_vector.specs.declared.update.Side.TheVariants.{First};
+ghost use Rattle.sip_vector.specs.declared.update.Update.{Update};
+ghost use Rattle.sip_vector.specs.Answers.{answer, pairs};
+ghost use Rattle.sip_vector.specs.Streams.{vector, IsLegal};
+ghost use Rattle.sip_vector.specs.Trees.{root};
+ghost use Rattle.sip_vector.specs.Vectors.{nonzero_within};
+ghost use Rattle.sip_wire.specs.Table.{most_depth};
+ghost use Rattle.sip_subvec.specs.Honest.{begun, learnt, proving, honest_replies, CanBeShown};
+ghost use Rattle.sip_subvec.specs.Replies.{IsAccepted, IsUnfinished, most_entries};
+
+/// A prover that learns the challenges one after another comes to the levels that they lead to.
+pub fn provers_go_up()
+    ensures begun { (p : ℕ) (numbers : List ℤ) (lo hi : ℕ) → proving p numbers lo hi [] ≡ begun p numbers lo hi }
+    ensures learnt { (p : ℕ) (numbers : List ℤ) (lo hi : ℕ) (prefix : List ℕ) (r : ℕ)
+        → proving p numbers lo hi (prefix ++ r ∷ []) ≡ learnt p (proving p numbers lo hi prefix) r }
+{}
+
+/// The honest replies about an interval that can be shown are accepted against the root of the vector, and what they state is
+/// the entries of the interval that are not 0.
+pub fn honest_replies_are_accepted()
+    ensures { (p depth lo hi : ℕ) (numbers : List ℤ) (challenges : List ℕ) → CanBeShown p depth lo hi numbers → length challenges ≡ depth
+        → IsAccepted p (root p numbers challenges) lo hi challenges (honest_replies p numbers lo hi challenges) (nonzero_within lo hi numbers) }
+{}
+
+/// So it is for each legal stream, and what is stated is its answer: where that has at most 65,536 entries.
+pub fn legal_streams_are_answered()
+    ensures shown { (depth lo hi : ℕ) (stream : List Update) → IsLegal depth stream → 1 ≤ depth → depth ≤ most_depth → lo ≤ hi → hi < 2 ^ depth
+        → length (nonzero_within lo hi (vector depth stream First)) ≤ most_entries
+        → CanBeShown m61_modulus depth lo hi (vector depth stream First) }
+    ensures answer { (depth lo hi : ℕ) (stream : List Update)
+        → answer depth stream (queries.Sub lo hi) ≡ pairs (nonzero_within lo hi (vector depth stream First)) }
+{}
+
+/// While honest replies come they have no fault, but that more is to come.
+pub fn honest_replies_have_no_fault()
+    ensures { (p depth lo hi : ℕ) (numbers : List ℤ) (revealed more : List ℕ) → CanBeShown p depth lo hi numbers
+        → IsUnfinished lo hi (revealed ++ more) (honest_replies p numbers lo hi revealed) }
+{}
