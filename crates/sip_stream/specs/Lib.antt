@@ -1,2 +1,5 @@
 pub mod Records
+pub mod Spellings
+pub mod Made
+pub mod MadeSources
 pub mod Examples

@@ -1,5 +1,8 @@
 //! Worked examples of the definitions: each holds by computation.
 
+pub mod made;
+pub mod spellings;
+
 ghost use Rattle.std.specs.Prelude.{◌≡◌, [], ◌∷◌, ◌++◌, Some, None, pos, replicate};
 ghost use Rattle.sip_vector.specs.Examples.{stream};
 ghost use Rattle.sip_vector.specs.declared.update.Side.TheVariants as sides;

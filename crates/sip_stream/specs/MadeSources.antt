@@ -1,0 +1,8 @@
+-- What is seen of the source of a made stream.
+use Rattle.std.specs.Prelude.{ℕ, List, ◌++◌, drop}
+use Rattle.sip_stream.specs.Made.{made_bytes}
+use Rattle.sip_stream.specs.declared.made.MadeSource.{MadeSource}
+
+-- the bytes to come: the rest of the record under way, and the records after it
+abbrev pub made_left : MadeSource → List ℕ
+made_left source = drop source.at source.bytes ++ made_bytes source.state source.more source.depth

@@ -1,0 +1,110 @@
+//! A source of a stream that is made from a number.
+
+ghost use Rattle.std.specs.Prelude.{◌≡◌, ◌≤◌, ◌<◌, ◌+◌, ◌++◌, [], length, take};
+
+use crate::generator::{next_state, update_at};
+use crate::record_bytes::{RECORD, record_of};
+use sip_ports::{PortStop, Source};
+use sip_vector::Depth;
+
+/// A source of the records that a generator makes from a number: about a quarter of them are of the items 0 and 1, the
+/// others of items from everywhere. It tells the bytes to come, never fails and takes no memory. A read fills the
+/// buffer as far as there are bytes.
+#[derive(Drop)]
+pub struct MadeSource {
+    depth: Depth,
+    // the state of the record under way, and how many records come after it
+    state: u64,
+    more: u64,
+    // the record under way, and how many of its bytes were read
+    bytes: [u8; RECORD],
+    at: usize,
+    ghost within: { at ≤ 13 },
+}
+
+impl MadeSource {
+    ghost use Rattle.sip_stream.specs.Made.{made_bytes};
+    ghost use Rattle.sip_stream.specs.MadeSources.{made_left};
+
+    /// The most records of a made stream. Their deltas are at most 8, so no side is too heavy.
+    pub const MOST: u64 = 10_000_000;
+
+    /// The first records, so many, that the generator makes from the number, with items below 2^depth.
+    pub fn new(number: u64, count: u64, depth: Depth) -> MadeSource
+        requires { count ≤ Self.MOST }
+        ensures { made_left result ≡ made_bytes number count depth }
+    {
+        MadeSource {
+            depth,
+            state: number,
+            more: count,
+            bytes: [0; RECORD],
+            at: RECORD,
+        }
+    }
+
+    // Goes on to the next record, if there is one, where the one under way was read.
+    fn go_on(&mut self)
+        ensures same { made_left self.new ≡ made_left self.old }
+        ensures under_way { self.new.at ≡ 13 → made_left self.new ≡ [] }
+    {
+        if self.at == RECORD && self.more > 0 {
+            self.state = next_state(self.state);
+            self.more -= 1;
+            self.bytes = record_of(&update_at(self.depth, self.state));
+            self.at = 0;
+        }
+    }
+
+    // Moves bytes of the record under way to the buffer, behind those that it has.
+    fn fill(&mut self, buf: &mut [u8], filled: usize) -> usize
+        requires { filled ≤ length buf.old }
+        ensures bound { filled + result ≤ length buf.old }
+        ensures bytes { take filled buf.old ++ made_left self.old
+            ≡ take (filled + result) buf.new ++ made_left self.new }
+        ensures end { result ≡ 0 → filled < length buf.old → made_left self.old ≡ [] }
+    {
+        self.go_on();
+        let count = (RECORD - self.at).min(buf.len() - filled);
+        buf[filled..filled + count].copy_from_slice(&self.bytes[self.at..self.at + count]);
+        self.at += count;
+        count
+    }
+}
+
+impl Source for MadeSource {
+    ghost use Rattle.std.specs.Prelude.{◌≡◌, min, length, Some, refl};
+    ghost use Rattle.std.specs.Io.{ReadsAtMost};
+    ghost use Rattle.std.specs.Io.KnownBytes.{ReadConsumes};
+    ghost use Rattle.std.proofs.Common.{rules};
+    ghost use Rattle.sip_stream.specs.MadeSources.{made_left};
+
+    ghost left = { λ source. Some (made_left source) };
+
+    ghost faults = { λ _. 0 };
+
+    ghost is_sure = { λ _. Unit {0} };
+
+    ghost faults_fit = { λ _. Prim.search rules };
+
+    ghost sure_counts = { λ _ _. refl };
+
+    fn read(&mut self, buf: &mut [u8]) -> Result<usize, PortStop>
+        ensures bound { ReadsAtMost result buf.new }
+        ensures bytes { ReadConsumes (Some (made_left self.old)) (Some (made_left self.new)) result buf.new }
+        ensures count { result ≡ Ok (min (length buf.old) (length (made_left self.old))) }
+    {
+        let mut filled = 0;
+        while filled < buf.len() {
+            let count = self.fill(buf, filled);
+            if count == 0 {
+                break;
+            }
+            filled += count;
+        }
+        Ok(filled)
+    }
+}
+
+#[cfg(test)]
+mod tests;

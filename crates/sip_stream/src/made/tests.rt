@@ -1,0 +1,160 @@
+// Made streams against tables that were computed by the generator's rule in another language.
+ghost use Rattle.std.specs.Prelude.{◌≤◌};
+
+use super::MadeSource;
+use byteorder::{BigEndian, ByteOrder};
+use sip_ports::{Source, read_exact_into};
+use sip_vector::Depth;
+use std::alloc::Global;
+use std::test::Fail;
+
+// The first records of the number 7: side, item, delta.
+const AT_20: [(u8, u32, i64); 20] = [
+    (0, 532219, 8),
+    (1, 991056, 3),
+    (1, 367341, 2),
+    (0, 1, 5),
+    (0, 359749, 4),
+    (0, 955610, 5),
+    (0, 89829, 2),
+    (0, 101534, 2),
+    (1, 826747, 4),
+    (1, 1, 8),
+    (0, 941921, 2),
+    (1, 808873, 8),
+    (0, 175696, 5),
+    (1, 211507, 7),
+    (0, 0, 1),
+    (0, 607461, 6),
+    (1, 1, 8),
+    (0, 936554, 2),
+    (0, 188623, 3),
+    (1, 859048, 7),
+];
+
+const AT_1: [(u8, u32, i64); 20] = [
+    (0, 1, 8),
+    (1, 0, 3),
+    (1, 1, 2),
+    (0, 1, 5),
+    (0, 1, 4),
+    (0, 0, 5),
+    (0, 1, 2),
+    (0, 0, 2),
+    (1, 1, 4),
+    (1, 1, 8),
+    (0, 1, 2),
+    (1, 1, 8),
+    (0, 0, 5),
+    (1, 1, 7),
+    (0, 0, 1),
+    (0, 1, 6),
+    (1, 1, 8),
+    (0, 0, 2),
+    (0, 1, 3),
+    (1, 0, 7),
+];
+
+const AT_32: [(u8, u32, i64); 20] = [
+    (0, 1366826747, 8),
+    (1, 889134928, 3),
+    (1, 3032849133, 2),
+    (0, 1, 5),
+    (0, 3819273541, 4),
+    (0, 604935386, 5),
+    (0, 4288765669, 2),
+    (0, 3763440798, 2),
+    (1, 3278675323, 4),
+    (1, 1, 8),
+    (0, 2551078753, 2),
+    (1, 650925993, 8),
+    (0, 3238178384, 5),
+    (1, 1371748915, 7),
+    (0, 0, 1),
+    (0, 3867755749, 6),
+    (1, 1, 8),
+    (0, 969820778, 2),
+    (0, 3232948431, 3),
+    (1, 1652366248, 7),
+];
+
+fn made(number: u64, count: u64, depth: u8) -> Result<MadeSource, Fail>
+    requires { count ≤ 10_000_000 }
+{
+    let depth = Depth::new(depth).ok_or("a depth")?;
+    Ok(MadeSource::new(number, count, depth))
+}
+
+#[test]
+fn first_records_are_those_of_the_tables(rt: HostRuntime) -> Result<(), Fail> {
+    for (depth, rows) in [(20, AT_20), (1, AT_1), (32, AT_32)] {
+        let mut source = made(7, 20, depth)?;
+        let mut bytes = [0; 13];
+        for (side, item, delta) in rows {
+            assert_eq!(rt; read_exact_into(&mut source, &mut bytes), Ok(13));
+            assert_eq!(rt; bytes[0], side);
+            assert_eq!(rt; BigEndian::read_u32(&bytes[1..]), item);
+            assert_eq!(rt; BigEndian::read_i64(&bytes[5..]), delta);
+        }
+        assert_eq!(rt; source.read(&mut bytes), Ok(0));
+    }
+    Ok(())
+}
+
+#[test]
+fn one_record_of_7_and_of_0(rt: HostRuntime) -> Result<(), Fail> {
+    let mut bytes = [0; 20];
+    assert_eq!(rt; made(7, 1, 20)?.read(&mut bytes), Ok(13));
+    assert_eq!(rt;
+        &bytes[..13],
+        [0, 0, 8, 0x1e, 0xfb, 0, 0, 0, 0, 0, 0, 0, 8].as_slice()
+    );
+    assert_eq!(rt; made(0, 1, 20)?.read(&mut bytes), Ok(13));
+    assert_eq!(rt;
+        &bytes[..13],
+        [0, 0, 0x0d, 0xee, 0xcf, 0, 0, 0, 0, 0, 0, 0, 1].as_slice()
+    );
+    assert_eq!(rt; made(7, 0, 20)?.read(&mut bytes), Ok(0));
+    Ok(())
+}
+
+// All bytes that reads of at most so many bytes give, and how many reads gave some.
+fn read_by(alloc: Global, chunk: usize) -> Result<(Vec<u8>, usize), Fail>
+    requires chunk { chunk ≤ 10_000 }
+{
+    let mut source = made(7, 1000, 20)?;
+    let mut all = Vec::new(alloc);
+    let mut buf = [0; 10_000];
+    let mut reads = 0;
+    for _ in 0..13_000 {
+        let Ok(came) = source.read(&mut buf[..chunk]) else {
+            return Err("it never fails".into());
+        };
+        if came == 0 {
+            break;
+        }
+        all.extend_from_slice(&buf[..came])?;
+        reads += 1;
+    }
+    Ok((all, reads))
+}
+
+// The bytes of 1,000 records add up to 198,709, and the last record is (0, 678910, 7).
+#[test]
+fn pieces_of_any_size_are_the_same_bytes(rt: HostRuntime) -> Result<(), Fail> {
+    let alloc = rt.alloc();
+    let (whole, reads) = read_by(alloc, 10_000)?;
+    assert_eq!(rt; whole.len(), 13_000);
+    assert_eq!(rt; whole.iter().map(|byte| *byte as u64).sum::<u64>(), 198_709);
+    assert_eq!(rt;
+        whole.ends_with(&[0, 0, 0x0a, 0x5b, 0xfe, 0, 0, 0, 0, 0, 0, 0, 7]),
+        true
+    );
+    assert_eq!(rt; reads, 2);
+    for chunk in [1, 5, 13] {
+        let (pieces, reads) = read_by(alloc, chunk)?;
+        assert_eq!(rt; pieces == whole, true);
+        assert_eq!(rt; reads, 13_000_usize.div_ceil(chunk));
+    }
+    Ok(())
+}
