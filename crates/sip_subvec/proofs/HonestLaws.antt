@@ -11,7 +11,7 @@ use Rattle.sip_subvec.proofs.HonestStates.{honest_stated, honest_verdict}
 use Rattle.sip_subvec.proofs.HonestStreams.{shown_rows}
 
 -- there is one for each challenge
-replies_count : (p : ℕ) (numbers : List ℤ) (lo hi : ℕ) (challenges : List ℕ) → length (honest_replies p numbers lo hi challenges) ≡ length challenges
+pub replies_count : (p : ℕ) (numbers : List ℤ) (lo hi : ℕ) (challenges : List ℕ) → length (honest_replies p numbers lo hi challenges) ≡ length challenges
 replies_count p numbers lo hi challenges = length-map-range_with_len (λ j. honest_reply p numbers lo hi (take j challenges)) 0 (length challenges)
 
 pub shown_accepted : (p depth lo hi : ℕ) (numbers : List ℤ) (challenges : List ℕ) → CanBeShown p depth lo hi numbers → length challenges ≡ depth

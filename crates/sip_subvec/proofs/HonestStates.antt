@@ -64,14 +64,16 @@ fronts_walk g front (r ∷ challenges) =
     ∙ ap (λ xs. g front ∷ xs) (fronts_walk g (front ++ r ∷ []) challenges)
 
 -- the siblings of a level alone
-abbrev siblings_reply : Proving → List ℕ
+abbrev pub siblings_reply : Proving → List ℕ
 siblings_reply s = spelling (siblings_message (its_siblings s)) ++ []
 
-abbrev above : ℕ → Proving → List ℕ → List (List ℕ)
+-- the siblings of a prover's level and of those above it, each as one reply
+abbrev pub above : ℕ → Proving → List ℕ → List (List ℕ)
 above p s challenges = replies_above p s.level s.lo s.hi challenges
 
 module _ (p : ℕ) (numbers : List ℤ) (lo hi : ℕ) where
-  later_reply_is : (c : ℕ) (front : List ℕ) → honest_reply p numbers lo hi (c ∷ front) ≡ siblings_reply (proving p numbers lo hi (c ∷ front))
+  -- a later reply, and reply 0 with those above it
+  pub later_reply_is : (c : ℕ) (front : List ℕ) → honest_reply p numbers lo hi (c ∷ front) ≡ siblings_reply (proving p numbers lo hi (c ∷ front))
   unfolding honest_messages
   later_reply_is c front = flat_map-cons spelling _ []
 
@@ -82,8 +84,7 @@ module _ (p : ℕ) (numbers : List ℤ) (lo hi : ℕ) where
       ap (λ x. x ∷ walk (honest_reply p numbers lo hi) (c ∷ (front ++ r ∷ [])) challenges) (later_reply_is c front)
       ∙ ap (λ xs. siblings_reply (proving p numbers lo hi (c ∷ front)) ∷ xs) (later_walk c (front ++ r ∷ []) challenges ∙ ap (λ s. above p s challenges) (proving-push p numbers lo hi (c ∷ front) r))
 
-  -- reply 0, and those of the levels above
-  replies_are : (r : ℕ) (challenges : List ℕ) → honest_replies p numbers lo hi (r ∷ challenges) ≡ honest_reply p numbers lo hi [] ∷ replies_above p (up p (map (residue p) numbers) r) (lo / 2) (hi / 2) challenges
+  pub replies_are : (r : ℕ) (challenges : List ℕ) → honest_replies p numbers lo hi (r ∷ challenges) ≡ honest_reply p numbers lo hi [] ∷ replies_above p (up p (map (residue p) numbers) r) (lo / 2) (hi / 2) challenges
   unfolding walk
   replies_are r challenges =
       fronts_walk (honest_reply p numbers lo hi) [] (r ∷ challenges)

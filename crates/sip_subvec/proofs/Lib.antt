@@ -1,5 +1,6 @@
 pub mod FirstReply
 pub mod LaterReply
+pub mod Fronts
 pub mod Verdicts
 pub mod Provers
 pub mod Windows
@@ -9,3 +10,4 @@ pub mod HonestReading
 pub mod HonestStates
 pub mod HonestStreams
 pub mod HonestLaws
+pub mod HonestFronts

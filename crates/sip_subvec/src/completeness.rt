@@ -1,7 +1,7 @@
 //! Laws: honest replies are accepted, and what they state is the answer. These functions do nothing: each contract is a fact
 //! that holds.
 
-ghost use Rattle.std.specs.Prelude.{◌≡◌, ℕ, ◌^◌, ◌≤◌, ◌<◌, ℤ, List, [], ◌∷◌, ◌++◌, length};
+ghost use Rattle.std.specs.Prelude.{◌≡◌, ℕ, ◌^◌, ◌≤◌, ◌<◌, ℤ, pos, List, [], ◌∷◌, ◌++◌, length};
 ghost use Rattle.sip_field.specs.Moduli.{m61_modulus};
 ghost use Rattle.sip_vector.specs.declared.query.Query.TheVariants as queries;
 ghost use Rattle.sip_vector.specs.declared.update.Side.TheVariants.{First};
@@ -11,7 +11,9 @@ ghost use Rattle.sip_vector.specs.Streams.{vector, IsLegal};
 ghost use Rattle.sip_vector.specs.Trees.{root};
 ghost use Rattle.sip_vector.specs.Vectors.{nonzero_within};
 ghost use Rattle.sip_wire.specs.Table.{most_depth};
-ghost use Rattle.sip_subvec.specs.Honest.{begun, learnt, proving, honest_replies, CanBeShown};
+ghost use Rattle.sip_vector.specs.Examples.{four};
+ghost use Rattle.sip_subvec.specs.Examples.{reply_0, reply_1, both_entries};
+ghost use Rattle.sip_subvec.specs.Honest.{begun, learnt, proving, honest_reply, honest_replies, CanBeShown};
 ghost use Rattle.sip_subvec.specs.Replies.{IsAccepted, IsUnfinished, most_entries};
 
 /// A prover that learns the challenges one after another comes to the levels that they lead to.
@@ -37,8 +39,20 @@ pub fn legal_streams_are_answered()
         → answer depth stream (queries.Sub lo hi) ≡ pairs (nonzero_within lo hi (vector depth stream First)) }
 {}
 
-/// While honest replies come they have no fault, but that more is to come.
+/// While honest replies come they have no fault, but that more is to come: neither where the last one is whole, nor where a front
+/// of it was taken.
 pub fn honest_replies_have_no_fault()
-    ensures { (p depth lo hi : ℕ) (numbers : List ℤ) (revealed more : List ℕ) → CanBeShown p depth lo hi numbers
+    ensures whole { (p depth lo hi : ℕ) (numbers : List ℤ) (revealed more : List ℕ) → CanBeShown p depth lo hi numbers
         → IsUnfinished lo hi (revealed ++ more) (honest_replies p numbers lo hi revealed) }
+    ensures front { (p depth lo hi : ℕ) (numbers : List ℤ) → CanBeShown p depth lo hi numbers
+        → (revealed : List ℕ) (r : ℕ) (more front rest : List ℕ) → honest_reply p numbers lo hi revealed ≡ front ++ rest
+        → IsUnfinished lo hi (revealed ++ r ∷ more) (honest_replies p numbers lo hi revealed ++ front ∷ []) }
+{}
+
+/// The honest replies about the entries 1 to 2 of (3, 0, 5, 1), about four entries that are 0, and about both entries of (3, 5).
+#[tactic(auto, unfolding(crate::specs::Honest::honest_messages, sip_wire::specs::Spelling::spelling, sip_wire::specs::Spelling::in_bytes, sip_wire::specs::Spelling::spelled))]
+pub fn honest_replies_by_hand()
+    ensures four { honest_replies m61_modulus four 1 2 (2 ∷ 10 ∷ []) ≡ reply_0 ∷ reply_1 ∷ [] }
+    ensures zeros { honest_replies m61_modulus (pos 0 ∷ pos 0 ∷ pos 0 ∷ pos 0 ∷ []) 0 3 (2 ∷ 10 ∷ []) ≡ reply_1 ∷ reply_1 ∷ [] }
+    ensures two { honest_replies m61_modulus (pos 3 ∷ pos 5 ∷ []) 0 1 (2 ∷ []) ≡ both_entries ∷ [] }
 {}

@@ -9,3 +9,6 @@ pub mod laws;
 mod prover;
 
 pub use prover::{SiblingPair, SubProver};
+
+#[cfg(test)]
+mod prover_tests;

@@ -1,6 +1,6 @@
 //! The honest side of a check: the true siblings of an interval, level by level.
 
-ghost use Rattle.std.specs.Prelude.{◌≡◌, ◌*◌, ◌^◌, ◌<◌, ◌≤◌, length, Option, IfOk};
+ghost use Rattle.std.specs.Prelude.{◌≡◌, ◌*◌, ◌^◌, ◌<◌, ◌≤◌, ◌↔◌, length, Option, IfOk};
 ghost use Rattle.std.specs.Option.{option_map};
 ghost use Rattle.sip_subvec.specs.Honest.{begun, learnt, its_siblings};
 
@@ -52,6 +52,15 @@ impl<F: Field> SubProver<F> {
     {
         let level = Level::of(alloc, vector)?;
         Ok(SubProver { level, lo, hi })
+    }
+
+    /// How many levels are left below the root, the present one among them: each has siblings to give and a challenge to learn.
+    pub fn levels_left(&self) -> u8
+        ensures exact { length self.now.level ≡ 2 ^ result }
+        ensures some { (0 < result) ↔ (2 ≤ length self.now.level) }
+        ensures most { result ≤ 32 }
+    {
+        self.level.folds_left()
     }
 
     /// The siblings of the interval: the node left of it where its first index is odd, and the one right of it where its last

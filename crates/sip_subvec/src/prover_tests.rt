@@ -1,0 +1,93 @@
+use crate::{SiblingPair, SubProver};
+use sip_field::{F31, Field, M61};
+use sip_vector::{Depth, Vector};
+use std::alloc::Global;
+use std::process::Abort;
+use std::test::Fail;
+
+const MOST_WEIGHT: u64 = (1 << 30) - 1;
+
+// A prover of an interval of the vector with these entries.
+fn prover_of<F: Field, R: Abort>(
+    rt: &R,
+    alloc: Global,
+    depth: u8,
+    entries: &[(u64, i64)],
+    lo: u64,
+    hi: u64,
+) -> Result<SubProver<F>, Fail> {
+    let mut vector = Vector::new(alloc, Depth::new(depth).ok_or(())?)?;
+    for (index, delta) in entries {
+        assert!(rt; *index < 1 << vector.depth().get());
+        assert!(rt; vector.weight() + delta.unsigned_abs() <= MOST_WEIGHT);
+        vector.add(*index, *delta)?;
+    }
+    assert!(rt; lo <= hi && hi < 1 << vector.depth().get());
+    Ok(SubProver::start(alloc, &vector, lo, hi)?)
+}
+
+// The siblings of the present level, as numbers.
+fn siblings<F: Field, R: Abort>(rt: &R, prover: &SubProver<F>) -> (Option<u64>, Option<u64>) {
+    assert!(rt; prover.levels_left() > 0);
+    let SiblingPair { left, right } = prover.siblings();
+    (
+        left.map(|node| node.number()),
+        right.map(|node| node.number()),
+    )
+}
+
+fn learn<F: Field, R: Abort>(rt: &R, prover: &mut SubProver<F>, r: u64) {
+    assert!(rt; prover.levels_left() > 0);
+    prover.learn(F::of(r));
+}
+
+// The entries 1 to 2 of (3, 0, 5, 1), and the entry 1 of (-2, 5).
+fn prove_four_and_two<F: Field, R: Abort>(rt: &R, alloc: Global) -> Result<(), Fail> {
+    let mut prover = prover_of::<F, R>(rt, alloc, 2, &[(0, 3), (2, 5), (3, 1)], 1, 2)?;
+    assert_eq!(rt; siblings(rt, &prover), (Some(3), Some(1)));
+    learn(rt, &mut prover, 2);
+    assert_eq!(rt; siblings(rt, &prover), (None, None));
+    learn(rt, &mut prover, 10);
+    assert_eq!(rt; prover.levels_left(), 0);
+
+    let prover = prover_of::<F, R>(rt, alloc, 1, &[(0, -2), (1, 5)], 1, 1)?;
+    assert_eq!(rt; siblings(rt, &prover), (Some(F::MODULUS - 2), None));
+    Ok(())
+}
+
+#[test]
+fn siblings_are_those_of_the_true_tree(rt: HostRuntime) -> Result<(), Fail> {
+    prove_four_and_two::<M61, _>(&rt, rt.alloc())?;
+    prove_four_and_two::<F31, _>(&rt, rt.alloc())
+}
+
+#[test]
+fn whole_levels_have_no_siblings(rt: HostRuntime) -> Result<(), Fail> {
+    let mut prover = prover_of::<M61, _>(&rt, rt.alloc(), 2, &[], 0, 3)?;
+    assert_eq!(rt; siblings(&rt, &prover), (None, None));
+    learn(&rt, &mut prover, 2);
+    assert_eq!(rt; siblings(&rt, &prover), (None, None));
+
+    let prover = prover_of::<M61, _>(&rt, rt.alloc(), 1, &[(0, 3), (1, 5)], 0, 1)?;
+    assert_eq!(rt; siblings(&rt, &prover), (None, None));
+    Ok(())
+}
+
+#[test]
+fn one_entry_of_all_items_is_a_sibling(rt: HostRuntime) -> Result<(), Fail> {
+    let last = [(4_294_967_295, 7)];
+    let mut prover = prover_of::<M61, _>(&rt, rt.alloc(), 32, &last, 4_294_967_294, 4_294_967_294)?;
+    assert_eq!(rt; siblings(&rt, &prover), (None, Some(7)));
+    learn(&rt, &mut prover, 3);
+    assert_eq!(rt; siblings(&rt, &prover), (Some(0), None));
+
+    let mut prover = prover_of::<M61, _>(&rt, rt.alloc(), 32, &last, 0, 0)?;
+    for _ in 0..31 {
+        assert_eq!(rt; siblings(&rt, &prover), (None, Some(0)));
+        learn(&rt, &mut prover, 3);
+    }
+
+    // 7 * 3^31
+    assert_eq!(rt; siblings(&rt, &prover), (None, Some(4_323_713_773_987_629)));
+    Ok(())
+}
