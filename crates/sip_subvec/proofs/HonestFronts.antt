@@ -1,24 +1,22 @@
 -- While an honest reply comes it has no fault but that more is to come.
-use Rattle.std.proofs.Common.{◌≡◌, ℕ, suc, ◌+◌, ◌/◌, ◌<◌, ◌≤◌, List, [], ◌∷◌, ◌++◌, length, map, fold, ℤ, Result, Ok, Err, refl, sym, ap, subst, ◌∙◌, arith}
+use Rattle.std.proofs.Common.{◌≡◌, ℕ, ◌<◌, ◌≤◌, List, [], ◌∷◌, ◌++◌, map, fold, ℤ, Result, Ok, Err, sym, ap, subst, ◌∙◌, arith}
 use Rattle.std.proofs.lemmas.List.{append-nil, append_assoc, length-append}
 use Rattle.sip_field.specs.Moduli.{m61_modulus}
 use Rattle.sip_field.specs.Residue.{residue}
-use Rattle.sip_vector.specs.declared.update.Entry.{Entry}
-use Rattle.sip_vector.specs.Trees.{up}
 use Rattle.sip_vector.specs.Vectors.{nonzero_within}
 use Rattle.sip_wire.specs.declared.message.Reason.{Reason}
 use Rattle.sip_wire.specs.declared.message.Reason.TheVariants as reasons
-use Rattle.sip_subvec.specs.AcceptsSub.{Siblings, Stated}
+use Rattle.sip_subvec.specs.AcceptsSub.{Stated}
 use Rattle.sip_subvec.specs.Honest.{Proving, begun, learnt, proving, honest_siblings, its_siblings, honest_reply, honest_replies, CanBeShown}
 use Rattle.sip_subvec.specs.Replies.{IsUnfinished, later_reply}
 use Rattle.sip_subvec.proofs.FirstReply.{read_first}
 use Rattle.sip_subvec.proofs.Fronts.{first_front, later_front}
-use Rattle.sip_subvec.proofs.HonestFrames.{AreBelow, lowest_below, above_below}
+use Rattle.sip_subvec.proofs.HonestFrames.{AreBelow, above_below}
 use Rattle.sip_subvec.proofs.HonestLaws.{replies_count}
-use Rattle.sip_subvec.proofs.HonestReading.{siblings_read, replies_above}
+use Rattle.sip_subvec.proofs.HonestReading.{siblings_read}
 use Rattle.sip_subvec.proofs.HonestStates.{proving-nil, proving-push, siblings_reply, above, later_reply_is, replies_are, reply_0_read}
 use Rattle.sip_subvec.proofs.HonestStreams.{shown_rows}
-use Rattle.sip_subvec.proofs.Verdicts.{Passed, Awaits, Awaits-first, Awaits-later, Passed-first, Passed-later, IsUnfinished-next}
+use Rattle.sip_subvec.proofs.Verdicts.{Passed, Awaits-first, Awaits-later, Passed-first, Passed-later, IsUnfinished-next}
 
 -- ---- a front of a whole reply
 
