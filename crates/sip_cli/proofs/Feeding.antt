@@ -11,6 +11,7 @@ use Rattle.sip_vector.specs.declared.update.Side.TheVariants.{First}
 use Rattle.sip_vector.specs.declared.update.Update.{Update}
 use Rattle.sip_vector.specs.Pieces.{cut}
 use Rattle.sip_vector.specs.Streams.{vector}
+use Rattle.sip_stream.specs.declared.form.Form.TheVariants.{Binary}
 use Rattle.sip_stream.specs.declared.why.Why.{Why}
 use Rattle.sip_stream.specs.declared.why.Why.TheVariants.{Truncated}
 use Rattle.sip_stream.specs.Records.{Records, record_at, record_fault, records_after, records}
@@ -33,7 +34,7 @@ pub record IsUnderway (depth : ℕ) (bytes : List ℕ) (left : Option (List ℕ)
   pub rest : List ℕ
   pub to_come : left ≡ Some rest
   pub stream : List Update
-  pub ahead : records depth bytes ≡ records_after depth stream (cut 13 rest)
+  pub ahead : records depth Binary bytes ≡ records_after depth Binary stream (cut 13 rest)
   pub stands : StandsFor t stream
   pub same_depth : t.depth ≡ depth
   pub said : IsSentBut depth start now stream waiting
@@ -55,14 +56,14 @@ module _ (depth : ℕ) (bytes : List ℕ) (start : Option (List TalkEvent)) wher
     rest = rest;
     to_come = to_come;
     stream = so.stream ++ u ∷ [];
-    ahead = so.ahead ∙ ap (λ l. records_after depth so.stream (cut 13 l)) split ∙ read_legal depth so.stream piece rest len (at_depth so.stream piece None t so.same_depth legal) ∙ ap (λ v. records_after depth (so.stream ++ v ∷ []) (cut 13 rest)) (sym is);
+    ahead = so.ahead ∙ ap (λ l. records_after depth Binary so.stream (cut 13 l)) split ∙ read_legal depth so.stream piece rest len (at_depth so.stream piece None t so.same_depth legal) ∙ ap (λ v. records_after depth Binary (so.stream ++ v ∷ []) (cut 13 rest)) (sym is);
     stands = stands;
     same_depth = same ∙ so.same_depth;
     said = said;
   }
 
   -- the records so far are a front of the legal ones
-  is_front : (stream : List Update) (pieces : List (List ℕ)) → records depth bytes ≡ records_after depth stream pieces → IsPrefix stream (feeding.legal depth bytes)
+  is_front : (stream : List Update) (pieces : List (List ℕ)) → records depth Binary bytes ≡ records_after depth Binary stream pieces → IsPrefix stream (feeding.legal depth bytes)
   is_front stream pieces ahead = subst (λ (r : Records). IsPrefix stream r.legal) (sym ahead) (read_front depth stream pieces)
 
   -- the frames of a front are a front of the frames
@@ -100,11 +101,11 @@ module _ (depth : ℕ) (bytes : List ℕ) (start : Option (List TalkEvent)) wher
       → IsStopped depth start now' (so.stream ++ u ∷ []) → IsCutShort depth bytes start now'
   stops_after left now now' t waiting piece rest u so split len legal is stop =
       cut_short now' (so.stream ++ u ∷ []) (is_front (so.stream ++ u ∷ []) (cut 13 rest)
-      (so.ahead ∙ ap (λ l. records_after depth so.stream (cut 13 l)) split ∙ read_legal depth so.stream piece rest len (at_depth so.stream piece None t so.same_depth legal) ∙ ap (λ v. records_after depth (so.stream ++ v ∷ []) (cut 13 rest)) (sym is))) stop
+      (so.ahead ∙ ap (λ l. records_after depth Binary so.stream (cut 13 l)) split ∙ read_legal depth so.stream piece rest len (at_depth so.stream piece None t so.same_depth legal) ∙ ap (λ v. records_after depth Binary (so.stream ++ v ∷ []) (cut 13 rest)) (sym is))) stop
 
   -- a record is not legal, and only whole frames were sent
   not_legal : (left : Option (List ℕ)) (now : Option (List TalkEvent)) (t : Tally) (waiting : List Update) (why : Why) (so : IsUnderway depth bytes left start now t waiting)
-      → length waiting < 512 → records depth bytes ≡ record { legal = so.stream; fault = Some why } → ¬ IsLegalToEnd depth bytes × GoesOn start now (before_end depth bytes)
+      → length waiting < 512 → records depth Binary bytes ≡ record { legal = so.stream; fault = Some why } → ¬ IsLegalToEnd depth bytes × GoesOn start now (before_end depth bytes)
   not_legal left now t waiting why so few is =
       let frames : before_end depth bytes ≡ opening_sent depth so.said.sent =
       ap (λ (r : Records). opening_sent depth (whole_frames r.legal)) is
@@ -124,11 +125,11 @@ module _ (depth : ℕ) (bytes : List ℕ) (start : Option (List TalkEvent)) wher
   pub meets_fault : (left : Option (List ℕ)) (now : Option (List TalkEvent)) (t : Tally) (waiting : List Update) (piece rest : List ℕ) (why : Why) (so : IsUnderway depth bytes left start now t waiting)
       → length waiting < 512 → so.rest ≡ piece ++ rest → length piece ≡ 13 → record_fault t.depth so.stream piece ≡ Some why → ¬ IsLegalToEnd depth bytes × GoesOn start now (before_end depth bytes)
   meets_fault left now t waiting piece rest why so few split len fault =
-      not_legal left now t waiting why so few (so.ahead ∙ ap (λ l. records_after depth so.stream (cut 13 l)) split ∙ read_fault depth so.stream piece rest why len (at_depth so.stream piece (Some why) t so.same_depth fault))
+      not_legal left now t waiting why so few (so.ahead ∙ ap (λ l. records_after depth Binary so.stream (cut 13 l)) split ∙ read_fault depth so.stream piece rest why len (at_depth so.stream piece (Some why) t so.same_depth fault))
 
   -- every record was legal
-  ended : (left : Option (List ℕ)) (now : Option (List TalkEvent)) (t : Tally) (waiting : List Update) (so : IsUnderway depth bytes left start now t waiting) → so.rest ≡ [] → records depth bytes ≡ record { legal = so.stream; fault = None }
-  ended left now t waiting so none = so.ahead ∙ ap (λ l. records_after depth so.stream (cut 13 l)) none ∙ read_end depth so.stream
+  ended : (left : Option (List ℕ)) (now : Option (List TalkEvent)) (t : Tally) (waiting : List Update) (so : IsUnderway depth bytes left start now t waiting) → so.rest ≡ [] → records depth Binary bytes ≡ record { legal = so.stream; fault = None }
+  ended left now t waiting so none = so.ahead ∙ ap (λ l. records_after depth Binary so.stream (cut 13 l)) none ∙ read_end depth so.stream
 
   -- the stream was read and sent whole
   pub fed : (left left' : Option (List ℕ)) (now new : Option (List TalkEvent)) (t : Tally) (waiting : List Update) (so : IsUnderway depth bytes left start now t waiting)

@@ -6,6 +6,7 @@ use Rattle.sip_ports.specs.Ports.{GoesOn}
 use Rattle.sip_vector.specs.declared.update.Side.TheVariants.{First}
 use Rattle.sip_vector.specs.declared.update.Update.{Update}
 use Rattle.sip_vector.specs.Streams.{vector}
+use Rattle.sip_stream.specs.declared.form.Form.TheVariants.{Binary}
 use Rattle.sip_stream.specs.Records.{records}
 use Rattle.sip_verifier.specs.Exchanges.{IsPrefix}
 use Rattle.sip_verifier.specs.Talks.{whole_frames, opening_sent, stream_sent}
@@ -14,10 +15,10 @@ use Rattle.sip_cli.specs.declared.feed.FeedStop.TheVariants as stops
 
 module _ (depth : ℕ) (bytes : List ℕ) where
   abbrev pub legal : List Update
-  legal = (records depth bytes).legal
+  legal = (records depth Binary bytes).legal
 
   abbrev pub IsLegalToEnd : Type 0
-  IsLegalToEnd = (records depth bytes).fault ≡ None
+  IsLegalToEnd = (records depth Binary bytes).fault ≡ None
 
   -- the opening, and a frame for each 512 legal records
   abbrev pub before_end : List TalkEvent

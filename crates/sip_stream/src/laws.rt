@@ -3,33 +3,80 @@
 pub mod made;
 pub mod spellings;
 
-ghost use Rattle.std.specs.Prelude.{◌≡◌, [], ◌∷◌, ◌++◌, Some, None, pos, replicate};
+ghost use Rattle.std.specs.Prelude.{◌≡◌, [], ◌∷◌, ◌++◌, Some, None, codes, replicate};
 ghost use Rattle.sip_vector.specs.Examples.{stream};
 ghost use Rattle.sip_vector.specs.declared.update.Side.TheVariants as sides;
-ghost use Rattle.sip_stream.specs.Examples.{bytes_of_three, heaviest};
+ghost use Rattle.sip_stream.specs.Examples.{bytes_of_three, heaviest, line, line_fault_of, lines_of_three};
 ghost use Rattle.sip_stream.specs.Records.{records};
+ghost use Rattle.sip_stream.specs.declared.form.Form.TheVariants.{Binary, Text};
 ghost use Rattle.sip_stream.specs.declared.why.Why.TheVariants as whys;
 
 /// The bytes of three records, to their end.
 pub fn records_of_three()
-    ensures { records 2 bytes_of_three ≡ record { legal = stream; fault = None } }
+    ensures { records 2 Binary bytes_of_three ≡ record { legal = stream; fault = None } }
+{}
+
+/// The lines of three records, to their end.
+pub fn lines_of_three_records()
+    ensures { records 2 Text lines_of_three ≡ record { legal = stream; fault = None } }
 {}
 
 /// Twelve bytes are no record, and neither are one byte more than whole records.
 pub fn records_cut_short()
-    ensures twelve { records 2 (replicate 12 0) ≡ record { legal = []; fault = Some whys.Truncated } }
-    ensures one_more { records 2 (bytes_of_three ++ 0 ∷ []) ≡ record { legal = stream; fault = Some whys.Truncated } }
+    ensures twelve { records 2 Binary (replicate 12 0) ≡ record { legal = []; fault = Some whys.Truncated } }
+    ensures one_more { records 2 Binary (bytes_of_three ++ 0 ∷ []) ≡ record { legal = stream; fault = Some whys.Truncated } }
 {}
 
 /// A side of the greatest weight, and one more.
 pub fn records_too_heavy()
-    ensures fits { (records 1 heaviest).fault ≡ None }
-    ensures above { (records 1 (heaviest ++ 0 ∷ 0 ∷ 0 ∷ 0 ∷ 0 ∷ replicate 8 255)).fault ≡ Some (whys.TooHeavy sides.First) }
+    ensures fits { (records 1 Binary heaviest).fault ≡ None }
+    ensures above { (records 1 Binary (heaviest ++ 0 ∷ 0 ∷ 0 ∷ 0 ∷ 0 ∷ replicate 8 255)).fault ≡ Some (whys.TooHeavy sides.First) }
 {}
 
 /// One fault each: side 2, item 4 at depth 2, delta 0.
 pub fn records_with_a_fault()
-    ensures side { (records 2 (2 ∷ replicate 12 0)).fault ≡ Some whys.BadSide }
-    ensures item { (records 2 (0 ∷ 0 ∷ 0 ∷ 0 ∷ 4 ∷ replicate 8 0)).fault ≡ Some whys.BadItem }
-    ensures delta { (records 2 (replicate 13 0)).fault ≡ Some whys.ZeroDelta }
+    ensures side { (records 2 Binary (2 ∷ replicate 12 0)).fault ≡ Some whys.BadSide }
+    ensures item { (records 2 Binary (0 ∷ 0 ∷ 0 ∷ 0 ∷ 4 ∷ replicate 8 0)).fault ≡ Some whys.BadItem }
+    ensures delta { (records 2 Binary (replicate 13 0)).fault ≡ Some whys.ZeroDelta }
+{}
+
+/// One fault each in text: side 2, also far above, item 4 at depth 2, delta 0, and a weight too much.
+pub fn lines_with_a_fault()
+    ensures side { line_fault_of (codes "2 0 5") ≡ Some whys.BadSide }
+    ensures any_side { line_fault_of (codes "123456789012345678901234567890 0 5") ≡ Some whys.BadSide }
+    ensures item { line_fault_of (codes "0 4 5") ≡ Some whys.BadItem }
+    ensures greatest_item { line_fault_of (codes "0 18446744073709551615 5") ≡ Some whys.BadItem }
+    ensures delta { line_fault_of (codes "1 3 0") ≡ Some whys.ZeroDelta }
+    ensures weight { line_fault_of (codes "1 3 -1073741824") ≡ Some (whys.TooHeavy sides.Second) }
+    ensures least_delta { line_fault_of (codes "0 0 -9223372036854775808") ≡ Some (whys.TooHeavy sides.First) }
+{}
+
+/// Lines of another shape, whatever their side is.
+pub fn lines_of_another_shape()
+    ensures letter { line_fault_of (codes "2 x 5") ≡ Some whys.BadLine }
+    ensures empty { line_fault_of [] ≡ Some whys.BadLine }
+    ensures leading_zero { line_fault_of (codes "0 01 5") ≡ Some whys.BadLine }
+    ensures minus_zero { line_fault_of (codes "0 1 -0") ≡ Some whys.BadLine }
+    ensures plus { line_fault_of (codes "0 1 +1") ≡ Some whys.BadLine }
+    ensures two_spaces { line_fault_of (codes "0  1 5") ≡ Some whys.BadLine }
+    ensures four_fields { line_fault_of (codes "0 1 5 ") ≡ Some whys.BadLine }
+    ensures carriage_return { line_fault_of (codes "0 1 5" ++ 13 ∷ []) ≡ Some whys.BadLine }
+    ensures item_too_great { line_fault_of (codes "0 18446744073709551616 5") ≡ Some whys.BadLine }
+    ensures delta_too_great { line_fault_of (codes "0 1 9223372036854775808") ≡ Some whys.BadLine }
+    ensures delta_too_small { line_fault_of (codes "0 1 -9223372036854775809") ≡ Some whys.BadLine }
+{}
+
+/// A line without its line feed is cut short, up to 40 bytes, and whatever it holds.
+pub fn lines_cut_short()
+    ensures legal { records 2 Text (lines_of_three ++ codes "0 1 5") ≡ record { legal = stream; fault = Some whys.Truncated } }
+    ensures malformed { records 2 Text (codes "x") ≡ record { legal = []; fault = Some whys.Truncated } }
+    ensures forty { (records 2 Text (replicate 40 48)).fault ≡ Some whys.Truncated }
+{}
+
+/// A line has at most 40 bytes, its line feed included.
+pub fn lines_too_long()
+    ensures longest { line_fault_of (replicate 35 57 ++ codes " 0 5") ≡ Some whys.BadSide }
+    ensures with_a_feed { line_fault_of (replicate 36 57 ++ codes " 0 5") ≡ Some whys.BadLine }
+    ensures without { (records 2 Text (replicate 41 48)).fault ≡ Some whys.BadLine }
+    ensures greatest_of_all { line_fault_of (codes "0 18446744073709551615 -9223372036854775808") ≡ Some whys.BadLine }
 {}

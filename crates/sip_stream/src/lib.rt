@@ -1,12 +1,14 @@
 //! Streams of records as bytes.
 //!
-//! `specs/Records.antt` says which legal records bytes begin with, and why the next one is not legal.
+//! A stream is binary or text. `specs/Records.antt` says for both forms which legal records bytes begin with, and why
+//! the next one is not legal.
 //!
 //! `specs/Spellings.antt` says how an update is written. [`put_record`] writes one as a record of 13 bytes, and
 //! [`put_line`] as a line of text, both at once and without memory. [`MadeSource`] is a source of the records of
 //! `specs/Made.antt`, a stream that is made from a number.
 #![tactic(auto)]
 
+mod form;
 mod generator;
 pub mod laws;
 mod line;
@@ -14,6 +16,7 @@ mod made;
 mod record_bytes;
 mod why;
 
+pub use form::Form;
 pub use line::put_line;
 pub use made::MadeSource;
 pub use record_bytes::put_record;

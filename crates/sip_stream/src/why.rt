@@ -7,6 +7,8 @@ use sip_vector::Side;
 pub enum Why {
     /// The input ends inside the record.
     Truncated,
+    /// The line is too long, or has not the shape of a record's line.
+    BadLine,
     /// The side is none.
     BadSide,
     /// The item is not below 2^d.
