@@ -1,3 +1,5 @@
 pub mod Filling
 pub mod MadeStreams
 pub mod SpelledRecords
+pub mod SpelledLines
+pub mod ReadBack

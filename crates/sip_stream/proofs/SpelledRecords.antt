@@ -12,7 +12,7 @@ use Rattle.sip_vector.specs.declared.update.Update.{Update}
 use Rattle.sip_stream.specs.Records.{record_at}
 use Rattle.sip_stream.specs.Spellings.{record_bytes, side_number}
 
-side_back : (s : Side) → (cond (side_number s == 0) First Second) ≡ s
+pub side_back : (s : Side) → (cond (side_number s == 0) First Second) ≡ s
 side_back First = refl
 side_back Second = refl
 
@@ -24,7 +24,7 @@ bits_fit : (z : ℤ) → FitsSigned w64 z → cast_unsigned w64 z < 256 ^ 8
 bits_fit (pos n) fits = omega (arith, fits.sfits)
 bits_fit (negsuc n) fits = omega (arith, fits.sfits)
 
-same_parts : (side : Side) (item : ℕ) (delta : ℤ) (u : Update) → side ≡ u.side → item ≡ u.item → delta ≡ u.delta → record { side = side; item = item; delta = delta } ≡ u
+pub same_parts : (side : Side) (item : ℕ) (delta : ℤ) (u : Update) → side ≡ u.side → item ≡ u.item → delta ≡ u.delta → record { side = side; item = item; delta = delta } ≡ u
 same_parts side item delta u s i d = rw (s, i, d) refl
 
 pub record_back : (u : Update) → u.item < 2 ^ 32 → FitsSigned w64 u.delta → record_at (record_bytes u) ≡ u

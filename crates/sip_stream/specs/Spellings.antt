@@ -6,6 +6,8 @@ use Rattle.byteorder.specs.Endian.{big_bytes}
 use Rattle.sip_vector.specs.declared.update.Side.{Side}
 use Rattle.sip_vector.specs.declared.update.Side.TheVariants.{First, Second}
 use Rattle.sip_vector.specs.declared.update.Update.{Update}
+use Rattle.sip_stream.specs.declared.form.Form.{Form}
+use Rattle.sip_stream.specs.declared.form.Form.TheVariants.{Binary, Text}
 
 -- the number of a side
 abbrev pub side_number : Side → ℕ
@@ -19,3 +21,8 @@ record_bytes u = side_number u.side ∷ big_bytes 4 u.item ++ big_bytes 8 (cast_
 -- the side, a space, the item, a space, the delta, and a line feed
 unfoldable pub line_bytes : Update → List ℕ
 line_bytes u = decimal (side_number u.side) ++ codes " " ++ decimal u.item ++ codes " " ++ signed_decimal u.delta ++ 10 ∷ []
+
+-- the spelling in a form
+abbrev pub spelled : Form → Update → List ℕ
+spelled Binary u = record_bytes u
+spelled Text u = line_bytes u

@@ -1,11 +1,12 @@
 //! How updates are spelled.
 
-ghost use Rattle.std.specs.Prelude.{◌≡◌, ◌<◌, ◌^◌, ℕ, List, [], ◌∷◌, ◌++◌, length, codes, pos, negsuc, replicate, FitsSigned};
+ghost use Rattle.std.specs.Prelude.{◌≡◌, ◌≢◌, ◌<◌, ◌≤◌, ◌^◌, ℕ, List, [], ◌∷◌, ◌++◌, None, All, length, codes, pos, negsuc, FitsSigned};
 ghost use Rattle.std.specs.Int.{w64};
 ghost use Rattle.sip_vector.specs.declared.update.Side.TheVariants as sides;
 ghost use Rattle.sip_vector.specs.declared.update.Update.{Update as AnyUpdate};
-ghost use Rattle.sip_stream.specs.Records.{record_at};
-ghost use Rattle.sip_stream.specs.Spellings.{record_bytes, line_bytes};
+ghost use Rattle.sip_stream.specs.declared.form.Form.{Form as AnyForm};
+ghost use Rattle.sip_stream.specs.Records.{fault_at, records_from, update_at, update_fault};
+ghost use Rattle.sip_stream.specs.Spellings.{line_bytes, record_bytes, spelled};
 
 /// Two records: of an update of either side, one of them with a negative delta.
 #[tactic(auto, unfolding(crate::specs::Spellings::record_bytes))]
@@ -22,8 +23,22 @@ pub fn lines_of_two()
     ensures second { line_bytes (record { side = sides.Second; item = 0; delta = negsuc 16 }) ≡ codes "1 0 -17" ++ 10 ∷ [] }
 {}
 
-/// A record has 13 bytes, and says the update that it is of.
-pub fn records_say_their_updates()
-    ensures len { (u : AnyUpdate) → length (record_bytes u) ≡ 13 }
-    ensures back { (u : AnyUpdate) → u.item < 2 ^ 32 → FitsSigned w64 u.delta → record_at (record_bytes u) ≡ u }
+/// A record has 13 bytes. A line has 34 at most, and its one line feed is its last byte.
+pub fn spellings_are_short()
+    ensures records { (u : AnyUpdate) → length (record_bytes u) ≡ 13 }
+    ensures lines { (u : AnyUpdate) → u.item < 2 ^ 32 → FitsSigned w64 u.delta → length (line_bytes u) ≤ 34 }
+    ensures feed { (u : AnyUpdate) → u.item < 2 ^ 32 → FitsSigned w64 u.delta
+        → (text : List ℕ) × (line_bytes u ≡ text ++ 10 ∷ []) × All (λ b. b ≢ 10) text }
+{}
+
+/// A spelling is read as its update, and what stands against it at its place is what stands against the update. Where
+/// the update is legal, the spelling in front of bytes is read as the next record, and then the bytes.
+pub fn spellings_are_read()
+    ensures update { (form : AnyForm) (u : AnyUpdate) → u.item < 2 ^ 32 → FitsSigned w64 u.delta
+        → update_at form (spelled form u) ≡ u }
+    ensures fault { (form : AnyForm) (depth : ℕ) (before : List AnyUpdate) (u : AnyUpdate) → u.item < 2 ^ 32 → FitsSigned w64 u.delta
+        → fault_at form depth before (spelled form u) ≡ update_fault depth before u }
+    ensures next { (depth : ℕ) (form : AnyForm) (before : List AnyUpdate) (u : AnyUpdate) (rest : List ℕ) → u.item < 2 ^ 32 → FitsSigned w64 u.delta
+        → update_fault depth before u ≡ None
+        → records_from depth form before (spelled form u ++ rest) ≡ records_from depth form (before ++ u ∷ []) rest }
 {}

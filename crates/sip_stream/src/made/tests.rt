@@ -125,18 +125,16 @@ fn read_by(alloc: Global, chunk: usize) -> Result<(Vec<u8>, usize), Fail>
     let mut source = made(7, 1000, 20)?;
     let mut all = Vec::new(alloc);
     let mut buf = [0; 10_000];
-    let mut reads = 0;
-    for _ in 0..13_000 {
+    for reads in 0..13_001 {
         let Ok(came) = source.read(&mut buf[..chunk]) else {
             return Err("it never fails".into());
         };
         if came == 0 {
-            break;
+            return Ok((all, reads));
         }
         all.extend_from_slice(&buf[..came])?;
-        reads += 1;
     }
-    Ok((all, reads))
+    Err("it ends".into())
 }
 
 // The bytes of 1,000 records add up to 198,709, and the last record is (0, 678910, 7).
