@@ -3,3 +3,4 @@ pub mod MadeStreams
 pub mod SpelledRecords
 pub mod SpelledLines
 pub mod ReadBack
+pub mod ReadStreams

@@ -1,5 +1,5 @@
 -- The spelling of an update in front of bytes is read as the update, and then the bytes.
-use Rattle.std.proofs.Common.{◌≡◌, ℕ, suc, ◌+◌, ◌/◌, ◌^◌, ◌<◌, ◌≤◌, false, List, [], ◌∷◌, ◌++◌, length, take, drop, take_at, drop_at, Option, Some, None, refl, sym, ap, ◌∙◌, append_assoc, length-append, arith, w64}
+use Rattle.std.proofs.Common.{◌≡◌, ℕ, suc, ◌+◌, ◌/◌, ◌^◌, ◌<◌, ◌≤◌, false, List, [], ◌∷◌, ◌++◌, length, drop, take_at, drop_at, Option, Some, None, refl, sym, ap, ◌∙◌, append_assoc, length-append, arith, w64}
 use Rattle.std.specs.Prelude.{FitsSigned, nat_lt, slice_index}
 use Rattle.std.proofs.Math.Nat.{add-div_right}
 use Rattle.std.proofs.lemmas.Bool.Decides.{nat_tests}

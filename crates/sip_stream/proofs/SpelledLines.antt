@@ -1,19 +1,18 @@
 -- The line of an update says that update.
-use Rattle.std.proofs.Common.{◌≡◌, ◌≢◌, ℕ, zero, suc, ◌+◌, ◌^◌, ◌<◌, ◌≤◌, Bool, true, false, not, ◌&&◌, ◌||◌, ◌==◌, cond, eqb, List, [], ◌∷◌, ◌++◌, length, get_or, append-nil, inl, inr, All, ℤ, pos, negsuc, Option, Some, None, refl, sym, ap, ◌∙◌, append_assoc, length-append, arith, w64}
-use Rattle.std.specs.Prelude.{FitsSigned, decimal, codes, nat_le, option_map, option_and_then}
+use Rattle.std.proofs.Common.{◌≡◌, ◌≢◌, ℕ, suc, ◌+◌, ◌^◌, ◌<◌, ◌≤◌, true, false, List, [], ◌∷◌, ◌++◌, length, get_or, append-nil, inl, inr, All, ℤ, pos, negsuc, Some, refl, ap, ◌∙◌, append_assoc, length-append, arith, w64}
+use Rattle.std.specs.Prelude.{FitsSigned, decimal, nat_le, option_map, option_and_then}
 use Rattle.std.specs.Fmt.{signed_decimal}
 use Rattle.std.specs.Str.{all_ascii_digits}
 use Rattle.std.specs.Str.Parse.{digits_value}
 use Rattle.std.proofs.lemmas.Bool.{ne_eqb, lt-ltb, cases_lt}
 use Rattle.std.proofs.lemmas.Bool.Decides.{Decides-eqb, eqb_tells, nat_tests}
 use Rattle.std.proofs.lemmas.Fmt.{decimal_nonempty, decimal_digit, first_decimal, digits_decimal, digits_value-decimal, length-decimal-le, length_signed_le}
-use Rattle.std.proofs.lemmas.Int.Digits.{digits_push}
-use Rattle.std.proofs.lemmas.List.Elements.{All-head, All-tail, All-append, All-cons, All-nil, All-from_get_or}
+use Rattle.std.proofs.lemmas.List.Elements.{All-head, All-tail, All-append, All-cons, All-from_get_or}
 use Rattle.std.proofs.lemmas.Str.Parse.{IsNumeralModel, numerals_by_value, tells_all_ascii_digits, not_in_digits}
 use Rattle.sip_vector.specs.declared.update.Side.{Side}
 use Rattle.sip_vector.specs.declared.update.Side.TheVariants.{First, Second}
 use Rattle.sip_vector.specs.declared.update.Update.{Update}
-use Rattle.sip_stream.specs.Lines.{most_line, parts_at, is_decimal, decimal_at, minus, signed_at, is_signed_64, Numbers, three, numbers_at, lines_from}
+use Rattle.sip_stream.specs.Lines.{most_line, parts_at, is_decimal, decimal_at, minus, signed_at, is_signed_64, three, numbers_at, lines_from}
 use Rattle.sip_stream.specs.Spellings.{side_number, line_bytes}
 
 -- digits and their value, in std's words

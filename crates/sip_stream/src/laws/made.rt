@@ -1,9 +1,11 @@
 //! Made streams.
 
-ghost use Rattle.std.specs.Prelude.{◌≡◌, ◌≤◌, ℕ, [], ◌∷◌, pos};
+ghost use Rattle.std.specs.Prelude.{◌≡◌, ◌≤◌, ℕ, [], ◌∷◌, None, pos};
 ghost use Rattle.sip_vector.specs.declared.update.Side.{Side as AnySide};
 ghost use Rattle.sip_vector.specs.declared.update.Side.TheVariants as sides;
 ghost use Rattle.sip_vector.specs.Streams.{IsLegal, IsStrict};
+ghost use Rattle.sip_stream.specs.declared.form.Form.TheVariants.{Binary};
+ghost use Rattle.sip_stream.specs.Records.{records};
 ghost use Rattle.sip_stream.specs.Made.{next_state, made, made_bytes};
 
 /// The streams of one record from 7 and from 0.
@@ -15,8 +17,10 @@ pub fn made_from_7_and_0()
     ensures zero { made 0 1 20 ≡ record { side = sides.First; item = 913103; delta = pos 1 } ∷ [] }
 {}
 
-/// A made stream is legal, and no entry of its vectors is negative.
+/// A made stream is legal, and no entry of its vectors is negative. Its bytes are read as that stream, to their end.
 pub fn made_streams_are_legal()
     ensures legal { (x count depth : ℕ) → 1 ≤ depth → count ≤ 10_000_000 → IsLegal depth (made x count depth) }
+    ensures read { (x count depth : ℕ) → 1 ≤ depth → depth ≤ 32 → count ≤ 10_000_000
+        → records depth Binary (made_bytes x count depth) ≡ record { legal = made x count depth; fault = None } }
     ensures strict { (x count depth : ℕ) (side : AnySide) → IsStrict depth (made x count depth) side }
 {}

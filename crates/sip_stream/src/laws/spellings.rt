@@ -2,10 +2,12 @@
 
 ghost use Rattle.std.specs.Prelude.{◌≡◌, ◌≢◌, ◌<◌, ◌≤◌, ◌^◌, ℕ, List, [], ◌∷◌, ◌++◌, None, All, length, codes, pos, negsuc, FitsSigned};
 ghost use Rattle.std.specs.Int.{w64};
+ghost use Rattle.std.specs.List.{flat_map};
 ghost use Rattle.sip_vector.specs.declared.update.Side.TheVariants as sides;
 ghost use Rattle.sip_vector.specs.declared.update.Update.{Update as AnyUpdate};
+ghost use Rattle.sip_vector.specs.Streams.{IsLegal};
 ghost use Rattle.sip_stream.specs.declared.form.Form.{Form as AnyForm};
-ghost use Rattle.sip_stream.specs.Records.{fault_at, records_from, update_at, update_fault};
+ghost use Rattle.sip_stream.specs.Records.{fault_at, records, records_from, update_at, update_fault};
 ghost use Rattle.sip_stream.specs.Spellings.{line_bytes, record_bytes, spelled};
 
 /// Two records: of an update of either side, one of them with a negative delta.
@@ -41,4 +43,10 @@ pub fn spellings_are_read()
     ensures next { (depth : ℕ) (form : AnyForm) (before : List AnyUpdate) (u : AnyUpdate) (rest : List ℕ) → u.item < 2 ^ 32 → FitsSigned w64 u.delta
         → update_fault depth before u ≡ None
         → records_from depth form before (spelled form u ++ rest) ≡ records_from depth form (before ++ u ∷ []) rest }
+{}
+
+/// The spellings of a legal stream, one after the other, are read as that stream, to their end.
+pub fn streams_are_read()
+    ensures { (depth : ℕ) (form : AnyForm) (stream : List AnyUpdate) → depth ≤ 32 → IsLegal depth stream
+        → records depth form (flat_map (spelled form) stream) ≡ record { legal = stream; fault = None } }
 {}

@@ -1,0 +1,102 @@
+-- The spellings of a legal stream are read as that stream.
+use Rattle.std.proofs.Common.{◌≡◌, ◌≢◌, ℕ, ◌+◌, ◌^◌, ◌<◌, ◌≤◌, false, true, zero, suc, subst, drop, drop_at, length, List, [], ◌∷◌, ◌++◌, append_assoc, append-nil, All, ℤ, pos, negsuc, nat_abs, None, refl, sym, ap, ◌∙◌, arith, w64}
+use Rattle.std.specs.Prelude.{nat_le, nat_lt}
+use Rattle.std.specs.List.{flat_map}
+use Rattle.std.proofs.Math.Nat.{pow-le-pow_right}
+use Rattle.std.proofs.lemmas.Bool.{ne_eqb}
+use Rattle.std.proofs.lemmas.Bool.Decides.{nat_tests}
+use Rattle.std.proofs.lemmas.Int.{fits_signed_from_abs}
+use Rattle.std.proofs.lemmas.List.Elements.{filter-append, All-head, All-same, All-drop}
+use Rattle.std.proofs.lemmas.List.Sums.{sum_by-append, sum_by-cons}
+use Rattle.sip_vector.specs.declared.update.Side.{Side}
+use Rattle.sip_vector.specs.declared.update.Side.TheVariants.{First, Second}
+use Rattle.sip_vector.specs.declared.update.Update.{Update}
+use Rattle.sip_vector.specs.Answers.{is_zero}
+use Rattle.sip_vector.specs.Streams.{same_side, of_side, weight, most_weight, IsLegal}
+use Rattle.sip_stream.specs.declared.form.Form.{Form}
+use Rattle.sip_stream.specs.declared.form.Form.TheVariants.{Binary, Text}
+use Rattle.sip_stream.specs.Records.{update_fault, records_from, records}
+use Rattle.sip_stream.specs.Spellings.{spelled}
+use Rattle.sip_stream.proofs.ReadBack.{read_back}
+
+weight-append : (s t : List Update) (side : Side) → weight (s ++ t) side ≡ weight s side + weight t side
+weight-append s t side =
+    rw (filter-append (λ (u : Update). same_side u.side side) s t)
+    (sum_by-append (λ (u : Update). nat_abs u.delta) (of_side s side) (of_side t side))
+
+same_side-own : (s : Side) → same_side s s ≡ true
+same_side-own First = refl
+same_side-own Second = refl
+
+weight-own : (u : Update) → weight (u ∷ []) u.side ≡ nat_abs u.delta
+weight-own u = rw (same_side-own u.side) (omega (arith, sum_by-cons (λ (v : Update). nat_abs v.delta) u []))
+
+weight_fits : (depth : ℕ) (stream : List Update) (side : Side) → IsLegal depth stream → weight stream side ≤ most_weight
+weight_fits depth stream First legal = legal.first
+weight_fits depth stream Second legal = legal.second
+
+-- an update of a legal stream
+record IsLegalAt (depth : ℕ) (before : List Update) (u : Update) : Type 0 where
+  item : u.item < 2 ^ depth
+  delta : u.delta ≢ pos 0
+  weight : weight (before ++ u ∷ []) u.side ≤ most_weight
+  size : nat_abs u.delta ≤ most_weight
+
+of_rest : (P : Update → Type 0) (before : List Update) (u : Update) (more : List Update) → All P (before ++ u ∷ more) → P u
+of_rest P before u more all =
+    let rest = drop_at before (u ∷ more) (length before) refl in
+    All-head P u more (All-same P (u ∷ more) (drop (length before) (before ++ u ∷ more)) (sym rest) (All-drop P (length before) (before ++ u ∷ more) all))
+
+legal_at : (depth : ℕ) (before : List Update) (u : Update) (more : List Update) → IsLegal depth (before ++ u ∷ more) → IsLegalAt depth before u
+legal_at depth before u more legal =
+    let all = weight_fits depth (before ++ u ∷ more) u.side legal in
+    let parts = weight-append before (u ∷ more) u.side in
+    let tail = weight-append (u ∷ []) more u.side in
+    let front = weight-append before (u ∷ []) u.side in
+    let own = weight-own u in
+    record {
+      item = of_rest (λ v. v.item < 2 ^ depth) before u more legal.items;
+      delta = of_rest (λ v. v.delta ≢ pos 0) before u more legal.deltas;
+      weight = omega (arith, all, parts, tail, front);
+      size = omega (arith, all, parts, tail, own);
+    }
+
+not_le : (a b : ℕ) → b < a → nat_le a b ≡ false
+not_le a b below = grind (arith, nat_tests)
+
+not_lt : (a b : ℕ) → b ≤ a → nat_lt a b ≡ false
+not_lt a b most = grind (arith, nat_tests)
+
+not_zero : (z : ℤ) → z ≢ pos 0 → is_zero z ≡ false
+not_zero (pos zero) some = absurd (some refl)
+not_zero (pos (suc n)) some = ne_eqb (suc n) 0 (λ e. absurd (omega (arith, e)))
+not_zero (negsuc n) some = ne_eqb (suc n) 0 (λ e. absurd (omega (arith, e)))
+
+-- nothing stands against it
+no_fault : (depth : ℕ) (before : List Update) (u : Update) → IsLegalAt depth before u → update_fault depth before u ≡ None
+no_fault depth before u legal =
+    let item = not_le (2 ^ depth) u.item legal.item in
+    let delta = not_zero u.delta legal.delta in
+    let light = not_lt most_weight (weight (before ++ u ∷ []) u.side) legal.weight in
+    rw (item, delta, light) refl
+
+read_end : (depth : ℕ) (form : Form) (before : List Update) → records_from depth form before [] ≡ record { legal = before; fault = None }
+read_end depth Binary before = refl
+read_end depth Text before = refl
+
+read_from : (depth : ℕ) (form : Form) (before us : List Update) → depth ≤ 32 → IsLegal depth (before ++ us)
+    → records_from depth form before (flat_map (spelled form) us) ≡ record { legal = before ++ us; fault = None }
+read_from depth form before [] most legal = read_end depth form before ∙ ap (λ l. record { legal = l; fault = None }) (sym (append-nil before))
+read_from depth form before (u ∷ us) most legal =
+    let here = legal_at depth before u us legal in
+    let power : 2 ^ depth ≤ 2 ^ 32 = pow-le-pow_right (omega arith) most in
+    let item : u.item < 2 ^ 32 = omega (arith, here.item, power) in
+    let fits = fits_signed_from_abs w64 u.delta (omega (arith, here.size)) in
+    let more = append_assoc before (u ∷ []) us in
+    read_back depth form before u (flat_map (spelled form) us) item fits (no_fault depth before u here)
+    ∙ read_from depth form (before ++ u ∷ []) us most (subst (IsLegal depth) (sym more) legal)
+    ∙ ap (λ l. record { legal = l; fault = None }) more
+
+pub stream_back : (depth : ℕ) (form : Form) (stream : List Update) → depth ≤ 32 → IsLegal depth stream
+    → records depth form (flat_map (spelled form) stream) ≡ record { legal = stream; fault = None }
+stream_back depth form stream most legal = read_from depth form [] stream most legal
