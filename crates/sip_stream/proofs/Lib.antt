@@ -4,3 +4,8 @@ pub mod SpelledRecords
 pub mod SpelledLines
 pub mod ReadBack
 pub mod ReadStreams
+pub mod Cuts
+pub mod Parts
+pub mod Digits
+pub mod LinesRead
+pub mod RecordsRead

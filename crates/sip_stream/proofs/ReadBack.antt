@@ -10,7 +10,8 @@ use Rattle.sip_vector.specs.Pieces.{pieces, cut}
 use Rattle.sip_stream.specs.declared.form.Form.{Form}
 use Rattle.sip_stream.specs.declared.form.Form.TheVariants.{Binary, Text}
 use Rattle.sip_stream.specs.declared.why.Why.{Why}
-use Rattle.sip_stream.specs.Lines.{Numbers, parts_at, numbers_at, lines_from, most_line}
+use Rattle.sip_stream.specs.declared.numbers.Numbers.{Numbers}
+use Rattle.sip_stream.specs.Lines.{parts_at, numbers_at, lines_from, most_line}
 use Rattle.sip_stream.specs.Records.{update_fault, record_at, record_fault, said, said_fault, line_at, line_fault, update_at, fault_at, Records, records_after, records_from}
 use Rattle.sip_stream.specs.Spellings.{side_number, record_bytes, line_bytes, spelled}
 use Rattle.sip_stream.proofs.SpelledRecords.{side_back, same_parts, record_back, length-record}

@@ -1,6 +1,6 @@
 -- The line of an update says that update.
-use Rattle.std.proofs.Common.{◌≡◌, ◌≢◌, ℕ, suc, ◌+◌, ◌^◌, ◌<◌, ◌≤◌, true, false, List, [], ◌∷◌, ◌++◌, length, get_or, append-nil, inl, inr, All, ℤ, pos, negsuc, Some, refl, ap, ◌∙◌, append_assoc, length-append, arith, w64}
-use Rattle.std.specs.Prelude.{FitsSigned, decimal, nat_le, option_map, option_and_then}
+use Rattle.std.proofs.Common.{◌≡◌, ◌≢◌, ℕ, suc, ◌+◌, ◌^◌, ◌<◌, ◌≤◌, true, false, List, [], ◌∷◌, ◌++◌, length, get_or, append-nil, inl, inr, All, ℤ, pos, negsuc, None, Some, refl, ap, ◌∙◌, append_assoc, length-append, arith, w64}
+use Rattle.std.specs.Prelude.{FitsSigned, decimal, nat_le, nat_lt, option_and_then, if◌then◌else◌}
 use Rattle.std.specs.Fmt.{signed_decimal}
 use Rattle.std.specs.Str.{all_ascii_digits}
 use Rattle.std.specs.Str.Parse.{digits_value}
@@ -12,7 +12,8 @@ use Rattle.std.proofs.lemmas.Str.Parse.{IsNumeralModel, numerals_by_value, tells
 use Rattle.sip_vector.specs.declared.update.Side.{Side}
 use Rattle.sip_vector.specs.declared.update.Side.TheVariants.{First, Second}
 use Rattle.sip_vector.specs.declared.update.Update.{Update}
-use Rattle.sip_stream.specs.Lines.{most_line, parts_at, is_decimal, decimal_at, minus, signed_at, is_signed_64, three, numbers_at, lines_from}
+use Rattle.sip_stream.specs.Lines.{most_line, parts_at, is_decimal, decimal_at, item_at, above_zero, below_zero, delta_at, three, numbers_at, lines_from}
+use Rattle.sip_stream.specs.declared.numbers.Numbers.{Numbers}
 use Rattle.sip_stream.specs.Spellings.{side_number, line_bytes}
 
 -- digits and their value, in std's words
@@ -75,31 +76,34 @@ decimal_at-decimal n small =
     let is = is_decimal-from (decimal n) (digits_decimal digits n small) (decimal_nonempty n small) (begins_decimal n small) in
     rw (is, digits_value-decimal digits n small) refl
 
-signed_at-plain : (ds : List ℕ) → 0 < length ds → get_or ds 0 0 ≢ 45 → signed_at ds ≡ option_map pos (decimal_at ds)
-signed_at-plain [] some other = absurd (omega (arith, some))
-signed_at-plain (b ∷ bs) some other = rw (ne_eqb b 45 other) refl
+item_at-decimal : (n : ℕ) → n < 2 ^ 64 → item_at (decimal n) ≡ Some n
+item_at-decimal n small = ap (option_and_then (λ m. if nat_lt m (2 ^ 64) then Some m else None)) (decimal_at-decimal n small) ∙ rw (lt-ltb n (2 ^ 64) small) refl
 
-pub signed_at-decimal : (z : ℤ) → FitsSigned w64 z → signed_at (signed_decimal z) ≡ Some z
-signed_at-decimal (pos n) fits =
+delta_at-plain : (ds : List ℕ) → 0 < length ds → get_or ds 0 0 ≢ 45 → delta_at ds ≡ option_and_then above_zero (decimal_at ds)
+delta_at-plain [] some other = absurd (omega (arith, some))
+delta_at-plain (b ∷ bs) some other = rw (ne_eqb b 45 other) refl
+
+above_zero-is : (n : ℕ) → n < 2 ^ 63 → above_zero n ≡ Some (pos n)
+above_zero-is n small = rw (lt-ltb n (2 ^ 63) small) refl
+
+below_zero-is : (n : ℕ) → n < 2 ^ 63 → below_zero (suc n) ≡ Some (negsuc n)
+below_zero-is n small = rw (lt-ltb n (2 ^ 63) small) refl
+
+pub delta_at-decimal : (z : ℤ) → FitsSigned w64 z → delta_at (signed_decimal z) ≡ Some z
+delta_at-decimal (pos n) fits =
     let small : n < 2 ^ 64 = omega (arith, fits.sfits) in
     let some = decimal_nonempty n small in
-    let plain = signed_at-plain (decimal n) some (lacks-decimal 45 n (omega arith) small 0 0 some) in
-    plain ∙ ap (option_map pos) (decimal_at-decimal n small)
-signed_at-decimal (negsuc n) fits = ap (option_and_then minus) (decimal_at-decimal (suc n) (omega (arith, fits.sfits)))
-
-is_signed : (z : ℤ) → FitsSigned w64 z → is_signed_64 z ≡ true
-is_signed (pos n) fits = lt-ltb n (2 ^ 63) (omega (arith, fits.sfits))
-is_signed (negsuc n) fits = lt-ltb n (2 ^ 63) (omega (arith, fits.sfits))
-
-three-is : (s i : ℕ) (z : ℤ) → i < 2 ^ 64 → FitsSigned w64 z → three (Some s) (Some i) (Some z) ≡ Some (record { side = s; item = i; delta = z })
-three-is s i z small fits = rw (lt-ltb i (2 ^ 64) small, is_signed z fits) refl
+    let plain = delta_at-plain (decimal n) some (lacks-decimal 45 n (omega arith) small 0 0 some) in
+    plain ∙ ap (option_and_then above_zero) (decimal_at-decimal n small) ∙ above_zero-is n (omega (arith, fits.sfits))
+delta_at-decimal (negsuc n) fits =
+    ap (option_and_then below_zero) (decimal_at-decimal (suc n) (omega (arith, fits.sfits))) ∙ below_zero-is n (omega (arith, fits.sfits))
 
 -- the text of three numbers, without its line feed
 abbrev pub text_of : ℕ → ℕ → ℤ → List ℕ
 text_of s i z = decimal s ++ 32 ∷ (decimal i ++ 32 ∷ signed_decimal z)
 
 numbers_at-parts : (text rest a b c : List ℕ) (s i : ℕ) (z : ℤ) → parts_at 32 text ≡ Some (a, rest) → parts_at 32 rest ≡ Some (b, c)
-    → decimal_at a ≡ Some s → decimal_at b ≡ Some i → signed_at c ≡ Some z → numbers_at text ≡ three (Some s) (Some i) (Some z)
+    → decimal_at a ≡ Some s → item_at b ≡ Some i → delta_at c ≡ Some z → numbers_at text ≡ three (Some s) (Some i) (Some z)
 numbers_at-parts text rest a b c s i z first second side item delta = rw (first, numbers_at) (rw second (rw (side, item, delta) refl))
 
 pub numbers_at-text : (s i : ℕ) (z : ℤ) → s < 2 ^ 64 → i < 2 ^ 64 → FitsSigned w64 z → numbers_at (text_of s i z) ≡ Some (record { side = s; item = i; delta = z })
@@ -107,8 +111,7 @@ numbers_at-text s i z side item fits =
     let rest = decimal i ++ 32 ∷ signed_decimal z in
     let first = parts_at-mark 32 (decimal s) rest (lacks-decimal 32 s (omega arith) side) in
     let second = parts_at-mark 32 (decimal i) (signed_decimal z) (lacks-decimal 32 i (omega arith) item) in
-    numbers_at-parts (text_of s i z) rest (decimal s) (decimal i) (signed_decimal z) s i z first second (decimal_at-decimal s side) (decimal_at-decimal i item) (signed_at-decimal z fits)
-    ∙ three-is s i z item fits
+    numbers_at-parts (text_of s i z) rest (decimal s) (decimal i) (signed_decimal z) s i z first second (decimal_at-decimal s side) (item_at-decimal i item) (delta_at-decimal z fits)
 
 lacks-text : (s i : ℕ) (z : ℤ) → s < 2 ^ 64 → i < 2 ^ 64 → FitsSigned w64 z → Lacks 10 (text_of s i z)
 lacks-text s i z side item fits =

@@ -2,6 +2,7 @@
 use Rattle.std.specs.Prelude.{ℕ, zero, suc, ◌^◌, ◌==◌, nat_le, nat_lt, Bool, false, not, ◌&&◌, ◌||◌, ℤ, pos, negsuc, List, [], ◌∷◌, ◌++◌, length, Option, Some, None, option_map, option_and_then, if◌then◌else◌}
 use Rattle.std.specs.Str.{all_ascii_digits}
 use Rattle.std.specs.Str.Parse.{digits_value}
+use Rattle.sip_stream.specs.declared.numbers.Numbers.{Numbers}
 
 -- the greatest length of a line, its line feed included
 abbrev pub most_line : ℕ
@@ -21,41 +22,38 @@ is_decimal (b ∷ bs) = all_ascii_digits (b ∷ bs) && (not (b == 48) || (length
 abbrev pub decimal_at : List ℕ → Option ℕ
 decimal_at text = if is_decimal text then Some (digits_value 10 text) else None
 
--- minus this number, which is not 0
-abbrev pub minus : ℕ → Option ℤ
-minus zero = None
-minus (suc n) = Some (negsuc n)
+-- the number that a text writes so, where it is below 2^64
+abbrev pub item_at : List ℕ → Option ℕ
+item_at text = option_and_then (λ n. if nat_lt n (2 ^ 64) then Some n else None) (decimal_at text)
 
--- the number that a text writes in that way, with `-` in front of it where it is negative
-abbrev pub signed_at : List ℕ → Option ℤ
-signed_at [] = None
-signed_at (b ∷ bs) = if b == 45 then option_and_then minus (decimal_at bs) else option_map pos (decimal_at (b ∷ bs))
+-- a number that is below 2^63
+abbrev pub above_zero : ℕ → Option ℤ
+above_zero n = if nat_lt n (2 ^ 63) then Some (pos n) else None
 
--- the number is from -2^63 to 2^63 - 1
-abbrev pub is_signed_64 : ℤ → Bool
-is_signed_64 (pos n) = nat_lt n (2 ^ 63)
-is_signed_64 (negsuc n) = nat_lt n (2 ^ 63)
+-- minus a number that is not 0, where that is at least -2^63
+abbrev pub below_zero : ℕ → Option ℤ
+below_zero zero = None
+below_zero (suc n) = if nat_lt n (2 ^ 63) then Some (negsuc n) else None
 
--- what a line says
-pub record Numbers : Type 0 where
-  pub side : ℕ
-  pub item : ℕ
-  pub delta : ℤ
+-- the number that a text writes so, with `-` in front of it where it is negative, where it is from -2^63 to 2^63 - 1
+abbrev pub delta_at : List ℕ → Option ℤ
+delta_at [] = None
+delta_at (b ∷ bs) = if b == 45 then option_and_then below_zero (decimal_at bs) else option_and_then above_zero (decimal_at (b ∷ bs))
 
--- three numbers, where there are three, and the item and the delta have their ranges
+-- three numbers, where there are three
 abbrev pub three : Option ℕ → Option ℕ → Option ℤ → Option Numbers
 three None item delta = None
 three (Some side) None delta = None
 three (Some side) (Some item) None = None
-three (Some side) (Some item) (Some delta) = if nat_lt item (2 ^ 64) && is_signed_64 delta then Some (record { side = side; item = item; delta = delta }) else None
+three (Some side) (Some item) (Some delta) = Some (record { side = side; item = item; delta = delta })
 
--- the numbers that a text says with one space between two of them
+-- the numbers that a text says with one space between two of them; its side is any number
 abbrev pub numbers_at : List ℕ → Option Numbers
 numbers_at text = elim (parts_at 32 text) [
   | None ↦ None
   | Some first ↦ elim (parts_at 32 first.1) [
     | None ↦ None
-    | Some second ↦ three (decimal_at first.0) (decimal_at second.0) (signed_at second.1)
+    | Some second ↦ three (decimal_at first.0) (item_at second.0) (delta_at second.1)
   ]
 ]
 

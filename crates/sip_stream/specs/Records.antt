@@ -12,7 +12,8 @@ use Rattle.sip_stream.specs.declared.form.Form.{Form}
 use Rattle.sip_stream.specs.declared.form.Form.TheVariants.{Binary, Text}
 use Rattle.sip_stream.specs.declared.why.Why.{Why}
 use Rattle.sip_stream.specs.declared.why.Why.TheVariants.{Truncated, BadLine, BadSide, BadItem, ZeroDelta, TooHeavy}
-use Rattle.sip_stream.specs.Lines.{Numbers, numbers_at, parts_at, lines_from, most_line}
+use Rattle.sip_stream.specs.declared.numbers.Numbers.{Numbers}
+use Rattle.sip_stream.specs.Lines.{numbers_at, parts_at, lines_from, most_line}
 
 -- why an update is not legal after these
 abbrev pub update_fault : ℕ → List Update → Update → Option Why

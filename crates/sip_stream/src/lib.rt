@@ -8,16 +8,23 @@
 //! `specs/Made.antt`, a stream that is made from a number.
 #![tactic(auto)]
 
+mod fault;
 mod form;
 mod generator;
 pub mod laws;
 mod line;
+mod line_reader;
 mod made;
+mod numbers;
+mod reader;
 mod record_bytes;
+mod record_reader;
 mod why;
 
+pub use fault::StreamFault;
 pub use form::Form;
 pub use line::put_line;
 pub use made::MadeSource;
+pub use reader::Reader;
 pub use record_bytes::put_record;
 pub use why::Why;

@@ -1,0 +1,59 @@
+-- Decimal numbers, digit by digit.
+use Rattle.std.proofs.Common.{◌≡◌, ◌≢◌, ℕ, zero, suc, ◌+◌, ◌-◌, ◌*◌, ◌^◌, ◌<◌, ◌≤◌, Bool, true, false, cond, eqb, List, [], ◌∷◌, length, drop, get_or, refl, sym, ap, ◌∙◌, arith, eq-eqb, eqb-true, add-one}
+use Rattle.std.specs.Prelude.{Option, Some, None, not, ◌&&◌, ◌||◌}
+use Rattle.std.specs.Char.{digit_value, is_ascii_digit}
+use Rattle.std.specs.Str.{all_ascii_digits}
+use Rattle.std.specs.Str.Parse.{digits_value, digits_value_after}
+use Rattle.std.proofs.Math.Nat.{pow-succ', pow-le-pow_right}
+use Rattle.std.proofs.lemmas.Bool.{ne_eqb}
+use Rattle.sip_stream.specs.Lines.{decimal_at, is_decimal}
+use Rattle.sip_stream.proofs.Parts.{drop_cons}
+
+-- the digits from a place on are those behind it and the one there
+pub digits_step : (text : List ℕ) (i : ℕ) → i < length text → all_ascii_digits (drop i text) ≡ is_ascii_digit (get_or text i 0) && all_ascii_digits (drop (i + 1) text)
+digits_step text i l = ap all_ascii_digits (drop_cons text i l)
+
+pub value_step : (text : List ℕ) (i n : ℕ) → i < length text → digits_value_after 10 n (drop i text) ≡ digits_value_after 10 (n * 10 + digit_value (get_or text i 0)) (drop (i + 1) text)
+value_step text i n l = ap (digits_value_after 10 n) (drop_cons text i l)
+
+-- one more digit
+pub small_step : (n d i : ℕ) → n < 10 ^ i → d < 10 → n * 10 + d < 10 ^ (i + 1)
+small_step n d i small digit = let more : 10 ^ (i + 1) ≡ 10 * 10 ^ i = rw add-one (pow-succ' 10 i) in omega arith
+
+-- up to 38 digits fit
+pub small_fits : (n i : ℕ) → n < 10 ^ i → i < 38 → n < 10 ^ 37
+small_fits n i small short = let le : i ≤ 37 = omega arith in let most : 10 ^ i ≤ 10 ^ 37 = pow-le-pow_right (omega arith) le in omega arith
+
+abbrev chosen : List ℕ → Bool → Option ℕ
+chosen text is = cond is (Some (digits_value 10 text)) None
+
+pub no_digits : (text : List ℕ) → all_ascii_digits text ≡ false → None ≡ decimal_at text
+no_digits [] e = cc
+no_digits (b ∷ bs) e = ap (λ is. chosen (b ∷ bs) (is && (not (eqb b 48) || eqb (length bs) 0))) (sym e)
+
+pub no_text : (text : List ℕ) → length text ≡ 0 → None ≡ decimal_at text
+no_text [] e = refl
+no_text (b ∷ bs) e = absurd (omega arith)
+
+leads : (b : Bool) → b && false ≡ false
+leads true = refl
+leads false = refl
+
+pub leading_zero : (text : List ℕ) → get_or text 0 0 ≡ 48 → 1 < length text → None ≡ decimal_at text
+leading_zero [] e l = absurd (omega arith)
+leading_zero (b ∷ bs) e l =
+    let second : not (eqb b 48) || eqb (length bs) 0 ≡ false = ap (λ is. not is || eqb (length bs) 0) (eq-eqb b 48 e) ∙ ne_eqb (length bs) 0 (λ none. absurd (omega arith)) in
+    sym (ap (λ is. chosen (b ∷ bs) (all_ascii_digits (b ∷ bs) && is)) second ∙ ap (chosen (b ∷ bs)) (leads (all_ascii_digits (b ∷ bs))))
+
+-- the digits write a number, where none of them leads as a zero
+pub reads_number : (text : List ℕ) (n : ℕ) → 0 < length text → (get_or text 0 0 ≡ 48 → length text ≤ 1) → all_ascii_digits text ≡ true → digits_value 10 text ≡ n → Some n ≡ decimal_at text
+reads_number [] n some alone all value = absurd (omega arith)
+reads_number (b ∷ bs) n some alone all value =
+    sym (ap (λ is. chosen (b ∷ bs) (is && (not (eqb b 48) || eqb (length bs) 0))) all ∙ ap (chosen (b ∷ bs)) (second (eqb b 48) refl) ∙ ap Some value)
+  where
+    second : (is : Bool) → eqb b 48 ≡ is → not (eqb b 48) || eqb (length bs) 0 ≡ true
+    second true e = ap (λ t. not t || eqb (length bs) 0) e ∙ eq-eqb (length bs) 0 (let most = alone (is_zero e) in omega arith)
+      where
+        is_zero : eqb b 48 ≡ true → b ≡ 48
+        is_zero t = eqb-true b 48 t
+    second false e = ap (λ t. not t || eqb (length bs) 0) e

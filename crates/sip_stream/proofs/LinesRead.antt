@@ -1,0 +1,136 @@
+-- Lines, taken byte by byte: what a whole line says, and where it was cut short or is too long.
+use Rattle.std.proofs.Common.{◌≡◌, ◌≢◌, ℕ, ◌+◌, ◌<◌, ◌≤◌, Bool, true, false, cond, eqb, List, [], ◌∷◌, ◌++◌, length, refl, sym, ap, ◌∙◌, subst, arith, append_assoc, append-nil, length-append, eq-eqb}
+use Rattle.std.specs.Prelude.{Option, Some, None, Result, Ok, Err, nat_lt, nat_le, ◌||◌, option_and_then, pos}
+use Rattle.std.proofs.lemmas.Bool.{ne_eqb}
+use Rattle.std.proofs.lemmas.Bool.Decides.{nat_tests}
+use Rattle.sip_vector.specs.declared.update.Side.TheVariants.{First}
+use Rattle.sip_vector.specs.declared.update.Update.{Update}
+use Rattle.sip_stream.specs.declared.form.Form.TheVariants.{Text}
+use Rattle.sip_stream.specs.declared.numbers.Numbers.{Numbers}
+use Rattle.sip_stream.specs.declared.why.Why.{Why}
+use Rattle.sip_stream.specs.declared.why.Why.TheVariants.{Truncated, BadLine, BadSide}
+use Rattle.sip_stream.specs.Lines.{parts_at, numbers_at, lines_from, begun, most_line}
+use Rattle.sip_stream.specs.Records.{said, said_fault, line_at, line_fault, update_fault}
+use Rattle.sip_stream.specs.Pieces.{IsBegun, IsFirst, Says, ReadsPiece, TakesFront, TakesLine, line_said}
+use Rattle.sip_stream.specs.declared.line_reader.LineEnd.{LineEnd}
+use Rattle.sip_stream.specs.declared.line_reader.LineEnd.TheVariants.{Feed, Input, TooLong}
+use Rattle.sip_stream.proofs.Parts.{parts_found, parts_more}
+
+-- nothing was taken yet
+pub begun_empty : (bytes : List ℕ) → IsBegun bytes [] bytes
+begun_empty bytes = record { order = refl; same = refl; clean = refl }
+
+-- the lines, by whether the next byte ends one
+abbrev line_step : List ℕ → ℕ → List ℕ → Bool → List (List ℕ)
+line_step front b rest ends = cond ends ((front ++ b ∷ []) ∷ lines_from [] rest) (lines_from (front ++ b ∷ []) rest)
+
+-- one more byte of the line
+pub begun_more : (bytes front rest : List ℕ) (b : ℕ) → IsBegun bytes front (b ∷ rest) → b ≢ 10 → length front < 40 → IsBegun bytes (front ++ b ∷ []) rest
+begun_more bytes front rest b so other short =
+    let long : nat_le most_line (length front) ≡ false = grind (arith, nat_tests) in
+    let ends : (eqb b 10 || nat_le most_line (length front)) ≡ false = ap (λ is. is || nat_le most_line (length front)) (ne_eqb b 10 other) ∙ long in
+    record {
+      order = so.order ∙ sym (append_assoc front (b ∷ []) rest);
+      same = so.same ∙ ap (line_step front b rest) ends;
+      clean = parts_more 10 b front so.clean other;
+    }
+
+-- a line that ends with this byte is the first one
+ended : (bytes front rest : List ℕ) (b : ℕ) → IsBegun bytes front (b ∷ rest) → (eqb b 10 || nat_le most_line (length front)) ≡ true → IsFirst Text bytes (front ++ b ∷ []) rest
+ended bytes front rest b so ends = record {
+  order = so.order ∙ sym (append_assoc front (b ∷ []) rest);
+  cut = so.same ∙ ap (line_step front b rest) ends;
+}
+
+longer : (front : List ℕ) (b : ℕ) → length (front ++ b ∷ []) ≡ length front + 1
+longer front b = length-append front (b ∷ [])
+
+-- a line of 41 bytes
+pub reads_long : (bytes front rest : List ℕ) (b : ℕ) (left : Option (List ℕ)) → IsBegun bytes front (b ∷ rest) → left ≡ Some rest → 40 ≤ length front → ReadsPiece Text bytes left (Ok (Some (Err BadLine)))
+reads_long bytes front rest b left so told long =
+    let full : nat_le most_line (length front) ≡ true = grind (arith, nat_tests) in
+    let above : nat_lt most_line (length (front ++ b ∷ [])) ≡ true = rw (longer front b) (grind (arith, nat_tests)) in
+    (front ++ b ∷ [], rest, told, ended bytes front rest b so (either (eqb b 10) full), λ depth before. ap (λ is. cond is (Some BadLine) (after depth before)) above)
+  where
+    either : (is : Bool) → nat_le most_line (length front) ≡ true → (is || nat_le most_line (length front)) ≡ true
+    either true full = refl
+    either false full = full
+
+    after : ℕ → List Update → Option Why
+    after depth before = elim (parts_at 10 (front ++ b ∷ [])) [
+      | None ↦ Some Truncated
+      | Some parts ↦ elim (numbers_at parts.0) [ None ↦ Some BadLine | Some n ↦ said_fault depth before n ]
+    ]
+
+-- a line that the input ends in
+pub reads_short : (bytes front : List ℕ) (left : Option (List ℕ)) → IsBegun bytes front [] → left ≡ Some [] → 0 < length front → length front ≤ 40 → ReadsPiece Text bytes left (Ok (Some (Err Truncated)))
+reads_short bytes front left so told some short =
+    let fits : nat_lt most_line (length front) ≡ false = grind (arith, nat_tests) in (
+      front,
+      [],
+      told,
+      record { order = so.order; cut = so.same ∙ one front some },
+      λ depth before.
+          ap (λ is. cond is (Some BadLine) (after depth before (parts_at 10 front))) fits ∙ ap (after depth before) so.clean,
+    )
+  where
+    one : (xs : List ℕ) → 0 < length xs → begun xs ≡ xs ∷ []
+    one [] l = absurd (omega arith)
+    one (x ∷ xs) l = refl
+
+    after : ℕ → List Update → Option (List ℕ × List ℕ) → Option Why
+    after depth before None = Some Truncated
+    after depth before (Some parts) = elim (numbers_at parts.0) [ None ↦ Some BadLine | Some n ↦ said_fault depth before n ]
+
+-- the end
+pub reads_end : (bytes front : List ℕ) (left : Option (List ℕ)) → IsBegun bytes front [] → left ≡ Some [] → front ≡ [] → ReadsPiece Text bytes left (Ok None)
+reads_end bytes front left so told none = (so.order ∙ ap (λ l. l ++ []) none, told)
+
+-- ---- a line with its line feed
+
+-- why a text says no legal update
+abbrev after_numbers : ℕ → List Update → Option Numbers → Option Why
+after_numbers depth before None = Some BadLine
+after_numbers depth before (Some n) = said_fault depth before n
+
+-- the update that a text says
+abbrev update_said : Option Numbers → Update
+update_said None = record { side = First; item = 0; delta = pos 0 }
+update_said (Some n) = said n
+
+abbrev answer_said : Option Numbers → Result Update Why
+answer_said None = Err BadLine
+answer_said (Some n) = cond (nat_lt 1 n.side) (Err BadSide) (Ok (said n))
+
+after_parts : ℕ → List Update → Option (List ℕ × List ℕ) → Option Why
+after_parts depth before None = Some Truncated
+after_parts depth before (Some parts) = after_numbers depth before (numbers_at parts.0)
+
+module _ (front : List ℕ) (clean : parts_at 10 front ≡ None) (short : length front < 40) where
+  found : parts_at 10 (front ++ 10 ∷ []) ≡ Some (front, [])
+  found = parts_found 10 front [] clean
+
+  faulty : (depth : ℕ) (before : List Update) → line_fault depth before (front ++ 10 ∷ []) ≡ after_numbers depth before (numbers_at front)
+  unfolding after_parts
+  faulty depth before =
+      let fits : nat_lt most_line (length (front ++ 10 ∷ [])) ≡ false = rw (longer front 10) (grind (arith, nat_tests)) in
+      ap (λ is. cond is (Some BadLine) (after_parts depth before (parts_at 10 (front ++ 10 ∷ [])))) fits ∙ ap (after_parts depth before) found
+
+  updated : line_at (front ++ 10 ∷ []) ≡ update_said (numbers_at front)
+  updated = ap (λ parts. update_said (option_and_then (λ (p : List ℕ × List ℕ). numbers_at p.0) parts)) found
+
+  by_side : (n : Numbers) (is : Bool) → nat_lt 1 n.side ≡ is → numbers_at front ≡ Some n → Says Text (front ++ 10 ∷ []) (cond is (Err BadSide) (Ok (said n)))
+  by_side n true e is = λ depth before. faulty depth before ∙ ap (after_numbers depth before) is ∙ ap (λ t. cond t (Some BadSide) (update_fault depth before (said n))) e
+  by_side n false e is = (updated ∙ ap update_said is, λ depth before. faulty depth before ∙ ap (after_numbers depth before) is ∙ ap (λ t. cond t (Some BadSide) (update_fault depth before (said n))) e)
+
+  by_numbers : (o : Option Numbers) → numbers_at front ≡ o → Says Text (front ++ 10 ∷ []) (answer_said o)
+  by_numbers None is = λ depth before. faulty depth before ∙ ap (after_numbers depth before) is
+  by_numbers (Some n) is = by_side n (nat_lt 1 n.side) refl is
+
+  says_line : Says Text (front ++ 10 ∷ []) (line_said front)
+  says_line = by_numbers (numbers_at front) refl
+
+-- a whole line
+pub reads_line : (bytes front rest : List ℕ) (left : Option (List ℕ)) (answer : Result Update Why) → IsBegun bytes front (10 ∷ rest) → left ≡ Some rest → length front < 40 → answer ≡ line_said front → ReadsPiece Text bytes left (Ok (Some answer))
+reads_line bytes front rest left answer so told short is =
+    (front ++ 10 ∷ [], rest, told, ended bytes front rest 10 so refl, subst (Says Text (front ++ 10 ∷ [])) (sym is) (says_line front so.clean short))

@@ -1,0 +1,67 @@
+-- What a reader stands for, and what its next record is, by the bytes to come.
+use Rattle.std.specs.Prelude.{◌≡◌, ◌≢◌, ℕ, ◌+◌, ◌-◌, ◌*◌, ◌^◌, ◌<◌, ◌≤◌, Bool, false, true, pos, nat_abs, ⊤, List, [], ◌∷◌, ◌++◌, length, Option, Some, None, Result, Ok, Err}
+use Rattle.sip_ports.specs.declared.port.PortStop.{PortStop}
+use Rattle.sip_ports.specs.declared.port.PortStop.TheVariants as ports
+use Rattle.sip_vector.specs.declared.update.Side.{Side}
+use Rattle.sip_vector.specs.declared.update.Side.TheVariants.{First, Second}
+use Rattle.sip_vector.specs.declared.update.Update.{Update}
+use Rattle.sip_vector.specs.Streams.{weight, most_weight, IsLegal}
+use Rattle.sip_stream.specs.declared.form.Form.{Form}
+use Rattle.sip_stream.specs.declared.fault.StreamFault.{StreamFault}
+use Rattle.sip_stream.specs.declared.fault.StreamFault.TheVariants as faults
+use Rattle.sip_stream.specs.Pieces.{TakesFront}
+use Rattle.sip_stream.specs.Records.{records_from}
+
+-- what is seen of a reader: how many records came, and the weight of each side
+pub record Reading : Type 0 where
+  pub depth : ℕ
+  pub form : Form
+  pub count : ℕ
+  pub first : ℕ
+  pub second : ℕ
+  pub is_spent : Bool
+
+abbrev pub weight_of : Reading → Side → ℕ
+weight_of r First = r.first
+weight_of r Second = r.second
+
+-- before the first record
+abbrev pub unread : ℕ → Form → Reading
+unread depth form = record { depth = depth; form = form; count = 0; first = 0; second = 0; is_spent = false }
+
+-- a reader has read these legal records, and may go on
+pub record IsAfter (r : Reading) (stream : List Update) : Type 0 where
+  pub count : r.count ≡ length stream
+  pub weights : (side : Side) → weight_of r side ≡ weight stream side
+  pub legal : IsLegal r.depth stream
+  pub ready : r.is_spent ≡ false
+
+-- the update is one that a stream may have next
+pub record HasRoom (r : Reading) (u : Update) : Type 0 where
+  pub item : u.item < 2 ^ r.depth
+  pub delta : u.delta ≢ pos 0
+  pub weight : weight_of r u.side + nat_abs u.delta ≤ most_weight
+
+-- how much weight may still come on both sides
+abbrev pub room : Reading → ℕ
+room r = 2 * most_weight - (r.first + r.second)
+
+-- the reader after the answer, where it may be called again
+abbrev pub GoesOnAfter : Reading → List Update → Result (Option Update) StreamFault → Type 0
+GoesOnAfter new before (Ok (Some u)) = IsAfter new (before ++ u ∷ [])
+GoesOnAfter new before (Ok None) = IsAfter new before
+GoesOnAfter new before (Err fault) = ⊤
+
+-- The next record of the bytes that come after these legal ones: a legal one, the end, or one that is not legal. A
+-- source that stopped has given a front of the bytes.
+abbrev pub Reads : ℕ → Form → List Update → List ℕ → Option (List ℕ) → Result (Option Update) StreamFault → Type 0
+Reads depth form before bytes left (Ok (Some u)) = (piece rest : List ℕ) × (left ≡ Some rest) × (bytes ≡ piece ++ rest) × (records_from depth form before bytes ≡ records_from depth form (before ++ u ∷ []) rest)
+Reads depth form before bytes left (Ok None) = (left ≡ Some []) × (bytes ≡ [])
+Reads depth form before bytes left (Err (faults.Bad at why)) = TakesFront bytes left × (at ≡ length before) × (records_from depth form before bytes ≡ record { legal = before; fault = Some why })
+Reads depth form before bytes left (Err faults.ReadFault) = TakesFront bytes left
+Reads depth form before bytes left (Err faults.OutOfMemory) = TakesFront bytes left
+
+-- the fault of a stream whose source stopped
+abbrev pub fault_of : PortStop → StreamFault
+fault_of ports.Failed = faults.ReadFault
+fault_of ports.OutOfMemory = faults.OutOfMemory

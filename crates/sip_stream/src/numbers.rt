@@ -1,0 +1,100 @@
+//! The numbers of a line of text.
+
+ghost use Rattle.std.specs.Prelude.{◌≡◌, ◌≤◌, ◌+◌, length, option_map, IfSome};
+ghost use Rattle.sip_stream.specs.Lines.{decimal_at, delta_at, item_at, numbers_at, parts_at, above_zero, below_zero};
+
+/// The three numbers that a line says.
+#[derive(Clone, Copy, Debug, PartialEq, Eq)]
+pub(crate) struct Numbers {
+    pub(crate) side: u128,
+    pub(crate) item: u64,
+    pub(crate) delta: i64,
+}
+
+/// The text in front of its first space, and the text behind that.
+fn split_at_space(text: &[u8]) -> Option<(&[u8], &[u8])>
+    ensures parts { option_map (λ parts. (parts.0.now, parts.1.now)) result ≡ parts_at 32 text.now }
+    ensures lens { IfSome result (λ parts. length parts.0.now + length parts.1.now + 1 ≡ length text.now) }
+{
+    for index in 0..text.len() {
+        if text[index] == b' ' {
+            return Some((&text[..index], &text[index + 1..]));
+        }
+    }
+    None
+}
+
+/// The number that decimal digits write, without a leading zero but for 0 itself. It has at most 38 digits, so it fits.
+fn decimal(text: &[u8]) -> Option<u128>
+    requires { length text.now ≤ 38 }
+    ensures { result ≡ decimal_at text.now }
+{
+    if text.is_empty() || (text[0] == b'0' && text.len() > 1) {
+        return None;
+    }
+    let mut number: u128 = 0;
+    for index in 0..text.len() {
+        if !text[index].is_ascii_digit() {
+            return None;
+        }
+        number = number * 10 + (text[index] - b'0') as u128;
+    }
+    Some(number)
+}
+
+fn item(text: &[u8]) -> Option<u64>
+    requires { length text.now ≤ 38 }
+    ensures { result ≡ item_at text.now }
+{
+    let number = decimal(text)?;
+    if number >= 1 << 64 {
+        return None;
+    }
+    Some(number as u64)
+}
+
+fn positive(number: u128) -> Option<i64>
+    ensures { result ≡ above_zero number }
+{
+    if number >= 1 << 63 {
+        return None;
+    }
+    Some(number as i64)
+}
+
+fn negative(number: u128) -> Option<i64>
+    ensures { result ≡ below_zero number }
+{
+    if number == 0 || number > 1 << 63 {
+        return None;
+    }
+    Some(-1 - (number - 1) as i64)
+}
+
+fn delta(text: &[u8]) -> Option<i64>
+    requires { length text.now ≤ 38 }
+    ensures { result ≡ delta_at text.now }
+{
+    if text.is_empty() {
+        return None;
+    }
+    if text[0] == b'-' {
+        negative(decimal(&text[1..])?)
+    } else {
+        positive(decimal(text)?)
+    }
+}
+
+/// The numbers of a line, without its line feed, where it has the shape of a record's line.
+pub(crate) fn read_numbers(line: &[u8]) -> Option<Numbers>
+    requires { length line.now ≤ 39 }
+    ensures { result ≡ numbers_at line.now }
+{
+    let (first, rest) = split_at_space(line)?;
+    let (second, third) = split_at_space(rest)?;
+    Some(Numbers {
+        side: decimal(first)?,
+        item: item(second)?,
+        delta: delta(third)?,
+    })
+}

@@ -1,0 +1,188 @@
+//! A stream, read one record at a time.
+
+ghost use Rattle.std.specs.Prelude.{◌≡◌, ◌≤◌, ◌<◌, ◌+◌, ◌++◌, ◌∷◌, [], ℕ, List, None, Some, IsNone, IsSome, IfOk, IfSome, IfNone, OnOk, Result, Err, Ok, false, true, nat_abs};
+ghost use Rattle.std.specs.Result.{is_err};
+ghost use Rattle.sip_ports.specs.Ports.{HasCause, Lasts, Rose};
+ghost use Rattle.sip_vector.specs.declared.update.Update.{Update};
+ghost use Rattle.sip_stream.specs.declared.why.Why.{Why};
+ghost use Rattle.sip_stream.specs.Pieces.{ReadsPiece};
+ghost use Rattle.sip_stream.specs.Reading.{IsAfter, HasRoom, GoesOnAfter, Reads, room, unread, weight_of};
+ghost use Rattle.sip_stream.specs.Records.{update_fault};
+
+use crate::line_reader::next_line;
+use crate::record_reader::next_record;
+use crate::{Form, StreamFault, Why};
+use sip_ports::{PortStop, Source};
+use sip_vector::{Depth, Side, Update};
+use std::marker::Model;
+
+/// The greatest weight of a side.
+const MOST_WEIGHT: u64 = (1 << 30) - 1;
+
+/// A reader of a stream: how many legal records came, and the weight of each side.
+///
+/// It takes no memory, and reads no byte ahead.
+#[derive(Clone, Copy, Debug, PartialEq, Eq)]
+pub struct Reader {
+    depth: Depth,
+    form: Form,
+    count: u64,
+    first: u64,
+    second: u64,
+    is_spent: bool,
+}
+
+impl Model for Reader {
+    ghost use Rattle.std.specs.Prelude.{◌+◌, ◌≤◌};
+    ghost use Rattle.sip_vector.specs.Streams.{most_weight};
+    ghost use Rattle.sip_stream.specs.Reading.{Reading};
+
+    ghost Value = { Reading };
+
+    ghost view = { λ r. record { depth = r.depth; form = r.form; count = r.count; first = r.first; second = r.second; is_spent = r.is_spent } };
+
+    ghost invariant = { λ r. (r.first ≤ most_weight) × (r.second ≤ most_weight) × (r.count ≤ r.first + r.second) };
+
+    ghost inverse = { λ r. record { depth = r.depth; form = r.form; count = r.count; first = r.first; second = r.second; is_spent = r.is_spent } };
+}
+
+impl Reader {
+    /// A reader that has read nothing.
+    pub fn new(depth: Depth, form: Form) -> Reader
+        ensures unread { result ≡ unread depth form }
+        ensures after { IsAfter result [] }
+    {
+        Reader {
+            depth,
+            form,
+            count: 0,
+            first: 0,
+            second: 0,
+            is_spent: false,
+        }
+    }
+
+    /// A call of `next` answered an error, so none may follow.
+    pub fn spent(&self) -> bool
+        ensures { result ≡ self.now.is_spent }
+    {
+        self.is_spent
+    }
+
+    fn weight(&self, side: Side) -> u64
+        ensures same { result ≡ weight_of self.now side }
+        ensures small { result < 1073741824 }
+    {
+        match side {
+            Side::First => self.first,
+            Side::Second => self.second,
+        }
+    }
+
+    // Why the update is not legal after those so far, tested in this order.
+    fn fault(&self, update: &Update) -> Option<Why>
+        ensures first { (before : List Update) → IsAfter self.now before → result ≡ update_fault self.now.depth before update.now }
+        ensures room { IfNone result (HasRoom self.now update.now) }
+    {
+        if update.item >= 1 << self.depth.get() {
+            return Some(Why::BadItem);
+        }
+        if update.delta == 0 {
+            return Some(Why::ZeroDelta);
+        }
+        if self.weight(update.side) + update.delta.unsigned_abs() > MOST_WEIGHT {
+            return Some(Why::TooHeavy(update.side));
+        }
+        None
+    }
+
+    // Counts a legal update.
+    fn add(&mut self, update: &Update)
+        requires { HasRoom self.old update.now }
+        ensures after { (before : List Update) → IsAfter self.old before → IsAfter self.new (before ++ update.now ∷ []) }
+        ensures heavier { self.old.first + self.old.second < self.new.first + self.new.second }
+        ensures bounded { self.new.first + self.new.second ≤ 2147483646 }
+        ensures depth { self.new.depth ≡ self.old.depth }
+        ensures form { self.new.form ≡ self.old.form }
+    {
+        let size = update.delta.unsigned_abs();
+        match update.side {
+            Side::First => self.first += size,
+            Side::Second => self.second += size,
+        }
+        self.count += 1;
+    }
+
+    fn read<S: Source>(&mut self, source: &mut S) -> Result<Option<Update>, StreamFault>
+        requires { self.old.is_spent ≡ false }
+        ensures reads { (before : List Update) (bytes : List ℕ) → IsAfter self.old before → S.left source.old ≡ Some bytes → Reads self.old.depth self.old.form before bytes (S.left source.new) result }
+        ensures after { (before : List Update) → IsAfter self.old before → GoesOnAfter self.new before result }
+        ensures legal { IfOk result (λ next. IfSome next (HasRoom self.old)) }
+        ensures nearer { IfOk result (λ next. IfSome next (λ _. room self.new < room self.old)) }
+        ensures at { (at : ℕ) (why : Why) → result ≡ Err (StreamFault.Bad at why) → at ≡ self.old.count }
+        ensures depth { self.new.depth ≡ self.old.depth }
+        ensures form { self.new.form ≡ self.old.form }
+        ensures told { IsSome (S.left source.old) → IsSome (S.left source.new) }
+        ensures cause { result ≡ Err StreamFault.ReadFault → Rose (S.faults source.old) (S.faults source.new) }
+        ensures source { Lasts S.faults S.is_sure source.old source.new }
+    {
+        let Some(said) = next_piece(self.form, source)? else {
+            return Ok(None);
+        };
+        let why = match said {
+            Err(why) => why,
+            Ok(update) => match self.fault(&update) {
+                Some(why) => why,
+                None => {
+                    self.add(&update);
+                    return Ok(Some(update));
+                }
+            },
+        };
+        Err(StreamFault::Bad {
+            at: self.count,
+            why,
+        })
+    }
+
+    /// The next record, or `None` where the input ends at a record's end.
+    ///
+    /// # Errors
+    ///
+    /// `Bad` exactly where the next record is not legal after those before, with its number and the first test that
+    /// it fails; `ReadFault` only where the source's count of faults rose; `OutOfMemory` only where the source answered
+    /// that. After an error the reader is spent.
+    pub fn next<S: Source>(&mut self, source: &mut S) -> Result<Option<Update>, StreamFault>
+        requires { self.old.is_spent ≡ false }
+        ensures reads { (before : List Update) (bytes : List ℕ) → IsAfter self.old before → S.left source.old ≡ Some bytes → Reads self.old.depth self.old.form before bytes (S.left source.new) result }
+        ensures after { (before : List Update) → IsAfter self.old before → GoesOnAfter self.new before result }
+        ensures legal { IfOk result (λ next. IfSome next (HasRoom self.old)) }
+        ensures nearer { IfOk result (λ next. IfSome next (λ _. room self.new < room self.old)) }
+        ensures at { (at : ℕ) (why : Why) → result ≡ Err (StreamFault.Bad at why) → at ≡ self.old.count }
+        ensures spent { self.new.is_spent ≡ is_err result }
+        ensures depth { self.new.depth ≡ self.old.depth }
+        ensures form { self.new.form ≡ self.old.form }
+        ensures told { IsSome (S.left source.old) → IsSome (S.left source.new) }
+        ensures cause { result ≡ Err StreamFault.ReadFault → Rose (S.faults source.old) (S.faults source.new) }
+        ensures source { Lasts S.faults S.is_sure source.old source.new }
+    {
+        let next = self.read(source);
+        self.is_spent = next.is_err();
+        next
+    }
+}
+
+// What the next record says, or why it says no update; `None` at the end.
+fn next_piece<S: Source>(
+    form: Form,
+    source: &mut S,
+) -> Result<Option<Result<Update, Why>>, PortStop>
+    ensures reads { (bytes : List ℕ) → S.left source.old ≡ Some bytes → ReadsPiece form bytes (S.left source.new) result }
+    ensures told { IsSome (S.left source.old) → IsSome (S.left source.new) }
+    ensures cause { HasCause S.faults S.is_sure source.old source.new result }
+{
+    match form {
+        Form::Binary => next_record(source),
+        Form::Text => next_line(source),
+    }
+}
