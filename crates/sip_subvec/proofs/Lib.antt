@@ -11,3 +11,6 @@ pub mod HonestStates
 pub mod HonestStreams
 pub mod HonestLaws
 pub mod HonestFronts
+pub mod WeightedFolds
+pub mod StatedSums
+pub mod TakingSteps

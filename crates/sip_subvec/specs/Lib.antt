@@ -2,3 +2,4 @@ pub mod AcceptsSub
 pub mod Replies
 pub mod Examples
 pub mod Honest
+pub mod Checking

@@ -1,8 +1,16 @@
-//! Worked examples of the definitions: each holds by computation.
+//! Laws of the definitions, and worked examples that hold by computation. These functions do nothing: each contract is a
+//! fact that holds.
 #![tactic(auto, unfolding(crate::specs::Replies::verdict, crate::specs::Replies::stated, crate::specs::Replies::first_reply, crate::specs::Replies::later_reply, crate::specs::Replies::later_replies, sip_wire::specs::Reading::read_frame, sip_wire::specs::Spelling::frame_fault, sip_wire::specs::Spelling::kind_fault, sip_wire::specs::Spelling::body_fault, sip_wire::specs::Spelling::asked, sip_wire::specs::Spelling::numbers_in, sip_wire::specs::Spelling::all_hold))]
 
-ghost use Rattle.std.specs.Prelude.{◌≡◌, [], ◌∷◌, ◌++◌, Ok, Err, pos};
+ghost use Rattle.std.specs.Prelude.{◌≡◌, ℕ, ◌+◌, ◌-◌, ◌%◌, ◌^◌, ◌<◌, ◌≤◌, ◌==◌, All, List, [], ◌∷◌, ◌++◌, length, drop, fold, zip, Ok, Err, None, Some, pos};
 ghost use Rattle.sip_subvec.specs.Examples.{reply_0, reply_1, both, entry_2, verdict_of};
+ghost use Rattle.sip_field.specs.Moduli.{m61_modulus};
+ghost use Rattle.sip_vector.specs.Weights.{weighted_sum};
+ghost use Rattle.sip_vector.specs.declared.update.Entry.{Entry as AnyEntry};
+ghost use Rattle.sip_subvec.specs.AcceptsSub.{Siblings, Stated, stated_level, next_level, folded, gives_root};
+ghost use Rattle.sip_subvec.specs.Replies.{with_entries};
+ghost use Rattle.sip_subvec.specs.Checking.{entries_sum, siblings_sum, stated_sum, AreAsked, HasPassed};
+ghost use Rattle.sip_wire.specs.declared.message.Reason.{Reason};
 ghost use Rattle.sip_wire.specs.declared.message.Reason.TheVariants as reasons;
 
 /// The honest replies are accepted, with the entry (2, 5).
@@ -27,4 +35,46 @@ pub fn faults_have_their_rounds()
     ensures length { verdict_of ((0x13 ∷ 0x00 ∷ 0x0d ∷ []) ∷ []) ≡ Err (record { round = 0; reason = reasons.BadLength }) }
     ensures twice { verdict_of ((entry_2 5 ++ entry_2 5) ∷ []) ≡ Err (record { round = 0; reason = reasons.BadOrder }) }
     ensures refused { verdict_of ((0x18 ∷ 0x00 ∷ 0x01 ∷ 0x01 ∷ []) ∷ []) ≡ Err (record { round = 0; reason = reasons.Refused 1 }) }
+{}
+
+/// Folding keeps a weighted sum, in which each entry and each sibling is taken times its weight in the root. A level is
+/// folded with its own siblings and those of the levels above it to the one number that is its weighted sum and theirs;
+/// the level of the entries has their weighted sum. So what is stated gives the root exactly where its sum is the root.
+pub fn weighted_sums_are_folds()
+    ensures level { (p : ℕ) (challenges : List ℕ) (level lo hi : ℕ) (nodes : List ℕ) (ss : List Siblings)
+        → 0 < p → level + length ss ≡ length challenges → lo ≤ hi → hi < 2 ^ length ss
+        → length nodes ≡ hi + 1 - lo → All (λ x. x < p) nodes → AreAsked lo hi ss
+        → fold (next_level p) nodes (zip ss (drop level challenges))
+        ≡ ((weighted_sum p challenges level lo nodes + siblings_sum p challenges level lo hi ss) % p) ∷ [] }
+    ensures entries { (p lo hi : ℕ) (challenges : List ℕ) → 0 < p → (es : List AnyEntry)
+        → with_entries lo hi [] es ≡ Ok es
+        → weighted_sum p challenges 0 lo (stated_level p lo hi es) ≡ entries_sum p challenges es }
+    ensures whole { (p lo hi : ℕ) (challenges : List ℕ) → 0 < p → (s : Stated)
+        → lo ≤ hi → hi < 2 ^ length challenges → length s.siblings ≡ length challenges → HasPassed lo hi s
+        → folded p lo hi challenges s ≡ stated_sum p lo hi challenges s ∷ [] }
+    ensures root { (p lo hi : ℕ) (challenges : List ℕ) → 0 < p → (root : ℕ) (s : Stated)
+        → lo ≤ hi → hi < 2 ^ length challenges → length s.siblings ≡ length challenges → HasPassed lo hi s
+        → gives_root p root lo hi challenges s ≡ (stated_sum p lo hi challenges s == root) }
+{}
+
+/// Entries can be tested in pieces, one by one too: the first fault is that of the first piece that has one.
+pub fn entries_are_tested_in_pieces()
+    ensures passed { (lo hi : ℕ) (before es more taken : List AnyEntry)
+        → with_entries lo hi before es ≡ Ok taken
+        → with_entries lo hi before (es ++ more) ≡ with_entries lo hi taken more }
+    ensures refused { (lo hi : ℕ) (before es more : List AnyEntry) (reason : Reason)
+        → with_entries lo hi before es ≡ Err reason → with_entries lo hi before (es ++ more) ≡ Err reason }
+{}
+
+/// The sum of the honest replies is the root, 5·10 + 3·1 + 1·20; that of the replies to a query for all is 3·1 + 5·10 +
+/// 1·20.
+pub fn sums_by_hand()
+    ensures inner { stated_sum m61_modulus 1 2 (2 ∷ 10 ∷ []) (record {
+      entries = record { index = 2; value = pos 5 } ∷ [];
+      siblings = record { left = Some 3; right = Some 1 } ∷ record { left = None; right = None } ∷ [];
+    }) ≡ 73 }
+    ensures whole { stated_sum m61_modulus 0 3 (2 ∷ 10 ∷ []) (record {
+      entries = record { index = 0; value = pos 3 } ∷ record { index = 2; value = pos 5 } ∷ record { index = 3; value = pos 1 } ∷ [];
+      siblings = record { left = None; right = None } ∷ record { left = None; right = None } ∷ [];
+    }) ≡ 73 }
 {}
