@@ -1,12 +1,18 @@
 //! Sub-vectors: the entries of a vector from one index to another, and the replies that show them.
 //!
-//! [`SubProver`] is the honest side. It keeps one level of the hash tree over a vector and the interval of it above the entries
-//! that were asked for; it gives the nodes beside the interval, and goes up by one challenge.
+//! - [`SubCheck`] is the verifier's check of the replies to one query, as one running sum.
+//! - [`SubProver`] is the honest side. It keeps one level of the hash tree over a vector and the interval of it above the
+//!   entries that were asked for; it gives the nodes beside the interval, and goes up by one challenge.
 //!
 //! # What is proved
 //!
-//! - `SubProver::siblings` gives the true siblings of the level that the challenges so far lead to, and no call but `start` takes
-//!   memory.
+//! - A check is seen as the few numbers that it keeps, and `HasTaken` says of them what was given: these entries and these
+//!   siblings, which passed, for this interval, these challenges and this root. A new check has taken nothing. Each call
+//!   then goes from what was taken to the same with one entry, or one level's siblings, more, or it refuses; which of the
+//!   two, and by which reason, is what the definition of the test gives. So a caller that keeps the fact `HasTaken` of its
+//!   own list knows at the end that `finish` answers as the definition does of the whole list.
+//! - Folds keep weighted sums, so that one sum does for all the lists ([`laws`]).
+//! - `SubProver::siblings` gives the true siblings of the level that the challenges so far lead to.
 //! - Honest replies are accepted, and what they state is the answer of the stream; while they come they have no fault
 //!   ([`completeness`]).
 //!
@@ -16,14 +22,33 @@
 //! |---|---|
 //! | `AcceptsSub` | what replies state, and the lists that it folds to |
 //! | `Replies` | how replies are read from bytes, and their first fault |
+//! | `Checking` | the sum that a check keeps, and what it has taken |
 //! | `Honest` | what a prover knows, and the honest replies as bytes |
+//!
+//! # Cost
+//!
+//! No call of a check takes memory: it is a root with its challenges and eight numbers. Of a prover `start` alone takes
+//! memory, for the m nodes that are not 0. The unit of time is one `Field::times`, and d is the depth.
+//!
+//! | Call | `times` |
+//! |---|---|
+//! | `SubCheck::start` | 0, and one copy of the challenges |
+//! | `SubCheck::entry` | one for each bit that is 1, and one more: d + 1 at most |
+//! | `SubCheck::siblings` | the same for each sibling, of the bits of its index in its level |
+//! | `SubCheck::reveal`, `SubCheck::finish`, `SubCheck::spent` | 0 |
+//! | `SubProver::start`, `SubProver::siblings` | 0; in time O(m), O(log m) |
+//! | `SubProver::learn` | one a pair of nodes that is not 0: m at most |
 #![tactic(auto)]
 
+mod check;
 pub mod completeness;
 pub mod laws;
 mod prover;
 
+pub use check::SubCheck;
 pub use prover::{SiblingPair, SubProver};
 
+#[cfg(test)]
+mod check_tests;
 #[cfg(test)]
 mod prover_tests;
