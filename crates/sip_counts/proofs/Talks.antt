@@ -1,0 +1,36 @@
+-- Replies of strategies.
+use Rattle.std.proofs.Common.{◌≡◌, ℕ, zero, suc, ◌+◌, Bool, true, false, Option, Some, not, List, [], ◌∷◌, length, map, take, get_or, refl, ap, ◌∙◌, arith}
+use Rattle.std.specs.List.{range_with_len}
+use Rattle.std.proofs.lemmas.Bool.{and_from, not_from_false}
+use Rattle.sip_counts.specs.Strategies.{replies, before, all_there, is_wrong, takes_wrong}
+
+-- a function at numbers that are larger by one
+map_range-more : {R : Type 0} (f : ℕ → R) (a n : ℕ) → map f (range_with_len (suc a) n) ≡ map (λ j. f (suc j)) (range_with_len a n)
+map_range-more f a zero = refl
+map_range-more f a (suc n) = let e : suc a + 1 ≡ suc (a + 1) = omega arith in ap (λ k. f (suc a) ∷ k) (rw e (map_range-more f (a + 1) n))
+
+-- the reply to nothing revealed, and then those of what the strategy does from the first challenge on
+pub replies-more : {R : Type 0} (strategy : List ℕ → R) (x : ℕ) (r : List ℕ) → replies strategy (x ∷ r) ≡ strategy [] ∷ replies (λ v. strategy (x ∷ v)) r
+replies-more strategy x r = ap (λ k. strategy [] ∷ k) (map_range-more (λ j. strategy (take j (x ∷ r))) 0 (length r))
+
+pub replies-length : {R : Type 0} (strategy : List ℕ → R) (r : List ℕ) → length (replies strategy r) ≡ length r
+replies-length strategy [] = refl
+replies-length strategy (x ∷ r) = ap length (replies-more strategy x r) ∙ ap suc (replies-length (λ v. strategy (x ∷ v)) r)
+
+-- the strategy that gives these one after another, whatever is revealed
+pub replies-one_by_one : {R : Type 0} (all : List R) (r : List ℕ) (d : R) → length all ≡ length r → replies (λ v. get_or all (length v) d) r ≡ all
+replies-one_by_one [] [] d e = refl
+replies-one_by_one [] (x ∷ r) d e = absurd (omega arith)
+replies-one_by_one (b ∷ all) [] d e = absurd (omega arith)
+replies-one_by_one (b ∷ all) (x ∷ r) d e =
+    replies-more (λ v. get_or (b ∷ all) (length v) d) x r ∙ ap (λ k. b ∷ k) (replies-one_by_one all r d (omega arith))
+
+pub all_there-some : {X : Type 0} (xs : List X) → all_there (map Some xs) ≡ Some xs
+all_there-some [] = refl
+all_there-some (x ∷ xs) = ap (before x) (all_there-some xs)
+
+pub takes_wrong-at : {R : Type 0} (accepts : List ℕ → List R → Bool) (is_right : List R → Bool) (strategy : List ℕ → Option R) (r : List ℕ) (all : List R) → replies strategy r ≡ map Some all → accepts r all ≡ true → is_right all ≡ false → takes_wrong accepts is_right strategy r ≡ true
+unfolding takes_wrong
+takes_wrong-at accepts is_right strategy r all e good wrong =
+    ap (λ k. is_wrong (accepts r) is_right (all_there k)) e ∙ ap (is_wrong (accepts r) is_right) (all_there-some all)
+    ∙ and_from (accepts r all) (not (is_right all)) good (not_from_false (is_right all) wrong)

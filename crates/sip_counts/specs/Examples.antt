@@ -1,0 +1,33 @@
+-- The tests that the worked counts try.
+use Rattle.std.specs.Prelude.{ℕ, ◌+◌, ◌*◌, ◌%◌, ◌==◌, nat_lt, nat_eq, if◌then◌else◌, Bool, true, false, Option, Some, None, List, [], ◌∷◌}
+use Rattle.std.specs.Cmp.Lexicographic.{pointwise}
+use Rattle.sip_counts.specs.Joint.{Asked}
+
+-- (1 - r_1) * (1 - r_2) is 0 modulo 31
+abbrev pub one_is_one : List ℕ → Bool
+one_is_one (r ∷ s ∷ []) = ((1 + 30 * r) * (1 + 30 * s)) % 31 == 0
+one_is_one _ = false
+
+-- each challenge so far is 2 or more
+abbrev pub all_above_one : List ℕ → Bool
+all_above_one [] = true
+all_above_one (x ∷ xs) = if nat_lt 1 x then all_above_one xs else false
+
+-- the challenges are (1, 2), in this order
+abbrev pub is_one_two : List ℕ → Bool
+is_one_two (x ∷ y ∷ []) = if x == 1 then y == 2 else false
+is_one_two _ = false
+
+-- a query whose wrong answer is accepted where its one challenge is 0
+abbrev pub zero_query : Asked
+zero_query = record { accepts = λ r all. pointwise nat_eq r (0 ∷ []); is_right = λ all. false; bound = 1 }
+
+-- a query whose wrong answer is accepted where the one reply is the challenge
+abbrev pub guess_query : Asked
+guess_query = record { accepts = λ r all. pointwise (pointwise nat_eq) all (r ∷ []); is_right = λ all. false; bound = 1 }
+
+-- a reply before a challenge is known, and one after the challenge 1 alone
+abbrev pub two_replies : List ℕ → Option (List ℕ)
+two_replies [] = Some []
+two_replies (x ∷ []) = if x == 1 then Some [] else None
+two_replies _ = None

@@ -1,0 +1,5 @@
+pub mod Counts
+pub mod Strategies
+pub mod Joint
+pub mod Clauses
+pub mod Examples
