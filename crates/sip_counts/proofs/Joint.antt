@@ -4,7 +4,7 @@ use Rattle.std.proofs.Math.Nat.{pow-zero, pow-suc, mul-le-mul_right}
 use Rattle.std.proofs.lemmas.List.{take_at, drop_at}
 use Rattle.std.specs.List.{AllByRecursion}
 use Rattle.std.proofs.lemmas.List.Sums.{sum_by-cons}
-use Rattle.sip_counts.specs.Strategies.{Strategy, takes_wrong}
+use Rattle.sip_counts.specs.Strategies.{Strategy, IsOfBytes, takes_wrong}
 use Rattle.sip_counts.specs.Joint.{Asked, after, is_misled, misled, bounds, IsBounded}
 use Rattle.sip_counts.proofs.Vectors.{by_first, counted-by_first, by_first-none, by_first-or, by_first-front, by_first-back, by_first-grows}
 
@@ -23,10 +23,10 @@ no_queries : (queries : List Asked) (e : ℕ) → length queries * suc e ≡ 0 �
 no_queries [] e h = refl
 no_queries (q ∷ queries) e h = absurd (omega arith)
 
-few_by_first : (p e : ℕ) (strategy : Strategy) (queries : List Asked) (earlier : List ℕ) → AllByRecursion (IsBounded p (suc e)) queries → by_first p (is_misled (suc e) strategy queries earlier) (length queries * suc e) ≤ bounds queries * p ^ (length queries * suc e - 1)
+few_by_first : (p e : ℕ) (strategy : Strategy) (queries : List Asked) (earlier : List ℕ) → IsOfBytes strategy → AllByRecursion (IsBounded p (suc e)) queries → by_first p (is_misled (suc e) strategy queries earlier) (length queries * suc e) ≤ bounds queries * p ^ (length queries * suc e - 1)
 unfolding is_misled
-few_by_first p e strategy [] earlier h = omega (arith, by_first-none p (0 * suc e) (λ v. false) (λ v _. refl))
-few_by_first p e strategy (q ∷ queries) earlier h =
+few_by_first p e strategy [] earlier bytes h = omega (arith, by_first-none p (0 * suc e) (λ v. false) (λ v _. refl))
+few_by_first p e strategy (q ∷ queries) earlier bytes h =
     let here : List ℕ → Bool = takes_wrong q.accepts q.is_right (after earlier strategy) in
     let later : List ℕ → List ℕ → Bool = λ u. is_misled (suc e) strategy queries (earlier ++ u) in
     let n : ℕ = length queries * suc e in
@@ -41,11 +41,11 @@ few_by_first p e strategy (q ∷ queries) earlier h =
     (λ u len.
     let grows = by_first-grows p (λ v. later (take (suc e) (u ++ v)) (drop (suc e) (u ++ v))) (later u) n
     (λ v _ _ k. rw (take_at u v (suc e) len, drop_at u v (suc e) len) at k) in
-    omega (arith, few_by_first p e strategy queries (earlier ++ u) h.1)) in
-    let few = rw (counted-by_first p here (suc e), same) at (h.0 (after earlier strategy)) in
+    omega (arith, few_by_first p e strategy queries (earlier ++ u) bytes h.1)) in
+    let few = rw (counted-by_first p here (suc e), same) at (h.0 (after earlier strategy) (λ v. bytes (earlier ++ v))) in
     let step = joint_step p e n q.bound (bounds queries) (by_first p here (suc e)) (no_queries queries e) few in
     rw (whole, less, total) (omega arith)
 
-pub few_misled : (p d : ℕ) (strategy : Strategy) (queries : List Asked) → 0 < d → AllByRecursion (IsBounded p d) queries → misled p d strategy queries ≤ bounds queries * p ^ (length queries * d - 1)
-few_misled p zero strategy queries pos h = absurd (omega arith)
-few_misled p (suc e) strategy queries pos h = rw counted-by_first (few_by_first p e strategy queries [] h)
+pub few_misled : (p d : ℕ) (strategy : Strategy) (queries : List Asked) → 0 < d → IsOfBytes strategy → AllByRecursion (IsBounded p d) queries → misled p d strategy queries ≤ bounds queries * p ^ (length queries * d - 1)
+few_misled p zero strategy queries pos bytes h = absurd (omega arith)
+few_misled p (suc e) strategy queries pos bytes h = rw counted-by_first (few_by_first p e strategy queries [] bytes h)

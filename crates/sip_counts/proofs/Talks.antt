@@ -1,8 +1,10 @@
 -- Replies of strategies.
-use Rattle.std.proofs.Common.{◌≡◌, ℕ, zero, suc, ◌+◌, Bool, true, false, Option, Some, not, List, [], ◌∷◌, length, map, take, get_or, refl, ap, ◌∙◌, arith}
+use Rattle.std.proofs.Common.{◌≡◌, ℕ, zero, suc, ◌+◌, ◌<◌, All, Bool, true, false, Option, Some, None, not, List, [], ◌∷◌, length, map, take, get_or, refl, ap, ◌∙◌, arith}
 use Rattle.std.specs.List.{range_with_len}
+use Rattle.std.proofs.lemmas.List.{length-map}
+use Rattle.std.proofs.lemmas.List.Elements.{All-head, All-tail}
 use Rattle.std.proofs.lemmas.Bool.{and_from, not_from_false}
-use Rattle.sip_counts.specs.Strategies.{replies, before, all_there, is_wrong, takes_wrong}
+use Rattle.sip_counts.specs.Strategies.{Strategy, IsOfBytes, replies, before, all_there, is_wrong, takes_wrong}
 
 -- a function at numbers that are larger by one
 map_range-more : {R : Type 0} (f : ℕ → R) (a n : ℕ) → map f (range_with_len (suc a) n) ≡ map (λ j. f (suc j)) (range_with_len a n)
@@ -34,3 +36,13 @@ unfolding takes_wrong
 takes_wrong-at accepts is_right strategy r all e good wrong =
     ap (λ k. is_wrong (accepts r) is_right (all_there k)) e ∙ ap (is_wrong (accepts r) is_right) (all_there-some all)
     ∙ and_from (accepts r all) (not (is_right all)) good (not_from_false (is_right all) wrong)
+
+-- what these have at an index is of bytes where all of them are
+of_bytes_at : (taken : List (List ℕ)) → All (λ (reply : List ℕ). All (λ b. b < 256) reply) taken → (i : ℕ) (reply : List ℕ) → get_or (map Some taken) i None ≡ Some reply → All (λ b. b < 256) reply
+of_bytes_at [] all i reply e = absurd (cc)
+of_bytes_at (b ∷ taken) all zero reply e = let same : reply ≡ b = cc in rw same (All-head (λ (x : List ℕ). All (λ b. b < 256) x) b taken all)
+of_bytes_at (b ∷ taken) all (suc i) reply e = of_bytes_at taken (All-tail (λ (x : List ℕ). All (λ b. b < 256) x) b taken all) i reply e
+
+pub talk_strategy : (block : List ℕ) (taken : List (List ℕ)) → length taken ≡ length block → All (λ (reply : List ℕ). All (λ b. b < 256) reply) taken → (strategy : Strategy) × IsOfBytes strategy × (replies strategy block ≡ map Some taken)
+talk_strategy block taken len all =
+    (λ v. get_or (map Some taken) (length v) None, λ v reply e. of_bytes_at taken all (length v) reply e, replies-one_by_one (map Some taken) block None (length-map taken Some ∙ len))

@@ -1,7 +1,7 @@
 -- Several queries in turn, each with a block of d challenges of its own, where replies may depend on all earlier blocks.
 use Rattle.std.specs.Prelude.{ℕ, ◌*◌, ◌-◌, ◌≤◌, ◌^◌, ◌||◌, Bool, false, List, [], ◌∷◌, ◌++◌, length, take, drop, sum_by}
 use Rattle.sip_counts.specs.Counts.{counted}
-use Rattle.sip_counts.specs.Strategies.{Strategy, takes_wrong, fooled}
+use Rattle.sip_counts.specs.Strategies.{Strategy, IsOfBytes, takes_wrong, fooled}
 
 -- one query: which replies are accepted at which challenges of its block, which say the right answer, and a bound on its count
 pub record Asked : Type 0 where
@@ -26,7 +26,7 @@ misled p d strategy queries = counted p (is_misled d strategy queries []) (lengt
 
 -- no strategy has a wrong answer to this query alone accepted at more vectors than its bound says
 abbrev pub IsBounded : ℕ → ℕ → Asked → Type 0
-IsBounded p d q = (strategy : Strategy) → fooled p d q.accepts q.is_right strategy ≤ q.bound * p ^ (d - 1)
+IsBounded p d q = (strategy : Strategy) → IsOfBytes strategy → fooled p d q.accepts q.is_right strategy ≤ q.bound * p ^ (d - 1)
 
 -- the sum of the bounds
 abbrev pub bounds : List Asked → ℕ

@@ -1,5 +1,5 @@
 -- What a helper may do: its replies depend on the challenges that were revealed to it, and on what stays fixed while these vary.
-use Rattle.std.specs.Prelude.{ℕ, Bool, false, not, ◌&&◌, nat_eq, Option, Some, None, List, [], ◌∷◌, length, map, take}
+use Rattle.std.specs.Prelude.{◌≡◌, ℕ, ◌<◌, Bool, false, not, ◌&&◌, nat_eq, Option, Some, None, List, [], ◌∷◌, length, map, take, All}
 use Rattle.std.specs.List.{range_with_len}
 use Rattle.std.specs.Map.{lookup}
 use Rattle.std.specs.Cmp.Lexicographic.{pointwise}
@@ -8,6 +8,10 @@ use Rattle.sip_counts.specs.Counts.{counted}
 -- The reply for each list of challenges revealed so far, as bytes, or None where there is none: a reply that is not whole.
 abbrev pub Strategy : Type 0
 Strategy = List ℕ → Option (List ℕ)
+
+-- its replies are made of bytes
+abbrev pub IsOfBytes : Strategy → Type 0
+IsOfBytes strategy = (challenges reply : List ℕ) → strategy challenges ≡ Some reply → All (λ b. b < 256) reply
 
 -- a finite map from lists of challenges to lists of bytes is a strategy
 abbrev pub strategy_of : List (List ℕ × List ℕ) → Strategy

@@ -3,11 +3,12 @@
 
 ghost use Rattle.std.specs.Prelude.{◌≡◌, ◌≢◌, ℕ, ◌*◌, ◌-◌, ◌^◌, ◌<◌, ◌≤◌, Bool, true, false, Option, Some, None, List, [], ◌∷◌, length, map, All};
 ghost use Rattle.sip_counts.specs.Joint.{Asked, IsBounded, bounds, misled};
-ghost use Rattle.sip_counts.specs.Strategies.{Strategy, strategy_of, replies, takes_wrong};
+ghost use Rattle.sip_counts.specs.Strategies.{Strategy, IsOfBytes, strategy_of, replies, takes_wrong};
 
 /// Each talk is some strategy's, so a promise about every strategy that replies as a helper did speaks of each talk.
 pub fn each_talk_is_a_strategys()
-    ensures { (block : List ℕ) (taken : List (List ℕ)) → length taken ≡ length block → (strategy : Strategy) × (replies strategy block ≡ map Some taken) }
+    ensures { (block : List ℕ) (taken : List (List ℕ)) → length taken ≡ length block → All (λ reply. All (λ b. b < 256) reply) taken
+        → (strategy : Strategy) × IsOfBytes strategy × (replies strategy block ≡ map Some taken) }
 {}
 
 /// A finite map gives a key's first value, and nothing where the key is missing.
@@ -34,6 +35,6 @@ pub fn accepted_wrong_replies_are_counted()
 /// says, no joint strategy has one to any of the queries accepted at more of the joint vectors than the sum of the bounds,
 /// times p^(N - 1), N being the number of all challenges.
 pub fn few_joint_vectors()
-    ensures { (p d : ℕ) (strategy : Strategy) (queries : List Asked) → 0 < d → All (IsBounded p d) queries
+    ensures { (p d : ℕ) (strategy : Strategy) (queries : List Asked) → 0 < d → IsOfBytes strategy → All (IsBounded p d) queries
         → misled p d strategy queries ≤ bounds queries * p ^ (length queries * d - 1) }
 {}

@@ -4,4 +4,4 @@ use Rattle.sip_counts.proofs.Joint.{few_misled}
 use Rattle.sip_counts.proofs.strategies.few_joint_vectors.Goals as goal
 
 pub returns : goal.returns
-returns c = λ p d strategy queries pos all. few_misled p d strategy queries pos (recursion_from_All (IsBounded p d) queries all)
+returns c = λ p d strategy queries pos bytes all. few_misled p d strategy queries pos bytes (recursion_from_All (IsBounded p d) queries all)
