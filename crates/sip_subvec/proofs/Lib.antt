@@ -14,3 +14,12 @@ pub mod HonestFronts
 pub mod WeightedFolds
 pub mod StatedSums
 pub mod TakingSteps
+pub mod Stretches
+pub mod WrongLevels
+pub mod StatedEntries
+pub mod WrongEntries
+pub mod SaidReplies
+pub mod SaidByStrategies
+pub mod SmallValues
+pub mod FewFooled
+pub mod WrittenAnswers

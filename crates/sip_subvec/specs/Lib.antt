@@ -1,5 +1,6 @@
 pub mod AcceptsSub
 pub mod Replies
+pub mod Counting
 pub mod Examples
 pub mod Honest
 pub mod Checking

@@ -15,6 +15,8 @@
 //! - `SubProver::siblings` gives the true siblings of the level that the challenges so far lead to.
 //! - Honest replies are accepted, and what they state is the answer of the stream; while they come they have no fault
 //!   ([`completeness`]).
+//! - For every helper whose replies depend on the challenges revealed so far, at most d·p^(d-1) of the p^d challenge vectors
+//!   make the check accept wrong entries ([`counting`]).
 //!
 //! # The definitions to read
 //!
@@ -24,6 +26,7 @@
 //! | `Replies` | how replies are read from bytes, and their first fault |
 //! | `Checking` | the sum that a check keeps, and what it has taken |
 //! | `Honest` | what a prover knows, and the honest replies as bytes |
+//! | `Counting` | when a helper has wrong entries accepted |
 //!
 //! # Cost
 //!
@@ -42,6 +45,7 @@
 
 mod check;
 pub mod completeness;
+pub mod counting;
 pub mod laws;
 mod prover;
 

@@ -1,0 +1,85 @@
+-- A written answer that is wrong makes its challenges counted; and the numbers of a legal stream are small.
+use Rattle.std.proofs.Common.{◌≡◌, ◌≢◌, ℕ, zero, suc, ◌+◌, ◌-◌, ◌/◌, ◌<◌, ◌≤◌, ◌^◌, Bool, true, false, eqb, ◌&&◌, is_ok, Option, Some, None, Result, Ok, Err, List, [], ◌∷◌, length, get_or, map, filter, sum_by, All, ℤ, pos, ◌+ℤ◌, nat_abs, refl, ap, sym, ◌∙◌, arith, inl, inr}
+use Rattle.std.specs.List.{range_with_len}
+use Rattle.std.specs.Cmp.Lexicographic.{pointwise}
+use Rattle.std.proofs.lemmas.Bool.{cases_Bool, and_from, eq-eqb, false_from_ne_true}
+use Rattle.std.proofs.lemmas.List.Elements.{All-map, All-from_get_or}
+use Rattle.std.proofs.lemmas.List.Sums.{sum_by-cons}
+use Rattle.sip_field.specs.Moduli.{m61_modulus}
+use Rattle.sip_vector.specs.declared.update.Side.{Side}
+use Rattle.sip_vector.specs.declared.update.Side.TheVariants.{First}
+use Rattle.sip_vector.specs.declared.update.Update.{Update}
+use Rattle.sip_vector.specs.declared.update.Entry.{Entry}
+use Rattle.sip_vector.specs.Steps.{◌>>=◌, needs}
+use Rattle.sip_vector.specs.Streams.{int_sum, same_side, of_side, total, weight, most_weight, frequency, vector, IsLegal}
+use Rattle.sip_vector.specs.Vectors.{nonzero_within}
+use Rattle.sip_vector.proofs.Sums.{nat_abs-add-le}
+use Rattle.sip_wire.specs.declared.message.Reason.TheVariants as reasons
+use Rattle.sip_counts.specs.Strategies.{Strategy, replies, takes_wrong}
+use Rattle.sip_counts.proofs.Talks.{takes_wrong-at}
+use Rattle.sip_subvec.specs.AcceptsSub.{Stated, gives_root}
+use Rattle.sip_subvec.specs.Replies.{Fault, stated, verdict, accepts, IsAccepted}
+use Rattle.sip_subvec.specs.Counting.{said, entries_of, is_same_entry, is_right}
+use Rattle.sip_subvec.proofs.SaidReplies.{step_passed, test_passed, same_ok}
+use Rattle.sip_subvec.proofs.FewFooled.{same_entries}
+
+-- ---- streams
+
+-- an update that isn't of this side, or of this item, changes nothing
+frequency-other : (u : Update) (s : List Update) (side : Side) (item : ℕ) → (eqb u.item item ≡ false) → frequency (u ∷ s) side item ≡ frequency s side item
+frequency-other u s side item e = rw e refl
+
+frequency-side : (u : Update) (s : List Update) (side : Side) (item : ℕ) → eqb u.item item ≡ true → same_side u.side side ≡ false → frequency (u ∷ s) side item ≡ frequency s side item
+frequency-side u s side item e f = rw (e, f) refl
+
+frequency-more : (u : Update) (s : List Update) (side : Side) (item : ℕ) → eqb u.item item ≡ true → same_side u.side side ≡ true → frequency (u ∷ s) side item ≡ u.delta +ℤ frequency s side item
+frequency-more u s side item e f = rw (e, f) refl
+
+weight-more : (u : Update) (s : List Update) (side : Side) → same_side u.side side ≡ true → weight (u ∷ s) side ≡ nat_abs u.delta + weight s side
+weight-more u s side f = rw f (sum_by-cons (λ (x : Update). nat_abs x.delta) u (of_side s side))
+
+weight-side : (u : Update) (s : List Update) (side : Side) → same_side u.side side ≡ false → weight (u ∷ s) side ≡ weight s side
+weight-side u s side f = rw f refl
+
+-- no entry is heavier than its side
+frequency-light : (stream : List Update) (side : Side) (item : ℕ) → nat_abs (frequency stream side item) ≤ weight stream side
+frequency-light [] side item = omega arith
+frequency-light (u ∷ s) side item =
+    let ih = frequency-light s side item in
+    elim (cases_Bool (same_side u.side side)) [
+      | inr f ↦ elim (cases_Bool (eqb u.item item)) [
+        | inl e ↦ rw (frequency-side u s side item e f, weight-side u s side f) ih
+        | inr e ↦ rw (frequency-other u s side item e, weight-side u s side f) ih
+      ]
+      | inl f ↦ elim (cases_Bool (eqb u.item item)) [
+        | inl e ↦ rw (frequency-more u s side item e f, weight-more u s side f) (omega (arith, nat_abs-add-le u.delta (frequency s side item)))
+        | inr e ↦ rw (frequency-other u s side item e, weight-more u s side f) (omega arith)
+      ]
+    ]
+
+pub vector-small : (d : ℕ) (stream : List Update) → IsLegal d stream → All (λ a. nat_abs a ≤ (m61_modulus - 1) / 2) (vector d stream First)
+vector-small d stream legal =
+    let room : most_weight ≤ (m61_modulus - 1) / 2 = omega arith in
+    All-map (λ (a : ℤ). nat_abs a ≤ (m61_modulus - 1) / 2) (frequency stream First) (range_with_len 0 (2 ^ d))
+    (All-from_get_or (λ (i : ℕ). nat_abs (frequency stream First i) ≤ (m61_modulus - 1) / 2) (range_with_len 0 (2 ^ d)) 0
+    (λ i _. omega (arith, frequency-light stream First (get_or (range_with_len 0 (2 ^ d)) i 0), legal.first)))
+
+-- ---- answers
+
+-- the entries of a verdict are what the replies say
+verdict_says : (p top lo hi : ℕ) (r : List ℕ) (all : List (List ℕ)) (es : List Entry) → verdict p top lo hi r all ≡ Ok es → said lo hi all ≡ es
+unfolding verdict
+verdict_says p top lo hi r all es e =
+    let fault : Fault = record { round = length r; reason = reasons.Root } in
+    let a = step_passed {B = List Entry} (stated lo hi all) (λ s. needs (gives_root p top lo hi r s) fault >>= λ _. Ok s.entries) es e in
+    let b = test_passed {B = List Entry} (gives_root p top lo hi r a.x) fault (λ _. Ok a.x.entries) es a.then in
+    ap entries_of a.first ∙ same_ok {E = Fault} a.x.entries es b.1
+
+pub written_counts : (p top lo hi : ℕ) (numbers : List ℤ) (tops : List ℕ → ℕ) (strategy : Strategy) (block : List ℕ) (taken : List (List ℕ)) (answer : List Entry) → tops block ≡ top → IsAccepted p top lo hi block taken answer → replies strategy block ≡ map Some taken → answer ≢ nonzero_within lo hi numbers
+    → takes_wrong (λ r. accepts p (tops r) lo hi r) (is_right lo hi numbers) strategy block ≡ true
+written_counts p top lo hi numbers tops strategy block taken answer is accepted talk wrong =
+    let says = verdict_says p top lo hi block taken answer accepted.found in
+    let ok : is_ok (verdict p top lo hi block taken) ≡ true = ap is_ok accepted.found in
+    let good : accepts p top lo hi block taken ≡ true = and_from (eqb (length taken) (length block)) (is_ok (verdict p top lo hi block taken)) (eq-eqb (length taken) (length block) accepted.all) ok in
+    takes_wrong-at (λ r. accepts p (tops r) lo hi r) (is_right lo hi numbers) strategy block taken talk (ap (λ t. accepts p t lo hi block taken) is ∙ good)
+    (false_from_ne_true (is_right lo hi numbers taken) (λ same. wrong (sym says ∙ (same_entries (said lo hi taken) (nonzero_within lo hi numbers)).0 same)))
