@@ -1,11 +1,10 @@
 -- A strategy has wrong replies accepted at few vectors of challenges.
-use Rattle.std.proofs.Common.{◌≡◌, ◌≢◌, ℕ, zero, suc, ◌+◌, ◌*◌, ◌-◌, ◌/◌, ◌<◌, ◌≤◌, ◌^◌, Bool, true, false, not, eqb, ◌&&◌, Option, Some, None, Ok, List, [], ◌∷◌, length, All, ℤ, nat_abs, refl, ap, sym, ◌∙◌, arith, inl, inr}
+use Rattle.std.proofs.Common.{◌≡◌, ◌≢◌, ℕ, zero, suc, ◌*◌, ◌-◌, ◌/◌, ◌<◌, ◌≤◌, ◌^◌, Bool, true, not, eqb, ◌&&◌, Option, Some, None, Ok, List, [], ◌∷◌, length, All, ℤ, nat_abs, refl, ap, sym, ◌∙◌, arith, inl, inr}
 use Rattle.std.specs.List.{list_all}
-use Rattle.std.specs.Bool.{Decides}
 use Rattle.std.specs.Ordering.{int_eq}
 use Rattle.std.specs.Cmp.{signed_Decides}
 use Rattle.std.specs.Cmp.Lexicographic.{pointwise, pointwise_decides}
-use Rattle.std.proofs.lemmas.Bool.{cases_Bool, and_parts, and_from, eqb-true, eq-eqb, not-true, both_ways, false_from_ne_true, not_from_false}
+use Rattle.std.proofs.lemmas.Bool.{cases_Bool, and_parts, and_from, eqb-true, eq-eqb, not-true, both_ways, false_from_ne_true}
 use Rattle.sip_field.specs.Prime.{IsPrime}
 use Rattle.sip_field.specs.Moduli.{m61_modulus}
 use Rattle.sip_vector.specs.declared.update.Entry.{Entry}
@@ -29,13 +28,14 @@ abbrev entry : ℕ → ℤ → Entry
 entry i v = record { index = i; value = v }
 
 entry_decides : (a b : Entry) → (is_same_entry a b ≡ true → a ≡ b) × (a ≡ b → is_same_entry a b ≡ true)
-entry_decides a b =
-    ((λ h.
+entry_decides a b = (
+  (λ h.
       let both = and_parts (eqb a.index b.index) (int_eq a.value b.value) h in
       let one : a.index ≡ b.index = eqb-true a.index b.index both.0 in
       let two : a.value ≡ b.value = (signed_Decides a.value b.value).0 both.1 in
       ap (λ (i : ℕ). entry i a.value) one ∙ ap (λ (v : ℤ). entry b.index v) two),
-    (λ e. and_from (eqb a.index b.index) (int_eq a.value b.value) (eq-eqb a.index b.index (ap (λ (x : Entry). x.index) e)) ((signed_Decides a.value b.value).1 (ap (λ (x : Entry). x.value) e))))
+  (λ e. and_from (eqb a.index b.index) (int_eq a.value b.value) (eq-eqb a.index b.index (ap (λ (x : Entry). x.index) e)) ((signed_Decides a.value b.value).1 (ap (λ (x : Entry). x.value) e))),
+)
 
 pub same_entries : (xs ys : List Entry) → (pointwise is_same_entry xs ys ≡ true → xs ≡ ys) × (xs ≡ ys → pointwise is_same_entry xs ys ≡ true)
 same_entries = pointwise_decides entry_decides
@@ -56,13 +56,15 @@ taken_at p lo hi numbers strategy test r good h = by_all (all_there (replies str
     by_all : (o : Option (List (List ℕ))) → all_there (replies strategy r) ≡ o → is_wrong (test r) (is_right lo hi numbers) o ≡ true → (t : Taken p lo hi numbers strategy r) × (test r t.all ≡ true)
     by_all None is k = absurd (cc)
     by_all (Some all) is k =
-        let both = and_parts (test r all) (not (is_right lo hi numbers all)) k in
-        (record {
-          all = all;
-          there = is;
-          good = good all both.0;
-          wrong = λ same. both_ways (is_right lo hi numbers all) (not-true (is_right lo hi numbers all) both.1) ((same_entries (said lo hi all) (nonzero_within lo hi numbers)).1 same);
-        }, both.0)
+        let both = and_parts (test r all) (not (is_right lo hi numbers all)) k in (
+          record {
+            all = all;
+            there = is;
+            good = good all both.0;
+            wrong = λ same. both_ways (is_right lo hi numbers all) (not-true (is_right lo hi numbers all) both.1) ((same_entries (said lo hi all) (nonzero_within lo hi numbers)).1 same);
+          },
+          both.0,
+        )
 
 abbrev stated_by : List Entry → List Siblings → Stated
 stated_by es ss = record { entries = es; siblings = ss }
@@ -116,9 +118,11 @@ module _ (p lo hi : ℕ) (numbers : List ℤ) (prime : IsPrime p) (le : lo ≤ h
       at_none : takes_wrong test (is_right lo hi numbers) strategy [] ≡ true → (accepts_stated p (root p numbers []) lo hi [] (record { entries = []; siblings = [] }) ≡ true) × ([] ≢ nonzero_within lo hi numbers)
       at_none h =
           let t = taken_at p lo hi numbers strategy test [] (good []) h in
-          let nil : [] ≡ t.0.all = all_there-nil t.0.all t.0.there in
-          (none_stated p (root p numbers []) lo hi t.0.all nil (accepted_parts p (root p numbers []) lo hi [] t.0.all t.0.good),
-          λ e. t.0.wrong (sym (none_said lo hi t.0.all nil) ∙ e))
+          let nil : [] ≡ t.0.all = all_there-nil t.0.all t.0.there in (
+            none_stated p (root p numbers []) lo hi t.0.all nil (accepted_parts p (root p numbers []) lo hi [] t.0.all t.0.good),
+            λ e. t.0.wrong (sym (none_said lo hi t.0.all nil) ∙ e),
+          )
+
       each : (r : List ℕ) → length r ≡ 0 → takes_wrong test (is_right lo hi numbers) strategy r ≡ true → (accepts_stated p (root p numbers r) lo hi r (record { entries = []; siblings = replies (siblings_said lo hi strategy) r }) ≡ true) × ([] ≢ nonzero_within lo hi numbers)
       each [] e h = at_none h
       each (x ∷ r) e h = absurd (omega arith)
@@ -135,9 +139,11 @@ module _ (p lo hi : ℕ) (numbers : List ℤ) (prime : IsPrime p) (le : lo ≤ h
       at_some x r h =
           let t = taken_at p lo hi numbers strategy test (x ∷ r) (good (x ∷ r)) h in
           let a = accepted_parts p (root p numbers (x ∷ r)) lo hi (x ∷ r) t.0.all t.0.good in
-          let s = said-stated lo hi x strategy r t.0.all a.s t.0.there a.states in
-          (passes_stated p (root p numbers (x ∷ r)) lo hi strategy (x ∷ r) a.s s a.root (small x r t.0.all a.s t.1 a.states s),
-          λ e. t.0.wrong (ap entries_of a.states ∙ s.entries ∙ e))
+          let s = said-stated lo hi x strategy r t.0.all a.s t.0.there a.states in (
+            passes_stated p (root p numbers (x ∷ r)) lo hi strategy (x ∷ r) a.s s a.root (small x r t.0.all a.s t.1 a.states s),
+            λ e. t.0.wrong (ap entries_of a.states ∙ s.entries ∙ e),
+          )
+
       each : (r : List ℕ) → length r ≡ suc m → takes_wrong test (is_right lo hi numbers) strategy r ≡ true
           → (accepts_stated p (root p numbers r) lo hi r (record { entries = entries_said lo hi strategy; siblings = replies (siblings_said lo hi strategy) r }) ≡ true) × (entries_said lo hi strategy ≢ nonzero_within lo hi numbers)
       each [] e h = absurd (omega arith)

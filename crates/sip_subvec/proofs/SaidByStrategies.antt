@@ -1,6 +1,5 @@
 -- What the replies of a strategy of bytes state is what a strategy of siblings says, with entries that no challenge changes.
-use Rattle.std.proofs.Common.{◌≡◌, ℕ, suc, ◌+◌, ◌/◌, Bool, true, eqb, is_ok, Option, Some, None, Result, Ok, Err, List, [], ◌∷◌, length, refl, ap, sym, ◌∙◌, arith, subst, false}
-use Rattle.std.specs.Prelude.{◌&&◌}
+use Rattle.std.proofs.Common.{◌≡◌, ℕ, ◌+◌, ◌/◌, Bool, true, eqb, is_ok, Option, Some, None, Result, Ok, Err, List, [], ◌∷◌, length, refl, ap, sym, ◌∙◌, subst, false}
 use Rattle.std.proofs.lemmas.Bool.{and_parts, and_from}
 use Rattle.sip_vector.specs.declared.update.Entry.{Entry}
 use Rattle.sip_vector.specs.Steps.{◌>>=◌, needs}
@@ -11,7 +10,7 @@ use Rattle.sip_counts.proofs.Talks.{replies-more}
 use Rattle.sip_subvec.specs.AcceptsSub.{Siblings, Stated, gives_root}
 use Rattle.sip_subvec.specs.Replies.{Fault, in_round, first_reply, later_reply, later_replies, stated, verdict, accepts, are_asked}
 use Rattle.sip_subvec.specs.Counting.{are_all_asked, rise_within}
-use Rattle.sip_subvec.proofs.SaidReplies.{step_passed, test_passed, same_ok, first_reply-rises, later_reply-asked}
+use Rattle.sip_subvec.proofs.SaidReplies.{step_passed, same_ok, first_reply-rises, later_reply-asked}
 
 -- ---- replies that are all there
 

@@ -1,7 +1,7 @@
 -- What accepted replies state: entries that rise, and the siblings asked for.
-use Rattle.std.proofs.Common.{◌≡◌, ℕ, zero, suc, ◌+◌, ◌/◌, ◌<◌, ◌≤◌, Bool, true, false, nat_lt, ◌&&◌, Option, Some, None, Result, Ok, Err, List, [], ◌∷◌, ◌++◌, length, refl, ap, subst, sym, ◌∙◌, arith, append_assoc, append-nil}
+use Rattle.std.proofs.Common.{◌≡◌, ℕ, zero, suc, Bool, true, false, nat_lt, ◌&&◌, Result, Ok, Err, List, [], ◌∷◌, ◌++◌, length, refl, ap, subst, sym, ◌∙◌, append_assoc, append-nil}
 use Rattle.std.specs.List.{list_all}
-use Rattle.std.proofs.lemmas.Bool.{and_parts, and_from, ltb-true}
+use Rattle.std.proofs.lemmas.Bool.{and_parts, ltb-true}
 use Rattle.sip_vector.specs.declared.update.Entry.{Entry}
 use Rattle.sip_vector.specs.Answers.{is_within}
 use Rattle.sip_vector.specs.Steps.{◌>>=◌, needs}
@@ -14,7 +14,7 @@ use Rattle.sip_wire.specs.declared.message.WireFault.{WireFault}
 use Rattle.sip_wire.specs.Reading.{read_frame}
 use Rattle.arrayvec.specs.ArrayVec.{ArrayVec}
 use Rattle.sip_subvec.specs.AcceptsSub.{Siblings}
-use Rattle.sip_subvec.specs.Replies.{most_entries, reason_of, with_entries, are_asked, asked_siblings, at_end, first_reply, later_reply}
+use Rattle.sip_subvec.specs.Replies.{most_entries, with_entries, are_asked, asked_siblings, at_end, first_reply, later_reply}
 use Rattle.sip_subvec.specs.Counting.{rise_within}
 use Rattle.sip_subvec.proofs.FirstReply.{message_says, frame_says}
 use Rattle.sip_subvec.proofs.LaterReply.{later_reply-frame}

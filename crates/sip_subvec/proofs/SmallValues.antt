@@ -1,6 +1,5 @@
 -- The bytes of a stated value have room for those alone that are small modulo 2^61 - 1, and not for 0.
-use Rattle.std.proofs.Common.{◌≡◌, ℕ, zero, suc, ◌+◌, ◌-◌, ◌/◌, ◌<◌, ◌≤◌, ◌^◌, Bool, true, false, not, eqb, leb, ◌&&◌, Ok, List, [], ◌∷◌, ◌++◌, length, get_or, All, FitsSigned, ℤ, pos, negsuc, nat_abs, refl, ap, sym, ◌∙◌, arith, inl, inr}
-use Rattle.std.specs.Prelude.{slice_index}
+use Rattle.std.proofs.Common.{◌≡◌, ℕ, suc, ◌-◌, ◌/◌, ◌<◌, ◌≤◌, Bool, true, not, eqb, leb, ◌&&◌, Ok, List, [], ◌∷◌, ◌++◌, length, All, FitsSigned, ℤ, pos, negsuc, nat_abs, refl, ap, sym, ◌∙◌, arith, inl, inr}
 use Rattle.std.specs.Int.{w64, cast_signed, cast_unsigned}
 use Rattle.std.specs.List.{list_all, flat_map}
 use Rattle.std.proofs.lemmas.Bool.{cases_eq, cases_lt, and_parts, and_from, le-leb, leb-true, eq-eqb, not-true, both_ways}
@@ -16,9 +15,8 @@ use Rattle.sip_wire.specs.declared.kind.Place.TheVariants as places
 use Rattle.sip_wire.specs.declared.message.Message.TheVariants as messages
 use Rattle.sip_wire.specs.Table.{entry_fields, repeat, most_claim, is_small, shape}
 use Rattle.sip_wire.specs.declared.kind.Kind.TheVariants as kinds
-use Rattle.sip_wire.specs.Spelling.{all_hold, has_room, entry_numbers, fits, numbers, mark_of, asked}
-use Rattle.sip_wire.specs.Decoding.{IsBytes, Spelled}
-use Rattle.sip_wire.specs.Reading.{read_frame}
+use Rattle.sip_wire.specs.Spelling.{all_hold, has_room, entry_numbers, fits, asked}
+use Rattle.sip_wire.specs.Decoding.{IsBytes}
 use Rattle.sip_wire.proofs.ReadsBack.{read_frame-message}
 use Rattle.sip_wire.proofs.ReadingLaws.{read_frame-rest}
 use Rattle.sip_subvec.specs.AcceptsSub.{Siblings}

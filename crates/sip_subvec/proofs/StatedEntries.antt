@@ -1,9 +1,9 @@
 -- Entries whose level agrees with the numbers modulo p are the entries of the numbers that are not 0.
-use Rattle.std.proofs.Common.{◌≡◌, ℕ, zero, suc, ◌+◌, ◌*◌, ◌-◌, ◌/◌, ◌%◌, ◌<◌, ◌≤◌, Bool, true, false, not, eqb, leb, ◌&&◌, List, [], ◌∷◌, length, get_or, map, filter, take, drop, All, ℤ, pos, negsuc, nat_abs, refl, ap, sym, ◌∙◌, arith, inl, inr, get_or-take, get_or-drop}
-use Rattle.std.specs.List.{list_all, range_with_len, enumerate_from}
+use Rattle.std.proofs.Common.{◌≡◌, ℕ, zero, suc, ◌+◌, ◌-◌, ◌/◌, ◌%◌, ◌<◌, ◌≤◌, true, false, not, leb, List, [], ◌∷◌, length, get_or, map, filter, drop, All, ℤ, pos, negsuc, nat_abs, refl, ap, sym, ◌∙◌, arith, inl, inr, get_or-take, get_or-drop}
+use Rattle.std.specs.List.{list_all, enumerate_from}
 use Rattle.std.proofs.Math.Nat.{mod-eq_of_lt}
-use Rattle.std.proofs.lemmas.Bool.{cases_eq, cases_lt, eqb-true, eq-eqb, ne_eqb, leb-true, le-leb, lt-leb, and_parts, and_from, and_left, and_right, not_from_true, not_from_false}
-use Rattle.std.proofs.lemmas.List.{get_or-map, get_or_past, nil_from_length}
+use Rattle.std.proofs.lemmas.Bool.{cases_eq, cases_lt, eq-eqb, ne_eqb, leb-true, le-leb, lt-leb, and_parts, and_from, and_left, and_right, not_from_true, not_from_false}
+use Rattle.std.proofs.lemmas.List.{get_or-map}
 use Rattle.std.proofs.lemmas.List.Elements.{All-get_or}
 use Rattle.std.proofs.lemmas.List.FromFn.{get_or-map-range_with_len}
 use Rattle.sip_field.specs.Residue.{residue}

@@ -1,13 +1,12 @@
 -- A level of the tree, its windows, and the level above them: compared modulo p.
-use Rattle.std.proofs.Common.{◌≡◌, ℕ, zero, suc, ◌+◌, ◌*◌, ◌-◌, ◌%◌, ◌<◌, ◌≤◌, Bool, true, false, eqb, ◌&&◌, List, [], ◌∷◌, ◌++◌, length, take, drop, refl, ap, sym, ◌∙◌, arith, inl, inr}
+use Rattle.std.proofs.Common.{◌≡◌, ℕ, zero, suc, ◌+◌, ◌*◌, ◌-◌, ◌%◌, ◌≤◌, Bool, true, false, eqb, ◌&&◌, List, [], ◌∷◌, ◌++◌, length, take, drop, refl, ap, arith, inl, inr}
 use Rattle.std.proofs.Math.Nat.{mod-mod}
-use Rattle.std.proofs.Math.Seq.{drop-nil}
 use Rattle.std.proofs.lemmas.Bool.{cases_Bool, cases_eq, eqb-true, eq-eqb, and_parts, and_from, both_ways}
 use Rattle.std.proofs.lemmas.List.{take_at, drop_at, take-take, drop-drop, drop-take}
 use Rattle.sip_field.specs.Prime.{IsPrime}
 use Rattle.sip_vector.specs.Trees.{up}
 use Rattle.sip_counts.specs.Counts.{count_below}
-use Rattle.sip_counts.proofs.Sums.{count_below-grows, count_below-none}
+use Rattle.sip_counts.proofs.Sums.{count_below-grows}
 use Rattle.sip_counts.proofs.Roots.{value}
 use Rattle.sip_counts.proofs.Differences.{few_agree}
 

@@ -1,7 +1,6 @@
 -- A written answer that is wrong makes its challenges counted; and the numbers of a legal stream are small.
-use Rattle.std.proofs.Common.{◌≡◌, ◌≢◌, ℕ, zero, suc, ◌+◌, ◌-◌, ◌/◌, ◌<◌, ◌≤◌, ◌^◌, Bool, true, false, eqb, ◌&&◌, is_ok, Option, Some, None, Result, Ok, Err, List, [], ◌∷◌, length, get_or, map, filter, sum_by, All, ℤ, pos, ◌+ℤ◌, nat_abs, refl, ap, sym, ◌∙◌, arith, inl, inr}
+use Rattle.std.proofs.Common.{◌≡◌, ◌≢◌, ℕ, ◌+◌, ◌-◌, ◌/◌, ◌≤◌, ◌^◌, true, false, eqb, is_ok, Some, Ok, List, [], ◌∷◌, length, get_or, map, All, ℤ, ◌+ℤ◌, nat_abs, refl, ap, sym, ◌∙◌, arith, inl, inr}
 use Rattle.std.specs.List.{range_with_len}
-use Rattle.std.specs.Cmp.Lexicographic.{pointwise}
 use Rattle.std.proofs.lemmas.Bool.{cases_Bool, and_from, eq-eqb, false_from_ne_true}
 use Rattle.std.proofs.lemmas.List.Elements.{All-map, All-from_get_or}
 use Rattle.std.proofs.lemmas.List.Sums.{sum_by-cons}
@@ -11,15 +10,15 @@ use Rattle.sip_vector.specs.declared.update.Side.TheVariants.{First}
 use Rattle.sip_vector.specs.declared.update.Update.{Update}
 use Rattle.sip_vector.specs.declared.update.Entry.{Entry}
 use Rattle.sip_vector.specs.Steps.{◌>>=◌, needs}
-use Rattle.sip_vector.specs.Streams.{int_sum, same_side, of_side, total, weight, most_weight, frequency, vector, IsLegal}
+use Rattle.sip_vector.specs.Streams.{same_side, of_side, weight, most_weight, frequency, vector, IsLegal}
 use Rattle.sip_vector.specs.Vectors.{nonzero_within}
 use Rattle.sip_vector.proofs.Sums.{nat_abs-add-le}
 use Rattle.sip_wire.specs.declared.message.Reason.TheVariants as reasons
 use Rattle.sip_counts.specs.Strategies.{Strategy, replies, takes_wrong}
 use Rattle.sip_counts.proofs.Talks.{takes_wrong-at}
-use Rattle.sip_subvec.specs.AcceptsSub.{Stated, gives_root}
+use Rattle.sip_subvec.specs.AcceptsSub.{gives_root}
 use Rattle.sip_subvec.specs.Replies.{Fault, stated, verdict, accepts, IsAccepted}
-use Rattle.sip_subvec.specs.Counting.{said, entries_of, is_same_entry, is_right}
+use Rattle.sip_subvec.specs.Counting.{said, entries_of, is_right}
 use Rattle.sip_subvec.proofs.SaidReplies.{step_passed, test_passed, same_ok}
 use Rattle.sip_subvec.proofs.FewFooled.{same_entries}
 

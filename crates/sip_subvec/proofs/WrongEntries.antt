@@ -1,6 +1,6 @@
 -- Wrong entries are accepted at few vectors of challenges.
-use Rattle.std.proofs.Common.{◌≡◌, ◌≢◌, ℕ, zero, suc, ◌+◌, ◌*◌, ◌-◌, ◌/◌, ◌<◌, ◌≤◌, ◌^◌, Bool, true, false, eqb, ◌&&◌, List, [], ◌∷◌, length, get_or, map, All, ℤ, nat_abs, refl, ap, sym, ◌∙◌, arith, inl, inr}
-use Rattle.std.specs.Prelude.{fold, zip}
+use Rattle.std.proofs.Common.{◌≡◌, ◌≢◌, ℕ, suc, ◌+◌, ◌*◌, ◌-◌, ◌/◌, ◌<◌, ◌≤◌, ◌^◌, Bool, true, eqb, ◌&&◌, List, [], ◌∷◌, length, get_or, map, All, ℤ, nat_abs, refl, ap, sym, ◌∙◌, arith, inl, inr}
+use Rattle.std.specs.Prelude.{fold}
 use Rattle.std.specs.List.{list_all}
 use Rattle.std.specs.Cmp.Lexicographic.{bytes_decides}
 use Rattle.std.proofs.Math.Nat.{pow-suc}
@@ -10,7 +10,7 @@ use Rattle.std.proofs.lemmas.List.FromFn.{length-map-range_with_len}
 use Rattle.sip_field.specs.Prime.{IsPrime}
 use Rattle.sip_field.specs.Residue.{residue}
 use Rattle.sip_vector.specs.declared.update.Entry.{Entry}
-use Rattle.sip_vector.specs.Trees.{up, tree, root}
+use Rattle.sip_vector.specs.Trees.{up, root}
 use Rattle.sip_vector.specs.Vectors.{nonzero_within}
 use Rattle.sip_vector.proofs.TreeUpdates.{length-up}
 use Rattle.sip_counts.specs.Counts.{counted}
@@ -59,9 +59,6 @@ passes p top lo hi r s h =
 -- ---- the count
 
 module _ (p lo hi : ℕ) (numbers : List ℤ) (entries : List Entry) (siblings : List ℕ → Siblings) where
-
-
-
   -- what is accepted agrees with the true level after all challenges
   accepted_agrees : (r : List ℕ) → lo ≤ hi → hi < 2 ^ length r → length numbers ≡ 2 ^ length r → Passes p (root p numbers r) lo hi r (record { entries = entries; siblings = replies siblings r })
       → agrees p siblings lo hi (stated_level p lo hi entries) (map (residue p) numbers) r ≡ true
@@ -89,8 +86,8 @@ module _ (p lo hi : ℕ) (numbers : List ℤ) (entries : List Entry) (siblings :
         | inl right ↦ omega (
           arith,
           counted-none p d test (λ v _. false_from_ne_true (test v) (λ h.
-                let w = passes p (root p numbers v) lo hi v (record { entries = entries; siblings = replies siblings v }) h in
-                wrong (entries-right p lo hi numbers entries some (omega arith) all w.rise w.small right))),
+              let w = passes p (root p numbers v) lo hi v (record { entries = entries; siblings = replies siblings v }) h in
+              wrong (entries-right p lo hi numbers entries some (omega arith) all w.rise w.small right))),
         )
         | inr differs ↦
             let grows = counted-grows p test (agrees p siblings lo hi known level) d

@@ -45,6 +45,7 @@ asked_lengths lo hi s h =
   where
     odd : (n : ℕ) → cond (eqb (n % 2) 1) 1 0 ≡ n % 2
     odd n = grind (arith)
+
     even : (n : ℕ) → cond (eqb (n % 2) 0) 1 0 ≡ 1 - n % 2
     even n = grind (arith)
 
