@@ -1,7 +1,7 @@
 -- The replies to a sub-vector query as bytes: what they state, their first fault, and when they are accepted.
 --
 -- Reply 0 is any number of Entries frames and one Siblings frame; each later reply is one Siblings frame.
-use Rattle.std.specs.Prelude.{◌≡◌, ◌≢◌, ◌≤◌, min, ℕ, zero, suc, ◌+◌, ◌/◌, ◌%◌, ◌==◌, Bool, ◌&&◌, nat_lt, is_some, is_none, List, [], ◌∷◌, ◌++◌, length, Result, Ok, Err, is_ok, if◌then◌else◌}
+use Rattle.std.specs.Prelude.{◌≡◌, ◌≢◌, ◌≤◌, ◌<◌, ◌⊎◌, min, ℕ, zero, suc, ◌+◌, ◌/◌, ◌%◌, ◌==◌, Bool, ◌&&◌, nat_lt, is_some, is_none, List, [], ◌∷◌, ◌++◌, length, Result, Ok, Err, is_ok, if◌then◌else◌}
 use Rattle.std.specs.List.{list_all}
 use Rattle.sip_vector.specs.declared.update.Entry.{Entry}
 use Rattle.sip_vector.specs.Answers.{is_within}
@@ -120,6 +120,10 @@ accepts p root lo hi challenges replies = (length replies == length challenges) 
 pub record IsUnfinished (lo hi : ℕ) (challenges : List ℕ) (replies : List (List ℕ)) : Type 0 where
   pub few : length replies ≤ length challenges
   pub passes : (fault : Fault) → stated lo hi replies ≡ Err fault → (fault.reason ≡ reasons.Closed) × (suc fault.round ≡ length replies)
+
+-- fewer replies came than there are challenges, or the last one is not whole
+abbrev pub IsMissing : ℕ → ℕ → List ℕ → List (List ℕ) → Type 0
+IsMissing lo hi challenges replies = (length replies < length challenges) ⊎ ((fault : Fault) × (stated lo hi replies ≡ Err fault))
 
 -- The replies taken have this first fault, and no byte less shows it. The last of them is the reply of its round; a
 -- fault Closed is shown by the end of the link behind them.

@@ -1,20 +1,22 @@
 -- Causes.
 --
--- A verdict comes only where the seed gives challenges and the stream is legal to its end. Bad input of `second` comes
--- exactly where the seed is shorter than 32 bytes or spent, and of `first` exactly where the seed gives challenges and
--- the stream is not legal to its end. A fault comes only where the count of faults of some port rose in this call.
--- Want of memory is free.
-use Rattle.std.specs.Prelude.{◌≡◌, ◌≢◌, ◌⊎◌, ℕ, None}
+-- A verdict comes only where the seed gives challenges and the stream is legal to its end. A bad stream comes exactly
+-- where the seed gives challenges and the stream is not legal to its end, with the number and the fault of the first
+-- record that is not legal. A bad seed comes exactly where the seed has fewer than 32 bytes, and a spent one exactly
+-- where its 32 bytes do not give the challenges. A fault comes only where the count of faults of that very port rose in
+-- this call. Want of memory is free. No other answer comes.
+use Rattle.std.specs.Prelude.{◌≡◌, ◌≢◌, ◌<◌, ◌≤◌, ℕ, length, Some, None}
 use Rattle.sip_ports.specs.Ports.{Rose}
+use Rattle.sip_stream.specs.Records.{records}
 use Rattle.sip_verifier.specs.declared.status.Port.TheVariants as ports
 use Rattle.sip_verifier.specs.declared.status.Status.{Status}
 use Rattle.sip_verifier.specs.declared.status.Status.TheVariants as statuses
 use Rattle.sip_verifier.specs.declared.task.Task.{Task}
 use Rattle.sip_verifier.specs.Draws.{drawn}
 use Rattle.sip_verifier.specs.Exchanges.{Exchange}
-use Rattle.sip_verifier.specs.Turns.{IsLegalToEnd}
+use Rattle.sip_verifier.specs.Turns.{IsLegalToEnd, updates}
 
--- the count of faults of the stream, the seed, the link or the report rose
+-- the counts of faults of the stream, the seed, the link and the report at one moment
 pub record Counts : Type 0 where
   pub first : ℕ
   pub second : ℕ
@@ -24,21 +26,43 @@ pub record Counts : Type 0 where
 abbrev pub counts : ℕ → ℕ → ℕ → ℕ → Counts
 counts first second peer report = record { first = first; second = second; peer = peer; report = report }
 
-abbrev pub AnyRose : Counts → Counts → Type 0
-AnyRose before now = Rose before.first now.first ⊎ Rose before.second now.second ⊎ Rose before.peer now.peer ⊎ Rose before.report now.report
+-- the statuses that a verifying command may answer
+abbrev pub IsListed : Status → Type 0
+IsListed statuses.Accepted = Unit {0}
+IsListed (statuses.Rejected query round reason) = Unit {0}
+IsListed (statuses.BadStream at why) = Unit {0}
+IsListed statuses.BadSeed = Unit {0}
+IsListed statuses.SeedSpent = Unit {0}
+IsListed (statuses.ReadFault ports.First) = Unit {0}
+IsListed (statuses.ReadFault ports.Second) = Unit {0}
+IsListed (statuses.WriteFault ports.Report) = Unit {0}
+IsListed statuses.PeerFault = Unit {0}
+IsListed statuses.OutOfMemory = Unit {0}
+IsListed _ = ⊥
+
+-- a fault of a port comes only where its own count rose, whatever the ports tell
+abbrev pub FaultClause : Counts → Counts → Status → Type 0
+FaultClause before now (statuses.ReadFault ports.First) = Rose before.first now.first
+FaultClause before now (statuses.ReadFault ports.Second) = Rose before.second now.second
+FaultClause before now (statuses.ReadFault _) = ⊥
+FaultClause before now (statuses.WriteFault ports.Report) = Rose before.report now.report
+FaultClause before now (statuses.WriteFault _) = ⊥
+FaultClause before now statuses.PeerFault = Rose before.peer now.peer
+FaultClause before now _ = Unit {0}
 
 module _ (task : Task) (x : Exchange) where
   -- the seed gives challenges, and the stream is legal to its end
   abbrev pub HasGoodInput : Type 0
   HasGoodInput = (drawn task x.seed ≢ None) × IsLegalToEnd task x
 
-  -- `rose` says that some port's count of faults rose
-  abbrev pub CauseClause : Type 0 → Status → Type 0
-  CauseClause rose statuses.Accepted = HasGoodInput
-  CauseClause rose statuses.Rejected = HasGoodInput
-  CauseClause rose (statuses.Usage word) = ⊥
-  CauseClause rose (statuses.BadInput ports.First) = (drawn task x.seed ≢ None) × ¬ IsLegalToEnd task x
-  CauseClause rose (statuses.BadInput ports.Second) = drawn task x.seed ≡ None
-  CauseClause rose (statuses.BadInput _) = ⊥
-  CauseClause rose statuses.Fault = rose
-  CauseClause rose statuses.OutOfMemory = Unit {0}
+  abbrev pub CauseClause : Counts → Counts → Status → Type 0
+  CauseClause before now statuses.Accepted = HasGoodInput
+  CauseClause before now (statuses.Rejected query round reason) = HasGoodInput
+  CauseClause before now (statuses.BadStream at why) = (drawn task x.seed ≢ None) × (at ≡ length (updates task x)) × ((records task.depth x.stream).fault ≡ Some why)
+  CauseClause before now statuses.BadSeed = length x.seed < 32
+  CauseClause before now statuses.SeedSpent = (32 ≤ length x.seed) × (drawn task x.seed ≡ None)
+  CauseClause before now (statuses.ReadFault port) = FaultClause before now (statuses.ReadFault port)
+  CauseClause before now (statuses.WriteFault port) = FaultClause before now (statuses.WriteFault port)
+  CauseClause before now statuses.PeerFault = FaultClause before now statuses.PeerFault
+  CauseClause before now statuses.OutOfMemory = Unit {0}
+  CauseClause before now _ = ⊥

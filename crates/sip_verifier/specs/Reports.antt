@@ -8,6 +8,8 @@ use Rattle.sip_vector.specs.declared.update.Side.TheVariants.{First, Second}
 use Rattle.sip_vector.specs.declared.query.Query.{Query}
 use Rattle.sip_vector.specs.declared.query.Query.TheVariants.{Sub, Range, F2, Inner, Heavy}
 use Rattle.sip_vector.specs.Answers.{Answer, pairs, number}
+use Rattle.sip_wire.specs.declared.message.Reason.{Reason}
+use Rattle.sip_wire.specs.declared.message.Reason.TheVariants as reasons
 
 -- a number behind a colon
 abbrev pub parameter : ℕ → List ℕ
@@ -36,3 +38,26 @@ answer_text (pairs (e ∷ es)) = join_by pair_text (codes " ") (e ∷ es)
 -- the line of an accepted query: its word, a space, its answer, a line feed
 abbrev pub line : Query → Answer → List ℕ
 line query answer = query_word query ++ codes " " ++ answer_text answer ++ 10 ∷ []
+
+-- the name of a reason, which a refusal has with its code
+abbrev pub reason_name : Reason → List ℕ
+reason_name reasons.Closed = codes "Closed"
+reason_name reasons.BadKind = codes "BadKind"
+reason_name reasons.BadLength = codes "BadLength"
+reason_name reasons.BadCount = codes "BadCount"
+reason_name reasons.BadNumber = codes "BadNumber"
+reason_name (reasons.Refused code) = codes "Refused(" ++ decimal code ++ codes ")"
+reason_name reasons.BadOrder = codes "BadOrder"
+reason_name reasons.TooMany = codes "TooMany"
+reason_name reasons.BadFlags = codes "BadFlags"
+reason_name reasons.HeavySibling = codes "HeavySibling"
+reason_name reasons.Pairs = codes "Pairs"
+reason_name reasons.LightParent = codes "LightParent"
+reason_name reasons.Sum = codes "Sum"
+reason_name reasons.Total = codes "Total"
+reason_name reasons.Root = codes "Root"
+
+-- the line of a rejection: the query's number, the round and the reason of the fault, a line feed
+abbrev pub rejection : ℕ → ℕ → Reason → List ℕ
+rejection query round reason =
+    codes "rejected query " ++ decimal query ++ codes " round " ++ decimal round ++ codes " " ++ reason_name reason ++ 10 ∷ []

@@ -5,8 +5,9 @@
 -- With an illegal stream it ends before the end of the stream is sent: the opening, and a frame for each 512 legal
 -- records. With bad words or a bad seed nothing is said. With any other answer it is a front of that same talk: so each
 -- reply was taken and passed its tests before the next challenge leaves, and the last challenge never leaves; and a
--- query's line was written before anything is said after its last reply.
-use Rattle.std.specs.Prelude.{◌≡◌, ◌≢◌, ◌==◌, List, [], ◌∷◌, ◌++◌, length, flat_map, option_to_list, Option, IfSome, if◌then◌else◌}
+-- query's line was written before anything is said after its last reply. Where the line of a rejection could not be
+-- written whole, the talk is that of the rejection.
+use Rattle.std.specs.Prelude.{◌≡◌, ◌≢◌, ◌⊎◌, ℕ, List, [], ◌∷◌, ◌++◌, length, flat_map, option_to_list, Option, IfSome}
 use Rattle.sip_ports.specs.declared.port.TalkEvent.{TalkEvent}
 use Rattle.sip_subvec.specs.Replies.{Fault}
 use Rattle.sip_verifier.specs.declared.status.Port.TheVariants as ports
@@ -15,7 +16,7 @@ use Rattle.sip_verifier.specs.declared.status.Status.TheVariants as statuses
 use Rattle.sip_verifier.specs.declared.task.Task.{Task}
 use Rattle.sip_verifier.specs.Exchanges.{Exchange, IsPrefix}
 use Rattle.sip_verifier.specs.Talks.{whole_frames, opening_sent, stream_sent, bye_sent}
-use Rattle.sip_verifier.specs.Turns.{Turn, IsFaulty, IsUnfinished, ending, said_in_turn, updates, IsLegalToEnd, Done, turns_of, lines, AreTurns, Reached}
+use Rattle.sip_verifier.specs.Turns.{Turn, IsFaulty, IsUnfinished, ending, said_in_turn, updates, IsLegalToEnd, Done, turns_of, lines, farewell, AreTurns, Reached}
 
 module _ (task : Task) (x : Exchange) where
   -- the whole talk
@@ -24,17 +25,12 @@ module _ (task : Task) (x : Exchange) where
     pub all : length done ≡ length task.queries.items
     pub reached : Reached task x (turns_of task x done) bye_sent
 
-  -- the talk up to a fault
-  pub record EndsAtFault : Type 0 where
+  -- the talk up to a fault of the replies to a query, after those to the queries before were accepted
+  pub record EndsAtFault (fault : Fault) : Type 0 where
     pub done : Done task x
     pub last : Turn
-    pub fault : Fault
     pub faulty : IsFaulty task.depth (updates task x) last fault
     pub reached : Reached task x (turns_of task x done ++ last ∷ []) (ending fault.reason)
-
-  -- the farewell, which comes once every query was accepted
-  abbrev pub farewell : Done task x → List TalkEvent
-  farewell done = if length done == length task.queries.items then bye_sent else []
 
   -- what was said while the stream was read
   abbrev pub before_end : List TalkEvent
@@ -46,16 +42,25 @@ module _ (task : Task) (x : Exchange) where
     pub current : Option Turn
     pub unfinished : IfSome current IsUnfinished
     pub turns : x.talk ≢ [] → AreTurns task x (turns_of task x done ++ option_to_list current)
-    pub order : IsPrefix x.talk (stream_sent task.depth (updates task x) ++ flat_map said_in_turn (turns_of task x done ++ option_to_list current) ++ farewell done)
+    pub order : IsPrefix x.talk (stream_sent task.depth (updates task x) ++ flat_map said_in_turn (turns_of task x done ++ option_to_list current) ++ farewell task x done)
     pub legal : ¬ IsLegalToEnd task x → IsPrefix x.talk before_end
     -- what is said after the accepted turns is said only once all their lines were written
     pub written : ¬ IsPrefix x.talk (stream_sent task.depth (updates task x) ++ flat_map said_in_turn (turns_of task x done)) → x.report ≡ lines task x done
 
+  -- the talk stopped somewhere, or at a fault
+  abbrev pub Stopped : Type 0
+  Stopped = IsUnderWay ⊎ ((fault : Fault) × EndsAtFault fault)
+
   abbrev pub TalkClause : Status → Type 0
   TalkClause statuses.Accepted = IsWhole
-  TalkClause statuses.Rejected = EndsAtFault
+  TalkClause (statuses.Rejected query round reason) = EndsAtFault (record { round = round; reason = reason })
   TalkClause (statuses.Usage word) = x.talk ≡ []
-  TalkClause (statuses.BadInput ports.First) = x.talk ≡ before_end
-  TalkClause (statuses.BadInput _) = x.talk ≡ []
-  TalkClause statuses.Fault = IsUnderWay
-  TalkClause statuses.OutOfMemory = IsUnderWay
+  TalkClause (statuses.BadStream at why) = x.talk ≡ before_end
+  TalkClause statuses.BadSeed = x.talk ≡ []
+  TalkClause statuses.SeedSpent = x.talk ≡ []
+  TalkClause (statuses.ReadFault ports.First) = IsUnderWay × IsPrefix x.talk before_end
+  TalkClause (statuses.ReadFault ports.Second) = x.talk ≡ []
+  TalkClause (statuses.WriteFault ports.Report) = Stopped
+  TalkClause statuses.PeerFault = IsUnderWay
+  TalkClause statuses.OutOfMemory = Stopped
+  TalkClause _ = ⊥

@@ -1,5 +1,5 @@
 -- The queries of a run, each with its block of challenges and the reply bytes that were taken.
-use Rattle.std.specs.Prelude.{◌≡◌, ℕ, List, [], ◌∷◌, ◌++◌, length, take, map, flat_map, Some, None}
+use Rattle.std.specs.Prelude.{◌≡◌, ◌==◌, ℕ, List, [], ◌∷◌, ◌++◌, length, take, map, flat_map, Some, None, if◌then◌else◌}
 use Rattle.sip_field.specs.Moduli.{m61_modulus}
 use Rattle.sip_ports.specs.declared.port.TalkEvent.{TalkEvent}
 use Rattle.sip_ports.specs.declared.port.TalkEvent.TheVariants.{Ended}
@@ -20,7 +20,7 @@ use Rattle.sip_verifier.specs.declared.task.Task.{Task}
 use Rattle.sip_verifier.specs.Draws.{drawn, blocks}
 use Rattle.sip_verifier.specs.Exchanges.{Exchange}
 use Rattle.sip_verifier.specs.Reports.{line}
-use Rattle.sip_verifier.specs.Talks.{asked, stream_sent}
+use Rattle.sip_verifier.specs.Talks.{asked, stream_sent, bye_sent}
 
 pub record Turn : Type 0 where
   pub query : Query
@@ -31,7 +31,7 @@ pub record Turn : Type 0 where
 abbrev pub true_root : ℕ → List Update → List ℕ → ℕ
 true_root depth stream block = root m61_modulus (vector depth stream First) block
 
--- ---- the three states of a turn; a query whose check does not stand here is never asked
+-- ---- the states of a turn; a query whose check does not stand here is never asked
 
 -- the replies are accepted, and this is the answer that they state
 abbrev pub Accepts : ℕ → List Update → Turn → Answer → Type 0
@@ -51,6 +51,13 @@ IsFaulty depth stream t fault = elim t.query [
 abbrev pub IsUnfinished : Turn → Type 0
 IsUnfinished t = elim t.query [
   | Sub lo hi ↦ sub.IsUnfinished lo hi t.block t.replies
+  | _ ↦ ⊥
+]
+
+-- no fault so far, and a reply is missing or not whole yet
+abbrev pub IsWaiting : Turn → Type 0
+IsWaiting t = elim t.query [
+  | Sub lo hi ↦ sub.IsUnfinished lo hi t.block t.replies × sub.IsMissing lo hi t.block t.replies
   | _ ↦ ⊥
 ]
 
@@ -88,6 +95,10 @@ module _ (task : Task) (x : Exchange) where
 
   abbrev pub lines : Done → List ℕ
   lines done = flat_map (λ a. line a.turn.query a.answer) done
+
+  -- the farewell, which comes once every query was accepted
+  abbrev pub farewell : Done → List TalkEvent
+  farewell done = if length done == length task.queries.items then bye_sent else []
 
   -- these are the task's first queries in order, each with its own block of the challenges that the seed gives
   pub record AreTurns (turns : List Turn) : Type 0 where

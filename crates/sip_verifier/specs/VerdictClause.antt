@@ -1,19 +1,23 @@
 -- Verdicts.
 --
 -- The line of a query has the answer that its replies state. It is written only where they are accepted and the lines
--- of all queries before were written; and then it is written, unless a port failed or memory ran out. A run is
--- rejected exactly where the replies to a query have a fault and those to all queries before were accepted. Where
--- every query was accepted, the report is all their lines, and the stream was read to its end.
-use Rattle.std.specs.Prelude.{◌≡◌, ◌⊎◌, ℕ, List, [], ◌∷◌, ◌++◌, length}
+-- of all queries before were written; and then it is written, unless writing the report failed or memory ran out. A run
+-- is rejected as query k exactly where the replies to k - 1 queries were accepted and those to query k have that first
+-- fault; the line of the rejection is then the last one. Where every query was accepted, the report is all their lines,
+-- and the stream was read to its end. A part of a line stands at the report's end only where writing the report failed
+-- or memory ran out, and it is the front of the line of a verdict that was reached.
+use Rattle.std.specs.Prelude.{◌≡◌, ◌⊎◌, ℕ, suc, List, [], ◌∷◌, ◌++◌, length, flat_map, option_to_list, Option, IfSome}
 use Rattle.sip_ports.specs.declared.port.TalkEvent.{TalkEvent}
 use Rattle.sip_subvec.specs.Replies.{Fault}
+use Rattle.sip_wire.specs.declared.message.Reason.{Reason}
+use Rattle.sip_verifier.specs.declared.status.Port.TheVariants as ports
 use Rattle.sip_verifier.specs.declared.status.Status.{Status}
 use Rattle.sip_verifier.specs.declared.status.Status.TheVariants as statuses
 use Rattle.sip_verifier.specs.declared.task.Task.{Task}
 use Rattle.sip_verifier.specs.Exchanges.{Exchange, IsPrefix}
-use Rattle.sip_verifier.specs.Reports.{line}
-use Rattle.sip_verifier.specs.Talks.{bye_sent}
-use Rattle.sip_verifier.specs.Turns.{Turn, Accepted, IsFaulty, ending, updates, Done, turns_of, lines, Reached}
+use Rattle.sip_verifier.specs.Reports.{line, rejection}
+use Rattle.sip_verifier.specs.Talks.{bye_sent, stream_sent}
+use Rattle.sip_verifier.specs.Turns.{Turn, Accepted, IsFaulty, IsWaiting, ending, said_in_turn, updates, Done, turns_of, lines, farewell, Reached}
 
 module _ (task : Task) (x : Exchange) where
   -- every query was accepted, and every line was written
@@ -24,14 +28,19 @@ module _ (task : Task) (x : Exchange) where
     pub report : x.report ≡ lines task x done
     pub read : x.unread ≡ []
 
-  -- a query's replies have a fault; the lines of the queries before were written
-  pub record OneFaulty : Type 0 where
+  -- The replies to the queries before this one were accepted, and its own have this first fault. The report is the
+  -- lines of those before and the line of the rejection.
+  pub record OneFaulty (query round : ℕ) (reason : Reason) : Type 0 where
     pub done : Done task x
+    pub number : query ≡ suc (length done)
     pub last : Turn
-    pub fault : Fault
-    pub faulty : IsFaulty task.depth (updates task x) last fault
-    pub reached : Reached task x (turns_of task x done ++ last ∷ []) (ending fault.reason)
-    pub report : x.report ≡ lines task x done
+    pub faulty : IsFaulty task.depth (updates task x) last (record { round = round; reason = reason })
+    pub reached : Reached task x (turns_of task x done ++ last ∷ []) (ending reason)
+    pub report : x.report ≡ lines task x done ++ rejection query round reason
+
+  -- these queries were accepted, as the talk shows
+  abbrev pub WereReached : Done task x → Type 0
+  WereReached done = (done ≡ []) ⊎ ((rest : List TalkEvent) × Reached task x (turns_of task x done) rest)
 
   -- a part of the line of the next query, whose replies were accepted, and after which nothing was said
   pub record PartWritten (done : Done task x) (part : List ℕ) : Type 0 where
@@ -39,18 +48,41 @@ module _ (task : Task) (x : Exchange) where
     pub reached : Reached task x (turns_of task x done ++ next.turn ∷ []) []
     pub front : IsPrefix part (line next.turn.query next.answer)
 
-  -- the lines of some queries that were accepted, and perhaps a part of the next one
+  -- a part of the line of the rejection of the next query, whose replies have this first fault
+  pub record PartRejected (done : Done task x) (part : List ℕ) : Type 0 where
+    pub last : Turn
+    pub fault : Fault
+    pub faulty : IsFaulty task.depth (updates task x) last fault
+    pub reached : Reached task x (turns_of task x done ++ last ∷ []) (ending fault.reason)
+    pub front : IsPrefix part (rejection (suc (length done)) fault.round fault.reason)
+
+  -- the lines of some queries that were accepted, and perhaps a part of the line of the next verdict
   pub record SomeWritten : Type 0 where
     pub done : Done task x
     pub part : List ℕ
-    pub reached : (done ≡ []) ⊎ ((rest : List TalkEvent) × Reached task x (turns_of task x done) rest)
-    pub part_of : (part ≡ []) ⊎ PartWritten done part
+    pub reached : WereReached done
+    pub part_of : (part ≡ []) ⊎ PartWritten done part ⊎ PartRejected done part
     pub report : x.report ≡ lines task x done ++ part
+
+  -- The lines of all queries that were accepted. What was said after them is a front of the farewell, or of a query
+  -- that waits for replies, so that no other verdict was reached.
+  pub record NoneLeft : Type 0 where
+    pub done : Done task x
+    pub current : Option Turn
+    pub waits : IfSome current IsWaiting
+    pub reached : WereReached done
+    pub order : IsPrefix x.talk (stream_sent task.depth (updates task x) ++ flat_map said_in_turn (turns_of task x done ++ option_to_list current) ++ farewell task x done)
+    pub report : x.report ≡ lines task x done
 
   abbrev pub VerdictClause : Status → Type 0
   VerdictClause statuses.Accepted = AllWritten
-  VerdictClause statuses.Rejected = OneFaulty
+  VerdictClause (statuses.Rejected query round reason) = OneFaulty query round reason
   VerdictClause (statuses.Usage word) = x.report ≡ []
-  VerdictClause (statuses.BadInput port) = x.report ≡ []
-  VerdictClause statuses.Fault = SomeWritten
+  VerdictClause (statuses.BadStream at why) = x.report ≡ []
+  VerdictClause statuses.BadSeed = x.report ≡ []
+  VerdictClause statuses.SeedSpent = x.report ≡ []
+  VerdictClause (statuses.ReadFault port) = x.report ≡ []
+  VerdictClause (statuses.WriteFault ports.Report) = SomeWritten
+  VerdictClause statuses.PeerFault = NoneLeft
   VerdictClause statuses.OutOfMemory = SomeWritten
+  VerdictClause _ = ⊥

@@ -9,7 +9,8 @@ ghost use Rattle.sip_vector.specs.Answers.{pairs, number};
 ghost use Rattle.sip_vector.specs.Examples.{stream};
 ghost use Rattle.sip_verifier.specs.Draws.{blocks};
 ghost use Rattle.sip_verifier.specs.Examples.{whole_talk, two_queries};
-ghost use Rattle.sip_verifier.specs.Reports.{line};
+ghost use Rattle.sip_wire.specs.declared.message.Reason.TheVariants as reasons;
+ghost use Rattle.sip_verifier.specs.Reports.{line, rejection};
 ghost use Rattle.sip_verifier.specs.Talks.{stream_sent, update_frames, whole_frames, asked, bye_sent};
 
 /// A whole talk of one query is these bytes in this order.
@@ -30,6 +31,13 @@ pub fn lines_of_answers()
     ensures two { line (queries.Sub 0 1) (pairs (record { index = 0; value = negsuc 1 } ∷ record { index = 1; value = pos 5 } ∷ [])) ≡ codes "sub:0:1 0:-2 1:5" ++ 10 ∷ [] }
     ensures none { line (queries.Sub 0 3) (pairs []) ≡ codes "sub:0:3 none" ++ 10 ∷ [] }
     ensures sum { line (queries.Range sides.First 1 3) (number (pos 6)) ≡ codes "range:0:1:3 6" ++ 10 ∷ [] }
+{}
+
+/// The lines of rejections: a fault after the last reply, a refusal, and the end of the link.
+pub fn lines_of_rejections()
+    ensures root { rejection 1 2 reasons.Root ≡ codes "rejected query 1 round 2 Root" ++ 10 ∷ [] }
+    ensures refused { rejection 4 0 (reasons.Refused 3) ≡ codes "rejected query 4 round 0 Refused(3)" ++ 10 ∷ [] }
+    ensures closed { rejection 16 31 reasons.Closed ≡ codes "rejected query 16 round 31 Closed" ++ 10 ∷ [] }
 {}
 
 /// Each query has its own block of challenges.
