@@ -1,8 +1,8 @@
 //! `sip`: checks the answer of a helper that keeps a stream for you.
 #![tactic(auto)]
 
-use sip_cli::{Opening, Words, exit_code, ports, run};
-use sip_ports::{FileLink, FileSource, NullSink, StdoutSink};
+use sip_cli::{Opening, Words, exit_code, ports, run, status_line};
+use sip_ports::{FileLink, FileSource, NullSink, StderrSink, StdoutSink};
 use sip_verifier::Status;
 use std::fs::File;
 use std::process::ExitCode;
@@ -60,5 +60,7 @@ fn main(rt: HostRuntime) -> ExitCode {
         Err(error) if error.kind() == io::ErrorKind::OutOfMemory => Status::OutOfMemory,
         Err(_) => Status::Usage { word: 0 },
     };
+    // Where the line cannot be written, the exit code still tells the status.
+    let _ = status_line(&status, &mut StderrSink::new(rt.stderr()));
     ExitCode::from(exit_code(&status))
 }

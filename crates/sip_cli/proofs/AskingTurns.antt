@@ -1,5 +1,5 @@
 -- The turn of one query, reply by reply: what was said, what the replies state, and the level that they fold to.
-use Rattle.std.proofs.Common.{◌≡◌, ℕ, zero, suc, ◌+◌, ◌-◌, ◌/◌, ◌<◌, ◌≤◌, Bool, true, false, Option, Result, Ok, Err, List, [], ◌∷◌, ◌++◌, length, take, drop, fold, refl, sym, ap, subst, ◌∙◌, arith, append_assoc, append-nil, length-append, drop-cons, add-one}
+use Rattle.std.proofs.Common.{◌≡◌, inl, inr, ℕ, zero, suc, ◌+◌, ◌-◌, ◌/◌, ◌<◌, ◌≤◌, Bool, true, false, Option, Result, Ok, Err, List, [], ◌∷◌, ◌++◌, length, take, drop, fold, refl, sym, ap, subst, ◌∙◌, arith, append_assoc, append-nil, length-append, drop-cons, add-one}
 use Rattle.std.specs.Prelude.{◌^◌, nat_eq, nat_lt, nat_le, IsTrue, IsErrAnd, zip, slice_index}
 use Rattle.std.specs.declared.vec.Vec.{Vec}
 use Rattle.std.proofs.Math.Pow.{pow_mono}
@@ -32,8 +32,10 @@ use Rattle.sip_verifier.specs.Talks.{sent, exchanged, asked}
 use Rattle.sip_verifier.specs.Turns.{ending}
 use Rattle.sip_cli.specs.declared.ask.AskStop.{AskStop}
 use Rattle.sip_cli.specs.declared.ask.AskStop.TheVariants as stops
-use Rattle.sip_cli.specs.Taking.{stop_of_port, read_first, Came, HasFault, IsPart, Takes}
-use Rattle.sip_cli.specs.Asking.{IsAnswered, IsRejected, IsCutShort, Asks}
+use Rattle.sip_cli.specs.declared.replies.ReplyStop.{ReplyStop}
+use Rattle.sip_cli.specs.declared.replies.ReplyStop.TheVariants as reply_stops
+use Rattle.sip_cli.specs.Taking.{read_first, Came, HasFault, IsPart, Takes}
+use Rattle.sip_cli.specs.Asking.{stop_of_port, stop_in_round, IsAnswered, IsRejected, IsCutShort, IsInterrupted, Asks}
 
 -- ---- the talk
 
@@ -122,6 +124,9 @@ Ready-later lo hi block old mid now entries count low high level going talk lt =
 
 -- ---- a reply that came
 
+same_reason : {X : Type 0} (a b : Reason) → ◌≡◌ {A = Result X Reason} (Err a) (Err b) → a ≡ b
+same_reason a b e = cc
+
 module _ {X : Type 0} (lo hi : ℕ) (block : List ℕ) (old mid new : Option (List TalkEvent)) (replies : List (List ℕ)) (read : List ℕ → Result X Reason) (ready : Ready lo hi block old mid replies read) where
   came_talk : (bytes : List ℕ) (ended : List TalkEvent) → GoesOn mid new (ins bytes ++ ended) → GoesOn old new (asked (Sub lo hi) block (replies ++ bytes ∷ []) ++ ended)
   came_talk bytes ended heard =
@@ -131,30 +136,33 @@ module _ {X : Type 0} (lo hi : ℕ) (block : List ℕ) (old mid new : Option (Li
   came_whole bytes heard = subst (GoesOn old new) (append-nil (asked (Sub lo hi) block (replies ++ bytes ∷ []))) (came_talk bytes [] (subst (GoesOn mid new) (sym (append-nil (ins bytes))) heard))
 
   -- the reply has a fault
-  pub IsRejected-reply : (root : ℕ) → HasFault read mid new → IsRejected root lo hi block old new
-  IsRejected-reply root h = record {
+  pub IsRejected-reply : (root : ℕ) (reason : Reason) → HasFault read mid new reason → IsRejected root lo hi block old new (length replies) reason
+  IsRejected-reply root reason h = record {
     replies = replies ++ h.bytes ∷ [];
-    fault = record { round = length replies; reason = h.reason };
-    talk = came_talk h.bytes (ending h.reason) h.heard;
-    faulty = IsFaulty-next m61_modulus root lo hi block replies read h.bytes h.reason ready.awaits ready.few h.says h.shortest;
+    talk = came_talk h.bytes (ending reason) h.heard;
+    faulty = IsFaulty-next m61_modulus root lo hi block replies read h.bytes reason ready.awaits ready.few h.says h.shortest;
   }
 
   -- the reply is a part
-  pub IsCutShort-reply : (root : ℕ) → IsPart read mid new → IsCutShort root lo hi block old new
-  IsCutShort-reply root p = record {
-    replies = replies ++ p.bytes ∷ [];
-    said = asked (Sub lo hi) block (replies ++ p.bytes ∷ []);
-    talk = came_whole p.bytes p.heard;
-    order = ([], sym (append-nil (asked (Sub lo hi) block (replies ++ p.bytes ∷ []))));
-    unfinished = IsUnfinished-next lo hi block replies read p.bytes ready.awaits ready.few p.unfinished;
+  pub IsInterrupted-reply : (root : ℕ) → IsPart read mid new → IsInterrupted root lo hi block old new
+  IsInterrupted-reply root p = record {
+    cut = record {
+      replies = replies ++ p.bytes ∷ [];
+      said = asked (Sub lo hi) block (replies ++ p.bytes ∷ []);
+      talk = came_whole p.bytes p.heard;
+      order = ([], sym (append-nil (asked (Sub lo hi) block (replies ++ p.bytes ∷ []))));
+      unfinished = IsUnfinished-next lo hi block replies read p.bytes ready.awaits ready.few (λ reason is. same_reason {X = X} reason reasons.Closed (sym is ∙ p.says));
+    };
+    missing = inr (record { round = length replies; reason = reasons.Closed }, ready.awaits.fault p.bytes reasons.Closed p.says);
   }
 
   -- the call that took the reply had no answer
-  pub Asks-reply : {T A : Type 0} (root : ℕ) (seen : T → X) (result : Result (Vec Entry A) AskStop) (stop : AskStop) → IsErrAnd result (λ other. other ≡ stop) → Takes read mid new seen (Err stop) → Asks root lo hi block old new result
-  Asks-reply root seen (Ok x) stop is took = absurd is
-  Asks-reply root seen (Err other) stops.Rejected is took = rw is (IsRejected-reply root took)
-  Asks-reply root seen (Err other) stops.Fault is took = rw is (IsCutShort-reply root took)
-  Asks-reply root seen (Err other) stops.OutOfMemory is took = rw is (IsCutShort-reply root took)
+  pub Asks-reply : {T A : Type 0} (root round : ℕ) (seen : T → X) (taken : Result T ReplyStop) (result : Result (Vec Entry A) AskStop) (stop : AskStop) → round ≡ length replies → IsErrAnd result (λ other. other ≡ stop)
+      → (of_reply : ReplyStop) × (taken ≡ Err of_reply) × (stop ≡ stop_in_round round of_reply) → Takes read mid new seen taken → Asks root lo hi block old new result
+  Asks-reply root round seen taken (Ok x) stop count is of_reply took = absurd is
+  Asks-reply root round seen taken (Err other) stop count is (reply_stops.Faulty reason, e, so) took = rw (is, so, count) (IsRejected-reply root reason (rw e at took))
+  Asks-reply root round seen taken (Err other) stop count is (reply_stops.PeerFault, e, so) took = rw (is, so) (IsInterrupted-reply root (rw e at took))
+  Asks-reply root round seen taken (Err other) stop count is (reply_stops.OutOfMemory, e, so) took = rw (is, so) ((IsInterrupted-reply root (rw e at took)).cut)
 
 -- ---- one reply more
 
@@ -190,14 +198,9 @@ Going-later lo hi block old since mid new entries count low high level x above g
 
 -- ---- the ends of a turn
 
-same_reason : (a b : Reason) → ◌≡◌ {A = Result Siblings Reason} (Err a) (Err b) → a ≡ b
-same_reason a b e = cc
-
 -- where nothing came of a later reply, it is not whole
-later_none : (lo hi : ℕ) (reason : Reason) → later_reply lo hi [] ≡ Err reason → reason ≡ reasons.Closed
-later_none lo hi reason is =
-    let closed = read_frame-closed places.Siblings [] (omega (arith, asked-least places.Siblings [])) in
-    same_reason reason reasons.Closed (sym is ∙ later_reply-fault lo hi [] faults.Closed closed)
+later_none : (lo hi : ℕ) → later_reply lo hi [] ≡ Err reasons.Closed
+later_none lo hi = later_reply-fault lo hi [] faults.Closed (read_frame-closed places.Siblings [] (omega (arith, asked-least places.Siblings [])))
 
 -- nothing was said, or a part of the query
 pub IsCutShort-query : (root lo hi : ℕ) (block : List ℕ) (old new : Option (List TalkEvent)) (n : ℕ) → GoesOn old new (outs (take n (spelling (messages.Query (Sub lo hi))))) → IsCutShort root lo hi block old new
@@ -211,25 +214,35 @@ IsCutShort-query root lo hi block old new n talk =
       unfinished = IsUnfinished-none lo hi block;
     }
 
+-- the same, of a query that has a reply
+pub IsInterrupted-query : (root lo hi : ℕ) (block : List ℕ) (old new : Option (List TalkEvent)) (n : ℕ) → GoesOn old new (outs (take n (spelling (messages.Query (Sub lo hi))))) → 0 < length block → IsInterrupted root lo hi block old new
+unfolding IsCutShort-query
+IsInterrupted-query root lo hi block old new n talk some = record { cut = IsCutShort-query root lo hi block old new n talk; missing = inl some }
+
 -- a part of a challenge was said
-pub IsCutShort-reveal : (root lo hi : ℕ) (block : List ℕ) (old mid new : Option (List TalkEvent)) (entries : List Entry) (count low high : ℕ) (level : List ℕ) → Going lo hi block old mid entries count low high level → count < length block → (n : ℕ)
-    → GoesOn mid new (outs (take n (spelling (messages.Reveal (slice_index block (count - 1)))))) → IsCutShort root lo hi block old new
-IsCutShort-reveal root lo hi block old mid new entries count low high level going lt n talk =
+pub IsInterrupted-reveal : (root lo hi : ℕ) (block : List ℕ) (old mid new : Option (List TalkEvent)) (entries : List Entry) (count low high : ℕ) (level : List ℕ) → Going lo hi block old mid entries count low high level → count < length block → (n : ℕ)
+    → GoesOn mid new (outs (take n (spelling (messages.Reveal (slice_index block (count - 1)))))) → IsInterrupted root lo hi block old new
+IsInterrupted-reveal root lo hi block old mid new entries count low high level going lt n talk =
     let m = spelling (messages.Reveal (slice_index block (count - 1))) in
     let so_far = asked (Sub lo hi) block going.replies in
     let whole : outs m ≡ outs (take n m) ++ outs (drop n m) = ap outs (sym (take-append-drop n m)) ∙ map-append Out (take n m) (drop n m) in
+    let awaits = Awaits-later lo hi going.replies low high _ going.passed in
+    let none = later_none low high in
     record {
-      replies = going.replies ++ [] ∷ [];
-      said = so_far ++ outs (take n m);
-      talk = GoesOn-trans old mid new so_far (outs (take n m)) going.talk talk;
-      order = (
-        outs (drop n m),
-        asked-snoc (Sub lo hi) going.replies block (count - 1) [] (omega (arith, going.counted, going.some)) (omega (arith, going.some))
-            ∙ append-nil (so_far ++ outs m)
-            ∙ ap (λ (l : List TalkEvent). so_far ++ l) whole
-            ∙ sym (append_assoc so_far (outs (take n m)) (outs (drop n m))),
-      );
-      unfinished = IsUnfinished-next lo hi block going.replies (later_reply low high) [] (Awaits-later lo hi going.replies low high _ going.passed) (omega (arith, going.counted)) (later_none low high);
+      cut = record {
+        replies = going.replies ++ [] ∷ [];
+        said = so_far ++ outs (take n m);
+        talk = GoesOn-trans old mid new so_far (outs (take n m)) going.talk talk;
+        order = (
+          outs (drop n m),
+          asked-snoc (Sub lo hi) going.replies block (count - 1) [] (omega (arith, going.counted, going.some)) (omega (arith, going.some))
+              ∙ append-nil (so_far ++ outs m)
+              ∙ ap (λ (l : List TalkEvent). so_far ++ l) whole
+              ∙ sym (append_assoc so_far (outs (take n m)) (outs (drop n m))),
+        );
+        unfinished = IsUnfinished-next lo hi block going.replies (later_reply low high) [] awaits (omega (arith, going.counted)) (λ reason is. same_reason {X = Siblings} reason reasons.Closed (sym is ∙ none));
+      };
+      missing = inr (record { round = length going.replies; reason = reasons.Closed }, awaits.fault [] reasons.Closed none);
     }
 
 -- the replies passed, and the call stopped
@@ -258,10 +271,9 @@ module _ (root lo hi : ℕ) (block : List ℕ) (old new : Option (List TalkEvent
     accepted = IsAccepted-root m61_modulus root lo hi block going.replies low high _ going.passed (omega (arith, going.counted, all)) (last_test true is);
   }
 
-  pub IsRejected-root : false ≡ pointwise nat_eq level (root ∷ []) → IsRejected root lo hi block old new
+  pub IsRejected-root : false ≡ pointwise nat_eq level (root ∷ []) → IsRejected root lo hi block old new (length block) reasons.Root
   IsRejected-root not = record {
     replies = going.replies;
-    fault = record { round = length block; reason = reasons.Root };
     talk = subst (GoesOn old new) (sym (append-nil (asked (Sub lo hi) block going.replies))) going.talk;
     faulty = IsFaulty-root m61_modulus root lo hi block going.replies low high _ going.passed (omega (arith, going.counted, all)) (last_test false not);
   }
@@ -269,10 +281,10 @@ module _ (root lo hi : ℕ) (block : List ℕ) (old new : Option (List TalkEvent
 -- ---- what a call answers
 
 -- a port stopped
-pub Asks-port : {A : Type 0} (root lo hi : ℕ) (block : List ℕ) (old new : Option (List TalkEvent)) (result : Result (Vec Entry A) AskStop) (port : PortStop) → IsErrAnd result (λ stop. stop ≡ stop_of_port port) → IsCutShort root lo hi block old new → Asks root lo hi block old new result
+pub Asks-port : {A : Type 0} (root lo hi : ℕ) (block : List ℕ) (old new : Option (List TalkEvent)) (result : Result (Vec Entry A) AskStop) (port : PortStop) → IsErrAnd result (λ stop. stop ≡ stop_of_port port) → IsInterrupted root lo hi block old new → Asks root lo hi block old new result
 Asks-port root lo hi block old new (Ok x) port is cut = absurd is
 Asks-port root lo hi block old new (Err stop) ports.Failed is cut = rw is cut
-Asks-port root lo hi block old new (Err stop) ports.OutOfMemory is cut = rw is cut
+Asks-port root lo hi block old new (Err stop) ports.OutOfMemory is cut = rw is cut.cut
 
 -- there was no memory
 pub Asks-memory : {A : Type 0} (root lo hi : ℕ) (block : List ℕ) (old new : Option (List TalkEvent)) (result : Result (Vec Entry A) AskStop) → IsErrAnd result (λ stop. stop ≡ stops.OutOfMemory) → IsCutShort root lo hi block old new → Asks root lo hi block old new result

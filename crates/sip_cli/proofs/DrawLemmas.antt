@@ -4,7 +4,7 @@ use Rattle.std.specs.Prelude.{◌↔◌, MatchOption}
 use Rattle.std.specs.Result.{result_ok}
 use Rattle.std.proofs.lemmas.List.{length-map, length-take}
 use Rattle.std.specs.Io.KnownBytes.{Consumes, IsAtEnd}
-use Rattle.std.proofs.lemmas.Bool.{lt-ltb, le-ltb}
+use Rattle.std.proofs.lemmas.Bool.{le-ltb}
 use Rattle.rand_core.specs.Stream.{Stream}
 use Rattle.arrayvec.specs.ArrayVec.{ArrayVec}
 use Rattle.sip_field.specs.Draw.{before, draw_list, drawn_list, seed_words}
@@ -51,19 +51,17 @@ seat-drawn n words slice (Some s) some most fits same drawn =
 -- ---- the seed
 
 -- a seed that ends early
-pub too_short : (depth came : ℕ) (seed : List ℕ) (old new : Option (List ℕ)) (buf : List ℕ) → old ≡ Some seed → came < 32
-    → Consumes old new (take came buf) → IsAtEnd new → challenges_of depth seed ≡ None
-unfolding challenges_of
-too_short depth came seed (Some xs) (Some ys) buf is lt took ended =
+pub too_short : (came : ℕ) (seed : List ℕ) (old new : Option (List ℕ)) (buf : List ℕ) → old ≡ Some seed → came < 32
+    → Consumes old new (take came buf) → IsAtEnd new → length seed < 32
+too_short came seed (Some xs) (Some ys) buf is lt took ended =
     let same : xs ≡ seed = cc in
-    let short : length seed < 32 = omega (arith, ap length (sym same ∙ took), length-append (take came buf) ys, ap length ended, length-take came buf) in
-    rw (lt-ltb (length seed) 32 short) refl
-too_short depth came seed (Some xs) None buf is lt took ended = absurd took
-too_short depth came seed None new buf is lt took ended = absurd cc
+    omega (arith, ap length (sym same ∙ took), length-append (take came buf) ys, ap length ended, length-take came buf)
+too_short came seed (Some xs) None buf is lt took ended = absurd took
+too_short came seed None new buf is lt took ended = absurd cc
 
 -- a seed of 32 bytes or more
 pub long_enough : (depth came : ℕ) (seed : List ℕ) (old new : Option (List ℕ)) (buf : List ℕ) → old ≡ Some seed → 32 ≤ came → length buf ≡ 32
-    → Consumes old new (take came buf) → challenges_of depth seed ≡ draw_list depth (seed_words buf)
+    → Consumes old new (take came buf) → (32 ≤ length seed) × (challenges_of depth seed ≡ draw_list depth (seed_words buf))
 unfolding challenges_of
 long_enough depth came seed (Some xs) (Some ys) buf is le size took =
     let same : xs ≡ seed = cc in
@@ -71,13 +69,13 @@ long_enough depth came seed (Some xs) (Some ys) buf is le size took =
     let split : seed ≡ buf ++ ys = sym same ∙ took ∙ ap (λ (b : List ℕ). b ++ ys) all in
     let long : 32 ≤ length seed = omega (arith, ap length split, length-append buf ys) in
     let front : take 32 seed ≡ buf = ap (take 32) split ∙ take_at buf ys 32 size in
-    rw (le-ltb (length seed) 32 long) (ap (λ (b : List ℕ). draw_list depth (seed_words b)) front)
+    (long, rw (le-ltb (length seed) 32 long) (ap (λ (b : List ℕ). draw_list depth (seed_words b)) front))
 long_enough depth came seed (Some xs) None buf is le size took = absurd took
 long_enough depth came seed None new buf is le size took = absurd cc
 
 -- the seat that they give, or that they give none
-pub draws_of : (depth : ℕ) (seed buf : List ℕ) (seat : Option (List ℕ)) (result : Result (List ℕ) DrawStop) → challenges_of depth seed ≡ draw_list depth (seed_words buf)
+pub draws_of : (depth : ℕ) (seed buf : List ℕ) (seat : Option (List ℕ)) (result : Result (List ℕ) DrawStop) → 32 ≤ length seed → challenges_of depth seed ≡ draw_list depth (seed_words buf)
     → MatchOption seat (draw_list depth (seed_words buf) ≡ None) (λ s. draw_list depth (seed_words buf) ≡ Some s)
-    → result ≡ ok_or seat stops.NoChallenges → Draws depth seed result
-draws_of depth seed buf None result is none made = rw made (is ∙ none)
-draws_of depth seed buf (Some s) result is some made = rw made (is ∙ some)
+    → result ≡ ok_or seat stops.SeedSpent → Draws depth seed result
+draws_of depth seed buf None result long is none made = rw made (long, is ∙ none)
+draws_of depth seed buf (Some s) result long is some made = rw made (is ∙ some)

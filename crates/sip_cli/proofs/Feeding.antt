@@ -18,10 +18,11 @@ use Rattle.sip_stream.specs.Records.{Records, record_at, record_fault, records_a
 use Rattle.sip_verifier.specs.Exchanges.{IsPrefix}
 use Rattle.sip_verifier.specs.Talks.{whole_frames, opening_sent, stream_sent}
 use Rattle.sip_cli.specs.declared.tally.Tally.{Tally}
-use Rattle.sip_cli.specs.declared.feed.FeedStop.{FeedStop}
-use Rattle.sip_cli.specs.declared.feed.FeedStop.TheVariants as stops
-use Rattle.sip_cli.specs.Feeding.{IsLegalToEnd, before_end, IsCutShort, IsFed, Feeds}
-use Rattle.sip_cli.specs.Reading.{stop_of, ReadsRecord}
+use Rattle.sip_cli.specs.declared.feed.FeedStop.TheVariants as feeds
+use Rattle.sip_cli.specs.declared.records.RecordStop.{RecordStop}
+use Rattle.sip_cli.specs.declared.records.RecordStop.TheVariants as stops
+use Rattle.sip_cli.specs.Feeding.{before_end, IsCutShort, IsCutBefore, IsFed, Stops, Feeds}
+use Rattle.sip_cli.specs.Reading.{stop_of_link, stop_of_record, ReadsRecord}
 use Rattle.sip_cli.specs.Feeding as feeding
 use Rattle.sip_cli.specs.Sending.{IsSentBut, IsStopped, IsStoppedAtEnd}
 use Rattle.sip_cli.specs.Tallies.{StandsFor}
@@ -77,19 +78,25 @@ module _ (depth : ℕ) (bytes : List ℕ) (start : Option (List TalkEvent)) wher
       (opening_sent-front depth (whole_frames stream) (drop n stream ++ more) whole)
 
   -- what was said of a front of the legal records is a front of what is said of them
-  cut_short : (now : Option (List TalkEvent)) (stream : List Update) → IsPrefix stream (feeding.legal depth bytes) → IsStopped depth start now stream → IsCutShort depth bytes start now
-  cut_short now stream front stop =
+  cut_before : (now : Option (List TalkEvent)) (stream : List Update) → IsPrefix stream (feeding.legal depth bytes) → IsStopped depth start now stream → IsCutBefore depth bytes start now
+  cut_before now stream front stop =
       let before : IsPrefix stop.said (before_end depth bytes) = IsPrefix-trans _ _ _ stop.order (subst (λ l. IsPrefix (opening_sent depth (whole_frames stream)) (opening_sent depth (whole_frames l))) (sym front.1) (frames_front stream front.0)) in
       record {
-        said = stop.said;
-        talk = stop.talk;
-        order = IsPrefix-trans _ _ _ before (stream_sent-front depth (feeding.legal depth bytes));
-        illegal = λ _. before;
+        cut = record {
+          said = stop.said;
+          talk = stop.talk;
+          order = IsPrefix-trans _ _ _ before (stream_sent-front depth (feeding.legal depth bytes));
+          illegal = λ _. before;
+        };
+        before = before;
       }
 
+  cut_short : (now : Option (List TalkEvent)) (stream : List Update) → IsPrefix stream (feeding.legal depth bytes) → IsStopped depth start now stream → IsCutShort depth bytes start now
+  cut_short now stream front stop = (cut_before now stream front stop).cut
+
   -- it stopped between two records
-  pub stops_between : (left : Option (List ℕ)) (now : Option (List TalkEvent)) (t : Tally) (waiting : List Update) → IsUnderway depth bytes left start now t waiting → IsCutShort depth bytes start now
-  stops_between left now t waiting so = cut_short now so.stream (is_front so.stream (cut 13 so.rest) so.ahead) (stopped depth start now so.stream waiting so.said)
+  pub stops_between : (left : Option (List ℕ)) (now : Option (List TalkEvent)) (t : Tally) (waiting : List Update) → IsUnderway depth bytes left start now t waiting → IsCutBefore depth bytes start now
+  stops_between left now t waiting so = cut_before now so.stream (is_front so.stream (cut 13 so.rest) so.ahead) (stopped depth start now so.stream waiting so.said)
 
   -- it stopped before the first record
   pub stops_first : (now : Option (List TalkEvent)) → IsStopped depth start now [] → IsCutShort depth bytes start now
@@ -104,28 +111,25 @@ module _ (depth : ℕ) (bytes : List ℕ) (start : Option (List TalkEvent)) wher
       (so.ahead ∙ ap (λ l. records_after depth Binary so.stream (cut 13 l)) split ∙ read_legal depth so.stream piece rest len (at_depth so.stream piece None t so.same_depth legal) ∙ ap (λ v. records_after depth Binary (so.stream ++ v ∷ []) (cut 13 rest)) (sym is))) stop
 
   -- a record is not legal, and only whole frames were sent
-  not_legal : (left : Option (List ℕ)) (now : Option (List TalkEvent)) (t : Tally) (waiting : List Update) (why : Why) (so : IsUnderway depth bytes left start now t waiting)
-      → length waiting < 512 → records depth Binary bytes ≡ record { legal = so.stream; fault = Some why } → ¬ IsLegalToEnd depth bytes × GoesOn start now (before_end depth bytes)
-  not_legal left now t waiting why so few is =
+  not_legal : (left : Option (List ℕ)) (now : Option (List TalkEvent)) (t : Tally) (waiting : List Update) (at : ℕ) (why : Why) (so : IsUnderway depth bytes left start now t waiting)
+      → length waiting < 512 → at ≡ length so.stream → records depth Binary bytes ≡ record { legal = so.stream; fault = Some why } → Stops depth bytes start now (feeds.BadStream at why)
+  not_legal left now t waiting at why so few number is =
       let frames : before_end depth bytes ≡ opening_sent depth so.said.sent =
       ap (λ (r : Records). opening_sent depth (whole_frames r.legal)) is
       ∙ ap (λ l. opening_sent depth (whole_frames l)) so.said.order
       ∙ ap (opening_sent depth) (whole_frames-waiting so.said.sent waiting so.said.whole few) in
-      (λ none. absurd (no_fault (ap (λ (r : Records). r.fault) (sym is) ∙ none)), subst (GoesOn start now) (sym frames) so.said.talk)
-    where
-      no_fault : Some why ≡ None → ⊥
-      no_fault e = cc
+      (number ∙ ap (λ (r : Records). length r.legal) (sym is), ap (λ (r : Records). r.fault) is, subst (GoesOn start now) (sym frames) so.said.talk)
 
   -- the stream ends in a record
   pub ends_within : (left : Option (List ℕ)) (now : Option (List TalkEvent)) (t : Tally) (waiting : List Update) (so : IsUnderway depth bytes left start now t waiting)
-      → length waiting < 512 → 0 < length so.rest → length so.rest < 13 → ¬ IsLegalToEnd depth bytes × GoesOn start now (before_end depth bytes)
-  ends_within left now t waiting so few some short = not_legal left now t waiting Truncated so few (so.ahead ∙ read_short depth so.stream so.rest some short)
+      → length waiting < 512 → (at : ℕ) → at ≡ t.count → 0 < length so.rest → length so.rest < 13 → Stops depth bytes start now (feeds.BadStream at Truncated)
+  ends_within left now t waiting so few at number some short = not_legal left now t waiting at Truncated so few (number ∙ so.stands.counted) (so.ahead ∙ read_short depth so.stream so.rest some short)
 
   -- the next record has a fault
   pub meets_fault : (left : Option (List ℕ)) (now : Option (List TalkEvent)) (t : Tally) (waiting : List Update) (piece rest : List ℕ) (why : Why) (so : IsUnderway depth bytes left start now t waiting)
-      → length waiting < 512 → so.rest ≡ piece ++ rest → length piece ≡ 13 → record_fault t.depth so.stream piece ≡ Some why → ¬ IsLegalToEnd depth bytes × GoesOn start now (before_end depth bytes)
-  meets_fault left now t waiting piece rest why so few split len fault =
-      not_legal left now t waiting why so few (so.ahead ∙ ap (λ l. records_after depth Binary so.stream (cut 13 l)) split ∙ read_fault depth so.stream piece rest why len (at_depth so.stream piece (Some why) t so.same_depth fault))
+      → length waiting < 512 → so.rest ≡ piece ++ rest → length piece ≡ 13 → (at : ℕ) → (record_fault t.depth so.stream piece ≡ Some why) × (at ≡ length so.stream) → Stops depth bytes start now (feeds.BadStream at why)
+  meets_fault left now t waiting piece rest why so few split len at (fault, number) =
+      not_legal left now t waiting at why so few number (so.ahead ∙ ap (λ l. records_after depth Binary so.stream (cut 13 l)) split ∙ read_fault depth so.stream piece rest why len (at_depth so.stream piece (Some why) t so.same_depth fault))
 
   -- every record was legal
   ended : (left : Option (List ℕ)) (now : Option (List TalkEvent)) (t : Tally) (waiting : List Update) (so : IsUnderway depth bytes left start now t waiting) → so.rest ≡ [] → records depth Binary bytes ≡ record { legal = so.stream; fault = None }
@@ -160,14 +164,14 @@ module _ (depth : ℕ) (bytes : List ℕ) (start : Option (List TalkEvent)) wher
   -- ---- what is answered
 
   module _ (A : Type 0) where
-    -- a port stopped
-    pub port_stops : (left : Option (List ℕ)) (now : Option (List TalkEvent)) (stop : PortStop) → IsCutShort depth bytes start now → Feeds depth bytes {A = A} left start now (Err (stop_of stop))
+    -- the link stopped
+    pub port_stops : (left : Option (List ℕ)) (now : Option (List TalkEvent)) (stop : PortStop) → IsCutShort depth bytes start now → Feeds depth bytes {A = A} left start now (Err (stop_of_link stop))
     port_stops left now Failed short = short
     port_stops left now OutOfMemory short = short
 
     -- no record was read
-    pub reading_stops : (left left' : Option (List ℕ)) (now : Option (List TalkEvent)) (t : Tally) (waiting : List Update) (stop : FeedStop) (so : IsUnderway depth bytes left start now t waiting)
-        → length waiting < 512 → ReadsRecord so.rest left' (Err stop) → Feeds depth bytes {A = A} left' start now (Err stop)
-    reading_stops left left' now t waiting stops.NotLegal so few read = ends_within left now t waiting so few read.0 read.1
-    reading_stops left left' now t waiting stops.Fault so few read = stops_between left now t waiting so
-    reading_stops left left' now t waiting stops.OutOfMemory so few read = stops_between left now t waiting so
+    pub reading_stops : (left left' : Option (List ℕ)) (now : Option (List TalkEvent)) (t : Tally) (waiting : List Update) (stop : RecordStop) (so : IsUnderway depth bytes left start now t waiting)
+        → length waiting < 512 → ReadsRecord so.rest left' t.count (Err stop) → Feeds depth bytes {A = A} left' start now (Err (stop_of_record stop))
+    reading_stops left left' now t waiting (stops.CutShort at) so few read = ends_within left now t waiting so few at read.0 read.1 read.2
+    reading_stops left left' now t waiting stops.ReadFault so few read = stops_between left now t waiting so
+    reading_stops left left' now t waiting stops.OutOfMemory so few read = (stops_between left now t waiting so).cut

@@ -19,17 +19,19 @@ use Rattle.sip_stream.specs.Records.{records}
 use Rattle.sip_verifier.specs.declared.status.Status.{Status}
 use Rattle.sip_verifier.specs.declared.status.Status.TheVariants as statuses
 use Rattle.sip_verifier.specs.declared.task.Task.{Task}
-use Rattle.sip_verifier.specs.CauseClause.{CauseClause}
+use Rattle.sip_verifier.specs.CauseClause.{CauseClause, Counts, FaultClause, IsListed}
 use Rattle.sip_verifier.specs.Draws.{challenges_of, drawn}
 use Rattle.sip_verifier.specs.Exchanges.{told, IsTold, Exchange, Tells, IsPrefix}
-use Rattle.sip_verifier.specs.Reports.{line}
+use Rattle.sip_verifier.specs.Reports.{line, rejection}
 use Rattle.sip_verifier.specs.Talks.{stream_sent, asked, bye_sent}
 use Rattle.sip_verifier.specs.TalkClause.{IsWhole, EndsAtFault, IsUnderWay, before_end}
 use Rattle.sip_verifier.specs.Turns.{Turn, Accepted, ending, true_root, updates, IsLegalToEnd, AreTurns, Reached}
-use Rattle.sip_verifier.specs.VerdictClause.{AllWritten, OneFaulty, PartWritten, SomeWritten}
+use Rattle.sip_verifier.specs.declared.status.Port.TheVariants as status_ports
+use Rattle.sip_verifier.specs.VerdictClause.{AllWritten, OneFaulty, PartWritten, PartRejected, SomeWritten, NoneLeft}
+use Rattle.sip_wire.specs.declared.message.Reason.{Reason}
 use Rattle.sip_cli.specs.Asking as asking
 use Rattle.sip_cli.specs.Drawing.{Draws}
-use Rattle.sip_cli.specs.Ending.{status_of_draw, status_of_feed, status_of_ask, status_of_port, status_of}
+use Rattle.sip_cli.specs.Ending.{status_of_draw, status_of_feed, status_of_report, status_of_link, Refuses, status_of}
 use Rattle.sip_cli.specs.Feeding as feeding
 use Rattle.sip_cli.specs.Promises.{Promises, one_query}
 use Rattle.sip_cli.specs.declared.ask.AskStop.{AskStop}
@@ -164,14 +166,19 @@ module _ (depth lo hi : ℕ) (x : Exchange) where
     written = λ more. absurd (more (begins _ _ e));
   }
 
-  -- ---- the ends, in the order of the code
+  -- ---- the ends, in the order of the code; a fault has its cause in each
 
-  pub after_draw : (rose : Type 0) (stop : DrawStop) → x.talk ≡ [] → x.report ≡ [] → Draws depth x.seed (Err stop) → (stop ≡ draw_stops.Fault → rose)
-      → Promises task x rose (status_of_draw stop)
-  after_draw rose draw_stops.NoChallenges quiet blank draws risen =
-      record { verdict = blank; talk = quiet; cause = ap (λ (n : ℕ). challenges_of n x.seed) (mul-one depth) ∙ draws }
-  after_draw rose draw_stops.Fault quiet blank draws risen = record { verdict = nothing_written blank; talk = nothing_said quiet; cause = risen refl }
-  after_draw rose draw_stops.OutOfMemory quiet blank draws risen = record { verdict = nothing_written blank; talk = nothing_said quiet; cause = tt }
+  pub after_draw : (before now : Counts) (stop : DrawStop) → x.talk ≡ [] → x.report ≡ [] → Draws depth x.seed (Err stop) → FaultClause before now (status_of_draw stop)
+      → Promises task x before now (status_of_draw stop)
+  after_draw before now draw_stops.BadSeed quiet blank draws cause = record { verdict = blank; talk = quiet; cause = draws }
+  after_draw before now draw_stops.SeedSpent quiet blank draws cause =
+      record { verdict = blank; talk = quiet; cause = (draws.0, ap (λ (n : ℕ). challenges_of n x.seed) (mul-one depth) ∙ draws.1) }
+  after_draw before now draw_stops.ReadFault quiet blank draws cause = record { verdict = blank; talk = quiet; cause = cause }
+  after_draw before now draw_stops.OutOfMemory quiet blank draws cause = record { verdict = nothing_written blank; talk = inl (nothing_said quiet); cause = tt }
+
+  -- a front of what is sent while the stream is read, and nothing after it
+  order_in_stream : (said : List TalkEvent) → x.talk ≡ said → IsPrefix said (stream_sent depth (updates task x)) → IsPrefix x.talk ((stream_sent depth (updates task x) ++ []) ++ [])
+  order_in_stream said is order = (order.0, append-nil _ ∙ append-nil _ ∙ order.1 ∙ ap (λ (l : List TalkEvent). l ++ order.0) (sym is))
 
   -- what was said while the stream was sent
   in_stream : {block : List ℕ} (said : List TalkEvent) → Seeded block → x.talk ≡ said → IsPrefix said (stream_sent depth (updates task x)) → (¬ IsLegalToEnd task x → IsPrefix said (before_end task x))
@@ -181,27 +188,39 @@ module _ (depth lo hi : ℕ) (x : Exchange) where
     current = None;
     unfinished = tt;
     turns = λ _. no_turn s;
-    order = (order.0, append-nil _ ∙ append-nil _ ∙ order.1 ∙ ap (λ (l : List TalkEvent). l ++ order.0) (sym is));
+    order = order_in_stream said is order;
     legal = λ not. let front = illegal not in (front.0, front.1 ∙ ap (λ (l : List TalkEvent). l ++ front.0) (sym is));
     written = λ more. absurd (more (order.0, append-nil _ ∙ order.1 ∙ ap (λ (l : List TalkEvent). l ++ order.0) (sym is)));
   }
 
-  pub after_feed : {block : List ℕ} (rose : Type 0) (stop : FeedStop) (old new : Option (List TalkEvent)) → Seeded block
+  -- the link failed while the stream was sent
+  none_in_stream : (said : List TalkEvent) → x.talk ≡ said → IsPrefix said (stream_sent depth (updates task x)) → x.report ≡ [] → NoneLeft task x
+  none_in_stream said is order blank = record { done = []; current = None; waits = tt; reached = inl refl; order = order_in_stream said is order; report = blank }
+
+  pub after_feed : {block : List ℕ} (before now : Counts) (stop : FeedStop) (old new : Option (List TalkEvent)) → Seeded block
       → ((had : List TalkEvent) × (old ≡ Some had) × (new ≡ Some (had ++ x.talk))) → x.report ≡ []
-      → feeding.Stops depth x.stream old new stop → (stop ≡ feed_stops.Fault → rose) → Promises task x rose (status_of_feed stop)
-  after_feed rose feed_stops.NotLegal old new s told blank feeds risen =
-      record { verdict = blank; talk = said_is old new _ _ feeds.1 told; cause = (is_drawn s, feeds.0) }
-  after_feed rose feed_stops.Fault old new s told blank feeds risen =
-      record { verdict = nothing_written blank; talk = in_stream feeds.said s (said_is old new _ _ feeds.talk told) feeds.order feeds.illegal; cause = risen refl }
-  after_feed rose feed_stops.OutOfMemory old new s told blank feeds risen =
-      record { verdict = nothing_written blank; talk = in_stream feeds.said s (said_is old new _ _ feeds.talk told) feeds.order feeds.illegal; cause = tt }
+      → feeding.Stops depth x.stream old new stop → FaultClause before now (status_of_feed stop) → Promises task x before now (status_of_feed stop)
+  after_feed before now (feed_stops.BadStream at why) old new s told blank feeds cause =
+      record { verdict = blank; talk = said_is old new _ _ feeds.2 told; cause = (is_drawn s, feeds.0, feeds.1) }
+  after_feed before now feed_stops.ReadFault old new s told blank feeds cause =
+      let is = said_is old new _ _ feeds.cut.talk told in
+      record {
+        verdict = blank;
+        talk = (in_stream feeds.cut.said s is feeds.cut.order feeds.cut.illegal, subst (λ (l : List TalkEvent). IsPrefix l (before_end task x)) (sym is) feeds.before);
+        cause = cause;
+      }
+  after_feed before now feed_stops.PeerFault old new s told blank feeds cause =
+      let is = said_is old new _ _ feeds.talk told in
+      record { verdict = none_in_stream feeds.said is feeds.order blank; talk = in_stream feeds.said s is feeds.order feeds.illegal; cause = cause }
+  after_feed before now feed_stops.OutOfMemory old new s told blank feeds cause =
+      record { verdict = nothing_written blank; talk = inl (in_stream feeds.said s (said_is old new _ _ feeds.talk told) feeds.order feeds.illegal); cause = tt }
 
   -- memory ran out once the stream was sent
-  pub after_stream : {block : List ℕ} (rose : Type 0) → Seeded block → IsLegalToEnd task x → x.talk ≡ stream_sent depth (updates task x) → x.report ≡ []
-      → Promises task x rose statuses.OutOfMemory
-  after_stream rose s legal talk blank = record {
+  pub after_stream : {block : List ℕ} (before now : Counts) → Seeded block → IsLegalToEnd task x → x.talk ≡ stream_sent depth (updates task x) → x.report ≡ []
+      → Promises task x before now statuses.OutOfMemory
+  after_stream before now s legal talk blank = record {
     verdict = nothing_written blank;
-    talk = in_stream _ s talk ([], sym (append-nil _)) (λ not. absurd (not legal));
+    talk = inl (in_stream _ s talk ([], sym (append-nil _)) (λ not. absurd (not legal)));
     cause = tt;
   }
 
@@ -236,6 +255,10 @@ module _ (depth lo hi : ℕ) (x : Exchange) where
   then_said : (old mid new : Option (List TalkEvent)) (said : List TalkEvent) → Goes old new → GoesOn old mid streamed → GoesOn mid new said → x.talk ≡ streamed ++ said
   then_said old mid new said told went goes = said_is old new _ _ (GoesOn-trans old mid new _ _ went goes) told
 
+  -- a front of the talk of the query, and nothing after it
+  order_cut : (block : List ℕ) (replies : List (List ℕ)) (said : List TalkEvent) → x.talk ≡ streamed ++ said → IsPrefix said (answered block replies) → IsPrefix x.talk (streamed ++ (answered block replies ++ []) ++ [])
+  order_cut block replies said is order = front_of_turn block replies said order.0 [] is (append-nil _ ∙ order.1)
+
   -- the talk of a query that was cut short
   cut_short : (block : List ℕ) (old mid new : Option (List TalkEvent)) → Seeded block → IsLegalToEnd task x → Goes old new → GoesOn old mid streamed → x.report ≡ []
       → asking.IsCutShort (its_root block) lo hi block mid new → IsUnderWay task x
@@ -244,29 +267,91 @@ module _ (depth lo hi : ℕ) (x : Exchange) where
     current = Some (turn block asks.replies);
     unfinished = asks.unfinished;
     turns = λ _. one_turn asks.replies s;
-    order = front_of_turn block asks.replies asks.said asks.order.0 [] (then_said old mid new _ told went asks.talk) (append-nil _ ∙ asks.order.1);
+    order = order_cut block asks.replies asks.said (then_said old mid new _ told went asks.talk) asks.order;
     legal = λ not. absurd (not legal);
     written = λ _. blank;
   }
 
-  pub after_ask : {block : List ℕ} (rose : Type 0) (stop : AskStop) (old mid new : Option (List TalkEvent)) → Seeded block → IsLegalToEnd task x
-      → ((had : List TalkEvent) × (old ≡ Some had) × (new ≡ Some (had ++ x.talk))) → GoesOn old mid (stream_sent depth (updates task x)) → x.report ≡ []
-      → asking.Stops (true_root depth (updates task x) block) lo hi block mid new stop → (stop ≡ ask_stops.Fault → rose) → Promises task x rose (status_of_ask stop)
-  after_ask {block = block} rose ask_stops.Rejected old mid new s legal told went blank asks risen =
-      let reached : Reached task x (turn block asks.replies ∷ []) (ending asks.fault.reason) = record {
-        are_turns = one_turn asks.replies s;
-        legal = legal;
-        talk = in_turn block asks.replies (ending asks.fault.reason) (then_said old mid new _ told went asks.talk);
-      } in
-      record {
-        verdict = record { done = []; last = turn block asks.replies; fault = asks.fault; faulty = asks.faulty; reached = reached; report = blank };
-        talk = record { done = []; last = turn block asks.replies; fault = asks.fault; faulty = asks.faulty; reached = reached };
+  -- the link failed while replies were taken
+  none_cut : (block : List ℕ) (old mid new : Option (List TalkEvent)) → Goes old new → GoesOn old mid streamed → x.report ≡ []
+      → asking.IsInterrupted (its_root block) lo hi block mid new → NoneLeft task x
+  none_cut block old mid new told went blank asks = record {
+    done = [];
+    current = Some (turn block asks.cut.replies);
+    waits = (asks.cut.unfinished, asks.missing);
+    reached = inl refl;
+    order = order_cut block asks.cut.replies asks.cut.said (then_said old mid new _ told went asks.cut.talk) asks.cut.order;
+    report = blank;
+  }
+
+  -- the talk of a query whose replies have a fault
+  at_fault : (block : List ℕ) (round : ℕ) (reason : Reason) (old mid new : Option (List TalkEvent)) → Seeded block → IsLegalToEnd task x → Goes old new → GoesOn old mid streamed
+      → (asks : asking.IsRejected (its_root block) lo hi block mid new round reason) → Reached task x (turn block asks.replies ∷ []) (ending reason)
+  at_fault block round reason old mid new s legal told went asks = record {
+    are_turns = one_turn asks.replies s;
+    legal = legal;
+    talk = in_turn block asks.replies (ending reason) (then_said old mid new _ told went asks.talk);
+  }
+
+  abbrev Reports : Option (List TalkEvent) → Option (List TalkEvent) → Type 0
+  Reports old new = (had : List TalkEvent) × (old ≡ Some had) × (new ≡ Some (had ++ outs x.report))
+
+  -- the replies have a fault, and its line was written, or a part of it
+  after_fault : {block : List ℕ} (before now : Counts) (round : ℕ) (reason : Reason) (status : Status) (old mid new blank full : Option (List TalkEvent)) → Seeded block → IsLegalToEnd task x → Goes old new → GoesOn old mid streamed → Reports blank full
+      → asking.IsRejected (its_root block) lo hi block mid new round reason → Refuses blank full (ask_stops.Rejected round reason) status → FaultClause before now status → Promises task x before now status
+  after_fault {block = block} before now round reason status old mid new blank full s legal told went wrote asks (inl (is, all)) cause =
+      let reached = at_fault block round reason old mid new s legal told went asks in
+      let promises : Promises task x before now (statuses.Rejected 1 round reason) = record {
+        verdict = record { done = []; number = refl; last = turn block asks.replies; faulty = asks.faulty; reached = reached; report = written_is blank full _ _ all wrote };
+        talk = record { done = []; last = turn block asks.replies; faulty = asks.faulty; reached = reached };
         cause = (is_drawn s, legal);
-      }
-  after_ask {block = block} rose ask_stops.Fault old mid new s legal told went blank asks risen =
-      record { verdict = nothing_written blank; talk = cut_short block old mid new s legal told went blank asks; cause = risen refl }
-  after_ask {block = block} rose ask_stops.OutOfMemory old mid new s legal told went blank asks risen =
-      record { verdict = nothing_written blank; talk = cut_short block old mid new s legal told went blank asks; cause = tt }
+      } in
+      subst (Promises task x before now) (sym is) promises
+  after_fault {block = block} before now round reason status old mid new blank full s legal told went wrote asks (inr (stop, is, n, part)) cause =
+      let reached = at_fault block round reason old mid new s legal told went asks in
+      let fault : Fault = record { round = round; reason = reason } in
+      let text = rejection 1 round reason in
+      let some : SomeWritten task x = record {
+        done = [];
+        part = take n text;
+        reached = inl refl;
+        part_of = inr (inr (record { last = turn block asks.replies; fault = fault; faulty = asks.faulty; reached = reached; front = (drop n text, sym (take-append-drop n text)) }));
+        report = written_is blank full _ _ part wrote;
+      } in
+      let ends : EndsAtFault task x fault = record { done = []; last = turn block asks.replies; faulty = asks.faulty; reached = reached } in
+      let caused : FaultClause before now (status_of_report stop) = subst (FaultClause before now) is cause in
+      let promises : Promises task x before now (status_of_report stop) =
+      elim stop as (λ p. FaultClause before now (status_of_report p) → Promises task x before now (status_of_report p)) [
+        | port_stops.Failed ↦ λ f. record { verdict = some; talk = inr (fault, ends); cause = f }
+        | port_stops.OutOfMemory ↦ λ f. record { verdict = some; talk = inr (fault, ends); cause = tt }
+      ] caused in
+      subst (Promises task x before now) (sym is) promises
+
+  still_blank : (old new : Option (List TalkEvent)) → new ≡ old → Reports old new → x.report ≡ []
+  still_blank old new same wrote = nothing_reported old x.report (rw same at wrote)
+
+  pub after_ask : {block : List ℕ} (before now : Counts) (stop : AskStop) (status : Status) (old mid new blank full : Option (List TalkEvent)) → Seeded block → IsLegalToEnd task x
+      → ((had : List TalkEvent) × (old ≡ Some had) × (new ≡ Some (had ++ x.talk))) → GoesOn old mid (stream_sent depth (updates task x))
+      → ((had : List TalkEvent) × (blank ≡ Some had) × (full ≡ Some (had ++ outs x.report)))
+      → asking.Stops (true_root depth (updates task x) block) lo hi block mid new stop → Refuses blank full stop status → FaultClause before now status → Promises task x before now status
+  after_ask before now (ask_stops.Rejected round reason) status old mid new blank full s legal told went wrote asks refuses cause =
+      after_fault before now round reason status old mid new blank full s legal told went wrote asks refuses cause
+  after_ask {block = block} before now ask_stops.PeerFault status old mid new blank full s legal told went wrote asks refuses cause =
+      let none = still_blank blank full refuses.1 wrote in
+      let promises : Promises task x before now statuses.PeerFault = record {
+        verdict = none_cut block old mid new told went none asks;
+        talk = cut_short block old mid new s legal told went none asks.cut;
+        cause = subst (FaultClause before now) refuses.0 cause;
+      } in
+      subst (Promises task x before now) (sym refuses.0) promises
+  after_ask {block = block} before now ask_stops.OutOfMemory status old mid new blank full s legal told went wrote asks refuses cause =
+      let none = still_blank blank full refuses.1 wrote in
+      let promises : Promises task x before now statuses.OutOfMemory = record {
+        verdict = nothing_written none;
+        talk = inl (cut_short block old mid new s legal told went none asks);
+        cause = tt;
+      } in
+      subst (Promises task x before now) (sym refuses.0) promises
 
   -- ---- the line, and the farewell
 
@@ -298,6 +383,11 @@ module _ (depth lo hi : ℕ) (x : Exchange) where
   its_turn : {block : List ℕ} {entries : List Entry} {since : List TalkEvent} (a : Answered block entries since) → Reached task x (turn block a.replies ∷ []) since
   its_turn {block = block} {since = since} a = record { are_turns = one_turn a.replies a.seeded; legal = a.legal; talk = in_turn block a.replies since a.talk }
 
+  -- a front of the talk of the answered query and the farewell
+  order_answered : {block : List ℕ} {entries : List Entry} (since more : List TalkEvent) (a : Answered block entries since) → bye_sent ≡ since ++ more → IsPrefix x.talk (streamed ++ (answered block a.replies ++ []) ++ bye_sent)
+  order_answered {block = block} since more a split = front_of_turn block a.replies (answered block a.replies ++ since) more bye_sent a.talk
+      (ap (λ (l : List TalkEvent). answered block a.replies ++ l) split ∙ sym (append_assoc (answered block a.replies) since more))
+
   -- the talk of the answered query is a front of the whole one
   under_way_answered : {block : List ℕ} {entries : List Entry} (since more : List TalkEvent) (a : Answered block entries since) → bye_sent ≡ since ++ more
       → (¬ IsPrefix x.talk (streamed ++ (answered block a.replies ++ [])) → x.report ≡ its_line entries ++ []) → IsUnderWay task x
@@ -306,37 +396,36 @@ module _ (depth lo hi : ℕ) (x : Exchange) where
     current = None;
     unfinished = tt;
     turns = λ _. one_turn a.replies a.seeded;
-    order = front_of_turn block a.replies (answered block a.replies ++ since) more bye_sent a.talk
-        (ap (λ (l : List TalkEvent). answered block a.replies ++ l) split ∙ sym (append_assoc (answered block a.replies) since more));
+    order = order_answered since more a split;
     legal = λ not. absurd (not a.legal);
     written = written;
   }
 
   -- the line was not written whole
-  pub after_line : {block : List ℕ} {entries : List Entry} (rose : Type 0) (stop : PortStop) (n : ℕ) → Answered block entries [] → x.report ≡ take n (line (Sub lo hi) (pairs entries))
-      → (stop ≡ port_stops.Failed → rose) → Promises task x rose (status_of_port stop)
-  after_line {block = block} {entries = entries} rose stop n a part risen =
+  pub after_line : {block : List ℕ} {entries : List Entry} (before now : Counts) (stop : PortStop) (n : ℕ) → Answered block entries [] → x.report ≡ take n (line (Sub lo hi) (pairs entries))
+      → FaultClause before now (status_of_report stop) → Promises task x before now (status_of_report stop)
+  after_line {block = block} {entries = entries} before now stop n a part cause =
       let acc : Accepted depth (updates task x) = accepted block a.replies entries a.accepts in
       let some : SomeWritten task x = record {
         done = [];
         part = take n (its_line entries);
         reached = inl refl;
-        part_of = inr (record { next = acc; reached = its_turn a; front = (drop n (its_line entries), sym (take-append-drop n (its_line entries))) });
+        part_of = inr (inl (record { next = acc; reached = its_turn a; front = (drop n (its_line entries), sym (take-append-drop n (its_line entries))) }));
         report = part;
       } in
       let way : IsUnderWay task x = under_way_answered [] bye_sent a refl (λ more. absurd (more ([], sym a.talk ∙ sym (append-nil x.talk)))) in
-      elim stop as (λ s. (s ≡ port_stops.Failed → rose) → Promises task x rose (status_of_port s)) [
-        | port_stops.Failed ↦ λ r. record { verdict = some; talk = way; cause = r refl }
-        | port_stops.OutOfMemory ↦ λ r. record { verdict = some; talk = way; cause = tt }
-      ] risen
+      elim stop as (λ p. FaultClause before now (status_of_report p) → Promises task x before now (status_of_report p)) [
+        | port_stops.Failed ↦ λ f. record { verdict = some; talk = inl way; cause = f }
+        | port_stops.OutOfMemory ↦ λ f. record { verdict = some; talk = inl way; cause = tt }
+      ] cause
 
   whole_line : (entries : List Entry) → x.report ≡ its_line entries → x.report ≡ its_line entries ++ []
   whole_line entries written = written ∙ sym (append-nil (its_line entries))
 
   -- the farewell was not sent whole
-  pub after_bye : {block : List ℕ} {entries : List Entry} (rose : Type 0) (stop : PortStop) (since more : List TalkEvent) → Answered block entries since → bye_sent ≡ since ++ more
-      → x.report ≡ line (Sub lo hi) (pairs entries) → (stop ≡ port_stops.Failed → rose) → Promises task x rose (status_of_port stop)
-  after_bye {block = block} {entries = entries} rose stop since more a split written risen =
+  pub after_bye : {block : List ℕ} {entries : List Entry} (before now : Counts) (stop : PortStop) (since more : List TalkEvent) → Answered block entries since → bye_sent ≡ since ++ more
+      → x.report ≡ line (Sub lo hi) (pairs entries) → FaultClause before now (status_of_link stop) → Promises task x before now (status_of_link stop)
+  after_bye {block = block} {entries = entries} before now stop since more a split written cause =
       let acc : Accepted depth (updates task x) = accepted block a.replies entries a.accepts in
       let some : SomeWritten task x = record {
         done = acc ∷ [];
@@ -345,16 +434,24 @@ module _ (depth lo hi : ℕ) (x : Exchange) where
         part_of = inl refl;
         report = whole_line entries written ∙ sym (append-nil _);
       } in
+      let none : NoneLeft task x = record {
+        done = acc ∷ [];
+        current = None;
+        waits = tt;
+        reached = inr (since, its_turn a);
+        order = order_answered since more a split;
+        report = whole_line entries written;
+      } in
       let way : IsUnderWay task x = under_way_answered since more a split (λ _. whole_line entries written) in
-      elim stop as (λ s. (s ≡ port_stops.Failed → rose) → Promises task x rose (status_of_port s)) [
-        | port_stops.Failed ↦ λ r. record { verdict = some; talk = way; cause = r refl }
-        | port_stops.OutOfMemory ↦ λ r. record { verdict = some; talk = way; cause = tt }
-      ] risen
+      elim stop as (λ p. FaultClause before now (status_of_link p) → Promises task x before now (status_of_link p)) [
+        | port_stops.Failed ↦ λ f. record { verdict = none; talk = way; cause = f }
+        | port_stops.OutOfMemory ↦ λ f. record { verdict = some; talk = inl way; cause = tt }
+      ] cause
 
   -- all went well
-  pub at_end : {block : List ℕ} {entries : List Entry} (rose : Type 0) → Answered block entries bye_sent → x.report ≡ line (Sub lo hi) (pairs entries) → x.unread ≡ []
-      → Promises task x rose statuses.Accepted
-  at_end {block = block} {entries = entries} rose a written read =
+  pub at_end : {block : List ℕ} {entries : List Entry} (before now : Counts) → Answered block entries bye_sent → x.report ≡ line (Sub lo hi) (pairs entries) → x.unread ≡ []
+      → Promises task x before now statuses.Accepted
+  at_end {block = block} {entries = entries} before now a written read =
       let acc : Accepted depth (updates task x) = accepted block a.replies entries a.accepts in record {
         verdict = record { done = acc ∷ []; all = refl; reached = its_turn a; report = whole_line entries written; read = read };
         talk = record { done = acc ∷ []; all = refl; reached = its_turn a };
@@ -365,20 +462,94 @@ module _ (depth lo hi : ℕ) (x : Exchange) where
 
 pub feeds_said : (depth : ℕ) (bytes : List ℕ) (old new : Option (List TalkEvent)) (stop : FeedStop) → feeding.Stops depth bytes old new stop
     → (said : List TalkEvent) × GoesOn old new said
-feeds_said depth bytes old new feed_stops.NotLegal feeds = (_, feeds.1)
-feeds_said depth bytes old new feed_stops.Fault feeds = (feeds.said, feeds.talk)
+feeds_said depth bytes old new (feed_stops.BadStream at why) feeds = (_, feeds.2)
+feeds_said depth bytes old new feed_stops.ReadFault feeds = (feeds.cut.said, feeds.cut.talk)
+feeds_said depth bytes old new feed_stops.PeerFault feeds = (feeds.said, feeds.talk)
 feeds_said depth bytes old new feed_stops.OutOfMemory feeds = (feeds.said, feeds.talk)
 
 pub asks_said : (root lo hi : ℕ) (block : List ℕ) (old new : Option (List TalkEvent)) (stop : AskStop) → asking.Stops root lo hi block old new stop
     → (said : List TalkEvent) × GoesOn old new said
-asks_said root lo hi block old new ask_stops.Rejected asks = (_, asks.talk)
-asks_said root lo hi block old new ask_stops.Fault asks = (asks.said, asks.talk)
+asks_said root lo hi block old new (ask_stops.Rejected round reason) asks = (_, asks.talk)
+asks_said root lo hi block old new ask_stops.PeerFault asks = (asks.cut.said, asks.cut.talk)
 asks_said root lo hi block old new ask_stops.OutOfMemory asks = (asks.said, asks.talk)
+
+-- what went on the report
+pub refuses_wrote : (old new : Option (List TalkEvent)) (stop : AskStop) (status : Status) → Refuses old new stop status → (bytes : List ℕ) × GoesOn old new (outs bytes)
+refuses_wrote old new (ask_stops.Rejected round reason) status (inl (is, all)) = (rejection 1 round reason, all)
+refuses_wrote old new (ask_stops.Rejected round reason) status (inr (stop, is, n, part)) = (take n (rejection 1 round reason), part)
+refuses_wrote old new ask_stops.PeerFault status refuses = ([], subst (λ (o : Option (List TalkEvent)). GoesOn old o []) (sym refuses.1) (GoesOn-still old))
+refuses_wrote old new ask_stops.OutOfMemory status refuses = ([], subst (λ (o : Option (List TalkEvent)). GoesOn old o []) (sym refuses.1) (GoesOn-still old))
+
+-- ---- each fault has its cause
+
+pub draw_caused : (before now : Counts) (stop : DrawStop) → (stop ≡ draw_stops.ReadFault → Rose before.second now.second) → FaultClause before now (status_of_draw stop)
+draw_caused before now draw_stops.BadSeed read = tt
+draw_caused before now draw_stops.SeedSpent read = tt
+draw_caused before now draw_stops.ReadFault read = read refl
+draw_caused before now draw_stops.OutOfMemory read = tt
+
+pub feed_caused : (before now : Counts) (stop : FeedStop) → (stop ≡ feed_stops.ReadFault → Rose before.first now.first) → (stop ≡ feed_stops.PeerFault → Rose before.peer now.peer) → FaultClause before now (status_of_feed stop)
+feed_caused before now (feed_stops.BadStream at why) read sent = tt
+feed_caused before now feed_stops.ReadFault read sent = read refl
+feed_caused before now feed_stops.PeerFault read sent = sent refl
+feed_caused before now feed_stops.OutOfMemory read sent = tt
+
+pub report_caused : (before now : Counts) (stop : PortStop) → (stop ≡ port_stops.Failed → Rose before.report now.report) → FaultClause before now (status_of_report stop)
+report_caused before now port_stops.Failed failed = failed refl
+report_caused before now port_stops.OutOfMemory failed = tt
+
+pub link_caused : (before now : Counts) (stop : PortStop) → (stop ≡ port_stops.Failed → Rose before.peer now.peer) → FaultClause before now (status_of_link stop)
+link_caused before now port_stops.Failed failed = failed refl
+link_caused before now port_stops.OutOfMemory failed = tt
+
+refused_report : (before now : Counts) (status : Status) (stop : PortStop) → status ≡ status_of_report stop → (status ≡ statuses.WriteFault status_ports.Report → Rose before.report now.report) → FaultClause before now status
+refused_report before now status port_stops.Failed is wrote = subst (FaultClause before now) (sym is) (wrote is)
+refused_report before now status port_stops.OutOfMemory is wrote = subst (FaultClause before now) (sym is) tt
+
+pub refuse_caused : (before now : Counts) (old new : Option (List TalkEvent)) (stop : AskStop) (status : Status) → Refuses old new stop status → (stop ≡ ask_stops.PeerFault → Rose before.peer now.peer)
+    → (status ≡ statuses.WriteFault status_ports.Report → Rose before.report now.report) → FaultClause before now status
+refuse_caused before now old new (ask_stops.Rejected round reason) status (inl (is, all)) took wrote = subst (FaultClause before now) (sym is) tt
+refuse_caused before now old new (ask_stops.Rejected round reason) status (inr (stop, is, n, part)) took wrote = refused_report before now status stop is wrote
+refuse_caused before now old new ask_stops.PeerFault status refuses took wrote = subst (FaultClause before now) (sym refuses.0) (took refl)
+refuse_caused before now old new ask_stops.OutOfMemory status refuses took wrote = subst (FaultClause before now) (sym refuses.0) tt
+
+-- ---- each status is listed
+
+pub draw_listed : (stop : DrawStop) → IsListed (status_of_draw stop)
+draw_listed draw_stops.BadSeed = tt
+draw_listed draw_stops.SeedSpent = tt
+draw_listed draw_stops.ReadFault = tt
+draw_listed draw_stops.OutOfMemory = tt
+
+pub feed_listed : (stop : FeedStop) → IsListed (status_of_feed stop)
+feed_listed (feed_stops.BadStream at why) = tt
+feed_listed feed_stops.ReadFault = tt
+feed_listed feed_stops.PeerFault = tt
+feed_listed feed_stops.OutOfMemory = tt
+
+pub report_listed : (stop : PortStop) → IsListed (status_of_report stop)
+report_listed port_stops.Failed = tt
+report_listed port_stops.OutOfMemory = tt
+
+pub link_listed : (stop : PortStop) → IsListed (status_of_link stop)
+link_listed port_stops.Failed = tt
+link_listed port_stops.OutOfMemory = tt
+
+pub refuse_listed : (old new : Option (List TalkEvent)) (stop : AskStop) (status : Status) → Refuses old new stop status → IsListed status
+refuse_listed old new (ask_stops.Rejected round reason) status (inl (is, all)) = subst IsListed (sym is) tt
+refuse_listed old new (ask_stops.Rejected round reason) status (inr (stop, is, n, part)) = subst IsListed (sym is) (report_listed stop)
+refuse_listed old new ask_stops.PeerFault status refuses = subst IsListed (sym refuses.0) tt
+refuse_listed old new ask_stops.OutOfMemory status refuses = subst IsListed (sym refuses.0) tt
 
 -- the status at the exit of a `?`
 pub exit : (r : Result (Unit {0}) Stop) (status : Status) → IsErrAnd r (λ stop. stop.status ≡ status) → status_of r ≡ status
 exit (Ok u) status h = absurd h
 exit (Err stop) status h = h
+
+-- the same, where the stop is handed on
+pub exit_same : (r : Result (Unit {0}) Stop) (stop : Stop) (status : Status) → IsErrAnd r (λ other. other ≡ stop) → stop.status ≡ status → status_of r ≡ status
+exit_same (Ok u) stop status h is = absurd h
+exit_same (Err other) stop status h is = ap (λ (s : Stop). s.status) h ∙ is
 
 -- the farewell is one message's spelling
 pub bye_is : outs (spelling messages.Bye) ≡ bye_sent

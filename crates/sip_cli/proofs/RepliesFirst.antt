@@ -1,5 +1,5 @@
 -- Taking reply 0: frames of entries, and then one of siblings.
-use Rattle.std.proofs.Common.{◌≡◌, ℕ, ◌≤◌, Bool, true, false, Option, Some, None, Result, Ok, Err, List, [], ◌++◌, length, refl, sym, ap, ◌∙◌, arith}
+use Rattle.std.proofs.Common.{◌≡◌, ℕ, ◌≤◌, Bool, true, false, Option, Result, Ok, Err, List, [], ◌++◌, length, refl, sym, ap, ◌∙◌, arith}
 use Rattle.std.specs.Prelude.{◌&&◌, nat_le, IsTrue, IsErrAnd}
 use Rattle.std.proofs.lemmas.Bool.Decides.{nat_tests}
 use Rattle.arrayvec.specs.ArrayVec.{ArrayVec}
@@ -22,7 +22,8 @@ use Rattle.sip_subvec.specs.AcceptsSub as sub
 use Rattle.sip_subvec.specs.Replies.{with_entries, are_asked, at_end}
 use Rattle.sip_subvec.proofs.FirstReply as reply
 use Rattle.sip_verifier.specs.Turns.{ending}
-use Rattle.sip_cli.specs.declared.ask.AskStop.{AskStop}
+use Rattle.sip_cli.specs.declared.replies.ReplyStop.{ReplyStop}
+use Rattle.sip_cli.specs.declared.replies.ReplyStop.TheVariants as stops
 use Rattle.sip_cli.specs.declared.replies.Siblings.{Siblings}
 use Rattle.sip_cli.specs.Taking.{stop_of_fault, siblings_of, read_first, IsLeast, Tested, Came, HasFault, IsPart, Takes}
 use Rattle.sip_cli.proofs.RepliesInOrder.{IsLeast-none}
@@ -34,23 +35,23 @@ pub record Entered (lo hi : ℕ) (old now : Option (List TalkEvent)) (entries : 
   pub next : IsLeast lo entries least
   pub few : length entries ≤ 65536
 
--- a message that is neither entries nor siblings
+-- a message that is neither entries nor siblings nor a refusal
 refused_by : (lo hi : ℕ) (entries : List Entry) (m : Message) (bytes : List ℕ) → read_frame places.Entries bytes ≡ Ok (m, []) → ((rows : ArrayVec Entry) → m ≡ messages.Entries rows → ⊥) → ((left right : Option ℕ) → m ≡ messages.Siblings left right → ⊥)
-    → (reason : Reason) × (ending reason ≡ []) × (reply.read_first lo hi entries bytes ≡ Err reason)
-refused_by lo hi entries (messages.Entries es) bytes is no_entries no_siblings = absurd (no_entries es refl)
-refused_by lo hi entries (messages.Siblings left right) bytes is no_entries no_siblings = absurd (no_siblings left right refl)
-refused_by lo hi entries (messages.Refuse code) bytes is no_entries no_siblings = (reasons.Refused code, refl, reply.read_first-message lo hi entries bytes [] _ is)
-refused_by lo hi entries (messages.Open version depth) bytes is no_entries no_siblings = (reasons.BadKind, refl, reply.read_first-message lo hi entries bytes [] _ is)
-refused_by lo hi entries (messages.Updates us) bytes is no_entries no_siblings = (reasons.BadKind, refl, reply.read_first-message lo hi entries bytes [] _ is)
-refused_by lo hi entries messages.EndStream bytes is no_entries no_siblings = (reasons.BadKind, refl, reply.read_first-message lo hi entries bytes [] _ is)
-refused_by lo hi entries (messages.Query q) bytes is no_entries no_siblings = (reasons.BadKind, refl, reply.read_first-message lo hi entries bytes [] _ is)
-refused_by lo hi entries (messages.Reveal r) bytes is no_entries no_siblings = (reasons.BadKind, refl, reply.read_first-message lo hi entries bytes [] _ is)
-refused_by lo hi entries messages.Bye bytes is no_entries no_siblings = (reasons.BadKind, refl, reply.read_first-message lo hi entries bytes [] _ is)
-refused_by lo hi entries (messages.Claim v) bytes is no_entries no_siblings = (reasons.BadKind, refl, reply.read_first-message lo hi entries bytes [] _ is)
-refused_by lo hi entries (messages.Poly a b c) bytes is no_entries no_siblings = (reasons.BadKind, refl, reply.read_first-message lo hi entries bytes [] _ is)
-refused_by lo hi entries (messages.Leaves v) bytes is no_entries no_siblings = (reasons.BadKind, refl, reply.read_first-message lo hi entries bytes [] _ is)
-refused_by lo hi entries (messages.Nodes v) bytes is no_entries no_siblings = (reasons.BadKind, refl, reply.read_first-message lo hi entries bytes [] _ is)
-refused_by lo hi entries messages.LevelEnd bytes is no_entries no_siblings = (reasons.BadKind, refl, reply.read_first-message lo hi entries bytes [] _ is)
+    → ((code : ℕ) → m ≡ messages.Refuse code → ⊥) → reply.read_first lo hi entries bytes ≡ Err reasons.BadKind
+refused_by lo hi entries (messages.Entries es) bytes is no_entries no_siblings no_refusal = absurd (no_entries es refl)
+refused_by lo hi entries (messages.Siblings left right) bytes is no_entries no_siblings no_refusal = absurd (no_siblings left right refl)
+refused_by lo hi entries (messages.Refuse code) bytes is no_entries no_siblings no_refusal = absurd (no_refusal code refl)
+refused_by lo hi entries (messages.Open version depth) bytes is no_entries no_siblings no_refusal = reply.read_first-message lo hi entries bytes [] _ is
+refused_by lo hi entries (messages.Updates us) bytes is no_entries no_siblings no_refusal = reply.read_first-message lo hi entries bytes [] _ is
+refused_by lo hi entries messages.EndStream bytes is no_entries no_siblings no_refusal = reply.read_first-message lo hi entries bytes [] _ is
+refused_by lo hi entries (messages.Query q) bytes is no_entries no_siblings no_refusal = reply.read_first-message lo hi entries bytes [] _ is
+refused_by lo hi entries (messages.Reveal r) bytes is no_entries no_siblings no_refusal = reply.read_first-message lo hi entries bytes [] _ is
+refused_by lo hi entries messages.Bye bytes is no_entries no_siblings no_refusal = reply.read_first-message lo hi entries bytes [] _ is
+refused_by lo hi entries (messages.Claim v) bytes is no_entries no_siblings no_refusal = reply.read_first-message lo hi entries bytes [] _ is
+refused_by lo hi entries (messages.Poly a b c) bytes is no_entries no_siblings no_refusal = reply.read_first-message lo hi entries bytes [] _ is
+refused_by lo hi entries (messages.Leaves v) bytes is no_entries no_siblings no_refusal = reply.read_first-message lo hi entries bytes [] _ is
+refused_by lo hi entries (messages.Nodes v) bytes is no_entries no_siblings no_refusal = reply.read_first-message lo hi entries bytes [] _ is
+refused_by lo hi entries messages.LevelEnd bytes is no_entries no_siblings no_refusal = reply.read_first-message lo hi entries bytes [] _ is
 
 -- siblings, by whether they were asked for
 flags_say : (lo hi : ℕ) (entries : List Entry) (s : sub.Siblings) (bytes : List ℕ) (asked : Bool) → read_frame places.Entries bytes ≡ Ok (messages.Siblings s.left s.right, []) → asked ≡ are_asked lo hi s
@@ -79,7 +80,7 @@ Entered-none lo hi old = record { begun = Begun-none (read_first lo hi) old; nex
 
 module _ (lo hi : ℕ) (old mid new : Option (List TalkEvent)) (entries : List Entry) (least : ℕ) (entered : Entered lo hi old mid entries least) (before now : ℕ) (got : List ℕ) (r : Result Message WireFault) (did : Decodes places.Entries mid new before now got r) where
   -- the frame has a fault
-  pub first_stops : {T : Type 0} (seen : T → List Entry × sub.Siblings) (result : Result T AskStop) (fault : WireFault) → r ≡ Err fault → IsErrAnd result (λ stop. stop ≡ stop_of_fault fault) → Takes (read_first lo hi) old new seen result
+  pub first_stops : {T : Type 0} (seen : T → List Entry × sub.Siblings) (result : Result T ReplyStop) (fault : WireFault) → r ≡ Err fault → IsErrAnd result (λ stop. stop ≡ stop_of_fault fault) → Takes (read_first lo hi) old new seen result
   first_stops seen result fault e is =
       Takes-fault places.Entries (read_first lo hi) old mid new (reply.read_first lo hi entries) entered.begun (reply.read_first-fault lo hi entries) before now got r did seen result fault e is
 
@@ -87,15 +88,19 @@ module _ (lo hi : ℕ) (old mid new : Option (List TalkEvent)) (entries : List E
     read : read_frame places.Entries got ≡ Ok (m, [])
     read = read_got places.Entries (read_first lo hi) old mid new (reply.read_first lo hi entries) entered.begun (reply.read_first-fault lo hi entries) before now got r did m e
 
-    fault_is : (reason : Reason) → ending reason ≡ [] → reply.read_first lo hi entries got ≡ Err reason → HasFault (read_first lo hi) old new
+    fault_is : (reason : Reason) → ending reason ≡ [] → reply.read_first lo hi entries got ≡ Err reason → HasFault (read_first lo hi) old new reason
     fault_is = HasFault-message places.Entries (read_first lo hi) old mid new (reply.read_first lo hi entries) entered.begun (reply.read_first-fault lo hi entries) before now got r did m e
 
-    -- the message is neither entries nor siblings
-    pub first_refused : ((rows : ArrayVec Entry) → m ≡ messages.Entries rows → ⊥) → ((left right : Option ℕ) → m ≡ messages.Siblings left right → ⊥) → HasFault (read_first lo hi) old new
-    first_refused no_entries no_siblings = let w = refused_by lo hi entries m got read no_entries no_siblings in fault_is w.0 w.1 w.2
+    -- the message is a refusal
+    pub first_refused : (code : ℕ) → m ≡ messages.Refuse code → HasFault (read_first lo hi) old new (reasons.Refused code)
+    first_refused code is = fault_is (reasons.Refused code) refl (reply.read_first-message lo hi entries got [] (messages.Refuse code) (rw (← is) read))
+
+    -- the message is neither entries nor siblings nor a refusal
+    pub first_other : ((rows : ArrayVec Entry) → m ≡ messages.Entries rows → ⊥) → ((left right : Option ℕ) → m ≡ messages.Siblings left right → ⊥) → ((code : ℕ) → m ≡ messages.Refuse code → ⊥) → HasFault (read_first lo hi) old new reasons.BadKind
+    first_other no_entries no_siblings no_refusal = fault_is reasons.BadKind refl (refused_by lo hi entries m got read no_entries no_siblings no_refusal)
 
     -- siblings that were not asked for
-    pub first_wrong : (s : Siblings) → m ≡ messages.Siblings s.left s.right → false ≡ are_asked lo hi (siblings_of s) → HasFault (read_first lo hi) old new
+    pub first_wrong : (s : Siblings) → m ≡ messages.Siblings s.left s.right → false ≡ are_asked lo hi (siblings_of s) → HasFault (read_first lo hi) old new reasons.BadFlags
     first_wrong s is not = fault_is reasons.BadFlags refl (flags_say lo hi entries (siblings_of s) got false (rw (← is) read) not)
 
     -- siblings that were asked for
@@ -105,17 +110,22 @@ module _ (lo hi : ℕ) (old mid new : Option (List TalkEvent)) (entries : List E
 
     module _ (rows : ArrayVec Entry) (is : m ≡ messages.Entries rows) where
       -- entries of which one has a fault
-      pub first_outside : Tested lo hi entries rows.items None → HasFault (read_first lo hi) old new
-      first_outside tested = fault_is tested.0 tested.1 (entries_say lo hi entries rows got [] (Err tested.0) (rw (← is) read) tested.2)
+      pub first_outside : (reason : Reason) → Tested lo hi entries rows.items (Err reason) → HasFault (read_first lo hi) old new reason
+      first_outside reason tested = fault_is reason tested.0 (entries_say lo hi entries rows got [] (Err reason) (rw (← is) read) tested.1)
+
+      -- the same, as an answer
+      pub first_outside_at : {T : Type 0} (seen : T → List Entry × sub.Siblings) (result : Result T ReplyStop) (reason : Reason) → IsErrAnd result (λ stop. stop ≡ stops.Faulty reason) → Tested lo hi entries rows.items (Err reason) → Takes (read_first lo hi) old new seen result
+      first_outside_at seen (Ok x) reason at tested = absurd at
+      first_outside_at seen (Err stop) reason at tested = rw at (first_outside reason tested)
 
       -- entries that pass, where there is no memory for them
-      pub first_part : (next : ℕ) → Tested lo hi entries rows.items (Some next) → IsPart (read_first lo hi) old new
+      pub first_part : (next : ℕ) → Tested lo hi entries rows.items (Ok next) → IsPart (read_first lo hi) old new
       first_part next tested =
           IsPart-message places.Entries (read_first lo hi) old mid new (reply.read_first lo hi entries) entered.begun (reply.read_first-fault lo hi entries) before now got r did m e
           (entries_say lo hi entries rows got [] (Ok (entries ++ rows.items)) (rw (← is) read) tested.0 ∙ reply.read_first-nil lo hi (entries ++ rows.items))
 
       -- entries that pass and are kept
-      pub Entered-more : (next : ℕ) → Tested lo hi entries rows.items (Some next) → Entered lo hi old new (entries ++ rows.items) next
+      pub Entered-more : (next : ℕ) → Tested lo hi entries rows.items (Ok next) → Entered lo hi old new (entries ++ rows.items) next
       Entered-more next tested =
           let took = taken_whole places.Entries (read_first lo hi) old mid new (reply.read_first lo hi entries) entered.begun (reply.read_first-fault lo hi entries) before now got r did m e in
           record {

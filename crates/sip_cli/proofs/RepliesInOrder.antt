@@ -1,5 +1,5 @@
 -- Testing entries against the one before them alone.
-use Rattle.std.proofs.Common.{◌≡◌, ℕ, ◌+◌, ◌-◌, ◌<◌, ◌≤◌, Bool, true, false, ◌&&◌, ◌⊎◌, Some, None, Result, Err, List, [], ◌∷◌, ◌++◌, length, get_or, take, drop, suc, refl, sym, ap, subst, ◌∙◌, arith, add-one, append_assoc, append-nil, length-append, length-take-le, take_all, drop-cons}
+use Rattle.std.proofs.Common.{◌≡◌, ℕ, ◌+◌, ◌-◌, ◌<◌, ◌≤◌, Bool, true, false, ◌&&◌, ◌⊎◌, Result, Ok, Err, List, [], ◌∷◌, ◌++◌, length, get_or, take, drop, suc, refl, sym, ap, subst, ◌∙◌, arith, add-one, append_assoc, append-nil, length-append, length-take-le, take_all, drop-cons}
 use Rattle.std.specs.Prelude.{nat_le, nat_lt}
 use Rattle.std.specs.List.{list_all}
 use Rattle.std.proofs.lemmas.List.{take_more, drop_all}
@@ -119,15 +119,15 @@ module _ (lo hi : ℕ) (before rows : List Entry) (i next : ℕ) (partly : Partl
   }
 
   -- a row out of order
-  pub Tested-order : ((get_or rows i d).index < next) ⊎ (hi < (get_or rows i d).index) → Tested lo hi before rows None
-  Tested-order outside = (reasons.BadOrder, refl, with_row ∙ with_entries-order lo hi next (before ++ take i rows) (get_or rows i d) (drop (suc i) rows) partly.least outside)
+  pub Tested-order : ((get_or rows i d).index < next) ⊎ (hi < (get_or rows i d).index) → Tested lo hi before rows (Err reasons.BadOrder)
+  Tested-order outside = (refl, with_row ∙ with_entries-order lo hi next (before ++ take i rows) (get_or rows i d) (drop (suc i) rows) partly.least outside)
 
   -- a row too many
-  pub Tested-many : next ≤ (get_or rows i d).index → (get_or rows i d).index ≤ hi → 65536 ≤ length before + i → Tested lo hi before rows None
-  Tested-many above below many = (reasons.TooMany, refl, with_row ∙ with_entries-many lo hi next (before ++ take i rows) (get_or rows i d) (drop (suc i) rows) partly.least above below (omega (arith, count)))
+  pub Tested-many : next ≤ (get_or rows i d).index → (get_or rows i d).index ≤ hi → 65536 ≤ length before + i → Tested lo hi before rows (Err reasons.TooMany)
+  Tested-many above below many = (refl, with_row ∙ with_entries-many lo hi next (before ++ take i rows) (get_or rows i d) (drop (suc i) rows) partly.least above below (omega (arith, count)))
 
 -- all rows pass
-pub Tested-all : (lo hi : ℕ) (before rows : List Entry) (i next : ℕ) → Partly lo hi before rows i next → i ≡ length rows → Tested lo hi before rows (Some next)
+pub Tested-all : (lo hi : ℕ) (before rows : List Entry) (i next : ℕ) → Partly lo hi before rows i next → i ≡ length rows → Tested lo hi before rows (Ok next)
 Tested-all lo hi before rows i next partly all =
     let whole : take i rows ≡ rows = take_all i rows (omega arith) in
     let none : drop i rows ≡ [] = drop_all i rows (omega arith) in

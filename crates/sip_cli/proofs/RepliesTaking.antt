@@ -19,8 +19,8 @@ use Rattle.sip_wire.specs.Decoding.{Fails, Decodes}
 use Rattle.sip_wire.proofs.ReadingLaws.{read_frame-spelling}
 use Rattle.sip_subvec.specs.Replies.{reason_of}
 use Rattle.sip_verifier.specs.Turns.{ending}
-use Rattle.sip_cli.specs.declared.ask.AskStop.{AskStop}
-use Rattle.sip_cli.specs.declared.ask.AskStop.TheVariants as stops
+use Rattle.sip_cli.specs.declared.replies.ReplyStop.{ReplyStop}
+use Rattle.sip_cli.specs.declared.replies.ReplyStop.TheVariants as stops
 use Rattle.sip_cli.specs.Taking.{stop_of_fault, Came, HasFault, IsPart, Takes}
 
 -- ---- a list cut at two places
@@ -113,27 +113,23 @@ Came-heard read old new said x h e = record {
   shortest = λ front byte same. h.short front (byte ∷ []) same (some_byte byte);
 }
 
-pub HasFault-heard : {X : Type 0} (read : List ℕ → Result X Reason) (old new : Option (List TalkEvent)) (ended : List TalkEvent) (said : Result X Reason) (reason : Reason) → Heard read old new ended said → said ≡ Err reason → ended ≡ ending reason → HasFault read old new
+pub HasFault-heard : {X : Type 0} (read : List ℕ → Result X Reason) (old new : Option (List TalkEvent)) (ended : List TalkEvent) (said : Result X Reason) (reason : Reason) → Heard read old new ended said → said ≡ Err reason → ended ≡ ending reason → HasFault read old new reason
 HasFault-heard read old new ended said reason h e ends = record {
   bytes = h.bytes;
-  reason = reason;
   heard = subst (λ (es : List TalkEvent). GoesOn old new (ins h.bytes ++ es)) ends h.heard;
   says = h.says ∙ e;
   shortest = λ front byte same whole. h.short front (byte ∷ []) same (some_byte byte);
 }
 
-same_reason : {X : Type 0} (a b : Reason) → ◌≡◌ {A = Result X Reason} (Err a) (Err b) → a ≡ b
-same_reason a b e = cc
-
 pub IsPart-heard : {X : Type 0} (read : List ℕ → Result X Reason) (old new : Option (List TalkEvent)) (said : Result X Reason) → Heard read old new [] said → said ≡ Err reasons.Closed → IsPart read old new
-IsPart-heard {X} read old new said h e = record {
+IsPart-heard read old new said h e = record {
   bytes = h.bytes;
   heard = subst (GoesOn old new) (append-nil (ins h.bytes)) h.heard;
-  unfinished = λ reason is. same_reason {X = X} reason reasons.Closed (sym is ∙ h.says ∙ e);
+  says = h.says ∙ e;
 }
 
 -- the call had no memory for what passed
-pub Takes-memory : {X T : Type 0} (read : List ℕ → Result X Reason) (old new : Option (List TalkEvent)) (seen : T → X) (result : Result T AskStop) → IsErrAnd result (λ stop. stop ≡ stops.OutOfMemory) → IsPart read old new → Takes read old new seen result
+pub Takes-memory : {X T : Type 0} (read : List ℕ → Result X Reason) (old new : Option (List TalkEvent)) (seen : T → X) (result : Result T ReplyStop) → IsErrAnd result (λ stop. stop ≡ stops.OutOfMemory) → IsPart read old new → Takes read old new seen result
 Takes-memory read old new seen (Ok x) is part = absurd is
 Takes-memory read old new seen (Err stop) is part = rw is part
 
@@ -169,7 +165,7 @@ module _ {X : Type 0} (place : Place) (read : List ℕ → Result X Reason) (old
   heard_got = Heard-more read old mid new rest begun got (ended_by r) did.heard short_got
 
   -- decoding the frame had a fault
-  pub Takes-fault : {T : Type 0} (seen : T → X) (result : Result T AskStop) (fault : WireFault) → r ≡ Err fault → IsErrAnd result (λ stop. stop ≡ stop_of_fault fault) → Takes read old new seen result
+  pub Takes-fault : {T : Type 0} (seen : T → X) (result : Result T ReplyStop) (fault : WireFault) → r ≡ Err fault → IsErrAnd result (λ stop. stop ≡ stop_of_fault fault) → Takes read old new seen result
   Takes-fault seen (Err stop) fault e is =
       let fails = subst (λ (x : Result Message WireFault). Decodes place mid new before now got x) e did in
       let said = fault_said place rest got before now fault takes fails.answer in
@@ -194,7 +190,7 @@ module _ {X : Type 0} (place : Place) (read : List ℕ → Result X Reason) (old
     Came-message x says = Came-heard read old new (rest got) x heard_message says
 
     -- the message is a fault of the reply
-    pub HasFault-message : (reason : Reason) → ending reason ≡ [] → rest got ≡ Err reason → HasFault read old new
+    pub HasFault-message : (reason : Reason) → ending reason ≡ [] → rest got ≡ Err reason → HasFault read old new reason
     HasFault-message reason whole says = HasFault-heard read old new [] (rest got) reason heard_message says (sym whole)
 
     -- the message is whole, and more of the reply is to come, but nothing came

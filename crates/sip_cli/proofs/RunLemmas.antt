@@ -4,6 +4,7 @@ use Rattle.std.specs.Prelude.{◌↔◌}
 use Rattle.sip_verifier.specs.declared.status.Status.{Status}
 use Rattle.sip_verifier.specs.declared.status.Status.TheVariants as statuses
 use Rattle.sip_verifier.specs.declared.task.Task.{Task}
+use Rattle.sip_verifier.specs.CauseClause.{Counts, IsListed}
 use Rattle.sip_verifier.specs.Exchanges.{Exchange}
 use Rattle.sip_cli.specs.Promises.{Promises, IsServed, one_query}
 use Rattle.sip_cli.specs.Words.{Request, Spells, IsRefusedAt}
@@ -24,12 +25,12 @@ served words task s =
     }
 
 -- the promises on the task that was read are those on the task that the words spell
-pub promised : (words : List (List ℕ)) (read task : Task) (x : Exchange) (rose : Type 0) (status : Status) → Spells words read → Spells words task → Promises read x rose status → Promises task x rose status
-promised words read task x rose status s t p = subst (λ (k : Task). Promises k x rose status) (spelled_once words read task s t) p
+pub promised : (words : List (List ℕ)) (read task : Task) (x : Exchange) (before now : Counts) (status : Status) → Spells words read → Spells words task → Promises read x before now status → Promises task x before now status
+promised words read task x before now status s t p = subst (λ (k : Task). Promises k x before now status) (spelled_once words read task s t) p
 
--- words that spell a task are refused nowhere, and no other answer is Usage
-pub usage_never : (words : List (List ℕ)) (task : Task) (status : Status) (word : ℕ) → Spells words task → (status ≡ statuses.Usage word → ⊥) → (status ≡ statuses.Usage word) ↔ IsRefusedAt words word
-usage_never words task status word s listed = (λ e. absurd (listed e), λ refused. absurd (spelled_not_refused words task word s refused))
+-- words that spell a task are refused nowhere, and no listed answer is Usage
+pub usage_never : (words : List (List ℕ)) (task : Task) (status : Status) (word : ℕ) → Spells words task → IsListed status → (status ≡ statuses.Usage word) ↔ IsRefusedAt words word
+usage_never words task status word s listed = (λ e. absurd (subst IsListed e listed), λ refused. absurd (spelled_not_refused words task word s refused))
 
 -- refused words are refused at the number that is answered, and there alone
 pub usage_at : (words : List (List ℕ)) (word other : ℕ) → IsRefusedAt words word → (statuses.Usage word ≡ statuses.Usage other) ↔ IsRefusedAt words other
@@ -37,5 +38,5 @@ usage_at words word other refused =
     (λ e. let same : word ≡ other = cc in subst (IsRefusedAt words) same refused, λ also. ap statuses.Usage (refused_once words word other refused also))
 
 -- the promises on equal tasks
-pub same_task : {a b : Task} {x : Exchange} {rose : Type 0} {status : Status} → a ≡ b → Promises b x rose status → Promises a x rose status
-same_task {x = x} {rose = rose} {status = status} e p = subst (λ (k : Task). Promises k x rose status) (sym e) p
+pub same_task : {a b : Task} {x : Exchange} {before now : Counts} {status : Status} → a ≡ b → Promises b x before now status → Promises a x before now status
+same_task {x = x} {before = before} {now = now} {status = status} e p = subst (λ (k : Task). Promises k x before now status) (sym e) p

@@ -3,6 +3,7 @@ use Rattle.std.proofs.Common.{◌≡◌, ◌≢◌, ℕ, ◌+◌, ◌*◌, ◌%�
 use Rattle.std.specs.Prelude.{IsTrue, not, nat_abs, nat_lt, nat_le, slice_index, replicate, Option, Some, None}
 use Rattle.std.proofs.Math.Nat.{mod-eq_of_lt, pow-le-pow_right}
 use Rattle.std.proofs.lemmas.Int.{ints}
+use Rattle.std.proofs.lemmas.List.{length-append}
 use Rattle.std.proofs.lemmas.Bool.{ne_eqb, lt-ltb, and_from}
 use Rattle.std.proofs.lemmas.Bool.Decides.{nat_tests}
 use Rattle.sip_vector.specs.declared.update.Side.{Side}
@@ -28,8 +29,9 @@ shifted d n le e =
 pub sum_fits : (x d : ℤ) → nat_abs x < 2 ^ 32 → nat_abs d < 2 ^ 32 → to_z w64 (of_z w64 (to_z w64 (of_z w64 x) +ℤ to_z w64 (of_z w64 d))) ≡ x +ℤ d
 sum_fits x d sx sd = omega (arith, ints)
 
-pub stands_empty : (t : Tally) (n : ℕ) → t.first ≡ 0 → t.second ≡ 0 → n ≡ 2 ^ t.depth → t.numbers.items ≡ replicate n (pos 0) → StandsFor t []
-stands_empty t n first second size numbers = record {
+pub stands_empty : (t : Tally) (n : ℕ) → t.count ≡ 0 → t.first ≡ 0 → t.second ≡ 0 → n ≡ 2 ^ t.depth → t.numbers.items ≡ replicate n (pos 0) → StandsFor t []
+stands_empty t n none first second size numbers = record {
+  counted = none;
   weights = weights;
   numbers = numbers ∙ ap (λ k. replicate k (pos 0)) size ∙ vector_empty t.depth;
 }
@@ -48,9 +50,10 @@ weight_here stream u = weight_grown stream u u.side ∙ ap (λ b. weight stream 
 
 -- an update of the first side
 pub stands_added : (t t' : Tally) (u : Update) (stream : List Update) → StandsFor t stream → u.side ≡ First → u.item < 2 ^ t.depth
-    → t'.depth ≡ t.depth → t'.first ≡ t.first + nat_abs u.delta → t'.second ≡ t.second
+    → t'.depth ≡ t.depth → t'.count ≡ t.count + 1 → t'.first ≡ t.first + nat_abs u.delta → t'.second ≡ t.second
     → t'.numbers.items ≡ set t.numbers.items u.item (get_or t.numbers.items u.item (pos 0) +ℤ u.delta) → StandsFor t' (stream ++ u ∷ [])
-stands_added t t' u stream stands here within depth first second numbers = record {
+stands_added t t' u stream stands here within depth count first second numbers = record {
+  counted = omega (arith, count, stands.counted, length-append stream (u ∷ []));
   weights = weights;
   numbers = numbers
       ∙ ap (λ l. set l u.item (get_or l u.item (pos 0) +ℤ u.delta)) stands.numbers

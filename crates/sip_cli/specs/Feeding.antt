@@ -1,5 +1,5 @@
 -- What a call that feeds the stream to the helper did, by the bytes that `first` had.
-use Rattle.std.specs.Prelude.{◌≡◌, ℕ, ℤ, List, [], Option, Some, None, Result, Ok, Err}
+use Rattle.std.specs.Prelude.{◌≡◌, ℕ, ℤ, List, [], length, Option, Some, None, Result, Ok, Err}
 use Rattle.std.specs.declared.vec.Vec.{Vec}
 use Rattle.sip_ports.specs.declared.port.TalkEvent.{TalkEvent}
 use Rattle.sip_ports.specs.Ports.{GoesOn}
@@ -31,6 +31,11 @@ module _ (depth : ℕ) (bytes : List ℕ) where
     pub order : IsPrefix said (stream_sent depth legal)
     pub illegal : ¬ IsLegalToEnd → IsPrefix said before_end
 
+  -- the same, before the stream was read to its end
+  pub record IsCutBefore (old new : Option (List TalkEvent)) : Type 0 where
+    pub cut : IsCutShort old new
+    pub before : IsPrefix cut.said before_end
+
   -- the stream was sent whole, and is kept as its vector
   pub record IsFed (left : Option (List ℕ)) (old new : Option (List TalkEvent)) (numbers : List ℤ) : Type 0 where
     pub read : left ≡ Some []
@@ -40,8 +45,9 @@ module _ (depth : ℕ) (bytes : List ℕ) where
 
   -- why the stream was not sent whole, and what was sent
   abbrev pub Stops : Option (List TalkEvent) → Option (List TalkEvent) → FeedStop → Type 0
-  Stops old new stops.NotLegal = ¬ IsLegalToEnd × GoesOn old new before_end
-  Stops old new stops.Fault = IsCutShort old new
+  Stops old new (stops.BadStream at why) = (at ≡ length legal) × ((records depth Binary bytes).fault ≡ Some why) × GoesOn old new before_end
+  Stops old new stops.ReadFault = IsCutBefore old new
+  Stops old new stops.PeerFault = IsCutShort old new
   Stops old new stops.OutOfMemory = IsCutShort old new
 
   abbrev pub Feeds : {A : Type 0} → Option (List ℕ) → Option (List TalkEvent) → Option (List TalkEvent) → Result (Vec ℤ A) FeedStop → Type 0

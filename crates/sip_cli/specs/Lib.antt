@@ -8,6 +8,7 @@ pub mod Ending
 pub mod Command
 pub mod Plan
 pub mod Exit
+pub mod StatusLine
 pub mod Tallies
 pub mod Sending
 pub mod Rows

@@ -1,5 +1,5 @@
 -- What a tally stands for.
-use Rattle.std.specs.Prelude.{◌≡◌, ◌≢◌, ℕ, ◌+◌, ◌^◌, ◌<◌, ◌≤◌, pos, nat_abs, List}
+use Rattle.std.specs.Prelude.{◌≡◌, ◌≢◌, ℕ, length, ◌+◌, ◌^◌, ◌<◌, ◌≤◌, pos, nat_abs, List}
 use Rattle.sip_vector.specs.declared.update.Side.{Side}
 use Rattle.sip_vector.specs.declared.update.Side.TheVariants.{First, Second}
 use Rattle.sip_vector.specs.declared.update.Update.{Update}
@@ -13,6 +13,7 @@ weight_of t Second = t.second
 
 -- a tally is that of these updates
 pub record StandsFor (t : Tally) (stream : List Update) : Type 0 where
+  pub counted : t.count ≡ length stream
   pub weights : (side : Side) → weight_of t side ≡ weight stream side
   pub numbers : t.numbers.items ≡ vector t.depth stream First
 

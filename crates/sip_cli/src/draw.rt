@@ -13,10 +13,12 @@ use sip_vector::Depth;
 /// Why there are no challenges.
 #[derive(Clone, Copy, Debug, PartialEq, Eq)]
 pub(crate) enum DrawStop {
-    /// The seed has fewer than 32 bytes, or eight words in turn gave no challenge.
-    NoChallenges,
+    /// The seed has fewer than 32 bytes.
+    BadSeed,
+    /// Eight words of the seed in turn gave no challenge.
+    SeedSpent,
     /// A call of the source failed.
-    Fault,
+    ReadFault,
     /// Memory ran out.
     OutOfMemory,
 }
@@ -29,7 +31,7 @@ impl From<PortStop> for DrawStop {
 
     fn from(stop: PortStop) -> Self {
         match stop {
-            PortStop::Failed => DrawStop::Fault,
+            PortStop::Failed => DrawStop::ReadFault,
             PortStop::OutOfMemory => DrawStop::OutOfMemory,
         }
     }
@@ -53,12 +55,12 @@ pub(crate) fn draw<B: Source>(second: &mut B, depth: Depth) -> Result<Seat<M61, 
     ensures told { IsSome (B.left second.old) → IsSome (B.left second.new) }
     ensures seed { TakesAtMost 32 (B.left second.old) (B.left second.new) }
     ensures second { Lasts B.faults B.is_sure second.old second.new }
-    ensures cause { result ≡ Err DrawStop.Fault → Rose (B.faults second.old) (B.faults second.new) }
+    ensures cause { result ≡ Err DrawStop.ReadFault → Rose (B.faults second.old) (B.faults second.new) }
 {
     let mut seed = [0; 32];
     let came = read_exact_into(second, &mut seed)?;
     if came < 32 {
-        return Err(DrawStop::NoChallenges);
+        return Err(DrawStop::BadSeed);
     }
-    seat_of(seed, depth).ok_or(DrawStop::NoChallenges)
+    seat_of(seed, depth).ok_or(DrawStop::SeedSpent)
 }

@@ -1,14 +1,14 @@
 //! The stream, read record by record, sent to the helper and kept as a vector.
 
-ghost use Rattle.std.specs.Prelude.{◌≡◌, ◌≤◌, ◌⊎◌, ℕ, List, [], Some, IsSome, OnOk, OnErr};
+ghost use Rattle.std.specs.Prelude.{◌≡◌, ◌≤◌, ℕ, List, [], Some, IsSome, OnOk, OnErr};
 ghost use Rattle.sip_ports.specs.Ports.{HasCause, Lasts, Rose};
-ghost use Rattle.sip_cli.specs.declared.feed.FeedStop.TheVariants.{NotLegal, OutOfMemory};
+ghost use Rattle.sip_cli.specs.declared.feed.FeedStop.TheVariants.{BadStream, OutOfMemory};
 ghost use Rattle.sip_cli.specs.Feeding.{Feeds};
-ghost use Rattle.sip_cli.specs.Reading.{stop_of};
+ghost use Rattle.sip_cli.specs.Reading.{stop_of_link, stop_of_record};
 ghost use Rattle.sip_cli.specs.Sending.{IsSentBut, IsStopped};
 
-use crate::records::next_record;
-use crate::tally::Tally;
+use crate::records::{RecordStop, next_record};
+use crate::tally::{BadRecord, Tally};
 use crate::waiting::Waiting;
 use sip_ports::{Link, PortStop, Sink, Source};
 use sip_stream::Why;
@@ -16,23 +16,25 @@ use sip_vector::Depth;
 use sip_wire::{Message, encode};
 use std::alloc::{AllocError, Global};
 
-/// Why the stream was not sent whole. The tally knows why a record is not legal; a run says only that one is not.
+/// Why the stream was not sent whole.
 #[derive(Clone, Copy, Debug, PartialEq, Eq)]
 pub(crate) enum FeedStop {
-    /// The stream is not legal to its end.
-    NotLegal,
-    /// A call of a port failed.
-    Fault,
+    /// Record `at`, from 0, is the first that is not legal.
+    BadStream { at: u64, why: Why },
+    /// A call of the source failed.
+    ReadFault,
+    /// A call of the link failed.
+    PeerFault,
     /// Memory ran out.
     OutOfMemory,
 }
 
 impl From<PortStop> for FeedStop {
-    ghost from_gives = { λ stop e. e ≡ stop_of stop };
+    ghost from_gives = { λ stop e. e ≡ stop_of_link stop };
 
     fn from(stop: PortStop) -> Self {
         match stop {
-            PortStop::Failed => FeedStop::Fault,
+            PortStop::Failed => FeedStop::PeerFault,
             PortStop::OutOfMemory => FeedStop::OutOfMemory,
         }
     }
@@ -46,11 +48,29 @@ impl From<AllocError> for FeedStop {
     }
 }
 
-impl From<Why> for FeedStop {
-    ghost from_gives = { λ _ e. e ≡ NotLegal };
+impl From<RecordStop> for FeedStop {
+    ghost from_gives = { λ stop e. e ≡ stop_of_record stop };
 
-    fn from(_: Why) -> Self {
-        FeedStop::NotLegal
+    fn from(stop: RecordStop) -> Self {
+        match stop {
+            RecordStop::CutShort { at } => FeedStop::BadStream {
+                at,
+                why: Why::Truncated,
+            },
+            RecordStop::ReadFault => FeedStop::ReadFault,
+            RecordStop::OutOfMemory => FeedStop::OutOfMemory,
+        }
+    }
+}
+
+impl From<BadRecord> for FeedStop {
+    ghost from_gives = { λ bad e. e ≡ BadStream bad.at bad.why };
+
+    fn from(bad: BadRecord) -> Self {
+        FeedStop::BadStream {
+            at: bad.at,
+            why: bad.why,
+        }
     }
 }
 
@@ -82,12 +102,13 @@ pub(crate) fn feed<A: Source, L: Link>(
     ensures told { IsSome (A.left first.old) → IsSome (A.left first.new) }
     ensures first { Lasts A.faults A.is_sure first.old first.new }
     ensures peer { Lasts L.faults L.is_sure peer.old peer.new }
-    ensures cause { result ≡ Err FeedStop.Fault → Rose (A.faults first.old) (A.faults first.new) ⊎ Rose (L.faults peer.old) (L.faults peer.new) }
+    ensures read { result ≡ Err FeedStop.ReadFault → Rose (A.faults first.old) (A.faults first.new) }
+    ensures sent { result ≡ Err FeedStop.PeerFault → Rose (L.faults peer.old) (L.faults peer.new) }
 {
     let mut tally = Tally::new(alloc, depth)?;
     open(depth, peer)?;
     let mut waiting = Waiting::new();
-    while let Some(record) = next_record(first)? {
+    while let Some(record) = next_record(first, tally.count)? {
         let update = tally.take(&record)?;
         waiting.push(update, peer)?;
     }

@@ -2,7 +2,8 @@ ghost use Rattle.std.specs.Prelude.{◌≡◌, IfOk};
 
 use crate::feed::{FeedStop, feed};
 use sip_ports::{MemoryLink, MemorySource, TalkEvent};
-use sip_vector::Depth;
+use sip_stream::Why;
+use sip_vector::{Depth, Side};
 use std::alloc::Global;
 use std::test::Fail;
 
@@ -112,7 +113,10 @@ fn a_full_frame_goes_out_at_once(rt: HostRuntime) -> Result<(), Fail> {
     assert!(rt;
         matches!(
             feed(alloc, depth(2)?, &mut first, &mut peer),
-            Err(FeedStop::NotLegal)
+            Err(FeedStop::BadStream {
+                at: 512,
+                why: Why::Truncated
+            })
         )
     );
     assert_eq!(rt; peer.talk().len(), 5 + 6661);
@@ -138,26 +142,22 @@ fn a_full_frame_goes_out_at_once(rt: HostRuntime) -> Result<(), Fail> {
 fn a_record_that_is_not_legal(rt: HostRuntime) -> Result<(), Fail> {
     let alloc = rt.alloc();
     let faults = [
-        (2, 0, 1),
-        (255, 0, 1),
-        (0, 4, 1),
-        (0, u32::MAX, 1),
-        (1, 0, 0),
-        (0, 0, HEAVIEST),
-        (0, 0, -HEAVIEST),
-        (1, 0, HEAVIEST + 1),
-        (1, 0, i64::MIN),
+        ((2, 0, 1), Why::BadSide),
+        ((255, 0, 1), Why::BadSide),
+        ((0, 4, 1), Why::BadItem),
+        ((0, u32::MAX, 1), Why::BadItem),
+        ((1, 0, 0), Why::ZeroDelta),
+        ((0, 0, HEAVIEST), Why::TooHeavy(Side::First)),
+        ((0, 0, -HEAVIEST), Why::TooHeavy(Side::First)),
+        ((1, 0, HEAVIEST + 1), Why::TooHeavy(Side::Second)),
+        ((1, 0, i64::MIN), Why::TooHeavy(Side::Second)),
     ];
-    for (side, item, delta) in &faults {
+    for ((side, item, delta), why) in &faults {
         let records = stream(alloc, &[(0, 0, 1), (*side, *item, *delta)])?;
         let mut first = MemorySource::new(records, 7, Vec::new(alloc));
         let mut peer = MemoryLink::new(alloc, Vec::new(alloc), 3, Vec::new(alloc));
-        assert!(rt;
-            matches!(
-                feed(alloc, depth(2)?, &mut first, &mut peer),
-                Err(FeedStop::NotLegal)
-            )
-        );
+        let stopped = feed(alloc, depth(2)?, &mut first, &mut peer).err();
+        assert_eq!(rt; stopped, Some(FeedStop::BadStream { at: 1, why: *why }));
         assert!(rt; was_sent(&peer, &OPENING));
     }
     Ok(())
@@ -171,7 +171,10 @@ fn twelve_bytes_are_no_record(rt: HostRuntime) -> Result<(), Fail> {
     assert!(rt;
         matches!(
             feed(alloc, depth(2)?, &mut first, &mut peer),
-            Err(FeedStop::NotLegal)
+            Err(FeedStop::BadStream {
+                at: 0,
+                why: Why::Truncated
+            })
         )
     );
     assert!(rt; was_sent(&peer, &OPENING));
@@ -186,7 +189,7 @@ fn a_source_fails_between_records(rt: HostRuntime) -> Result<(), Fail> {
     assert!(rt;
         matches!(
             feed(alloc, depth(2)?, &mut first, &mut peer),
-            Err(FeedStop::Fault)
+            Err(FeedStop::ReadFault)
         )
     );
     assert!(rt; was_sent(&peer, &OPENING));
@@ -202,7 +205,7 @@ fn a_link_fails_in_a_frame(rt: HostRuntime) -> Result<(), Fail> {
     assert!(rt;
         matches!(
             feed(alloc, depth(2)?, &mut first, &mut peer),
-            Err(FeedStop::Fault)
+            Err(FeedStop::PeerFault)
         )
     );
     assert!(rt; was_sent(&peer, &[1, 0, 2, 1, 2, 2, 0]));

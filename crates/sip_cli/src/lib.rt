@@ -1,4 +1,4 @@
-//! The command `sip`: its words, its run, and its exit code.
+//! The command `sip`: its words, its run, its exit code and the line of its status.
 #![tactic(auto)]
 
 mod ask;
@@ -7,12 +7,14 @@ mod decimal;
 mod draw;
 mod exit;
 mod feed;
+mod gather;
 mod level;
 mod plan;
 mod query;
 mod records;
 mod replies;
 mod report;
+mod status_text;
 mod tally;
 mod top;
 mod verify;
@@ -22,6 +24,7 @@ mod words;
 pub use command::{Command, read_words};
 pub use exit::exit_code;
 pub use plan::{Opening, PortPlan, ports};
+pub use status_text::status_line;
 pub use top::run;
 pub use words::{Usage, Words};
 

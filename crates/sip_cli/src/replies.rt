@@ -9,14 +9,65 @@ ghost use Rattle.sip_vector.specs.declared.update.Entry.{Entry as AnyEntry};
 ghost use Rattle.sip_subvec.specs.Replies.{are_asked, later_reply};
 ghost use Rattle.sip_cli.specs.Taking.{IsLeast, Takes, Tested, read_first, siblings_of};
 
-use crate::ask::AskStop;
 use sip_ports::Link;
 use sip_vector::Entry;
-use sip_wire::{Frame, Message, Place, decode};
-use std::alloc::Global;
+use sip_wire::{Frame, Message, Place, Reason, WireFault, decode};
+use std::alloc::{AllocError, Global};
 
 /// How many entries an answer may have.
 const MOST_ENTRIES: usize = 65536;
+
+/// Why a reply was not taken.
+#[derive(Clone, Copy, Debug, PartialEq, Eq)]
+pub(crate) enum ReplyStop {
+    /// The reply has a fault.
+    Faulty(Reason),
+    /// A call of the link failed.
+    PeerFault,
+    /// Memory ran out.
+    OutOfMemory,
+}
+
+impl From<WireFault> for ReplyStop {
+    ghost use Rattle.std.specs.Prelude.{◌≡◌};
+    ghost use Rattle.sip_cli.specs.Taking.{stop_of_fault};
+
+    ghost from_gives = { λ fault stop. stop ≡ stop_of_fault fault };
+
+    fn from(fault: WireFault) -> Self {
+        match fault {
+            WireFault::Closed => ReplyStop::Faulty(Reason::Closed),
+            WireFault::BadKind => ReplyStop::Faulty(Reason::BadKind),
+            WireFault::BadLength => ReplyStop::Faulty(Reason::BadLength),
+            WireFault::BadCount => ReplyStop::Faulty(Reason::BadCount),
+            WireFault::BadNumber => ReplyStop::Faulty(Reason::BadNumber),
+            WireFault::PeerFault => ReplyStop::PeerFault,
+            WireFault::OutOfMemory => ReplyStop::OutOfMemory,
+        }
+    }
+}
+
+impl From<Reason> for ReplyStop {
+    ghost use Rattle.std.specs.Prelude.{◌≡◌};
+    ghost use Rattle.sip_cli.specs.declared.replies.ReplyStop.TheVariants as stops;
+
+    ghost from_gives = { λ reason stop. stop ≡ stops.Faulty reason };
+
+    fn from(reason: Reason) -> Self {
+        ReplyStop::Faulty(reason)
+    }
+}
+
+impl From<AllocError> for ReplyStop {
+    ghost use Rattle.std.specs.Prelude.{◌≡◌};
+    ghost use Rattle.sip_cli.specs.declared.replies.ReplyStop.TheVariants as stops;
+
+    ghost from_gives = { λ _ stop. stop ≡ stops.OutOfMemory };
+
+    fn from(_: AllocError) -> Self {
+        ReplyStop::OutOfMemory
+    }
+}
 
 /// The nodes beside an interval of one level, where they are present.
 #[derive(Clone, Copy, Debug, PartialEq, Eq)]
@@ -36,21 +87,24 @@ impl Siblings {
 
 /// Tests the entries of one frame, of which the first may have the index `least`, behind `count` others.
 ///
-/// Answers the least index that may follow them, and nothing where an entry is out of order or behind `hi`, or where
-/// there are too many.
-fn least_after(least: u64, hi: u64, count: usize, rows: &[Entry]) -> Option<u64>
+/// Answers the least index that may follow them, or the first fault: an entry that is out of order or behind `hi`, or
+/// one too many.
+fn least_after(least: u64, hi: u64, count: usize, rows: &[Entry]) -> Result<u64, Reason>
     requires within { hi < 2 ^ 32 }
     requires few { count ≤ 65536 }
     ensures { (lo : ℕ) (before : List AnyEntry) → length before ≡ count → IsLeast lo before least → Tested lo hi before rows.now result }
 {
     let mut next = least;
     for (i, row) in rows.iter().enumerate() {
-        if row.index < next || row.index > hi || count + i >= MOST_ENTRIES {
-            return None;
+        if row.index < next || row.index > hi {
+            return Err(Reason::BadOrder);
+        }
+        if count + i >= MOST_ENTRIES {
+            return Err(Reason::TooMany);
         }
         next = row.index + 1;
     }
-    Some(next)
+    Ok(next)
 }
 
 /// Takes reply 0: the entries from `lo` to `hi`, and the siblings of the interval.
@@ -60,31 +114,30 @@ pub(crate) fn take_first<L: Link>(
     hi: u64,
     peer: &mut L,
     frame: &mut Frame,
-) -> Result<(Vec<Entry>, Siblings), AskStop>
+) -> Result<(Vec<Entry>, Siblings), ReplyStop>
     requires within { hi < 2 ^ 32 }
     ensures took { Takes (read_first lo hi) (L.talk peer.old) (L.talk peer.new) (λ x. (x.0.items, siblings_of x.1)) result }
     ensures lasts { Lasts L.faults L.is_sure peer.old peer.new }
-    ensures cause { result ≡ Err AskStop.Fault → Rose (L.faults peer.old) (L.faults peer.new) }
+    ensures cause { result ≡ Err ReplyStop.PeerFault → Rose (L.faults peer.old) (L.faults peer.new) }
 {
     let mut entries = Vec::new(alloc);
     let mut least = lo;
     loop {
         match decode(peer, Place::Entries, frame)? {
             Message::Entries(rows) => {
-                let Some(next) = least_after(least, hi, entries.len(), &rows) else {
-                    return Err(AskStop::Rejected);
-                };
+                let next = least_after(least, hi, entries.len(), &rows)?;
                 entries.extend_from_slice(&rows)?;
                 least = next;
             }
             Message::Siblings { left, right } => {
                 let siblings = Siblings { left, right };
                 if !siblings.are_asked(lo, hi) {
-                    return Err(AskStop::Rejected);
+                    return Err(ReplyStop::Faulty(Reason::BadFlags));
                 }
                 return Ok((entries, siblings));
             }
-            _ => return Err(AskStop::Rejected),
+            Message::Refuse { code } => return Err(ReplyStop::Faulty(Reason::Refused(code))),
+            _ => return Err(ReplyStop::Faulty(Reason::BadKind)),
         }
     }
 }
@@ -95,17 +148,20 @@ pub(crate) fn take_later<L: Link>(
     hi: u64,
     peer: &mut L,
     frame: &mut Frame,
-) -> Result<Siblings, AskStop>
+) -> Result<Siblings, ReplyStop>
     ensures took { Takes (later_reply lo hi) (L.talk peer.old) (L.talk peer.new) siblings_of result }
     ensures lasts { Lasts L.faults L.is_sure peer.old peer.new }
-    ensures cause { result ≡ Err AskStop.Fault → Rose (L.faults peer.old) (L.faults peer.new) }
+    ensures cause { result ≡ Err ReplyStop.PeerFault → Rose (L.faults peer.old) (L.faults peer.new) }
 {
-    let Message::Siblings { left, right } = decode(peer, Place::Siblings, frame)? else {
-        return Err(AskStop::Rejected);
-    };
-    let siblings = Siblings { left, right };
-    if !siblings.are_asked(lo, hi) {
-        return Err(AskStop::Rejected);
+    match decode(peer, Place::Siblings, frame)? {
+        Message::Siblings { left, right } => {
+            let siblings = Siblings { left, right };
+            if !siblings.are_asked(lo, hi) {
+                return Err(ReplyStop::Faulty(Reason::BadFlags));
+            }
+            Ok(siblings)
+        }
+        Message::Refuse { code } => Err(ReplyStop::Faulty(Reason::Refused(code))),
+        _ => Err(ReplyStop::Faulty(Reason::BadKind)),
     }
-    Ok(siblings)
 }

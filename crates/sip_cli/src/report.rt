@@ -4,38 +4,17 @@ ghost use Rattle.std.specs.Prelude.{◌≡◌, ℕ, ◌+◌, ◌<◌, ◌≤◌,
 ghost use Rattle.arrayvec.specs.ArrayVec.{array_vec_len};
 ghost use Rattle.sip_ports.specs.Ports.{GoesOn, HasCause, SendsWhole, outs};
 ghost use Rattle.sip_vector.specs.Answers.{pairs};
-ghost use Rattle.sip_verifier.specs.Reports.{line, pair_text, query_word};
+ghost use Rattle.sip_verifier.specs.Reports.{line, pair_text, query_word, reason_name, rejection};
 
+use crate::gather::{ROOM, put, put_number};
 use arrayvec::ArrayVec;
 use itoa::Buffer;
 use sip_ports::{PortStop, Sink, write_whole};
 use sip_vector::{Entry, Query};
-
-/// How many bytes of a line are gathered before they are written.
-const ROOM: usize = 1024;
+use sip_wire::Reason;
 
 /// The most bytes of a pair and the space before it: two numbers of at most 20 bytes, a colon, a space.
 const MOST_PAIR: usize = 42;
-
-// Adds a text.
-fn put(gathered: &mut ArrayVec<u8, ROOM>, text: &[u8])
-    requires { array_vec_len gathered.old + length text.now ≤ ROOM }
-    ensures items { gathered.new.items ≡ gathered.old.items ++ text.now }
-    ensures len { array_vec_len gathered.new ≡ array_vec_len gathered.old + length text.now }
-{
-    let added = gathered.try_extend_from_slice(text).is_ok();
-    prove!(added);
-}
-
-// Adds a number.
-fn put_number(gathered: &mut ArrayVec<u8, ROOM>, number: u64)
-    requires { array_vec_len gathered.old + 20 ≤ ROOM }
-    ensures items { gathered.new.items ≡ gathered.old.items ++ decimal number }
-    ensures len { array_vec_len gathered.new ≤ array_vec_len gathered.old + 20 }
-{
-    let mut digits = Buffer::new();
-    put(gathered, digits.format(number).as_bytes());
-}
 
 // Adds a space and a pair.
 fn put_pair(gathered: &mut ArrayVec<u8, ROOM>, entry: &Entry)
@@ -108,11 +87,74 @@ pub(crate) fn write_line<K: Sink>(
     write_whole(sink, gathered.as_slice())
 }
 
+// Adds a reason's name, which a refusal has with its code.
+fn put_reason(gathered: &mut ArrayVec<u8, ROOM>, reason: Reason)
+    requires { array_vec_len gathered.old + 32 ≤ ROOM }
+    ensures items { gathered.new.items ≡ gathered.old.items ++ reason_name reason }
+    ensures len { array_vec_len gathered.new ≤ array_vec_len gathered.old + 32 }
+{
+    match reason {
+        Reason::Closed => put(gathered, b"Closed"),
+        Reason::BadKind => put(gathered, b"BadKind"),
+        Reason::BadLength => put(gathered, b"BadLength"),
+        Reason::BadCount => put(gathered, b"BadCount"),
+        Reason::BadNumber => put(gathered, b"BadNumber"),
+        Reason::Refused(code) => {
+            put(gathered, b"Refused(");
+            put_number(gathered, code as u64);
+            put(gathered, b")");
+        }
+        Reason::BadOrder => put(gathered, b"BadOrder"),
+        Reason::TooMany => put(gathered, b"TooMany"),
+        Reason::BadFlags => put(gathered, b"BadFlags"),
+        Reason::HeavySibling => put(gathered, b"HeavySibling"),
+        Reason::Pairs => put(gathered, b"Pairs"),
+        Reason::LightParent => put(gathered, b"LightParent"),
+        Reason::Sum => put(gathered, b"Sum"),
+        Reason::Total => put(gathered, b"Total"),
+        Reason::Root => put(gathered, b"Root"),
+    }
+}
+
+// The line of a rejection.
+fn rejection_line(query: u8, round: u8, reason: Reason) -> ArrayVec<u8, ROOM>
+    ensures { result.items ≡ rejection query round reason }
+{
+    let mut gathered = ArrayVec::new();
+    put(&mut gathered, b"rejected query ");
+    put_number(&mut gathered, query as u64);
+    put(&mut gathered, b" round ");
+    put_number(&mut gathered, round as u64);
+    put(&mut gathered, b" ");
+    put_reason(&mut gathered, reason);
+    put(&mut gathered, b"\n");
+    gathered
+}
+
+/// Writes the line of a rejection, `rejected query K round J REASON`, in one piece and without memory beyond a fixed
+/// buffer. Queries are numbered from 1.
+///
+/// # Errors
+///
+/// Those of the sink, which a front of the line has then reached that is shorter than it.
+pub(crate) fn write_rejection<K: Sink>(
+    sink: &mut K,
+    query: u8,
+    round: u8,
+    reason: Reason,
+) -> Result<(), PortStop>
+    ensures talk { SendsWhole (K.talk sink.old) (K.talk sink.new) result (rejection query round reason) }
+    ensures cause { HasCause K.faults K.is_sure sink.old sink.new result }
+{
+    write_whole(sink, rejection_line(query, round, reason).as_slice())
+}
+
 #[cfg(test)]
 mod tests {
-    use super::write_line;
+    use super::{write_line, write_rejection};
     use sip_ports::{MemorySink, PortStop};
     use sip_vector::Entry;
+    use sip_wire::Reason;
     use std::test::Fail;
 
     #[test]
@@ -143,6 +185,46 @@ mod tests {
         let ended = write_line(&mut sink, 1, 2, &[Entry { index: 2, value: 5 }]);
         assert_eq!(rt; ended, Err(PortStop::Failed));
         assert_eq!(rt; sink.bytes(), b"sub:1:".as_slice());
+        Ok(())
+    }
+
+    // Each reason by its name, in the rounds 0 to 14 of query 16; a refusal with its code.
+    #[test]
+    fn writes_rejections(rt: HostRuntime) -> Result<(), Fail> {
+        let rows: [(Reason, &[u8]); 15] = [
+            (Reason::Closed, b"rejected query 16 round 0 Closed\n"),
+            (Reason::BadKind, b"rejected query 16 round 1 BadKind\n"),
+            (Reason::BadLength, b"rejected query 16 round 2 BadLength\n"),
+            (Reason::BadCount, b"rejected query 16 round 3 BadCount\n"),
+            (Reason::BadNumber, b"rejected query 16 round 4 BadNumber\n"),
+            (
+                Reason::Refused(4),
+                b"rejected query 16 round 5 Refused(4)\n",
+            ),
+            (Reason::BadOrder, b"rejected query 16 round 6 BadOrder\n"),
+            (Reason::TooMany, b"rejected query 16 round 7 TooMany\n"),
+            (Reason::BadFlags, b"rejected query 16 round 8 BadFlags\n"),
+            (
+                Reason::HeavySibling,
+                b"rejected query 16 round 9 HeavySibling\n",
+            ),
+            (Reason::Pairs, b"rejected query 16 round 10 Pairs\n"),
+            (
+                Reason::LightParent,
+                b"rejected query 16 round 11 LightParent\n",
+            ),
+            (Reason::Sum, b"rejected query 16 round 12 Sum\n"),
+            (Reason::Total, b"rejected query 16 round 13 Total\n"),
+            (Reason::Root, b"rejected query 16 round 14 Root\n"),
+        ];
+        let alloc = rt.alloc();
+        let mut round = 0;
+        for (reason, want) in &rows {
+            let mut sink = MemorySink::new(alloc, 4096, Vec::new(alloc));
+            assert_eq!(rt; write_rejection(&mut sink, 16, round, *reason), Ok(()));
+            assert_eq!(rt; sink.bytes(), *want);
+            round = round.saturating_add(1);
+        }
         Ok(())
     }
 

@@ -14,18 +14,28 @@ use std::alloc::{AllocError, Global};
 /// The greatest weight of a side.
 const MOST_WEIGHT: u64 = (1 << 30) - 1;
 
-/// The weights of both sides of a stream so far, and the vector of its first side.
+/// A record that is not legal: its number from 0, and why.
+#[derive(Clone, Copy, Debug, PartialEq, Eq)]
+pub(crate) struct BadRecord {
+    pub(crate) at: u64,
+    pub(crate) why: Why,
+}
+
+/// The number of records of a stream so far, the weights of both sides, and the vector of its first side.
 ///
+/// Each record weighs 1 at least.
 /// The absolute values of the entries add up to no more than the first weight, so that no sum overflows.
 #[derive(Drop)]
 pub(crate) struct Tally {
     pub(crate) depth: Depth,
+    pub(crate) count: u64,
     pub(crate) first: u64,
     pub(crate) second: u64,
     pub(crate) numbers: Vec<i64>,
     pub(crate) ghost shallow: { depth ≤ 32 },
     pub(crate) ghost size: { length numbers.items ≡ 2 ^ depth },
     pub(crate) ghost bounded: { sum_by (λ (a : ℤ). nat_abs a) numbers.items ≤ first },
+    pub(crate) ghost counted: { count ≤ first + second },
     pub(crate) ghost first_fits: { first ≤ most_weight },
     pub(crate) ghost second_fits: { second ≤ most_weight },
 }
@@ -40,6 +50,7 @@ impl Tally {
         let numbers = vec![in alloc; 0i64; 1 << depth.get()]?;
         Ok(Tally {
             depth,
+            count: 0,
             first: 0,
             second: 0,
             numbers,
@@ -84,6 +95,7 @@ impl Tally {
         ensures depth { self.new.depth ≡ self.old.depth }
     {
         let size = update.delta.unsigned_abs();
+        self.count += 1;
         match update.side {
             Side::First => {
                 self.first += size;
@@ -94,16 +106,19 @@ impl Tally {
     }
 
     /// Adds the record's update, or answers why the record is not legal after the updates so far.
-    pub(crate) fn take(&mut self, bytes: &[u8; RECORD]) -> Result<Update, Why>
+    pub(crate) fn take(&mut self, bytes: &[u8; RECORD]) -> Result<Update, BadRecord>
         ensures legal { (stream : List Update) → StandsFor self.old stream → MatchResult result
             (λ u. (record_fault self.old.depth stream bytes.now ≡ None) × (u ≡ record_at bytes.now) × StandsFor self.new (stream ++ u ∷ []))
-            (λ why. record_fault self.old.depth stream bytes.now ≡ Some why) }
+            (λ bad. (record_fault self.old.depth stream bytes.now ≡ Some bad.why) × (bad.at ≡ length stream)) }
         ensures heavier { OnOk result (self.old.first + self.old.second < self.new.first + self.new.second) }
         ensures spelled { IfOk result (λ u. IsTrue (has_spelling u)) }
         ensures depth { self.new.depth ≡ self.old.depth }
     {
         if let Some(why) = self.fault(bytes) {
-            return Err(why);
+            return Err(BadRecord {
+                at: self.count,
+                why,
+            });
         }
         let update = update_of(bytes);
         self.add(update);

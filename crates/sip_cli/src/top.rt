@@ -1,9 +1,9 @@
 //! The top call.
 
-ghost use Rattle.std.specs.Prelude.{◌≡◌, ◌↔◌, ℕ};
+ghost use Rattle.std.specs.Prelude.{◌≡◌, ◌↔◌, ◌⊎◌, ℕ};
 ghost use Rattle.sip_ports.specs.Ports.{Lasts};
 ghost use Rattle.sip_verifier.specs.declared.task.Task.{Task as AnyTask};
-ghost use Rattle.sip_verifier.specs.CauseClause.{CauseClause, AnyRose, counts};
+ghost use Rattle.sip_verifier.specs.CauseClause.{CauseClause, FaultClause, IsListed, counts};
 ghost use Rattle.sip_verifier.specs.Exchanges.{Exchange, Tells, IsTold, TakesAtMost, told};
 ghost use Rattle.sip_verifier.specs.TalkClause.{TalkClause};
 ghost use Rattle.sip_verifier.specs.VerdictClause.{VerdictClause};
@@ -27,8 +27,8 @@ fn task_in(command: Command) -> Task
 /// Does what the words say.
 ///
 /// `verify STREAM SEED FROM TO - DEPTH sub:LO:HI`: reads a seed from `second` and a stream from `first`, talks to the
-/// helper over `peer`, and writes the line of the query to `report` once its replies were accepted. `keep` is left
-/// alone. Time and memory grow with 2^DEPTH, since levels are kept whole; the stream itself is not kept.
+/// helper over `peer`, and writes the line of the query to `report` once its replies were accepted, or the line of the
+/// rejection once they show a fault. `keep` is left alone. Time and memory grow with 2^DEPTH, since levels are kept whole; the stream itself is not kept.
 pub fn run<A: Source, B: Source, L: Link, K: Sink, C: Sink>(
     alloc: Global,
     words: &Words,
@@ -51,8 +51,8 @@ pub fn run<A: Source, B: Source, L: Link, K: Sink, C: Sink>(
         (told (A.left first.old) (B.left second.old) (L.talk peer.old) (K.talk report.old))
         (told (A.left first.new) (B.left second.new) (L.talk peer.new) (K.talk report.new)) x
         → CauseClause task x
-        (AnyRose (counts (A.faults first.old) (B.faults second.old) (L.faults peer.old) (K.faults report.old))
-        (counts (A.faults first.new) (B.faults second.new) (L.faults peer.new) (K.faults report.new)))
+        (counts (A.faults first.old) (B.faults second.old) (L.faults peer.old) (K.faults report.old))
+        (counts (A.faults first.new) (B.faults second.new) (L.faults peer.new) (K.faults report.new))
         result }
 
     // Ports that tell go on telling, so there is such an exchange.
@@ -66,10 +66,12 @@ pub fn run<A: Source, B: Source, L: Link, K: Sink, C: Sink>(
         → (first.new ≡ first.old) × (second.new ≡ second.old) × (peer.new ≡ peer.old) × (report.new ≡ report.old) }
     ensures kept { keep.new ≡ keep.old }
 
-    // Whatever the ports tell, a fault comes only where the count of one of them rose.
-    ensures fault { result ≡ Status.Fault
-        → AnyRose (counts (A.faults first.old) (B.faults second.old) (L.faults peer.old) (K.faults report.old))
-        (counts (A.faults first.new) (B.faults second.new) (L.faults peer.new) (K.faults report.new)) }
+    // Whatever the ports tell, a fault of a port comes only where its own count rose, and no other status comes.
+    ensures fault { FaultClause
+        (counts (A.faults first.old) (B.faults second.old) (L.faults peer.old) (K.faults report.old))
+        (counts (A.faults first.new) (B.faults second.new) (L.faults peer.new) (K.faults report.new))
+        result }
+    ensures listed { IsListed result ⊎ ((word : ℕ) × (result ≡ Status.Usage word)) }
     ensures first { Lasts A.faults A.is_sure first.old first.new }
     ensures seed { TakesAtMost 32 (B.left second.old) (B.left second.new) }
     ensures second { Lasts B.faults B.is_sure second.old second.new }

@@ -1,11 +1,14 @@
 -- What ports in memory tell is what they have.
-use Rattle.std.proofs.Common.{◌≡◌, ℕ, List, ◌++◌, Some, sym, ◌∙◌, inl, inr}
+use Rattle.std.proofs.Common.{◌≡◌, ℕ, List, ◌++◌, Some, sym, subst, ◌∙◌}
 use Rattle.std.proofs.lemmas.List.{map-append}
 use Rattle.sip_ports.specs.declared.port.TalkEvent.TheVariants.{Out}
 use Rattle.sip_ports.specs.Ports.{outs}
 use Rattle.sip_ports.proofs.FaultLemmas.{Rose-positive}
 use Rattle.sip_ports.proofs.TalkLemmas.{outs-injective}
-use Rattle.sip_verifier.specs.CauseClause.{Counts, AnyRose}
+use Rattle.sip_verifier.specs.CauseClause.{Counts, FaultClause}
+use Rattle.sip_verifier.specs.declared.status.Port.TheVariants as ports
+use Rattle.sip_verifier.specs.declared.status.Status.{Status}
+use Rattle.sip_verifier.specs.declared.status.Status.TheVariants as statuses
 use Rattle.sip_verifier.specs.Exchanges.{Told, told, IsTold, Exchange, Tells}
 use Rattle.sip_rows.specs.Moves.{Moment, Moves}
 
@@ -34,9 +37,17 @@ Moves-told old new x t =
       report = new_bytes old.report new.report x.report (let e = t.report.2 in cc);
     }
 
--- counts that are 0 did not rise
-pub none_rose : (before now : Counts) → now.first ≡ 0 → now.second ≡ 0 → now.peer ≡ 0 → now.report ≡ 0 → AnyRose before now → ⊥
-none_rose before now a b c d (inl rose) = Rose-positive _ _ rose a
-none_rose before now a b c d (inr (inl rose)) = Rose-positive _ _ rose b
-none_rose before now a b c d (inr (inr (inl rose))) = Rose-positive _ _ rose c
-none_rose before now a b c d (inr (inr (inr rose))) = Rose-positive _ _ rose d
+-- ---- a port whose count is 0 had no fault
+
+module _ (before now : Counts) (status : Status) (fault : FaultClause before now status) where
+  pub first_sure : now.first ≡ 0 → status ≡ statuses.ReadFault ports.First → ⊥
+  first_sure none is = Rose-positive _ _ (subst (FaultClause before now) is fault) none
+
+  pub second_sure : now.second ≡ 0 → status ≡ statuses.ReadFault ports.Second → ⊥
+  second_sure none is = Rose-positive _ _ (subst (FaultClause before now) is fault) none
+
+  pub peer_sure : now.peer ≡ 0 → status ≡ statuses.PeerFault → ⊥
+  peer_sure none is = Rose-positive _ _ (subst (FaultClause before now) is fault) none
+
+  pub report_sure : now.report ≡ 0 → status ≡ statuses.WriteFault ports.Report → ⊥
+  report_sure none is = Rose-positive _ _ (subst (FaultClause before now) is fault) none

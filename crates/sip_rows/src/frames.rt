@@ -16,6 +16,21 @@ pub const TWO_RECORDS: [u8; 26] = [
 // One byte less than a record.
 pub const TWELVE_BYTES: [u8; 12] = [0; 12];
 
+// One record each: item 4, side 2, delta 0, delta -2^63.
+pub const ITEM_4: [u8; 13] = [0, 0, 0, 0, 4, 0, 0, 0, 0, 0, 0, 0, 1];
+
+pub const SIDE_2: [u8; 13] = [2, 0, 0, 0, 0, 0, 0, 0, 0, 0, 0, 0, 1];
+
+pub const DELTA_0: [u8; 13] = [0; 13];
+
+pub const LEAST_DELTA: [u8; 13] = [0, 0, 0, 0, 0, 0x80, 0, 0, 0, 0, 0, 0, 0];
+
+// The greatest weight, 2^30 - 1 on item 0, and -1 more.
+pub const TOO_HEAVY: [u8; 26] = [
+    0, 0, 0, 0, 0, 0, 0, 0, 0, 0x3f, 0xff, 0xff, 0xff, // item 0
+    0, 0, 0, 0, 0, 0xff, 0xff, 0xff, 0xff, 0xff, 0xff, 0xff, 0xff, // item 0
+];
+
 pub const ZERO_SEED: [u8; 32] = [0; 32];
 
 // One byte less than a seed.
@@ -47,6 +62,9 @@ pub const BYE: [u8; 3] = [0x06, 0, 0];
 
 // Entry 2 has value 5.
 pub const ENTRY_2: [u8; 17] = [0x13, 0, 0x0e, 0, 1, 0, 0, 0, 2, 0, 0, 0, 0, 0, 0, 0, 5];
+// Entry 1 has value 7, which is not so.
+pub const ENTRY_1: [u8; 17] = [0x13, 0, 0x0e, 0, 1, 0, 0, 0, 1, 0, 0, 0, 0, 0, 0, 0, 7];
+
 // Entries 0 and 1 have values 3 and 5.
 pub const ENTRIES_0_1: [u8; 29] = [
     0x13, 0, 0x1a, 0, 2, 0, 0, 0, 0, 0, 0, 0, 0, 0, 0, 0, 3, 0, 0, 0, 1, 0, 0, 0, 0, 0, 0, 0, 5,

@@ -1,9 +1,10 @@
 //! A run over ports in memory.
 
-ghost use Rattle.std.specs.Prelude.{◌≡◌, ◌≢◌, ◌↔◌, ℕ};
+ghost use Rattle.std.specs.Prelude.{◌≡◌, ◌≢◌, ◌↔◌, ◌⊎◌, ℕ};
 ghost use Rattle.sip_ports.specs.Memory.{source_is_sure, sink_is_sure, link_is_sure};
 ghost use Rattle.sip_verifier.specs.declared.task.Task.{Task};
-ghost use Rattle.sip_verifier.specs.CauseClause.{AnyRose};
+ghost use Rattle.sip_verifier.specs.CauseClause.{IsListed};
+ghost use Rattle.sip_verifier.specs.declared.status.Port.TheVariants as ports;
 ghost use Rattle.sip_verifier.specs.Exchanges.{Exchange};
 ghost use Rattle.sip_cli.specs.Promises.{Promises};
 ghost use Rattle.sip_cli.specs.Words.{Spells, IsRefusedAt};
@@ -29,17 +30,21 @@ pub fn run_in_memory(
     // What moved between the ports before and the ports after keeps the promises on verdicts, talk and causes.
     ensures promises { (task : Task) → Spells words.now task → (x : Exchange)
         × Moves (moment_of first.old second.old peer.old report.old) (moment_of first.new second.new peer.new report.new) x
-        × Promises task x
-        (AnyRose (faults_of first.old second.old peer.old report.old) (faults_of first.new second.new peer.new report.new)) result }
+        × Promises task x (faults_of first.old second.old peer.old report.old) (faults_of first.new second.new peer.new report.new) result }
 
     // Words that are no command are refused, and move nothing.
     ensures usage { (word : ℕ) → (result ≡ Status.Usage word) ↔ IsRefusedAt words.now word }
     ensures untouched { (word : ℕ) → result ≡ Status.Usage word
         → (first.new ≡ first.old) × (second.new ≡ second.old) × (peer.new ≡ peer.old) × (report.new ≡ report.old) }
 
-    // Where no call is to fail there is no fault.
-    ensures sure { source_is_sure first.old → source_is_sure second.old → link_is_sure peer.old → sink_is_sure report.old
-        → result ≢ Status.Fault }
+    // Where no call of a port is to fail there is no fault of that port.
+    ensures sure_first { source_is_sure first.old → result ≢ Status.ReadFault ports.First }
+    ensures sure_second { source_is_sure second.old → result ≢ Status.ReadFault ports.Second }
+    ensures sure_peer { link_is_sure peer.old → result ≢ Status.PeerFault }
+    ensures sure_report { sink_is_sure report.old → result ≢ Status.WriteFault ports.Report }
+
+    // No other status comes.
+    ensures listed { IsListed result ⊎ ((word : ℕ) × (result ≡ Status.Usage word)) }
 {
     run(
         alloc,

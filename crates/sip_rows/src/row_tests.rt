@@ -1,6 +1,8 @@
 use crate::frames::*;
 use crate::row::{Given, Row, Said, first_run};
-use sip_verifier::{Port, Status};
+use sip_stream::Why;
+use sip_vector::Side;
+use sip_verifier::Status;
 use std::test::Fail;
 
 // A program that always answers that memory ran out would keep every promise, since that answer is free. It fails here.
@@ -62,23 +64,49 @@ fn runs_that_are_accepted(rt: HostRuntime) -> Result<(), Fail> {
     Ok(())
 }
 
+// The first record that is not legal is named, and nothing but the opening is said.
 #[test]
-fn runs_that_ask_nothing(rt: HostRuntime) -> Result<(), Fail> {
-    let rows: [Row<'static>; 3] = [
-        Row {
-            name: "12 bytes are no record",
+fn streams_that_are_bad(rt: HostRuntime) -> Result<(), Fail> {
+    let first = first_run();
+    let rows: [(&str, &[u8], u64, Why); 6] = [
+        ("12 bytes are no record", &TWELVE_BYTES, 0, Why::Truncated),
+        ("item 4 is none of 4", &ITEM_4, 0, Why::BadItem),
+        ("side 2 is none", &SIDE_2, 0, Why::BadSide),
+        ("delta 0 is none", &DELTA_0, 0, Why::ZeroDelta),
+        (
+            "a side weighs 2^30",
+            &TOO_HEAVY,
+            1,
+            Why::TooHeavy(Side::First),
+        ),
+        (
+            "a record weighs 2^63",
+            &LEAST_DELTA,
+            0,
+            Why::TooHeavy(Side::First),
+        ),
+    ];
+    for (name, stream, at, why) in &rows {
+        let row = Row {
+            name,
             given: Given {
-                words: "verify s seed a b - 2 sub:1:2",
-                stream: &TWELVE_BYTES,
-                seed: &ZERO_SEED,
-                replies: &[],
+                stream,
+                ..first.given
             },
-            status: Status::BadInput { port: Port::First },
+            status: Status::BadStream { at: *at, why: *why },
             code: 3,
             report: "",
             sent: &[Said::Out(&OPEN_2)],
             then: &[],
-        },
+        };
+        row.check(&rt, rt.alloc())?;
+    }
+    Ok(())
+}
+
+#[test]
+fn runs_that_say_nothing(rt: HostRuntime) -> Result<(), Fail> {
+    let rows: [Row<'static>; 2] = [
         Row {
             name: "31 bytes are no seed",
             given: Given {
@@ -87,7 +115,7 @@ fn runs_that_ask_nothing(rt: HostRuntime) -> Result<(), Fail> {
                 seed: &SHORT_SEED,
                 replies: &[],
             },
-            status: Status::BadInput { port: Port::Second },
+            status: Status::BadSeed,
             code: 3,
             report: "",
             sent: &[],

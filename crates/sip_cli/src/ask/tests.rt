@@ -4,6 +4,7 @@ use super::{AskStop, ask};
 use sip_field::{Field, M61, Seat};
 use sip_ports::{MemoryLink, TalkEvent};
 use sip_vector::Entry;
+use sip_wire::Reason;
 use std::alloc::Global;
 use std::test::Fail;
 
@@ -19,8 +20,8 @@ const HONEST: [u8; 41] = [
     3, 0, 0, 0, 0, 0, 0, 0, 1, 0x14, 0, 1, 0,
 ];
 
-/// Replies that are rejected, and how many events there are until then.
-const REJECTED: [(&[u8], usize); 6] = [
+/// Replies that are rejected, how many events there are until then, and the round and the reason of the fault.
+const REJECTED: [(&[u8], usize, u8, Reason); 6] = [
     // The left sibling is 4: the root shows it.
     (
         &[
@@ -28,6 +29,8 @@ const REJECTED: [(&[u8], usize); 6] = [
             0, 0, 0, 4, 0, 0, 0, 0, 0, 0, 0, 1, 0x14, 0, 1, 0,
         ],
         QUERY + 37 + REVEAL + 4,
+        2,
+        Reason::Root,
     ),
     // The link ends two bytes into reply 1.
     (
@@ -36,6 +39,8 @@ const REJECTED: [(&[u8], usize); 6] = [
             0, 0, 0, 3, 0, 0, 0, 0, 0, 0, 0, 1, 0x14, 0,
         ],
         QUERY + 37 + REVEAL + 2 + 1,
+        1,
+        Reason::Closed,
     ),
     // The entry comes twice.
     (
@@ -44,6 +49,8 @@ const REJECTED: [(&[u8], usize); 6] = [
             2, 0, 0, 0, 0, 0, 0, 0, 5, 0x14, 0, 1, 0,
         ],
         QUERY + 34,
+        0,
+        Reason::BadOrder,
     ),
     // The entry is behind the interval.
     (
@@ -51,11 +58,23 @@ const REJECTED: [(&[u8], usize); 6] = [
             0x13, 0, 0x0e, 0, 1, 0, 0, 0, 3, 0, 0, 0, 0, 0, 0, 0, 1, 0x14, 0, 1, 0,
         ],
         QUERY + 17,
+        0,
+        Reason::BadOrder,
     ),
     // The siblings that are asked for are not there.
-    (&[0x14, 0, 1, 0, 0x14, 0, 1, 0], QUERY + 4),
+    (
+        &[0x14, 0, 1, 0, 0x14, 0, 1, 0],
+        QUERY + 4,
+        0,
+        Reason::BadFlags,
+    ),
     // The helper refuses.
-    (&[0x18, 0, 1, 1, 0x14, 0, 1, 0], QUERY + 4),
+    (
+        &[0x18, 0, 1, 1, 0x14, 0, 1, 0],
+        QUERY + 4,
+        0,
+        Reason::Refused(1),
+    ),
 ];
 
 fn link(alloc: Global, incoming: &[u8], chunk: usize, fails: &[u64]) -> Result<MemoryLink, Fail>
@@ -112,10 +131,14 @@ fn a_fault_is_rejected_at_once(rt: HostRuntime) -> Result<(), Fail> {
     let alloc = rt.alloc();
     let seat = seat()?;
     for chunk in [1, 10_000] {
-        for (replies, events) in &REJECTED {
+        for (replies, events, round, reason) in &REJECTED {
             let mut peer = link(alloc, replies, chunk, &[])?;
             let stopped = ask_of(alloc, &seat, &mut peer).err();
-            assert_eq!(rt; stopped, Some(AskStop::Rejected));
+            let rejected = AskStop::Rejected {
+                round: *round,
+                reason: *reason,
+            };
+            assert_eq!(rt; stopped, Some(rejected));
             assert_eq!(rt; peer.talk().len(), *events);
         }
     }
@@ -132,7 +155,7 @@ fn a_link_fails_at_each_call(rt: HostRuntime) -> Result<(), Fail> {
     for call in 1..9 {
         let mut peer = link(alloc, &HONEST, 10_000, &[call])?;
         let stopped = ask_of(alloc, &seat, &mut peer).err();
-        assert_eq!(rt; stopped, Some(AskStop::Fault));
+        assert_eq!(rt; stopped, Some(AskStop::PeerFault));
         assert!(rt; whole.talk().starts_with(peer.talk()));
     }
     let mut peer = link(alloc, &HONEST, 10_000, &[9])?;

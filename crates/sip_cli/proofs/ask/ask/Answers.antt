@@ -1,4 +1,4 @@
-use Rattle.std.proofs.Common.{◌≡◌, ℕ, ◌+◌, ◌-◌, ◌/◌, Vec, Global, true, false, ◌∷◌, List, length, take, [], subst, ◌∙◌, refl, arith}
+use Rattle.std.proofs.Common.{◌≡◌, ℕ, ◌+◌, ◌-◌, ◌/◌, Vec, Global, true, false, ◌∷◌, List, length, take, [], subst, ◌∙◌, refl, sym, arith}
 use Rattle.std.specs.Prelude.{nat_eq, slice_index}
 use Rattle.std.specs.Cmp.Lexicographic.{pointwise}
 use Rattle.sip_ports.specs.Ports.{GoesOn, outs}
@@ -13,7 +13,7 @@ use Rattle.sip_cli.specs.declared.replies.Siblings.{Siblings}
 use Rattle.sip_cli.specs.Taking.{read_first, siblings_of}
 use Rattle.sip_cli.specs.Asking.{IsCutShort}
 use Rattle.sip_ports.proofs.FaultLemmas.{Lasts-trans, Lasts-of_HasCause}
-use Rattle.sip_cli.proofs.AskingTurns.{Ready, Going, Ready-first, Ready-later, Going-first, Going-later, Asks-reply, IsCutShort-query, IsCutShort-reveal, IsCutShort-passed, IsAnswered-root, IsRejected-root, Asks-port, Asks-memory, first_level, later_level, query_fits, reveal_fits}
+use Rattle.sip_cli.proofs.AskingTurns.{Ready, Going, Ready-first, Ready-later, Going-first, Going-later, Asks-reply, IsCutShort-query, IsInterrupted-query, IsInterrupted-reveal, IsCutShort-passed, IsAnswered-root, IsRejected-root, Asks-port, Asks-memory, first_level, later_level, query_fits, reveal_fits}
 use Rattle.sip_cli.proofs.ask.ask.Given as given
 use Rattle.sip_cli.proofs.ask.ask.Goals as goal
 use Rattle.sip_cli.proofs.ask.ask.Goals.{In_ok-entries, In_ok-encode-2}
@@ -28,19 +28,19 @@ pub returns-in_err-encode-clause-asks : goal.returns-in_err-encode-clause-asks
 returns-in_err-encode-clause-asks g c =
     let talk = c.in_err-encode.ensures.talk in
     Asks-port c.args.root c.args.lo c.args.hi c.args.seat.now _ _ c.from_residual.result c.in_err-encode.field-0.0 c.from_residual.ensures.1
-    (IsCutShort-query c.args.root c.args.lo c.args.hi c.args.seat.now _ _ talk.0 talk.2)
+    (IsInterrupted-query c.args.root c.args.lo c.args.hi c.args.seat.now _ _ talk.0 talk.2 (omega (arith, c.depth-depth.ensures.exact, c.depth-depth.ensures.some)))
 
 pub returns-in_err-entries-clause-asks : goal.returns-in_err-entries-clause-asks
 returns-in_err-entries-clause-asks g c =
     let ready = Ready-first c.args.lo c.args.hi c.args.seat.now _ _ c.in_ok-encode.ensures.talk (omega (arith, c.depth-depth.ensures.exact, c.depth-depth.ensures.some)) in
-    Asks-reply c.args.lo c.args.hi c.args.seat.now _ _ _ [] (read_first c.args.lo c.args.hi) ready c.args.root (λ (x : Vec Entry Global × Siblings). (x.0.items, siblings_of x.1)) c.from_residual-in_err-entries.result c.in_err-entries.field-0.0 c.from_residual-in_err-entries.ensures.1 c.in_err-entries.ensures.took
+    Asks-reply c.args.lo c.args.hi c.args.seat.now _ _ _ [] (read_first c.args.lo c.args.hi) ready c.args.root 0 (λ (x : Vec Entry Global × Siblings). (x.0.items, siblings_of x.1)) c.take_first.result c.from_residual-in_err-entries.result c.in_err-entries.field-0.0 refl c.from_residual-in_err-entries.ensures.1 c.in_err-entries.ensures.same c.take_first.ensures.took
 
 -- reply 0 passed
 first : (g : given.Over) (c : In_ok-entries g) (level : List ℕ) → level ≡ next_level m61_modulus (stated_level m61_modulus c.args.lo c.args.hi c.in_ok-entries.entries.items) (siblings_of c.in_ok-entries.siblings, slice_index c.args.seat.now 0)
     → Going c.args.lo c.args.hi c.args.seat.now (g.L.Sink.talk c.args.peer.now) (g.L.Sink.talk c.take_first.new.peer) c.in_ok-entries.entries.items 1 (c.args.lo / 2) (c.args.hi / 2) level
 first g c level is =
     let ready = Ready-first c.args.lo c.args.hi c.args.seat.now _ _ c.in_ok-encode.ensures.talk (omega (arith, c.depth-depth.ensures.exact, c.depth-depth.ensures.some)) in
-    Going-first c.args.lo c.args.hi c.args.seat.now _ _ _ c.in_ok-entries.entries.items (siblings_of c.in_ok-entries.siblings) level ready c.in_ok-entries.ensures.took is
+    Going-first c.args.lo c.args.hi c.args.seat.now _ _ _ c.in_ok-entries.entries.items (siblings_of c.in_ok-entries.siblings) level ready (rw c.in_ok-entries.ensures.same at c.take_first.ensures.took) is
 
 first_short : (g : given.Over) (c : In_ok-entries g) → IsCutShort c.args.root c.args.lo c.args.hi c.args.seat.now (g.L.Sink.talk c.args.peer.now) (g.L.Sink.talk c.take_first.new.peer)
 first_short g c = IsCutShort-passed c.args.root c.args.lo c.args.hi c.args.seat.now _ _ c.in_ok-entries.entries.items 1 (c.args.lo / 2) (c.args.hi / 2) _ (first g c _ refl)
@@ -70,7 +70,7 @@ returns-in_err-encode-2-clause-asks g c =
     let r : c.number-challenge.result ≡ slice_index c.args.seat.now (c.loop-j.j - 1) = c.number-challenge.ensures ∙ c.at-in-loop-j.ensures in
     let talk = c.in_err-encode-2.ensures.talk in
     Asks-port c.args.root c.args.lo c.args.hi c.args.seat.now _ _ c.from_residual-in_err-encode-2.result c.in_err-encode-2.field-0.0 c.from_residual-in_err-encode-2.ensures.1
-    (IsCutShort-reveal c.args.root c.args.lo c.args.hi c.args.seat.now _ _ _ _ c.loop-j.j c.loop-j.low c.loop-j.high c.loop-j.level.items going (omega (arith, c.loop-j-test.true, c.depth-depth.ensures.exact)) talk.0
+    (IsInterrupted-reveal c.args.root c.args.lo c.args.hi c.args.seat.now _ _ _ _ c.loop-j.j c.loop-j.low c.loop-j.high c.loop-j.level.items going (omega (arith, c.loop-j-test.true, c.depth-depth.ensures.exact)) talk.0
     (subst (λ (k : ℕ). GoesOn (g.L.Sink.talk c.loop-j.peer) (g.L.Sink.talk c.encode-in-loop-j.new.sink) (outs (take talk.0 (spelling (messages.Reveal k))))) r talk.2))
 
 -- the challenge was sent
@@ -82,12 +82,12 @@ later_ready g c =
 
 pub returns-in_err-siblings-clause-asks : goal.returns-in_err-siblings-clause-asks
 returns-in_err-siblings-clause-asks g c =
-    Asks-reply c.args.lo c.args.hi c.args.seat.now _ _ _ c.loop-j.invariant.going.replies (later_reply c.loop-j.low c.loop-j.high) (later_ready g (goal.at.returns-in_err-siblings-clause-asks g c).In_ok-encode-2) c.args.root siblings_of c.from_residual-in_err-siblings.result c.in_err-siblings.field-0.0 c.from_residual-in_err-siblings.ensures.1 c.in_err-siblings.ensures.took
+    Asks-reply c.args.lo c.args.hi c.args.seat.now _ _ _ c.loop-j.invariant.going.replies (later_reply c.loop-j.low c.loop-j.high) (later_ready g (goal.at.returns-in_err-siblings-clause-asks g c).In_ok-encode-2) c.args.root _ siblings_of c.take_later.result c.from_residual-in_err-siblings.result c.in_err-siblings.field-0.0 (sym c.loop-j.invariant.going.counted) c.from_residual-in_err-siblings.ensures.1 c.in_err-siblings.ensures.same c.take_later.ensures.took
 
 pub returns-in_err-level-2-clause-asks : goal.returns-in_err-level-2-clause-asks
 returns-in_err-level-2-clause-asks g c =
     let ready = later_ready g (goal.at.returns-in_err-level-2-clause-asks g c).In_ok-encode-2 in
-    let going = Going-later c.args.lo c.args.hi c.args.seat.now _ _ _ _ c.in_ok-entries.entries.items c.loop-j.j c.loop-j.low c.loop-j.high c.loop-j.level.items (siblings_of c.in_ok-siblings.siblings) _ c.loop-j.invariant.going ready c.in_ok-siblings.ensures.took refl in
+    let going = Going-later c.args.lo c.args.hi c.args.seat.now _ _ _ _ c.in_ok-entries.entries.items c.loop-j.j c.loop-j.low c.loop-j.high c.loop-j.level.items (siblings_of c.in_ok-siblings.siblings) _ c.loop-j.invariant.going ready (rw c.in_ok-siblings.ensures.same at c.take_later.ensures.took) refl in
     Asks-memory c.args.root c.args.lo c.args.hi c.args.seat.now _ _ c.from_residual-in_err-level-2.result c.from_residual-in_err-level-2.ensures.1
     (IsCutShort-passed c.args.root c.args.lo c.args.hi c.args.seat.now _ _ c.in_ok-entries.entries.items (c.loop-j.j + 1) (c.loop-j.low / 2) (c.loop-j.high / 2) _ going)
 
@@ -98,7 +98,7 @@ loop-j-preserved g c =
     let faults = g.L.Sink.faults in
     let is_sure = g.L.Sink.is_sure in
     record {
-      going = Going-later c.args.lo c.args.hi c.args.seat.now _ _ _ _ c.in_ok-entries.entries.items c.loop-j.j c.loop-j.low c.loop-j.high c.loop-j.level.items (siblings_of c.in_ok-siblings.siblings) c.in_ok-level-2.level.items c.loop-j.invariant.going ready c.in_ok-siblings.ensures.took level;
+      going = Going-later c.args.lo c.args.hi c.args.seat.now _ _ _ _ c.in_ok-entries.entries.items c.loop-j.j c.loop-j.low c.loop-j.high c.loop-j.level.items (siblings_of c.in_ok-siblings.siblings) c.in_ok-level-2.level.items c.loop-j.invariant.going ready (rw c.in_ok-siblings.ensures.same at c.take_later.ensures.took) level;
       lasts = Lasts-trans faults is_sure c.args.peer.now c.encode-in-loop-j.new.sink c.take_later.new.peer
           (Lasts-trans faults is_sure c.args.peer.now c.loop-j.peer c.encode-in-loop-j.new.sink c.loop-j.invariant.lasts (Lasts-of_HasCause faults is_sure c.loop-j.peer c.encode-in-loop-j.new.sink c.encode-in-loop-j.result c.encode-in-loop-j.ensures.cause))
           c.take_later.ensures.lasts;
@@ -113,5 +113,6 @@ returns-then-is_root-clause-asks g c =
 pub returns-clause-asks : goal.returns-clause-asks
 returns-clause-asks g c =
     let going = c.loop-j.invariant.going in
-    IsRejected-root c.args.root c.args.lo c.args.hi c.args.seat.now _ _ c.in_ok-entries.entries.items c.loop-j.j c.loop-j.low c.loop-j.high c.loop-j.level.items going (omega (arith, c.loop-j-test.false, c.depth-depth.ensures.exact, going.within))
-    (subst (λ (l : List ℕ). false ≡ pointwise nat_eq l (c.args.root ∷ [])) c.deref-3.ensures.value c.if-is_root.ensures)
+    let rejected = IsRejected-root c.args.root c.args.lo c.args.hi c.args.seat.now _ _ c.in_ok-entries.entries.items c.loop-j.j c.loop-j.low c.loop-j.high c.loop-j.level.items going (omega (arith, c.loop-j-test.false, c.depth-depth.ensures.exact, going.within))
+    (subst (λ (l : List ℕ). false ≡ pointwise nat_eq l (c.args.root ∷ [])) c.deref-3.ensures.value c.if-is_root.ensures) in
+    rw c.depth-depth.ensures.exact rejected

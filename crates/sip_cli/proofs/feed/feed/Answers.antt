@@ -24,7 +24,7 @@ returns-in_err-update-clause-fed g c = λ bytes all.
     let read = rw c.in-Some.is at (c.in_ok-record.ensures.reads so.rest so.to_come) in
     let p = err_from_is_err_and c.from_residual-in_err-update.result c.from_residual-in_err-update.ensures.1 in
     rw (p.1, p.2) (meets_fault c.args.depth bytes (g.L.Sink.talk c.args.peer.now) (g.A.Source.left c.loop-tally.first) (g.L.Sink.talk c.loop-tally.peer)
-    c.loop-tally.tally c.loop-tally.waiting.updates.items c.in-Some.record read.0 c.in_err-update.field-0.0 so c.loop-tally.waiting.room read.2 read.3 (c.in_err-update.ensures.legal so.stream so.stands))
+    c.loop-tally.tally c.loop-tally.waiting.updates.items c.in-Some.record read.0 c.in_err-update.field-0.0.why so c.loop-tally.waiting.room read.2 read.3 c.in_err-update.field-0.0.at (c.in_err-update.ensures.legal so.stream so.stands))
 
 pub returns-in_err-push-clause-fed : goal.returns-in_err-push-clause-fed
 returns-in_err-push-clause-fed g c = λ bytes all.

@@ -5,16 +5,16 @@ use Rattle.std.proofs.Common.{[]}
 use Rattle.sip_cli.proofs.top.run.Goals as goal
 
 pub returns-in-Ok-clause-verdict : goal.returns-in-Ok-clause-verdict
-returns-in-Ok-clause-verdict g c = λ task x spells t. (promised _ _ task x _ _ (rw c.task_in.ensures at c.in-Ok.ensures.command) spells (c.verify.ensures.promises x t)).verdict
+returns-in-Ok-clause-verdict g c = λ task x spells t. (promised _ _ task x _ _ _ (rw c.task_in.ensures at c.in-Ok.ensures.command) spells (c.verify.ensures.promises x t)).verdict
 
 pub returns-in-Ok-clause-talk : goal.returns-in-Ok-clause-talk
-returns-in-Ok-clause-talk g c = λ task x spells t. (promised _ _ task x _ _ (rw c.task_in.ensures at c.in-Ok.ensures.command) spells (c.verify.ensures.promises x t)).talk
+returns-in-Ok-clause-talk g c = λ task x spells t. (promised _ _ task x _ _ _ (rw c.task_in.ensures at c.in-Ok.ensures.command) spells (c.verify.ensures.promises x t)).talk
 
 pub returns-in-Ok-clause-cause : goal.returns-in-Ok-clause-cause
-returns-in-Ok-clause-cause g c = λ task x spells t. (promised _ _ task x _ _ (rw c.task_in.ensures at c.in-Ok.ensures.command) spells (c.verify.ensures.promises x t)).cause
+returns-in-Ok-clause-cause g c = λ task x spells t. (promised _ _ task x _ _ _ (rw c.task_in.ensures at c.in-Ok.ensures.command) spells (c.verify.ensures.promises x t)).cause
 
 pub returns-in-Ok-clause-usage : goal.returns-in-Ok-clause-usage
-returns-in-Ok-clause-usage g c = λ word. usage_never _ _ _ word (rw c.task_in.ensures at c.in-Ok.ensures.command) (c.verify.ensures.listed word)
+returns-in-Ok-clause-usage g c = λ word. usage_never _ _ _ word (rw c.task_in.ensures at c.in-Ok.ensures.command) c.verify.ensures.listed
 
 pub returns-in-Err-clause-verdict : goal.returns-in-Err-clause-verdict
 returns-in-Err-clause-verdict g c = λ task x spells t. absurd (spelled_not_refused _ task _ spells c.in-Err.ensures.refused)

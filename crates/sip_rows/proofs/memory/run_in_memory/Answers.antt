@@ -1,6 +1,6 @@
 use Rattle.sip_ports.specs.Calls.{failed_of-sure}
 use Rattle.sip_rows.specs.Moves.{moment_of}
-use Rattle.sip_rows.proofs.Telling.{all_told, Moves-told, none_rose}
+use Rattle.sip_rows.proofs.Telling.{all_told, Moves-told, first_sure, second_sure, peer_sure, report_sure}
 use Rattle.sip_rows.proofs.memory.run_in_memory.Goals as goal
 
 pub returns-clause-promises : goal.returns-clause-promises
@@ -18,7 +18,14 @@ returns-clause-promises c = λ task spells.
       },
     )
 
-pub returns-clause-sure : goal.returns-clause-sure
-returns-clause-sure c = λ first second peer report fault. none_rose _ _
-    (failed_of-sure _ _ (c.run.ensures.first.sure first)) (failed_of-sure _ _ (c.run.ensures.second.sure second))
-    (failed_of-sure _ _ (c.run.ensures.peer.sure peer)) (failed_of-sure _ _ (c.run.ensures.report.sure report)) (c.run.ensures.fault fault)
+pub returns-clause-sure_first : goal.returns-clause-sure_first
+returns-clause-sure_first c = λ sure. first_sure _ _ c.run.result c.run.ensures.fault (failed_of-sure _ _ (c.run.ensures.first.sure sure))
+
+pub returns-clause-sure_second : goal.returns-clause-sure_second
+returns-clause-sure_second c = λ sure. second_sure _ _ c.run.result c.run.ensures.fault (failed_of-sure _ _ (c.run.ensures.second.sure sure))
+
+pub returns-clause-sure_peer : goal.returns-clause-sure_peer
+returns-clause-sure_peer c = λ sure. peer_sure _ _ c.run.result c.run.ensures.fault (failed_of-sure _ _ (c.run.ensures.peer.sure sure))
+
+pub returns-clause-sure_report : goal.returns-clause-sure_report
+returns-clause-sure_report c = λ sure. report_sure _ _ c.run.result c.run.ensures.fault (failed_of-sure _ _ (c.run.ensures.report.sure sure))

@@ -14,4 +14,4 @@ returns-in-First-clause-stands c =
     let small : nat_abs c.index_mut.result.now < 2 ^ 32 = omega (arith, ap nat_abs had, get_or-le-sum_by (λ (a : ℤ). nat_abs a) items u.item (pos 0) within, c.args.self.now.bounded, c.args.self.now.first_fits) in
     let delta : nat_abs u.delta < 2 ^ 32 = omega (arith, c.requires.weight) in
     let sum : to_z w64 (of_z w64 (to_z w64 (of_z w64 c.index_mut.result.now) +ℤ to_z w64 (of_z w64 u.delta))) ≡ get_or items u.item (pos 0) +ℤ u.delta = sum_fits c.index_mut.result.now u.delta small delta ∙ ap (λ z. z +ℤ u.delta) had in
-    λ stream stands. stands_added _ _ u stream stands (search rules) c.requires.item refl (search rules) refl (ap (set items u.item) sum)
+    λ stream stands. stands_added _ _ u stream stands (search rules) c.requires.item refl refl (search rules) refl (ap (set items u.item) sum)
