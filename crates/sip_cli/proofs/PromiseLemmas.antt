@@ -1,7 +1,7 @@
 -- The promises at each end of a run for one sub-vector.
-use Rattle.std.proofs.Common.{◌≡◌, ◌≢◌, ℕ, zero, suc, ◌+◌, ◌-◌, ◌*◌, ◌/◌, ◌<◌, ◌≤◌, Option, Some, None, Result, Ok, Err, IsSome, List, [], ◌∷◌, ◌++◌, length, take, drop, refl, sym, ap, subst, ◌∙◌, arith, inl, inr, append_assoc, append-nil, take_all, take-append-drop}
+use Rattle.std.proofs.Common.{◌≡◌, ◌≢◌, ℕ, ◌+◌, ◌-◌, ◌/◌, ◌<◌, ◌≤◌, Option, Some, None, Result, Ok, Err, IsSome, List, [], ◌∷◌, ◌++◌, length, take, drop, refl, sym, ap, subst, ◌∙◌, arith, inl, inr, append_assoc, append-nil, take_all, take-append-drop}
 use Rattle.std.proofs.Math.Nat.{mul-one, add-div_left, div-eq_of_lt}
-use Rattle.std.specs.Prelude.{flat_map, IsErrAnd}
+use Rattle.std.specs.Prelude.{IsErrAnd}
 use Rattle.sip_ports.specs.declared.port.PortStop.{PortStop}
 use Rattle.sip_ports.specs.declared.port.PortStop.TheVariants as port_stops
 use Rattle.sip_ports.specs.declared.port.TalkEvent.{TalkEvent}
@@ -15,19 +15,18 @@ use Rattle.sip_vector.specs.declared.query.Query.TheVariants.{Sub}
 use Rattle.sip_vector.specs.declared.update.Entry.{Entry}
 use Rattle.sip_vector.specs.Answers.{pairs}
 use Rattle.sip_vector.specs.Pieces.{cut, pieces}
-use Rattle.sip_stream.specs.Records.{records}
 use Rattle.sip_verifier.specs.declared.status.Status.{Status}
 use Rattle.sip_verifier.specs.declared.status.Status.TheVariants as statuses
 use Rattle.sip_verifier.specs.declared.task.Task.{Task}
-use Rattle.sip_verifier.specs.CauseClause.{CauseClause, Counts, FaultClause, IsListed}
+use Rattle.sip_verifier.specs.CauseClause.{Counts, FaultClause, IsListed}
 use Rattle.sip_verifier.specs.Draws.{challenges_of, drawn}
 use Rattle.sip_verifier.specs.Exchanges.{told, IsTold, Exchange, Tells, IsPrefix}
 use Rattle.sip_verifier.specs.Reports.{line, rejection}
 use Rattle.sip_verifier.specs.Talks.{stream_sent, asked, bye_sent}
-use Rattle.sip_verifier.specs.TalkClause.{IsWhole, EndsAtFault, IsUnderWay, before_end}
+use Rattle.sip_verifier.specs.TalkClause.{EndsAtFault, IsUnderWay, before_end}
 use Rattle.sip_verifier.specs.Turns.{Turn, Accepted, ending, true_root, updates, IsLegalToEnd, AreTurns, Reached}
 use Rattle.sip_verifier.specs.declared.status.Port.TheVariants as status_ports
-use Rattle.sip_verifier.specs.VerdictClause.{AllWritten, OneFaulty, PartWritten, PartRejected, SomeWritten, NoneLeft}
+use Rattle.sip_verifier.specs.VerdictClause.{SomeWritten, NoneLeft}
 use Rattle.sip_wire.specs.declared.message.Reason.{Reason}
 use Rattle.sip_cli.specs.Asking as asking
 use Rattle.sip_cli.specs.Drawing.{Draws}
@@ -41,7 +40,7 @@ use Rattle.sip_cli.specs.declared.draw.DrawStop.TheVariants as draw_stops
 use Rattle.sip_cli.specs.declared.verify.Stop.{Stop}
 use Rattle.sip_cli.specs.declared.feed.FeedStop.{FeedStop}
 use Rattle.sip_cli.specs.declared.feed.FeedStop.TheVariants as feed_stops
-use Rattle.sip_subvec.specs.Replies.{Fault, IsUnfinished, IsFaulty, IsAccepted}
+use Rattle.sip_subvec.specs.Replies.{Fault, IsAccepted}
 use Rattle.sip_field.specs.Moduli.{m61_modulus}
 
 -- ---- what was said

@@ -1,5 +1,5 @@
 -- A frame of updates that each have a spelling has one.
-use Rattle.std.proofs.Common.{◌≡◌, ℕ, zero, suc, ◌-◌, ◌^◌, ◌<◌, ◌≤◌, true, false, not, ◌&&◌, nat_lt, nat_le, eqb, ℤ, pos, negsuc, nat_abs, List, [], ◌∷◌, length, refl, ap, arith, w64}
+use Rattle.std.proofs.Common.{◌≡◌, ℕ, zero, suc, ◌^◌, ◌<◌, ◌≤◌, true, false, not, ◌&&◌, nat_lt, nat_le, eqb, ℤ, pos, negsuc, nat_abs, List, [], ◌∷◌, length, refl, ap, arith, w64}
 use Rattle.std.specs.Prelude.{IsTrue}
 use Rattle.std.specs.List.{flat_map, list_all}
 use Rattle.std.specs.Int.{cast_unsigned}

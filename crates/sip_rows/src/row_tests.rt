@@ -3,6 +3,8 @@ use crate::row::{Given, Row, Said, first_run};
 use sip_stream::Why;
 use sip_vector::Side;
 use sip_verifier::Status;
+use std::alloc::Global;
+use std::process::Abort;
 use std::test::Fail;
 
 // A program that always answers that memory ran out would keep every promise, since that answer is free. It fails here.
@@ -64,44 +66,81 @@ fn runs_that_are_accepted(rt: HostRuntime) -> Result<(), Fail> {
     Ok(())
 }
 
-// The first record that is not legal is named, and nothing but the opening is said.
-#[test]
-fn streams_that_are_bad(rt: HostRuntime) -> Result<(), Fail> {
-    let first = first_run();
-    let rows: [(&str, &[u8], u64, Why); 6] = [
-        ("12 bytes are no record", &TWELVE_BYTES, 0, Why::Truncated),
-        ("item 4 is none of 4", &ITEM_4, 0, Why::BadItem),
-        ("side 2 is none", &SIDE_2, 0, Why::BadSide),
-        ("delta 0 is none", &DELTA_0, 0, Why::ZeroDelta),
-        (
-            "a side weighs 2^30",
-            &TOO_HEAVY,
-            1,
-            Why::TooHeavy(Side::First),
-        ),
-        (
-            "a record weighs 2^63",
-            &LEAST_DELTA,
-            0,
-            Why::TooHeavy(Side::First),
-        ),
-    ];
-    for (name, stream, at, why) in &rows {
-        let row = Row {
-            name,
-            given: Given {
-                stream,
-                ..first.given
+// A stream, its first record that is not legal, and why.
+#[derive(Clone, Copy)]
+struct Bad<'a> {
+    name: &'a str,
+    stream: &'a [u8],
+    at: u64,
+    why: Why,
+}
+
+fn check_bad(rt: &impl Abort, alloc: Global, rows: &[Bad]) -> Result<(), Fail> {
+    let honest = first_run();
+    for row in rows {
+        let given = Given {
+            stream: row.stream,
+            ..honest.given
+        };
+        let bad = Row {
+            name: row.name,
+            given,
+            status: Status::BadStream {
+                at: row.at,
+                why: row.why,
             },
-            status: Status::BadStream { at: *at, why: *why },
             code: 3,
             report: "",
             sent: &[Said::Out(&OPEN_2)],
             then: &[],
         };
-        row.check(&rt, rt.alloc())?;
+        bad.check(rt, alloc)?;
     }
     Ok(())
+}
+
+// The first record that is not legal is named, and nothing but the opening is said.
+#[test]
+fn streams_that_are_bad(rt: HostRuntime) -> Result<(), Fail> {
+    let rows = [
+        Bad {
+            name: "12 bytes are no record",
+            stream: &TWELVE_BYTES,
+            at: 0,
+            why: Why::Truncated,
+        },
+        Bad {
+            name: "item 4 is none of 4",
+            stream: &ITEM_4,
+            at: 0,
+            why: Why::BadItem,
+        },
+        Bad {
+            name: "side 2 is none",
+            stream: &SIDE_2,
+            at: 0,
+            why: Why::BadSide,
+        },
+        Bad {
+            name: "delta 0 is none",
+            stream: &DELTA_0,
+            at: 0,
+            why: Why::ZeroDelta,
+        },
+        Bad {
+            name: "a side weighs 2^30",
+            stream: &TOO_HEAVY,
+            at: 1,
+            why: Why::TooHeavy(Side::First),
+        },
+        Bad {
+            name: "a record weighs 2^63",
+            stream: &LEAST_DELTA,
+            at: 0,
+            why: Why::TooHeavy(Side::First),
+        },
+    ];
+    check_bad(&rt, rt.alloc(), &rows)
 }
 
 #[test]

@@ -7,7 +7,7 @@
 -- reply was taken and passed its tests before the next challenge leaves, and the last challenge never leaves; and a
 -- query's line was written before anything is said after its last reply. Where the line of a rejection could not be
 -- written whole, the talk is that of the rejection.
-use Rattle.std.specs.Prelude.{◌≡◌, ◌≢◌, ◌⊎◌, ℕ, List, [], ◌∷◌, ◌++◌, length, flat_map, option_to_list, Option, IfSome}
+use Rattle.std.specs.Prelude.{◌≡◌, ◌≢◌, ◌⊎◌, List, [], ◌∷◌, ◌++◌, length, flat_map, option_to_list, Option, IfSome}
 use Rattle.sip_ports.specs.declared.port.TalkEvent.{TalkEvent}
 use Rattle.sip_subvec.specs.Replies.{Fault}
 use Rattle.sip_verifier.specs.declared.status.Port.TheVariants as ports

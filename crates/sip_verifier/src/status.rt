@@ -27,25 +27,44 @@ pub enum Status {
     Wrote,
     /// The replies to this query have this first fault; `round` is the number of the reply, or the depth for the tests
     /// after the last one.
-    Rejected { query: u8, round: u8, reason: Reason },
+    Rejected {
+        query: u8,
+        round: u8,
+        reason: Reason,
+    },
     /// The words are no command; `word` is the number of the first word that is none.
-    Usage { word: u32 },
+    Usage {
+        word: u32,
+    },
     /// Record `at` of the stream is the first that is not legal.
-    BadStream { at: u64, why: Why },
+    BadStream {
+        at: u64,
+        why: Why,
+    },
     /// The seed has fewer than 32 bytes.
     BadSeed,
     /// Eight words of the seed in turn gave no challenge.
     SeedSpent,
     /// The transcript is none from this byte on.
-    BadTranscript { offset: u64 },
+    BadTranscript {
+        offset: u64,
+    },
     /// The frame at this byte has no spelling, or is out of turn.
-    BadFrame { offset: u64 },
+    BadFrame {
+        offset: u64,
+    },
     /// The answer of this query may have too many entries.
-    TooWide { query: u8 },
+    TooWide {
+        query: u8,
+    },
     /// Reading this port failed.
-    ReadFault { port: Port },
+    ReadFault {
+        port: Port,
+    },
     /// Writing this port failed.
-    WriteFault { port: Port },
+    WriteFault {
+        port: Port,
+    },
     /// The link failed.
     PeerFault,
     /// The link ended before a farewell.

@@ -1,4 +1,4 @@
-use Rattle.std.proofs.Common.{◌∙◌, sym, ◌≡◌, arith, rules}
+use Rattle.std.proofs.Common.{rules}
 use Rattle.sip_cli.proofs.DrawLemmas.{too_short, long_enough, draws_of}
 use Rattle.sip_cli.proofs.draw.draw.Goals as goal
 

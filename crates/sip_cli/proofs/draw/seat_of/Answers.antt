@@ -1,5 +1,4 @@
-use Rattle.std.proofs.Common.{◌∙◌, sym, ◌≡◌, ℕ, List, ◌≤◌, arith}
-use Rattle.sip_field.specs.Draw.{seed_words}
+use Rattle.std.proofs.Common.{◌∙◌, sym, ◌≤◌, arith}
 use Rattle.sip_cli.proofs.DrawLemmas.{drawn-slice, seat-drawn}
 use Rattle.sip_cli.proofs.draw.seat_of.Goals as goal
 

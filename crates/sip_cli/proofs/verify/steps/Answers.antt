@@ -1,5 +1,5 @@
 -- At each end of the steps the facts of the calls before it are handed to the lemma of that end.
-use Rattle.std.proofs.Common.{ap, inl, inr, ◌∙◌, refl, take, drop, Err, List, [], ℤ, subst, le_refl, le_trans}
+use Rattle.std.proofs.Common.{ap, ◌∙◌, refl, take, drop, Err, List, [], ℤ, subst, le_refl, le_trans}
 use Rattle.sip_field.specs.Moduli.{m61_modulus}
 use Rattle.sip_ports.specs.Ports.{outs, GoesOn}
 use Rattle.sip_ports.proofs.TalkLemmas.{GoesOn-trans}
@@ -12,7 +12,7 @@ use Rattle.sip_wire.specs.declared.message.Message.TheVariants as messages
 use Rattle.sip_wire.specs.Spelling.{fits, has_room, all_hold, spelling}
 use Rattle.sip_cli.specs.Ending.{status_of_draw, status_of_feed, status_of_report, status_of_link}
 use Rattle.sip_verifier.specs.declared.status.Status.TheVariants as statuses
-use Rattle.sip_cli.proofs.PromiseLemmas.{draw_caused, feed_caused, report_caused, link_caused, refuse_caused, draw_listed, feed_listed, report_listed, link_listed, refuse_listed, refuses_wrote, nothing_new, nothing_reported, GoesOn-still, tells, feeds_said, asks_said, exit, exit_same, Seeded, after_draw, after_feed, after_stream, after_ask, Answered, answered_by, after_line, after_bye, at_end, written_is, said_is, all_read, bye_is, bye_front, some_value, rose_within}
+use Rattle.sip_cli.proofs.PromiseLemmas.{draw_caused, feed_caused, report_caused, link_caused, refuse_caused, refuses_wrote, nothing_new, nothing_reported, GoesOn-still, tells, feeds_said, asks_said, exit, exit_same, Seeded, after_draw, after_feed, after_stream, after_ask, answered_by, after_line, after_bye, at_end, written_is, said_is, all_read, bye_is, bye_front, some_value, rose_within}
 use Rattle.sip_cli.proofs.verify.steps.Goals as goal
 
 pub returns-in_err-seat-clause-promises : goal.returns-in_err-seat-clause-promises
