@@ -1,8 +1,8 @@
 //! `sip`: checks the answer of a helper that keeps a stream for you.
 #![tactic(auto)]
 
-use sip_cli::{Opening, Words, exit_code, ports, run, status_line};
-use sip_ports::{FileLink, FileSource, NullSink, StderrSink, StdoutSink};
+use sip_cli::{Opening, Words, exit_code, page_of, ports, run, status_line};
+use sip_ports::{FileLink, FileSource, NullSink, PortStop, StderrSink, StdoutSink, write_whole};
 use sip_verifier::Status;
 use std::fs::File;
 use std::process::ExitCode;

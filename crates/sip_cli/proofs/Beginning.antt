@@ -1,163 +1,224 @@
--- How words begin a command, one word after another, and where they are refused.
-use Rattle.std.proofs.Common.{◌≡◌, ◌≢◌, ℕ, zero, suc, ◌+◌, ◌^◌, ◌<◌, ◌≤◌, false, nat_eq, List, [], ◌∷◌, ◌++◌, length, get_or, take, drop, sym, refl, ap, ◌∙◌, arith}
+-- How words begin a command, and where they are refused.
+use Rattle.std.proofs.Common.{◌≡◌, ◌≢◌, IsTrue, ℕ, zero, suc, ◌+◌, ◌-◌, ◌^◌, ◌<◌, ◌≤◌, false, nat_eq, List, [], ◌∷◌, ◌++◌, length, get_or, take, drop, sym, refl, ap, subst, ◌∙◌, inl, inr, arith}
 use Rattle.std.specs.Prelude.{codes, decimal}
-use Rattle.std.specs.List.{starts_with}
-use Rattle.std.proofs.lemmas.List.{take_at, take_all, take_more, take-append-drop, length-take-le, length-append, append-nil, nil_from_length, get_or-take, get_or_append_left}
+use Rattle.std.proofs.lemmas.Bool.{cases_lt}
+use Rattle.std.proofs.lemmas.List.{take_all, length-take-le, length-drop, length-append, get_or-take, get_or-drop, get_or_append_left, get_or-append_right}
 use Rattle.std.proofs.lemmas.Nat.{pow_pos}
-use Rattle.std.proofs.Math.Pow.{pow_mono}
 use Rattle.std.proofs.lemmas.Fmt.{decimal_injective}
+use Rattle.sip_stream.specs.declared.form.Form.TheVariants as forms
+use Rattle.sip_vector.specs.declared.query.Query.{Query}
 use Rattle.sip_vector.specs.declared.query.Query.TheVariants.{Sub}
 use Rattle.sip_verifier.specs.Reports.{query_word}
-use Rattle.sip_cli.proofs.QueryWords.{same_interval}
-use Rattle.sip_cli.specs.Words.{Request, IsInOrder, words_of, BeginsCommand, IsRefusedAt, Spells}
+use Rattle.sip_cli.specs.declared.shape.Shape.TheVariants.{Name}
+use Rattle.sip_cli.specs.declared.stream.Stream.TheVariants as stream
+use Rattle.sip_cli.specs.declared.verb.Built.{Built}
+use Rattle.sip_cli.specs.declared.verb.Verb.{Verb}
+use Rattle.sip_cli.specs.declared.verb.Verb.TheVariants.{Verify, Help, Gen, Lines}
+use Rattle.sip_cli.specs.Shapes.{IsOf, IsDepth, Asks}
+use Rattle.sip_cli.specs.Verbs.{has_verb, verb_word, shapes, least_asked, most_asked, most_queries}
+use Rattle.sip_cli.specs.Words.{word, IsWhole, BeginsOf, IsRefusedOf}
 
--- there are n words, and they begin a command
-abbrev pub Begun : List (List ℕ) → ℕ → Type 0
-Begun words n = (n ≤ length words) × BeginsCommand (take n words)
+-- words of a command to end with
+abbrev pub examples : Verb → List (List ℕ)
+examples Verify = codes "verify" ∷ codes "s" ∷ codes "s" ∷ codes "f" ∷ codes "t" ∷ codes "-" ∷ decimal 1 ∷ query_word (Sub 0 0) ∷ []
+examples Help = codes "help" ∷ codes "f" ∷ codes "t" ∷ []
+examples Gen = codes "gen" ∷ decimal 0 ∷ decimal 0 ∷ decimal 1 ∷ []
+examples Lines = codes "lines" ∷ codes "s" ∷ decimal 1 ∷ []
 
--- the parts of a request in order
-in_order : (r : Request) → r.stream ≢ [] → starts_with nat_eq r.stream (codes "made:") ≡ false → starts_with nat_eq r.stream (codes "text:") ≡ false → r.seed ≢ [] → r.from ≢ [] → r.to ≢ [] → (1 ≤ r.depth) × (r.depth ≤ 20) → (r.lo ≤ r.hi) × (r.hi < 2 ^ r.depth) → IsInOrder r
-in_order r stream made text seed from to depth interval =
-    record { stream = stream; not_made = made; not_text = text; seed = seed; from = from; to = to; depth = depth; interval = interval }
+-- they are as many as there have to be
+pub examples_long : (verb : Verb) → length (examples verb) ≡ 1 + length (shapes verb) + least_asked verb
+examples_long Verify = refl
+examples_long Help = refl
+examples_long Gen = refl
+examples_long Lines = refl
 
--- a request to begin with
-some_request : Request
-some_request = record { stream = codes "s"; seed = codes "s"; from = codes "f"; to = codes "t"; depth = 1; lo = 0; hi = 0 }
+-- each has its shape
+pub examples_fit : (verb : Verb) (n : ℕ) → n < length (shapes verb) → IsOf (get_or (shapes verb) n Name) (word (examples verb) (n + 1))
+examples_fit Verify zero h = (stream.File, refl, (λ e. cc, refl, refl))
+examples_fit Verify (suc zero) h = λ e. cc
+examples_fit Verify (suc (suc zero)) h = λ e. cc
+examples_fit Verify (suc (suc (suc zero))) h = λ e. cc
+examples_fit Verify (suc (suc (suc (suc zero)))) h = refl
+examples_fit Verify (suc (suc (suc (suc (suc zero))))) h = (1, omega arith, (omega arith, omega arith, refl))
+examples_fit Verify (suc (suc (suc (suc (suc (suc n)))))) h = absurd (omega arith)
+examples_fit Help zero h = λ e. cc
+examples_fit Help (suc zero) h = λ e. cc
+examples_fit Help (suc (suc n)) h = absurd (omega arith)
+examples_fit Gen zero h = (0, omega arith, omega arith, refl)
+examples_fit Gen (suc zero) h = (0, omega arith, omega arith, refl)
+examples_fit Gen (suc (suc zero)) h = (1, omega arith, (omega arith, omega arith, refl))
+examples_fit Gen (suc (suc (suc n))) h = absurd (omega arith)
+examples_fit Lines zero h = (forms.Binary, (stream.File, refl, (λ e. cc, refl, refl)))
+examples_fit Lines (suc zero) h = (1, omega arith, (omega arith, omega arith, refl))
+examples_fit Lines (suc (suc n)) h = absurd (omega arith)
 
--- no words begin it
-pub begun_none : (words : List (List ℕ)) → Begun words 0
-unfolding some_request
-begun_none words =
-    let order = in_order some_request (λ e. cc) refl refl (λ e. cc) (λ e. cc) (λ e. cc) (omega arith, omega arith) (omega arith, omega arith) in
-    (omega arith, (some_request, words_of some_request, order, refl))
+-- the query of the example fits each depth
+pub example_asks : (verb : Verb) (n d : ℕ) → length (shapes verb) < n → n < length (examples verb) → Asks d (Sub 0 0) (word (examples verb) n)
+example_asks Verify n d low high = let one : n ≡ 7 = omega arith in let item = pow_pos d in rw one (refl, (omega arith, omega arith), refl)
+example_asks Help n d low high = absurd (omega arith)
+example_asks Gen n d low high = absurd (omega arith)
+example_asks Lines n d low high = absurd (omega arith)
 
--- one word more: a request s that says the same before it, and says this word
-pub grow : (words : List (List ℕ)) (n : ℕ) (r s : Request) (rest : List (List ℕ)) → n < length words → words_of r ≡ take n words ++ rest → IsInOrder s → take (n + 1) (words_of s) ≡ take n (words_of r) ++ get_or words n [] ∷ [] → Begun words (n + 1)
-grow words n r s rest more is order same =
-    let fronts : take n (words_of r) ≡ take n words = rw is (take_at (take n words) rest n (length-take-le n words (omega arith))) in
-    let longer = take_more words n [] more in
-    let whole = take-append-drop (n + 1) (words_of s) in
-    let front : take (n + 1) (words_of s) ≡ take (n + 1) words = same ∙ (ap (λ ws. ws ++ get_or words n [] ∷ []) fronts ∙ sym longer) in
-    (omega arith, (s, drop (n + 1) (words_of s), order, sym (rw front at whole)))
+-- only `verify` has queries, and its depth is word 6
+pub depth_shape : (verb : Verb) (n : ℕ) → length (shapes verb) < n → n < 1 + length (shapes verb) + most_asked verb → (words : List (List ℕ)) → IsOf (get_or (shapes verb) 5 Name) (word words 6) → (d : ℕ) × IsDepth d (word words 6)
+depth_shape Verify n low high words (d, most, is) = (d, is)
+depth_shape Help n low high words is = absurd (omega arith)
+depth_shape Gen n low high words is = absurd (omega arith)
+depth_shape Lines n low high words is = absurd (omega arith)
 
--- one word more: the verb
-pub begun_verb : (words : List (List ℕ)) → Begun words 0 → 0 < length words → get_or words 0 [] ≡ codes "verify" → Begun words 1
-begun_verb words (within, (r, rest, order, is)) more verb = grow words 0 r r rest more is order (ap (λ w. w ∷ []) (sym verb))
+pub asking_has_six : (verb : Verb) (n : ℕ) → length (shapes verb) < n → n < 1 + length (shapes verb) + most_asked verb → length (shapes verb) ≡ 6
+asking_has_six Verify n low high = refl
+asking_has_six Help n low high = absurd (omega arith)
+asking_has_six Gen n low high = absurd (omega arith)
+asking_has_six Lines n low high = absurd (omega arith)
 
--- the stream
-pub begun_stream : (words : List (List ℕ)) → Begun words 1 → 1 < length words → get_or words 1 [] ≢ [] → starts_with nat_eq (get_or words 1 []) (codes "made:") ≡ false → starts_with nat_eq (get_or words 1 []) (codes "text:") ≡ false → Begun words 2
-begun_stream words (within, (r, rest, order, is)) more some made text =
-    grow words 1 r (record r { stream = get_or words 1 [] }) rest more is (in_order _ some made text order.seed order.from order.to order.depth order.interval) refl
+pub least_below_most : (verb : Verb) → least_asked verb ≤ most_asked verb
+least_below_most Verify = omega arith
+least_below_most Help = omega arith
+least_below_most Gen = omega arith
+least_below_most Lines = omega arith
 
--- the seed
-pub begun_seed : (words : List (List ℕ)) → Begun words 2 → 2 < length words → get_or words 2 [] ≢ [] → Begun words 3
-begun_seed words (within, (r, rest, order, is)) more some =
-    grow words 2 r (record r { seed = get_or words 2 [] }) rest more is (in_order _ order.stream order.not_made order.not_text some order.from order.to order.depth order.interval) refl
+-- the first n words are those of a command of this verb, which is not yet too long
+pub record Begun (some : Built) (verb : Verb) (words : List (List ℕ)) (n : ℕ) : Type 0 where
+  pub is_built : IsTrue (has_verb some verb)
+  pub first : word words 0 ≡ verb_word verb
+  pub some_words : 0 < n
+  pub within : n ≤ length words
+  pub most : n ≤ 1 + length (shapes verb) + most_asked verb
+  pub shaped : (i : ℕ) → i < length (shapes verb) → i + 1 < n → IsOf (get_or (shapes verb) i Name) (word words (i + 1))
+  pub asked : (i : ℕ) → length (shapes verb) < i → i < n → (d : ℕ) × IsDepth d (word words 6) × (query : Query) × Asks d query (word words i)
 
--- the file to hear from
-pub begun_from : (words : List (List ℕ)) → Begun words 3 → 3 < length words → get_or words 3 [] ≢ [] → Begun words 4
-begun_from words (within, (r, rest, order, is)) more some =
-    grow words 3 r (record r { from = get_or words 3 [] }) rest more is (in_order _ order.stream order.not_made order.not_text order.seed some order.to order.depth order.interval) refl
+-- the words up to n, and the example's from there on
+abbrev pub ended : Verb → List (List ℕ) → ℕ → List (List ℕ)
+ended verb words n = take n words ++ drop n (examples verb)
 
--- the file to send to
-pub begun_to : (words : List (List ℕ)) → Begun words 4 → 4 < length words → get_or words 4 [] ≢ [] → Begun words 5
-begun_to words (within, (r, rest, order, is)) more some =
-    grow words 4 r (record r { to = get_or words 4 [] }) rest more is (in_order _ order.stream order.not_made order.not_text order.seed order.from some order.depth order.interval) refl
+pub ended_before : (verb : Verb) (words : List (List ℕ)) (n i : ℕ) → n ≤ length words → i < n → word (ended verb words n) i ≡ word words i
+ended_before verb words n i within less =
+    let counted = length-take-le n words within in
+    get_or_append_left (take n words) (drop n (examples verb)) [] i (omega arith) ∙ get_or-take n words i [] less
 
--- the dash
-pub begun_dash : (words : List (List ℕ)) → Begun words 5 → 5 < length words → get_or words 5 [] ≡ codes "-" → Begun words 6
-begun_dash words (within, (r, rest, order, is)) more dash =
-    grow words 5 r r rest more is order (rw dash refl)
+pub ended_after : (verb : Verb) (words : List (List ℕ)) (n i : ℕ) → n ≤ length words → n ≤ i → word (ended verb words n) i ≡ word (examples verb) i
+ended_after verb words n i within least =
+    let counted = length-take-le n words within in
+    let sum : n + (i - n) ≡ i = omega arith in
+    get_or-append_right (take n words) (drop n (examples verb)) n i [] counted least ∙ (get_or-drop n (examples verb) (i - n) [] ∙ ap (λ k. word (examples verb) k) sum)
 
--- the depth, for which lo and hi are chosen anew
-pub begun_depth : (words : List (List ℕ)) (d : ℕ) → Begun words 6 → 6 < length words → 1 ≤ d → d ≤ 20 → get_or words 6 [] ≡ decimal d → Begun words 7
-begun_depth words d (within, (r, rest, order, is)) more some most same =
-    let item = pow_pos d in
-    grow words 6 r (record r { depth = d; lo = 0; hi = 0 }) rest more is (in_order _ order.stream order.not_made order.not_text order.seed order.from order.to (some, most) (omega arith, item)) (rw same refl)
+pub ended_long : (verb : Verb) (words : List (List ℕ)) (n : ℕ) → n ≤ length words → length (ended verb words n) ≡ n + (length (examples verb) - n)
+ended_long verb words n within =
+    let counted = length-take-le n words within in
+    let rest = length-drop n (examples verb) in
+    length-append (take n words) (drop n (examples verb)) ∙ omega (arith, counted, rest)
 
--- the words of the request that they begin
-pub reads_from : (words : List (List ℕ)) (n : ℕ) (r : Request) (rest : List (List ℕ)) → n < length words → words_of r ≡ take (n + 1) words ++ rest → (k : ℕ) → k ≤ n → get_or words k [] ≡ get_or (words_of r) k []
-reads_from words n r rest more is k within =
+-- each word of it has its shape
+pub ended_shaped : (some : Built) (verb : Verb) (words : List (List ℕ)) (n : ℕ) → Begun some verb words n → (i : ℕ) → i < length (shapes verb) → IsOf (get_or (shapes verb) i Name) (word (ended verb words n) (i + 1))
+ended_shaped some verb words n b i less =
+    elim (cases_lt (i + 1) n) [
+      | inl before ↦ subst (IsOf (get_or (shapes verb) i Name)) (sym (ended_before verb words n (i + 1) b.within before)) (b.shaped i less before)
+      | inr after ↦ subst (IsOf (get_or (shapes verb) i Name)) (sym (ended_after verb words n (i + 1) b.within after)) (examples_fit verb i less)
+    ]
+
+-- and asks its query
+pub ended_asked : (some : Built) (verb : Verb) (words : List (List ℕ)) (n : ℕ) → Begun some verb words n → (i : ℕ) → length (shapes verb) < i → i < length (ended verb words n) → (d : ℕ) × IsDepth d (word (ended verb words n) 6) × (query : Query) × Asks d query (word (ended verb words n) i)
+ended_asked some verb words n b i low high =
+    let long = ended_long verb words n b.within in
+    let examples_are = examples_long verb in
+    let few = least_below_most verb in
+    let most : i < 1 + length (shapes verb) + most_asked verb = omega (arith, b.most) in
+    let six = asking_has_six verb i low most in
+    elim (cases_lt i n) [
+      | inl before ↦ (
+          let a = b.asked i low before in
+          (a.0, subst (IsDepth a.0) (sym (ended_before verb words n 6 b.within (omega arith))) a.1, a.2, subst (Asks a.0 a.2) (sym (ended_before verb words n i b.within before)) a.3))
+      | inr after ↦ (
+          let deep = depth_shape verb i low most (ended verb words n) (ended_shaped some verb words n b 5 (omega arith)) in
+          (deep.0, deep.1, Sub 0 0, subst (Asks deep.0 (Sub 0 0)) (sym (ended_after verb words n i b.within after)) (example_asks verb i deep.0 low (omega arith))))
+    ]
+
+-- words that are begun begin a command
+pub begins : (some : Built) (verb : Verb) (words : List (List ℕ)) (n : ℕ) → Begun some verb words n → BeginsOf some (take n words)
+begins some verb words n b =
+    let long = ended_long verb words n b.within in
+    let examples_are = examples_long verb in
+    let few = least_below_most verb in (
+      verb,
+      drop n (examples verb),
+      record {
+        is_built = b.is_built;
+        first = ended_before verb words n 0 b.within b.some_words ∙ b.first;
+        shaped = ended_shaped some verb words n b;
+        asked = ended_asked some verb words n b;
+        least = omega arith;
+        most = omega (arith, b.most);
+      },
+    )
+
+-- no words begin `verify`
+pub begins_none : (some : Built) (words : List (List ℕ)) → BeginsOf some (take 0 words)
+begins_none some words = (
+  Verify,
+  examples Verify,
+  record {
+    is_built = refl;
+    first = refl;
+    shaped = examples_fit Verify;
+    asked = λ n low high. (1, (omega arith, omega arith, refl), Sub 0 0, example_asks Verify n 1 low high);
+    least = omega arith;
+    most = omega arith;
+  },
+)
+
+-- one word has one verb
+pub verb_once : (verb other : Verb) → verb_word verb ≡ verb_word other → verb ≡ other
+verb_once Verify Verify same = refl
+verb_once Verify Help same = absurd cc
+verb_once Verify Gen same = absurd cc
+verb_once Verify Lines same = absurd cc
+verb_once Help Verify same = absurd cc
+verb_once Help Help same = refl
+verb_once Help Gen same = absurd cc
+verb_once Help Lines same = absurd cc
+verb_once Gen Verify same = absurd cc
+verb_once Gen Help same = absurd cc
+verb_once Gen Gen same = refl
+verb_once Gen Lines same = absurd cc
+verb_once Lines Verify same = absurd cc
+verb_once Lines Help same = absurd cc
+verb_once Lines Gen same = absurd cc
+verb_once Lines Lines same = refl
+
+-- the words of a command that begins with the words up to n
+pub reads_from : (words whole rest : List (List ℕ)) (n : ℕ) → n < length words → whole ≡ take (n + 1) words ++ rest → (k : ℕ) → k ≤ n → word whole k ≡ word words k
+reads_from words whole rest n more is k within =
     let counted = length-take-le (n + 1) words (omega arith) in
-    let kept = get_or-take (n + 1) words k [] (omega arith) in
-    let front = get_or_append_left (take (n + 1) words) rest [] k (omega arith) in
-    sym (ap (λ ws. get_or ws k []) is ∙ (front ∙ kept))
+    ap (λ ws. word ws k) is ∙ (get_or_append_left (take (n + 1) words) rest [] k (omega arith) ∙ get_or-take (n + 1) words k [] (omega arith))
 
--- a query that fits the depth ends the command
-pub begun_query : (words : List (List ℕ)) (d lo hi : ℕ) → Begun words 7 → 7 < length words → d ≤ 20 → get_or words 6 [] ≡ decimal d → lo ≤ hi → hi < 2 ^ d → get_or words 7 [] ≡ query_word (Sub lo hi) → Begun words 8
-begun_query words d lo hi (within, (r, rest, order, is)) more most depth ordered fits same =
-    let known : decimal r.depth ≡ decimal d = sym (reads_from words 6 r rest (omega arith) is 6 (omega arith)) ∙ depth in
-    let one : r.depth ≡ d = decimal_injective r.depth d (omega (arith, order.depth.1)) (omega arith) known in
-    grow words 7 r (record r { lo = lo; hi = hi }) rest more is (in_order _ order.stream order.not_made order.not_text order.seed order.from order.to order.depth (ordered, rw one fits)) (rw same refl)
+-- where no command of the verb has the words up to number n, they are refused at n
+pub refused : (some : Built) (verb : Verb) (words : List (List ℕ)) (n : ℕ) → Begun some verb words n
+    → (n < length words → (whole : List (List ℕ)) → IsWhole some verb whole → n < length whole → ((k : ℕ) → k ≤ n → word whole k ≡ word words k) → ⊥)
+    → (length words ≤ n → IsWhole some verb words → ⊥)
+    → IsRefusedOf some words n
+refused some verb words n b none short = record {
+  before = begins some verb words n b;
+  here = λ more (other, rest, is).
+      let whole : List (List ℕ) = take (n + 1) words ++ rest in
+      let reads = reads_from words whole rest n more refl in
+      let same : verb ≡ other = verb_once verb other (sym b.first ∙ (sym (reads 0 (omega arith)) ∙ is.first)) in
+      let counted = length-take-le (n + 1) words (omega arith) in
+      none more whole (subst (λ v. IsWhole some v whole) (sym same) is) (omega (arith, length-append (take (n + 1) words) rest)) reads;
+  short = λ least. (
+    omega (arith, b.within),
+    λ other is.
+        let same : verb ≡ other = verb_once verb other (sym b.first ∙ is.first) in
+        short least (subst (λ v. IsWhole some v words) (sym same) is),
+  );
+}
 
--- a name of a file makes one word more
-pub begun_name : (words : List (List ℕ)) (n : ℕ) → 2 ≤ n → n < 5 → Begun words n → n < length words → get_or words n [] ≢ [] → Begun words (n + 1)
-begun_name words zero low high begun more some = absurd (omega arith)
-begun_name words (suc zero) low high begun more some = absurd (omega arith)
-begun_name words (suc (suc zero)) low high begun more some = begun_seed words begun more some
-begun_name words (suc (suc (suc zero))) low high begun more some = begun_from words begun more some
-begun_name words (suc (suc (suc (suc zero)))) low high begun more some = begun_to words begun more some
-begun_name words (suc (suc (suc (suc (suc n))))) low high begun more some = absurd (omega arith)
-
--- the names of a request are some
-pub named : (r : Request) (n : ℕ) → 2 ≤ n → n < 5 → IsInOrder r → get_or (words_of r) n [] ≢ []
-named r zero low high order = absurd (omega arith)
-named r (suc zero) low high order = absurd (omega arith)
-named r (suc (suc zero)) low high order = order.seed
-named r (suc (suc (suc zero))) low high order = order.from
-named r (suc (suc (suc (suc zero)))) low high order = order.to
-named r (suc (suc (suc (suc (suc n))))) low high order = absurd (omega arith)
-
--- where no request has the words up to number n, they are refused at n
-pub refused : (words : List (List ℕ)) (n : ℕ) → Begun words n → n < 8 → (n < length words → (r : Request) → IsInOrder r → ((k : ℕ) → k ≤ n → get_or words k [] ≡ get_or (words_of r) k []) → ⊥) → IsRefusedAt words n
-refused words n begun few none =
-    record {
-      before = begun.1;
-      here = λ more (r, rest, order, is). none more r order (reads_from words n r rest more is);
-      short = λ least. (omega (arith, begun.0), λ task (r, order, is, _). let counted = ap length is in omega arith);
-    }
-
--- a word too many is the ninth
-pub too_many : (words : List (List ℕ)) → Begun words 8 → 8 < length words → IsRefusedAt words 8
-too_many words begun more =
-    record {
-      before = begun.1;
-      here = λ _ (r, rest, order, is). let counted = ap length is in omega (arith, length-append (take 9 words) rest, length-take-le 9 words (omega arith));
-      short = λ least. absurd (omega arith);
-    }
-
--- the numbers of a request are below 2^64
-pub in_range : (r : Request) → IsInOrder r → (r.depth < 2 ^ 64) × (r.lo < 2 ^ 64) × (r.hi < 2 ^ 64)
-in_range r order =
-    let bound = pow_mono {i = r.depth} {j = 20} order.depth.1 in
-    let top = order.interval.1 in
-    let ordered = order.interval.0 in
-    let deep = order.depth.1 in
-    (omega arith, omega arith, omega arith)
-
--- eight words that begin a command are one
-pub spelled : (words : List (List ℕ)) (d lo hi : ℕ) → Begun words 8 → length words ≤ 8 → d ≤ 20 → hi < 2 ^ 64 → lo ≤ hi → get_or words 6 [] ≡ decimal d → get_or words 7 [] ≡ query_word (Sub lo hi) → Spells words (record { depth = d; queries = record { items = Sub lo hi ∷ [] } })
-spelled words d lo hi (within, (r, rest, order, is)) most deep high ordered depth query =
-    let whole = take_all 8 words most in
-    let reads = reads_from words 7 r rest (omega arith) is in
-    let range = in_range r order in
-    let one : r.depth ≡ d = decimal_injective r.depth d range.0 (omega arith) (sym (reads 6 (omega arith)) ∙ depth) in
-    let interval = same_interval r.lo r.hi lo hi range.1 range.2 (omega arith) high (sym (reads 7 (omega arith)) ∙ query) in
-    let all : words_of r ≡ words ++ rest = rw whole at is in
-    let counted = ap length all in
-    let none = nil_from_length rest (omega (arith, length-append words rest)) in
-    let same : words ≡ words_of r = sym (all ∙ (rw none (append-nil words))) in
-    (r, order, same, rw (one, interval.0, interval.1) refl)
-
--- where no depth is the word, it is refused
-pub refused_depth : (words : List (List ℕ)) → Begun words 6 → (6 < length words → (d : ℕ) → 1 ≤ d → d ≤ 20 → get_or words 6 [] ≢ decimal d) → IsRefusedAt words 6
-refused_depth words begun none =
-    refused words 6 begun (omega arith) (λ more r order reads. none more r.depth order.depth.0 order.depth.1 (reads 6 (omega arith)))
-
--- where no query that fits is the word, it is refused
-pub refused_query : (words : List (List ℕ)) (d : ℕ) → Begun words 7 → d ≤ 20 → get_or words 6 [] ≡ decimal d → (7 < length words → (lo hi : ℕ) → hi < 2 ^ 64 → (lo ≤ hi) × (hi < 2 ^ d) → get_or words 7 [] ≢ query_word (Sub lo hi)) → IsRefusedAt words 7
-refused_query words d begun most depth none =
-    refused words 7 begun (omega arith) (λ more r order reads.
-    let range = in_range r order in
-    let one : d ≡ r.depth = decimal_injective d r.depth (omega arith) range.0 (sym depth ∙ reads 6 (omega arith)) in
-    none more r.lo r.hi range.2 (order.interval.0, rw one order.interval.1) (reads 7 (omega arith)))
+-- where word 0 is no verb, it is refused
+pub refused_verb : (some : Built) (words : List (List ℕ)) → ((verb : Verb) → 0 < length words → IsTrue (has_verb some verb) → word words 0 ≢ verb_word verb) → IsRefusedOf some words 0
+refused_verb some words none = record {
+  before = begins_none some words;
+  here = λ more (verb, rest, is).
+      let reads = reads_from words (take 1 words ++ rest) rest 0 more refl 0 (omega arith) in
+      none verb more is.is_built (sym reads ∙ is.first);
+  short = λ least. (omega arith, λ verb is. let enough = is.least in omega arith);
+}

@@ -9,6 +9,9 @@ pub mod StatedLevels
 pub mod Decimals
 pub mod QueryWords
 pub mod Beginning
+pub mod Stopping
+pub mod StreamWords
+pub mod MadePorts
 pub mod Refusals
 pub mod Getting
 pub mod RunLemmas

@@ -1,14 +1,17 @@
 -- The word of a query: where its parts stand, and that no two queries share one.
-use Rattle.std.proofs.Common.{◌≡◌, ◌≢◌, ◌↔◌, Bool, true, false, IsTrue, ℕ, ◌^◌, ◌<◌, suc, List, [], ◌∷◌, ◌++◌, length, get_or, Option, Some, Bor, MatchOption, refl, arith}
+use Rattle.std.proofs.Common.{◌≡◌, ◌≢◌, ◌↔◌, Bool, true, false, IsTrue, ℕ, ◌^◌, ◌<◌, ◌≤◌, suc, List, [], ◌∷◌, ◌++◌, length, get_or, Option, Some, Bor, MatchOption, sym, refl, ◌∙◌, arith}
 use Rattle.std.specs.Prelude.{codes, decimal}
 use Rattle.std.proofs.lemmas.Fmt.{decimal_injective, digits_decimal}
+use Rattle.std.proofs.Math.Pow.{pow_mono}
 use Rattle.std.specs.Bool.{then_some}
 use Rattle.std.specs.Str.Pattern.{StripsPrefix, FindsTextPrefix}
 use Rattle.std.proofs.lemmas.Str.Parse.{not_in_digits}
 use Rattle.std.proofs.lemmas.Str.Pattern.{IsSplitOnceResult, split_after, split_parts}
-use Rattle.sip_vector.specs.declared.query.Query.TheVariants.{Sub}
+use Rattle.sip_vector.specs.declared.query.Query.{Query}
+use Rattle.sip_vector.specs.declared.query.Query.TheVariants.{Sub, Range, F2, Inner, Heavy}
 use Rattle.sip_vector.specs.Answers.{Fits}
 use Rattle.sip_verifier.specs.Reports.{query_word}
+use Rattle.sip_cli.specs.Shapes.{Asks}
 use Rattle.sip_cli.proofs.Decimals.{digits}
 
 -- no element is c
@@ -62,11 +65,28 @@ joined word rest x front split lo hi first second =
     let behind = parts.0 in
     cc
 
+-- a query that a word asks is an interval
+pub asked_interval : (depth : ℕ) (query : Query) (word : List ℕ) → depth ≤ 32 → Asks depth query word → (lo : ℕ) × (hi : ℕ) × (query ≡ Sub lo hi) × (lo ≤ hi) × (hi < 2 ^ depth) × (hi < 2 ^ 64) × (word ≡ query_word (Sub lo hi))
+asked_interval depth (Sub lo hi) word deep (_, fits, is) = let bound = pow_mono {i = depth} {j = 32} deep in (lo, hi, refl, fits.0, fits.1, omega (arith, fits.1), is)
+asked_interval depth (Range side lo hi) word deep (never, fits, is) = absurd cc
+asked_interval depth (F2 side) word deep (never, fits, is) = absurd cc
+asked_interval depth Inner word deep (never, fits, is) = absurd cc
+asked_interval depth (Heavy side at_least) word deep (never, fits, is) = absurd cc
+
+-- a word asks one query
+pub query_once : (depth : ℕ) (query other : Query) (word : List ℕ) → depth ≤ 32 → Asks depth query word → Asks depth other word → query ≡ other
+query_once depth query other word deep asks also =
+    let q = asked_interval depth query word deep asks in
+    let r = asked_interval depth other word deep also in
+    let one = same_interval q.0 q.1 r.0 r.1 (omega (arith, q.3)) q.5 (omega (arith, r.3)) r.5 (sym q.6 ∙ r.6) in
+    q.2 ∙ (rw (one.0, one.1) (sym r.2))
+
 -- the query of the word, where it fits
-pub chosen : (depth a b : ℕ) (word : List ℕ) (fits : Bool) → a < 2 ^ 64 → b < 2 ^ 64 → IsTrue fits ↔ Fits depth (Sub a b) → word ≡ query_word (Sub a b) → MatchOption (then_some fits (Sub a b)) ((lo hi : ℕ) → hi < 2 ^ 64 → Fits depth (Sub lo hi) → word ≢ query_word (Sub lo hi)) (λ query. (lo : ℕ) × (hi : ℕ) × (query ≡ Sub lo hi) × (hi < 2 ^ 64) × Fits depth query × (word ≡ query_word query))
-chosen depth a b word true low high fits same = (a, b, refl, high, fits.0 refl, same)
-chosen depth a b word false low high fits same =
-    λ lo hi small within other.
-    let one = same_interval a b lo hi low high (omega (arith, within.0)) small cc in
-    let never : false ≡ true = fits.1 (rw (one.0, one.1) within) in
+pub chosen : (depth a b : ℕ) (word : List ℕ) (fits : Bool) → depth ≤ 32 → a < 2 ^ 64 → b < 2 ^ 64 → IsTrue fits ↔ Fits depth (Sub a b) → word ≡ query_word (Sub a b) → MatchOption (then_some fits (Sub a b)) ((query : Query) → Asks depth query word → ⊥) (λ query. Asks depth query word)
+chosen depth a b word true deep low high fits same = (refl, fits.0 refl, same)
+chosen depth a b word false deep low high fits same =
+    λ query asks.
+    let q = asked_interval depth query word deep asks in
+    let one = same_interval a b q.0 q.1 low high (omega (arith, q.3)) q.5 (sym same ∙ q.6) in
+    let never : false ≡ true = fits.1 (rw (one.0, one.1) (q.3, q.4)) in
     cc

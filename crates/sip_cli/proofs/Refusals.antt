@@ -1,60 +1,102 @@
--- Words are refused at one number at most, and words of a task at none; the words tell the task.
-use Rattle.std.proofs.Common.{◌≡◌, ℕ, ◌+◌, ◌<◌, ◌≤◌, List, [], ◌++◌, length, get_or, take, drop, sym, refl, ap, ◌∙◌, inl, inr, arith}
+-- Words are refused at one number at most, and words of a command at none; the words tell the task.
+use Rattle.std.proofs.Common.{◌≡◌, IsTrue, ℕ, suc, ◌+◌, ◌^◌, ◌<◌, ◌≤◌, List, [], ◌∷◌, ◌++◌, length, get_or, take, drop, sym, refl, ap, subst, ◌∙◌, inl, inr, arith}
 use Rattle.std.proofs.lemmas.Bool.{cases_lt}
-use Rattle.std.proofs.lemmas.Fmt.{decimal_injective}
-use Rattle.std.proofs.lemmas.List.{take-append-drop, take-take, append_assoc}
+use Rattle.std.proofs.lemmas.List.{take-append-drop, take-take, append_assoc, append-nil, ext_get_or}
+use Rattle.sip_stream.specs.declared.form.Form.{Form}
+use Rattle.sip_vector.specs.declared.query.Query.{Query}
+use Rattle.sip_vector.specs.declared.query.Query.TheVariants.{Inner}
 use Rattle.sip_verifier.specs.declared.task.Task.{Task}
 use Rattle.sip_cli.specs.declared.command.Command.{Command}
-use Rattle.sip_cli.specs.declared.command.Command.TheVariants.{Verify}
-use Rattle.sip_cli.specs.Command.{IsCommand}
-use Rattle.sip_cli.specs.Words.{words_of, BeginsCommand, IsRefusedAt, Spells}
-use Rattle.sip_cli.proofs.QueryWords.{same_interval}
-use Rattle.sip_cli.proofs.Beginning.{in_range}
+use Rattle.sip_cli.specs.declared.command.Command.TheVariants as command
+use Rattle.sip_cli.specs.declared.verb.Built.{Built}
+use Rattle.sip_cli.specs.declared.verb.Verb.{Verb}
+use Rattle.sip_cli.specs.declared.verb.Verb.TheVariants as verb
+use Rattle.sip_cli.specs.Shapes.{Asks}
+use Rattle.sip_cli.specs.Words.{word, IsWhole, SaysTask, SpellsOf, BeginsOf, IsRefusedOf}
+use Rattle.sip_cli.proofs.QueryWords.{query_once}
+use Rattle.sip_cli.proofs.StreamWords.{form_once}
+use Rattle.sip_cli.proofs.Beginning.{verb_once}
+use Rattle.sip_cli.proofs.Stopping.{depth_once}
 
 -- fewer words begin a command too
-pub begins_fewer : (words : List (List ℕ)) (m n : ℕ) → m ≤ n → BeginsCommand (take n words) → BeginsCommand (take m words)
-begins_fewer words m n fewer (r, rest, order, is) =
+pub begins_fewer : (some : Built) (words : List (List ℕ)) (m n : ℕ) → m ≤ n → BeginsOf some (take n words) → BeginsOf some (take m words)
+begins_fewer some words m n fewer (v, rest, is) =
     let parts = take-append-drop m (take n words) in
     let front = take-take m n words fewer in
     let split : take n words ≡ take m words ++ drop m (take n words) = sym (rw front at parts) in
-    (r, drop m (take n words) ++ rest, order, is ∙ (ap (λ ws. ws ++ rest) split ∙ append_assoc (take m words) (drop m (take n words)) rest))
+    let whole : take n words ++ rest ≡ take m words ++ (drop m (take n words) ++ rest) = ap (λ ws. ws ++ rest) split ∙ append_assoc (take m words) (drop m (take n words)) rest in
+    (v, drop m (take n words) ++ rest, subst (IsWhole some v) whole is)
 
-refused_before : (words : List (List ℕ)) (m n : ℕ) → m < n → IsRefusedAt words m → IsRefusedAt words n → ⊥
-refused_before words m n less first second =
+refused_before : (some : Built) (words : List (List ℕ)) (m n : ℕ) → m < n → IsRefusedOf some words m → IsRefusedOf some words n → ⊥
+refused_before some words m n less first second =
     elim (cases_lt m (length words)) [
-      | inl more ↦ first.here more (begins_fewer words (m + 1) n (omega arith) second.before)
+      | inl more ↦ first.here more (begins_fewer some words (m + 1) n (omega arith) second.before)
       | inr least ↦ (let one = (first.short least).0 in let other = (second.short (omega arith)).0 in omega arith)
     ]
 
 -- words are refused at one number at most
-pub refused_once : (words : List (List ℕ)) (m n : ℕ) → IsRefusedAt words m → IsRefusedAt words n → m ≡ n
-refused_once words m n first second =
+pub refused_once : (some : Built) (words : List (List ℕ)) (m n : ℕ) → IsRefusedOf some words m → IsRefusedOf some words n → m ≡ n
+refused_once some words m n first second =
     elim (cases_lt m n) [
-      | inl less ↦ absurd (refused_before words m n less first second)
+      | inl less ↦ absurd (refused_before some words m n less first second)
       | inr least ↦ elim (cases_lt n m) [
-        | inl more ↦ absurd (refused_before words n m more second first)
+        | inl more ↦ absurd (refused_before some words n m more second first)
         | inr most ↦ omega arith
       ]
     ]
 
--- words that spell a task are refused at no number
-pub spelled_not_refused : (words : List (List ℕ)) (task : Task) (n : ℕ) → Spells words task → IsRefusedAt words n → ⊥
-spelled_not_refused words task n (r, order, is, same) refused =
+-- the words of a command are whole
+pub whole_of : (some : Built) (words : List (List ℕ)) (c : Command) → SpellsOf some words c → (v : Verb) × IsWhole some v words
+whole_of some words (command.Verify task) s = (verb.Verify, s.0)
+whole_of some words command.Help s = (verb.Help, s)
+whole_of some words (command.Gen depth) s = (verb.Gen, s.0)
+whole_of some words (command.Lines form depth) s = (verb.Lines, s.0)
+
+-- and are refused at no number
+pub spelled_not_refused : (some : Built) (words : List (List ℕ)) (c : Command) (n : ℕ) → SpellsOf some words c → IsRefusedOf some words n → ⊥
+spelled_not_refused some words c n s refused =
+    let whole = whole_of some words c s in
     elim (cases_lt n (length words)) [
-      | inl more ↦ refused.here more (r, drop (n + 1) words, order, sym is ∙ sym (take-append-drop (n + 1) words))
-      | inr least ↦ (refused.short least).1 task (r, order, is, same)
+      | inl more ↦ refused.here more (whole.0, drop (n + 1) words, subst (IsWhole some whole.0) (sym (take-append-drop (n + 1) words)) whole.1)
+      | inr least ↦ (refused.short least).1 whole.0 whole.1
     ]
 
--- nor are the words of a command
-pub command_not_refused : (words : List (List ℕ)) (command : Command) (n : ℕ) → IsCommand words command → IsRefusedAt words n → ⊥
-command_not_refused words (Verify task) n is refused = spelled_not_refused words task n is refused
+-- a task of these parts
+abbrev pub task_of : ℕ → Form → List Query → Task
+task_of depth form items = record { depth = depth; form = form; queries = record { items = items } }
 
--- words spell one task at most
-pub spelled_once : (words : List (List ℕ)) (task other : Task) → Spells words task → Spells words other → task ≡ other
-spelled_once words task other (r, order, is, same) (s, order', is', same') =
-    let range = in_range r order in
-    let range' = in_range s order' in
-    let alike : words_of r ≡ words_of s = sym is ∙ is' in
-    let depth = decimal_injective r.depth s.depth range.0 range'.0 (ap (λ ws. get_or ws 6 []) alike) in
-    let interval = same_interval r.lo r.hi s.lo s.hi range.1 range.2 range'.1 range'.2 (ap (λ ws. get_or ws 7 []) alike) in
-    rw (same, same', depth, interval.0, interval.1) refl
+-- words say one task at most
+pub task_once : (words : List (List ℕ)) (task other : Task) → SaysTask words task → SaysTask words other → task ≡ other
+task_once words task other s t =
+    let depth : task.depth ≡ other.depth = depth_once (word words 6) task.depth other.depth s.depth t.depth in
+    let form : task.form ≡ other.form = form_once task.form other.form (word words 1) s.form t.form in
+    let count = s.count in
+    let count' = t.count in
+    let items : task.queries.items ≡ other.queries.items = ext_get_or Inner task.queries.items other.queries.items (omega arith)
+    (λ i less. query_once task.depth (get_or task.queries.items i Inner) (get_or other.queries.items i Inner) (word words (7 + i)) (omega (arith, s.depth.1)) (s.queries i less)
+    (subst (λ d. Asks d (get_or other.queries.items i Inner) (word words (7 + i))) (sym depth) (t.queries i (omega arith)))) in
+    ap (λ d. task_of d task.form task.queries.items) depth ∙ (ap (λ f. task_of other.depth f task.queries.items) form ∙ ap (λ qs. task_of other.depth other.form qs) items)
+
+-- words have one verb
+pub verbs_agree : (some : Built) (words : List (List ℕ)) (v w : Verb) → IsWhole some v words → IsWhole some w words → v ≡ w
+verbs_agree some words v w a b = verb_once v w (sym a.first ∙ b.first)
+
+-- words spell one command at most
+pub command_once : (some : Built) (words : List (List ℕ)) (c d : Command) → SpellsOf some words c → SpellsOf some words d → c ≡ d
+command_once some words (command.Verify task) (command.Verify other) s t = ap command.Verify (task_once words task other s.1 t.1)
+command_once some words (command.Verify task) command.Help s t = absurd (let same = verbs_agree some words verb.Verify verb.Help s.0 t in cc)
+command_once some words (command.Verify task) (command.Gen e) s t = absurd (let same = verbs_agree some words verb.Verify verb.Gen s.0 t.0 in cc)
+command_once some words (command.Verify task) (command.Lines g e) s t = absurd (let same = verbs_agree some words verb.Verify verb.Lines s.0 t.0 in cc)
+command_once some words command.Help (command.Verify other) s t = absurd (let same = verbs_agree some words verb.Help verb.Verify s t.0 in cc)
+command_once some words command.Help command.Help s t = refl
+command_once some words command.Help (command.Gen e) s t = absurd (let same = verbs_agree some words verb.Help verb.Gen s t.0 in cc)
+command_once some words command.Help (command.Lines g e) s t = absurd (let same = verbs_agree some words verb.Help verb.Lines s t.0 in cc)
+command_once some words (command.Gen d) (command.Verify other) s t = absurd (let same = verbs_agree some words verb.Gen verb.Verify s.0 t.0 in cc)
+command_once some words (command.Gen d) command.Help s t = absurd (let same = verbs_agree some words verb.Gen verb.Help s.0 t in cc)
+command_once some words (command.Gen d) (command.Gen e) s t = ap command.Gen (depth_once (word words 3) d e s.1 t.1)
+command_once some words (command.Gen d) (command.Lines g e) s t = absurd (let same = verbs_agree some words verb.Gen verb.Lines s.0 t.0 in cc)
+command_once some words (command.Lines f d) (command.Verify other) s t = absurd (let same = verbs_agree some words verb.Lines verb.Verify s.0 t.0 in cc)
+command_once some words (command.Lines f d) command.Help s t = absurd (let same = verbs_agree some words verb.Lines verb.Help s.0 t in cc)
+command_once some words (command.Lines f d) (command.Gen e) s t = absurd (let same = verbs_agree some words verb.Lines verb.Gen s.0 t.0 in cc)
+command_once some words (command.Lines f d) (command.Lines g e) s t =
+    ap (λ form. command.Lines form d) (form_once f g (word words 1) s.1 t.1) ∙ ap (λ depth. command.Lines g depth) (depth_once (word words 2) d e s.2 t.2)

@@ -1,11 +1,13 @@
 pub mod Words
+pub mod Shapes
+pub mod Verbs
+pub mod Progress
 pub mod Feeding
 pub mod Asking
 pub mod Taking
 pub mod Drawing
 pub mod Promises
 pub mod Ending
-pub mod Command
 pub mod Plan
 pub mod Exit
 pub mod StatusLine

@@ -1,6 +1,9 @@
 -- The three promises on one call, together.
-use Rattle.std.specs.Prelude.{◌≡◌, ℕ, ◌^◌, ◌<◌, ◌≤◌, [], ◌∷◌}
+use Rattle.std.specs.Prelude.{◌≡◌, ℕ, ◌^◌, ◌<◌, ◌≤◌, ⊤, [], ◌∷◌}
+use Rattle.sip_stream.specs.declared.form.Form.TheVariants.{Binary}
 use Rattle.sip_vector.specs.declared.query.Query.TheVariants.{Sub}
+use Rattle.sip_cli.specs.declared.command.Command.{Command}
+use Rattle.sip_cli.specs.declared.command.Command.TheVariants.{Verify, Help, Gen, Lines}
 use Rattle.sip_verifier.specs.declared.status.Status.{Status}
 use Rattle.sip_verifier.specs.declared.task.Task.{Task}
 use Rattle.sip_verifier.specs.CauseClause.{CauseClause, Counts}
@@ -8,9 +11,9 @@ use Rattle.sip_verifier.specs.Exchanges.{Exchange}
 use Rattle.sip_verifier.specs.TalkClause.{TalkClause}
 use Rattle.sip_verifier.specs.VerdictClause.{VerdictClause}
 
--- the task of one sub-vector
+-- the task of one sub-vector, of a binary stream
 abbrev pub one_query : ℕ → ℕ → ℕ → Task
-one_query depth lo hi = record { depth = depth; queries = record { items = Sub lo hi ∷ [] } }
+one_query depth lo hi = record { depth = depth; form = Binary; queries = record { items = Sub lo hi ∷ [] } }
 
 pub record Promises (task : Task) (x : Exchange) (before now : Counts) (status : Status) : Type 0 where
   pub verdict : VerdictClause task x status
@@ -25,3 +28,10 @@ pub record IsServed (task : Task) : Type 0 where
   pub shallow : task.depth ≤ 20
   pub order : lo ≤ hi
   pub within : hi < 2 ^ task.depth
+
+-- the command is to verify
+abbrev pub IsVerify : Command → Type 0
+IsVerify (Verify _) = ⊤
+IsVerify Help = ⊥
+IsVerify (Gen _) = ⊥
+IsVerify (Lines _ _) = ⊥

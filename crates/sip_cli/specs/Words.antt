@@ -1,49 +1,58 @@
 -- The words of a command.
-use Rattle.std.specs.Prelude.{◌≡◌, ◌≢◌, ℕ, ◌+◌, ◌^◌, ◌<◌, ◌≤◌, false, nat_eq, List, [], ◌∷◌, ◌++◌, length, take, codes, decimal}
-use Rattle.std.specs.List.{starts_with}
-use Rattle.sip_vector.specs.declared.query.Query.TheVariants.{Sub}
+use Rattle.std.specs.Prelude.{◌≡◌, ℕ, ◌+◌, ◌<◌, ◌≤◌, IsTrue, List, [], ◌++◌, length, take, slice_index_or, decimal}
+use Rattle.sip_vector.specs.declared.query.Query.{Query}
+use Rattle.sip_vector.specs.declared.query.Query.TheVariants.{Inner}
 use Rattle.sip_verifier.specs.declared.task.Task.{Task}
-use Rattle.sip_verifier.specs.Reports.{query_word}
+use Rattle.sip_cli.specs.declared.command.Command.{Command}
+use Rattle.sip_cli.specs.declared.command.Command.TheVariants as command
+use Rattle.sip_cli.specs.declared.shape.Shape.TheVariants.{Name}
+use Rattle.sip_cli.specs.declared.verb.Built.{Built}
+use Rattle.sip_cli.specs.declared.verb.Verb.{Verb}
+use Rattle.sip_cli.specs.declared.verb.Verb.TheVariants as verb
+use Rattle.sip_cli.specs.Shapes.{IsOf, HasForm, IsDepth, Asks}
+use Rattle.sip_cli.specs.Verbs.{built, has_verb, verb_word, shapes, least_asked, most_asked}
 
--- what `verify` is told: the names of four files, a depth and an interval
-pub record Request : Type 0 where
-  pub stream : List ℕ
-  pub seed : List ℕ
-  pub from : List ℕ
-  pub to : List ℕ
-  pub depth : ℕ
-  pub lo : ℕ
-  pub hi : ℕ
+-- word n, from 0
+abbrev pub word : List (List ℕ) → ℕ → List ℕ
+word words n = slice_index_or words n []
 
--- A request is in order. The depth is at most 20 as long as levels are kept whole.
-pub record IsInOrder (r : Request) : Type 0 where
-  pub stream : r.stream ≢ []
-  pub not_made : starts_with nat_eq r.stream (codes "made:") ≡ false
-  pub not_text : starts_with nat_eq r.stream (codes "text:") ≡ false
-  pub seed : r.seed ≢ []
-  pub from : r.from ≢ []
-  pub to : r.to ≢ []
-  pub depth : (1 ≤ r.depth) × (r.depth ≤ 20)
-  pub interval : (r.lo ≤ r.hi) × (r.hi < 2 ^ r.depth)
+-- The words are a command of this verb, of those that are built. Its queries fit the depth that word 6 says.
+pub record IsWhole (some : Built) (verb : Verb) (words : List (List ℕ)) : Type 0 where
+  pub is_built : IsTrue (has_verb some verb)
+  pub first : word words 0 ≡ verb_word verb
+  pub shaped : (n : ℕ) → n < length (shapes verb) → IsOf (slice_index_or (shapes verb) n Name) (word words (n + 1))
+  pub asked : (n : ℕ) → length (shapes verb) < n → n < length words → (d : ℕ) × IsDepth d (word words 6) × (query : Query) × Asks d query (word words n)
+  pub least : 1 + length (shapes verb) + least_asked verb ≤ length words
+  pub most : length words ≤ 1 + length (shapes verb) + most_asked verb
 
--- verify STREAM SEED FROM TO - DEPTH sub:LO:HI
-abbrev pub words_of : Request → List (List ℕ)
-words_of r = codes "verify" ∷ r.stream ∷ r.seed ∷ r.from ∷ r.to ∷ codes "-" ∷ decimal r.depth ∷ query_word (Sub r.lo r.hi) ∷ []
+-- the words of `verify` say this task
+pub record SaysTask (words : List (List ℕ)) (task : Task) : Type 0 where
+  pub form : HasForm task.form (word words 1)
+  pub depth : IsDepth task.depth (word words 6)
+  pub count : length words ≡ 7 + length task.queries.items
+  pub queries : (i : ℕ) → i < length task.queries.items → Asks task.depth (slice_index_or task.queries.items i Inner) (word words (7 + i))
 
-abbrev pub task_of : Request → Task
-task_of r = record { depth = r.depth; queries = record { items = Sub r.lo r.hi ∷ [] } }
-
--- the words are those of a request with this task
-abbrev pub Spells : List (List ℕ) → Task → Type 0
-Spells words task = (r : Request) × IsInOrder r × (words ≡ words_of r) × (task ≡ task_of r)
+-- the words are those of this command
+abbrev pub SpellsOf : Built → List (List ℕ) → Command → Type 0
+SpellsOf some words (command.Verify task) = IsWhole some verb.Verify words × SaysTask words task
+SpellsOf some words command.Help = IsWhole some verb.Help words
+SpellsOf some words (command.Gen depth) = IsWhole some verb.Gen words × IsDepth depth (word words 3)
+SpellsOf some words (command.Lines form depth) = IsWhole some verb.Lines words × HasForm form (word words 1) × IsDepth depth (word words 2)
 
 -- some command begins with these words
-abbrev pub BeginsCommand : List (List ℕ) → Type 0
-BeginsCommand words = (r : Request) × (rest : List (List ℕ)) × IsInOrder r × (words_of r ≡ words ++ rest)
+abbrev pub BeginsOf : Built → List (List ℕ) → Type 0
+BeginsOf some words = (verb : Verb) × (rest : List (List ℕ)) × IsWhole some verb (words ++ rest)
 
 -- Word n, from 0, is the first one such that the words up to it begin no command; or all words begin one, but are
 -- none, and n is their number.
-pub record IsRefusedAt (words : List (List ℕ)) (n : ℕ) : Type 0 where
-  pub before : BeginsCommand (take n words)
-  pub here : n < length words → BeginsCommand (take (n + 1) words) → ⊥
-  pub short : length words ≤ n → (n ≡ length words) × ((task : Task) → Spells words task → ⊥)
+pub record IsRefusedOf (some : Built) (words : List (List ℕ)) (n : ℕ) : Type 0 where
+  pub before : BeginsOf some (take n words)
+  pub here : n < length words → BeginsOf some (take (n + 1) words) → ⊥
+  pub short : length words ≤ n → (n ≡ length words) × ((verb : Verb) → IsWhole some verb words → ⊥)
+
+-- the same of the commands that `sip` has
+abbrev pub Spells : List (List ℕ) → Command → Type 0
+Spells = SpellsOf built
+
+abbrev pub IsRefusedAt : List (List ℕ) → ℕ → Type 0
+IsRefusedAt = IsRefusedOf built

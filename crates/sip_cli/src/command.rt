@@ -1,109 +1,208 @@
 //! What a command asks for.
 
-ghost use Rattle.std.specs.Prelude.{◌≡◌, ◌≢◌, ◌↔◌, ℕ, ◌<◌, ◌≤◌, ◌^◌, false, nat_eq, IsTrue, MatchOption, OnOk, IfOk, IfErr, [], slice_index_or, codes, decimal, length, take};
-ghost use Rattle.std.specs.List.{starts_with};
-ghost use Rattle.sip_vector.specs.Answers.{Fits};
-ghost use Rattle.sip_verifier.specs.Reports.{query_word};
-ghost use Rattle.sip_cli.specs.Command.{IsCommand};
-ghost use Rattle.sip_cli.specs.Words.{BeginsCommand, IsRefusedAt};
+ghost use Rattle.std.specs.Prelude.{◌≡◌, ◌≢◌, ℕ, ◌+◌, ◌<◌, ◌≤◌, IsTrue, ◌↔◌, MatchOption, OnOk, IfOk, IfErr, length};
+ghost use Rattle.sip_cli.specs.Shapes.{IsDepth, HasForm};
+ghost use Rattle.sip_cli.specs.Words.{Spells, SpellsOf, IsRefusedAt, IsRefusedOf, word};
+ghost use Rattle.sip_cli.specs.Verbs.{verb_word, has_verb, most_queries};
+ghost use Rattle.sip_cli.specs.Progress.{Fitted, HaveShapes, AreAsked, StopsInShapes, StopsInQueries};
+ghost use Rattle.sip_cli.specs.declared.verb.Built.{Built as AnyBuilt};
+ghost use Rattle.sip_cli.specs.declared.verb.Verb.{Verb as AnyVerb};
 
 use crate::decimal::read_decimal;
 use crate::query::read_query;
+use crate::shape::Shape;
+use crate::stream::stream_of;
+use crate::verb::{BUILT, Built, Verb};
 use crate::{Usage, Words};
 use arrayvec::ArrayVec;
+use sip_stream::Form;
 use sip_vector::{Depth, Query};
 use sip_verifier::Task;
 
 /// What the program is to do.
 #[derive(Drop)]
 pub enum Command {
-    /// To verify answers about a stream: `verify STREAM SEED FROM TO - DEPTH sub:LO:HI`.
+    /// To verify answers about a stream: `verify STREAM SEED FROM TO - DEPTH QUERY..`.
     Verify(Task),
+    /// To help another side to verify: `help FROM TO`.
+    Help,
+    /// To write a made stream: `gen NUMBER COUNT DEPTH`.
+    Gen { depth: Depth },
+    /// To write a stream as lines of text: `lines STREAM DEPTH`.
+    Lines { form: Form, depth: Depth },
 }
 
-/// The greatest depth as long as the levels of a vector's tree are kept whole.
-const MOST_DEPTH: u64 = 20;
+/// The number of the first query of `verify`.
+const FIRST_QUERY: usize = 7;
 
-// Whether there is a word of this number and it is this text.
-fn is_word(words: &Words, number: usize, text: &str) -> bool
-    ensures { IsTrue result ↔ ((number < length words.now) × (slice_index_or words.now number [] ≡ text.now)) }
+/// The most queries of `verify`, as long as a run asks one.
+const MOST_QUERIES: usize = 1;
+
+// The verb that word 0 is.
+fn verb_of(words: &Words, built: Built) -> Option<Verb>
+    ensures { MatchOption result
+        ((verb : AnyVerb) → 0 < length words.now → IsTrue (has_verb built verb) → word words.now 0 ≢ verb_word verb)
+        (λ verb. (0 < length words.now) × IsTrue (has_verb built verb) × (word words.now 0 ≡ verb_word verb)) }
 {
-    match words.get(number) {
-        Some(word) => word == text,
-        None => false,
+    built.verb(words.get(0)?)
+}
+
+// The words behind the verb have these shapes.
+fn check_shapes(words: &Words, shapes: &[Shape]) -> Result<(), Usage>
+    requires some { 0 < length words.now }
+    requires few { length shapes.now ≤ 6 }
+    ensures fitting { OnOk result (HaveShapes shapes.now words.now (length shapes.now)) }
+    ensures refused { IfErr result (λ usage. StopsInShapes shapes.now words.now usage.word) }
+{
+    for (index, shape) in shapes.iter().enumerate() {
+        let number = index + 1;
+        if !words.get(number).is_some_and(|word| shape.is_of(word)) {
+            return Err(Usage {
+                word: number as u32,
+            });
+        }
     }
+    Ok(())
 }
 
-// Whether there is a word of this number and it can name a file.
-fn is_name(words: &Words, number: usize) -> bool
-    ensures { IsTrue result ↔ ((number < length words.now) × (slice_index_or words.now number [] ≢ [])) }
+// Whether there is a word of this number.
+fn has_word(words: &Words, number: usize) -> bool
+    ensures { IsTrue result ↔ (number < length words.now) }
 {
-    words.get(number).is_some_and(|word| !word.is_empty())
+    words.get(number).is_some()
 }
 
-// Whether a word can name the stream's file. What begins with `made:` or `text:` is kept for streams of other kinds.
-fn is_stream_name(word: &str) -> bool
-    ensures { IsTrue result ↔ ((word.now ≢ [])
-        × (starts_with nat_eq word.now (codes "made:") ≡ false)
-        × (starts_with nat_eq word.now (codes "text:") ≡ false)) }
+// The form of the stream of word 1.
+fn form_of(words: &Words) -> Option<Form>
+    ensures { MatchOption result
+        (1 < length words.now → (form : Form) → HasForm form (word words.now 1) → ⊥)
+        (λ form. HasForm form (word words.now 1)) }
 {
-    !word.is_empty() && !word.starts_with("made:") && !word.starts_with("text:")
-}
-
-// Whether there is a word of this number and it can name the stream's file.
-fn is_stream(words: &Words, number: usize) -> bool
-    ensures { IsTrue result ↔ ((number < length words.now)
-        × (slice_index_or words.now number [] ≢ [])
-        × (starts_with nat_eq (slice_index_or words.now number []) (codes "made:") ≡ false)
-        × (starts_with nat_eq (slice_index_or words.now number []) (codes "text:") ≡ false)) }
-{
-    words.get(number).is_some_and(is_stream_name)
+    Some(stream_of(words)?.form())
 }
 
 // The depth that a word of this number gives.
 fn depth_at(words: &Words, number: usize) -> Option<Depth>
     ensures { MatchOption result
-        (number < length words.now → (d : ℕ) → 1 ≤ d → d ≤ 20 → slice_index_or words.now number [] ≢ decimal d)
-        (λ d. (number < length words.now) × (1 ≤ d) × (d ≤ 20) × (slice_index_or words.now number [] ≡ decimal d)) }
+        (number < length words.now → (d : ℕ) → IsDepth d (word words.now number) → ⊥)
+        (λ depth. (number < length words.now) × IsDepth depth (word words.now number)) }
 {
     let levels = read_decimal(words.get(number)?)?;
-    if levels > MOST_DEPTH {
+    if levels > Depth::MOST as u64 {
         return None;
     }
     Depth::new(levels as u8)
 }
 
-// The query that a word of this number asks.
-fn query_at(words: &Words, number: usize, depth: Depth) -> Option<Query>
-    ensures { MatchOption result
-        (number < length words.now → (lo hi : ℕ) → hi < 2 ^ 64 → Fits depth (Query.Sub lo hi)
-        → slice_index_or words.now number [] ≢ query_word (Query.Sub lo hi))
-        (λ query. (number < length words.now) × ((lo : ℕ) × (hi : ℕ) × (query ≡ Query.Sub lo hi) × (hi < 2 ^ 64)
-        × Fits depth query × (slice_index_or words.now number [] ≡ query_word query))) }
+// The queries of `verify`.
+fn read_queries(words: &Words, depth: Depth) -> Result<ArrayVec<Query, 16>, Usage>
+    requires shaped { 7 ≤ length words.now }
+    ensures asked { IfOk result (λ queries. AreAsked words.now depth queries.items (length words.now)) }
+    ensures count { OnOk result ((8 ≤ length words.now) × (length words.now ≤ 7 + most_queries)) }
+    ensures refused { IfErr result (λ usage. StopsInQueries words.now depth usage.word) }
 {
-    read_query(words.get(number)?, depth)
+    let mut queries = ArrayVec::new();
+    for number in FIRST_QUERY..FIRST_QUERY + MOST_QUERIES {
+        let Some(word) = words.get(number) else {
+            return if number == FIRST_QUERY {
+                Err(Usage {
+                    word: number as u32,
+                })
+            } else {
+                Ok(queries)
+            };
+        };
+        let Some(query) = read_query(word, depth) else {
+            return Err(Usage {
+                word: number as u32,
+            });
+        };
+        queries.push(query);
+    }
+    if has_word(words, FIRST_QUERY + MOST_QUERIES) {
+        return Err(Usage {
+            word: (FIRST_QUERY + MOST_QUERIES) as u32,
+        });
+    }
+    Ok(queries)
 }
 
-// The words of the verb and the files, up to number 5, begin a command.
-fn check_files(words: &Words) -> Result<(), Usage>
-    ensures begun { OnOk result ((6 ≤ length words.now) × BeginsCommand (take 6 words.now)) }
-    ensures refused { IfErr result (λ usage. IsRefusedAt words.now usage.word) }
+// The rest of `verify`, whose words up to DEPTH have their shapes.
+fn read_verify(words: &Words) -> Result<Command, Usage>
+    ensures command { IfOk result (λ command. (built : AnyBuilt) → Fitted built Verb.Verify words.now → SpellsOf built words.now command) }
+    ensures refused { IfErr result (λ usage. (built : AnyBuilt) → Fitted built Verb.Verify words.now → IsRefusedOf built words.now usage.word) }
 {
-    if !is_word(words, 0, "verify") {
-        return Err(Usage { word: 0 });
-    }
-    if !is_stream(words, 1) {
+    let Some(form) = form_of(words) else {
         return Err(Usage { word: 1 });
+    };
+    let Some(depth) = depth_at(words, 6) else {
+        return Err(Usage { word: 6 });
+    };
+    let queries = read_queries(words, depth)?;
+    Ok(Command::Verify(Task {
+        depth,
+        form,
+        queries,
+    }))
+}
+
+// The rest of `help`.
+fn read_help(words: &Words) -> Result<Command, Usage>
+    ensures command { IfOk result (λ command. (built : AnyBuilt) → Fitted built Verb.Help words.now → SpellsOf built words.now command) }
+    ensures refused { IfErr result (λ usage. (built : AnyBuilt) → Fitted built Verb.Help words.now → IsRefusedOf built words.now usage.word) }
+{
+    if has_word(words, 3) {
+        return Err(Usage { word: 3 });
     }
-    for name in 2..5 {
-        if !is_name(words, name) {
-            return Err(Usage { word: name as u32 });
-        }
+    Ok(Command::Help)
+}
+
+// The rest of `gen`.
+fn read_gen(words: &Words) -> Result<Command, Usage>
+    ensures command { IfOk result (λ command. (built : AnyBuilt) → Fitted built Verb.Gen words.now → SpellsOf built words.now command) }
+    ensures refused { IfErr result (λ usage. (built : AnyBuilt) → Fitted built Verb.Gen words.now → IsRefusedOf built words.now usage.word) }
+{
+    let Some(depth) = depth_at(words, 3) else {
+        return Err(Usage { word: 3 });
+    };
+    if has_word(words, 4) {
+        return Err(Usage { word: 4 });
     }
-    if !is_word(words, 5, "-") {
-        return Err(Usage { word: 5 });
+    Ok(Command::Gen { depth })
+}
+
+// The rest of `lines`.
+fn read_lines(words: &Words) -> Result<Command, Usage>
+    ensures command { IfOk result (λ command. (built : AnyBuilt) → Fitted built Verb.Lines words.now → SpellsOf built words.now command) }
+    ensures refused { IfErr result (λ usage. (built : AnyBuilt) → Fitted built Verb.Lines words.now → IsRefusedOf built words.now usage.word) }
+{
+    let Some(form) = form_of(words) else {
+        return Err(Usage { word: 1 });
+    };
+    let Some(depth) = depth_at(words, 2) else {
+        return Err(Usage { word: 2 });
+    };
+    if has_word(words, 3) {
+        return Err(Usage { word: 3 });
     }
-    Ok(())
+    Ok(Command::Lines { form, depth })
+}
+
+/// The command that words are, of those that are built.
+pub(crate) fn read_words_of(words: &Words, built: Built) -> Result<Command, Usage>
+    ensures command { IfOk result (SpellsOf built words.now) }
+    ensures refused { IfErr result (λ usage. IsRefusedOf built words.now usage.word) }
+{
+    let Some(verb) = verb_of(words, built) else {
+        return Err(Usage { word: 0 });
+    };
+    check_shapes(words, verb.shapes())?;
+    match verb {
+        Verb::Verify => read_verify(words),
+        Verb::Help => read_help(words),
+        Verb::Gen => read_gen(words),
+        Verb::Lines => read_lines(words),
+    }
 }
 
 /// The command that words are.
@@ -113,22 +212,10 @@ fn check_files(words: &Words) -> Result<(), Usage>
 /// The number, from 0, of the first word such that the words up to it begin no command; where all words begin one that
 /// is not whole, the number of words.
 pub fn read_words(words: &Words) -> Result<Command, Usage>
-    ensures command { IfOk result (IsCommand words.now) }
+    ensures command { IfOk result (Spells words.now) }
     ensures refused { IfErr result (λ usage. IsRefusedAt words.now usage.word) }
 {
-    check_files(words)?;
-    let Some(depth) = depth_at(words, 6) else {
-        return Err(Usage { word: 6 });
-    };
-    let Some(query) = query_at(words, 7, depth) else {
-        return Err(Usage { word: 7 });
-    };
-    if words.get(8).is_some() {
-        return Err(Usage { word: 8 });
-    }
-    let mut queries = ArrayVec::new();
-    queries.push(query);
-    Ok(Command::Verify(Task { depth, queries }))
+    read_words_of(words, BUILT)
 }
 
 #[cfg(test)]

@@ -1,11 +1,19 @@
-//! Which files a command opens.
+//! What the ports of a command are opened on.
 
-ghost use Rattle.std.specs.Prelude.{◌≡◌, ℕ};
-ghost use Rattle.sip_verifier.specs.declared.task.Task.{Task};
-ghost use Rattle.sip_cli.specs.Plan.{no_ports, verify_ports};
-ghost use Rattle.sip_cli.specs.Words.{Spells, IsRefusedAt};
+ghost use Rattle.std.specs.Prelude.{◌≡◌, ℕ, ◌≤◌, ◌<◌, ◌^◌, Some, decimal, length};
+ghost use Rattle.sip_cli.specs.declared.command.Command.{Command as AnyCommand};
+ghost use Rattle.sip_cli.specs.declared.stream.Stream.{Stream as AnyStream};
+ghost use Rattle.sip_cli.specs.declared.verb.Built.{Built as AnyBuilt};
+ghost use Rattle.sip_cli.specs.Plan.{Opens, help_ports, no_ports, opening_of, source_ports, verify_ports};
+ghost use Rattle.sip_cli.specs.Shapes.{IsStreamWord};
+ghost use Rattle.sip_cli.specs.Words.{Spells, SpellsOf, IsRefusedAt, IsRefusedOf, word};
 
-use crate::{Command, Words, read_words};
+use crate::command::read_words_of;
+use crate::decimal::read_decimal;
+use crate::stream::{Stream, stream_of};
+use crate::verb::{BUILT, Built};
+use crate::{Command, Words};
+use sip_vector::Depth;
 
 /// What a port is opened on.
 #[derive(Clone, Copy, Debug, PartialEq, Eq)]
@@ -13,7 +21,16 @@ pub enum Opening {
     /// On nothing.
     Nothing,
     /// On the file whose name is a word of the command without its first `skip` bytes. Words are numbered from 0.
-    Path { word: usize, skip: usize },
+    Path {
+        word: usize,
+        skip: usize,
+    },
+    /// On the records that a generator makes from a number, for a depth; `count` of them, which is at most 10,000,000.
+    Made {
+        number: u64,
+        count: u64,
+        depth: Depth,
+    },
 }
 
 impl Opening {
@@ -22,6 +39,46 @@ impl Opening {
         ensures { result ≡ Opening.Path word 0 }
     {
         Opening::Path { word, skip: 0 }
+    }
+
+    // On the stream that word 1 names, at a depth.
+    fn stream(words: &Words, depth: Depth) -> Opening
+        ensures { (stream : AnyStream) → 1 < length words.now → IsStreamWord stream (word words.now 1)
+            → result ≡ opening_of stream depth }
+    {
+        match stream_of(words) {
+            Some(stream) => Opening::of(stream, depth),
+            None => Opening::Nothing,
+        }
+    }
+
+    // On a stream that word 1 names, at a depth.
+    fn of(stream: Stream, depth: Depth) -> Opening
+        ensures { result ≡ opening_of stream depth }
+    {
+        match stream {
+            Stream::Made { number, count } => Opening::Made {
+                number,
+                count,
+                depth,
+            },
+            Stream::Text => Opening::Path { word: 1, skip: 5 },
+            Stream::File => Opening::file(1),
+        }
+    }
+
+    // On the stream of the numbers of words 1 and 2, at a depth.
+    fn numbers(words: &Words, depth: Depth) -> Option<Opening>
+        ensures { (number count : ℕ) → number < 2 ^ 64 → count < 2 ^ 64 → 2 < length words.now → word words.now 1 ≡ decimal number
+            → word words.now 2 ≡ decimal count → result ≡ Some (Opening.Made number count depth) }
+    {
+        let number = read_decimal(words.get(1)?)?;
+        let count = read_decimal(words.get(2)?)?;
+        Some(Opening::Made {
+            number,
+            count,
+            depth,
+        })
     }
 }
 
@@ -35,26 +92,82 @@ pub struct PortPlan {
     pub keep: Opening,
 }
 
-/// The files that a command opens: for `verify` its stream, its seed and the two ends of its link. Words that are no
-/// command open nothing.
-pub fn ports(words: &Words) -> PortPlan
-    ensures spelled { (task : Task) → Spells words.now task → result ≡ verify_ports }
-    ensures refused { (n : ℕ) → IsRefusedAt words.now n → result ≡ no_ports }
-{
-    match read_words(words) {
-        Ok(Command::Verify(_)) => PortPlan {
-            first: Opening::file(1),
-            second: Opening::file(2),
-            from: Opening::file(3),
-            to: Opening::file(4),
-            keep: Opening::Nothing,
-        },
-        Err(_) => PortPlan {
-            first: Opening::Nothing,
+impl PortPlan {
+    // No port, but for the first source.
+    fn source(first: Opening) -> PortPlan
+        ensures { result ≡ source_ports first }
+    {
+        PortPlan {
+            first,
             second: Opening::Nothing,
             from: Opening::Nothing,
             to: Opening::Nothing,
             keep: Opening::Nothing,
-        },
+        }
     }
+
+    // The ports of `verify`, whose stream is opened like this.
+    fn verify(first: Opening) -> PortPlan
+        ensures { result ≡ verify_ports first }
+    {
+        PortPlan {
+            first,
+            second: Opening::file(2),
+            from: Opening::file(3),
+            to: Opening::file(4),
+            keep: Opening::Nothing,
+        }
+    }
+
+    // The ports of `help`.
+    fn help() -> PortPlan
+        ensures { result ≡ help_ports }
+    {
+        PortPlan {
+            first: Opening::Nothing,
+            second: Opening::Nothing,
+            from: Opening::file(1),
+            to: Opening::file(2),
+            keep: Opening::Nothing,
+        }
+    }
+
+    // The ports of a command that the words are.
+    fn of(words: &Words, command: &Command) -> PortPlan
+        ensures { (built : AnyBuilt) → SpellsOf built words.now command.now → Opens words.now command.now result }
+    {
+        match command {
+            Command::Verify(task) => PortPlan::verify(Opening::stream(words, task.depth)),
+            Command::Help => PortPlan::help(),
+            Command::Gen { depth } => {
+                PortPlan::source(Opening::numbers(words, *depth).unwrap_or(Opening::Nothing))
+            }
+            Command::Lines { depth, .. } => {
+                let stream = Opening::stream(words, *depth);
+                PortPlan::source(stream)
+            }
+        }
+    }
+}
+
+/// The ports of a command, of those that are built.
+pub(crate) fn ports_of(words: &Words, built: Built) -> PortPlan
+    ensures spelled { (command : AnyCommand) → SpellsOf built words.now command → Opens words.now command result }
+    ensures refused { (n : ℕ) → IsRefusedOf built words.now n → result ≡ no_ports }
+    ensures counted { (number count depth : ℕ) → result.first ≡ Opening.Made number count depth → count ≤ 10000000 }
+{
+    match read_words_of(words, built) {
+        Ok(command) => PortPlan::of(words, &command),
+        Err(_) => PortPlan::source(Opening::Nothing),
+    }
+}
+
+/// The files and made streams that a command opens: for `verify` its stream, its seed and the two ends of its link, for
+/// `help` the two ends of its link, for `gen` and `lines` their stream. Words that are no command open nothing.
+pub fn ports(words: &Words) -> PortPlan
+    ensures spelled { (command : AnyCommand) → Spells words.now command → Opens words.now command result }
+    ensures refused { (n : ℕ) → IsRefusedAt words.now n → result ≡ no_ports }
+    ensures counted { (number count depth : ℕ) → result.first ≡ Opening.Made number count depth → count ≤ 10000000 }
+{
+    ports_of(words, BUILT)
 }

@@ -7,6 +7,7 @@ ghost use Rattle.sip_verifier.specs.CauseClause.{CauseClause, FaultClause, IsLis
 ghost use Rattle.sip_verifier.specs.Exchanges.{Exchange, Tells, IsTold, TakesAtMost, told};
 ghost use Rattle.sip_verifier.specs.TalkClause.{TalkClause};
 ghost use Rattle.sip_verifier.specs.VerdictClause.{VerdictClause};
+ghost use Rattle.sip_cli.specs.Promises.{IsVerify};
 ghost use Rattle.sip_cli.specs.Words.{Spells, IsRefusedAt};
 
 use crate::verify::verify;
@@ -15,12 +16,14 @@ use sip_ports::{Link, Sink, Source};
 use sip_verifier::{Status, Task};
 use std::alloc::Global;
 
-// The task of `verify`, which is the one command.
+// The task of `verify`, which is the one command that is built.
 fn task_in(command: Command) -> Task
+    requires { IsVerify command }
     ensures { command ≡ Command.Verify result }
 {
     match command {
         Command::Verify(task) => task,
+        Command::Help | Command::Gen { .. } | Command::Lines { .. } => unreachable!(),
     }
 }
 
@@ -39,15 +42,15 @@ pub fn run<A: Source, B: Source, L: Link, K: Sink, C: Sink>(
     keep: &mut C,
 ) -> Status
     // The promises on verdicts, talk and causes, where the ports tell what moved.
-    ensures verdict { (task : AnyTask) (x : Exchange) → Spells words.now task → Tells
+    ensures verdict { (task : AnyTask) (x : Exchange) → Spells words.now (Command.Verify task) → Tells
         (told (A.left first.old) (B.left second.old) (L.talk peer.old) (K.talk report.old))
         (told (A.left first.new) (B.left second.new) (L.talk peer.new) (K.talk report.new)) x
         → VerdictClause task x result }
-    ensures talk { (task : AnyTask) (x : Exchange) → Spells words.now task → Tells
+    ensures talk { (task : AnyTask) (x : Exchange) → Spells words.now (Command.Verify task) → Tells
         (told (A.left first.old) (B.left second.old) (L.talk peer.old) (K.talk report.old))
         (told (A.left first.new) (B.left second.new) (L.talk peer.new) (K.talk report.new)) x
         → TalkClause task x result }
-    ensures cause { (task : AnyTask) (x : Exchange) → Spells words.now task → Tells
+    ensures cause { (task : AnyTask) (x : Exchange) → Spells words.now (Command.Verify task) → Tells
         (told (A.left first.old) (B.left second.old) (L.talk peer.old) (K.talk report.old))
         (told (A.left first.new) (B.left second.new) (L.talk peer.new) (K.talk report.new)) x
         → CauseClause task x

@@ -6,6 +6,7 @@ ghost use Rattle.sip_verifier.specs.declared.task.Task.{Task};
 ghost use Rattle.sip_verifier.specs.CauseClause.{IsListed};
 ghost use Rattle.sip_verifier.specs.declared.status.Port.TheVariants as ports;
 ghost use Rattle.sip_verifier.specs.Exchanges.{Exchange};
+ghost use Rattle.sip_cli.specs.declared.command.Command.TheVariants.{Verify};
 ghost use Rattle.sip_cli.specs.Promises.{Promises};
 ghost use Rattle.sip_cli.specs.Words.{Spells, IsRefusedAt};
 ghost use Rattle.sip_rows.specs.Moves.{Moves, moment_of, faults_of};
@@ -28,7 +29,7 @@ pub fn run_in_memory(
     report: &mut MemorySink,
 ) -> Status
     // What moved between the ports before and the ports after keeps the promises on verdicts, talk and causes.
-    ensures promises { (task : Task) → Spells words.now task → (x : Exchange)
+    ensures promises { (task : Task) → Spells words.now (Verify task) → (x : Exchange)
         × Moves (moment_of first.old second.old peer.old report.old) (moment_of first.new second.new peer.new report.new) x
         × Promises task x (faults_of first.old second.old peer.old report.old) (faults_of first.new second.new peer.new report.new) result }
 

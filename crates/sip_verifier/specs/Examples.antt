@@ -3,6 +3,7 @@ use Rattle.std.specs.Prelude.{ℕ, List, [], ◌∷◌, ◌++◌}
 use Rattle.sip_ports.specs.declared.port.TalkEvent.{TalkEvent}
 use Rattle.sip_ports.specs.Ports.{outs, ins}
 use Rattle.sip_subvec.specs.Examples.{reply_0, reply_1}
+use Rattle.sip_stream.specs.declared.form.Form.TheVariants.{Binary}
 use Rattle.sip_verifier.specs.declared.task.Task.{Task}
 use Rattle.sip_vector.specs.declared.query.Query.TheVariants.{Sub, Inner}
 
@@ -26,4 +27,4 @@ whole_talk = outs opening_bytes ++ ins reply_0 ++ outs reveal_bytes ++ ins reply
 
 -- a task of two queries at depth 2
 abbrev pub two_queries : Task
-two_queries = record { depth = 2; queries = record { items = Sub 1 2 ∷ Inner ∷ [] } }
+two_queries = record { depth = 2; form = Binary; queries = record { items = Sub 1 2 ∷ Inner ∷ [] } }

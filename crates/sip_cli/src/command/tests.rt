@@ -1,8 +1,18 @@
-use super::{Command, read_words};
+use super::{Command, read_words, read_words_of};
+use crate::plan::ports_of;
+use crate::verb::{BUILT, Built};
 use crate::{Opening, PortPlan, Usage, Words, ports};
-use sip_vector::Query;
+use sip_stream::Form;
+use sip_vector::{Depth, Query};
 use std::alloc::Global;
 use std::test::Fail;
+
+// Every command whose words can be read.
+const ALL: Built = Built {
+    help: true,
+    generator: true,
+    lines: true,
+};
 
 // The words of a text, with a bar between them.
 fn words(alloc: Global, text: &str) -> Result<Words, Fail> {
@@ -13,9 +23,9 @@ fn words(alloc: Global, text: &str) -> Result<Words, Fail> {
     Ok(Words::of(list))
 }
 
-fn refused_at(words: &Words) -> Option<u32> {
-    match read_words(words) {
-        Ok(Command::Verify(_)) => None,
+fn refused_at(words: &Words, built: Built) -> Option<u32> {
+    match read_words_of(words, built) {
+        Ok(_) => None,
         Err(Usage { word }) => Some(word),
     }
 }
@@ -26,12 +36,28 @@ fn refuses_the_first_word_that_begins_no_command(rt: HostRuntime) -> Result<(), 
     let alloc = rt.alloc();
     for (text, want) in [
         ("", Some(0)),
-        ("audit|s|k|f|t|-|3|sub:1:2", Some(0)),
+        ("audit|s|t", Some(0)),
+        ("show|t", Some(0)),
+        ("play|s|k|honest|-|3|sub:1:2", Some(0)),
+        ("help|f|t", Some(0)),
+        ("gen|7|1|20", Some(0)),
+        ("lines|s|20", Some(0)),
         ("Verify|s|k|f|t|-|3|sub:1:2", Some(0)),
+        ("verify ", Some(0)),
         ("verify", Some(1)),
         ("verify||k|f|t|-|3|sub:1:2", Some(1)),
-        ("verify|made:7:20|k|f|t|-|3|sub:1:2", Some(1)),
         ("verify|text:s|k|f|t|-|3|sub:1:2", Some(1)),
+        ("verify|text:|k|f|t|-|3|sub:1:2", Some(1)),
+        ("verify|made:|k|f|t|-|3|sub:1:2", Some(1)),
+        ("verify|made:7|k|f|t|-|3|sub:1:2", Some(1)),
+        ("verify|made:07:20|k|f|t|-|3|sub:1:2", Some(1)),
+        ("verify|made:7:|k|f|t|-|3|sub:1:2", Some(1)),
+        ("verify|made:7:20:1|k|f|t|-|3|sub:1:2", Some(1)),
+        ("verify|made:7:10000001|k|f|t|-|3|sub:1:2", Some(1)),
+        (
+            "verify|made:18446744073709551616:20|k|f|t|-|3|sub:1:2",
+            Some(1),
+        ),
         ("verify|s", Some(2)),
         ("verify|s||f|t|-|3|sub:1:2", Some(2)),
         ("verify|s|k", Some(3)),
@@ -41,6 +67,7 @@ fn refuses_the_first_word_that_begins_no_command(rt: HostRuntime) -> Result<(), 
         ("verify|s|k|f|t", Some(5)),
         ("verify|s|k|f|t|r|3|sub:1:2", Some(5)),
         ("verify|s|k|f|t|--|3|sub:1:2", Some(5)),
+        ("verify|s|k|f|t||3|sub:1:2", Some(5)),
         ("verify|s|k|f|t|-", Some(6)),
         ("verify|s|k|f|t|-|0|sub:0:0", Some(6)),
         ("verify|s|k|f|t|-|21|sub:1:2", Some(6)),
@@ -50,25 +77,89 @@ fn refuses_the_first_word_that_begins_no_command(rt: HostRuntime) -> Result<(), 
         ("verify|s|k|f|t|-||sub:1:2", Some(6)),
         ("verify|s|k|f|t|-|18446744073709551619|sub:1:2", Some(6)),
         ("verify|s|k|f|t|-|3", Some(7)),
+        ("verify|s|k|f|t|-|3|", Some(7)),
         ("verify|s|k|f|t|-|3|sub:2:1", Some(7)),
         ("verify|s|k|f|t|-|3|sub:0:8", Some(7)),
+        ("verify|s|k|f|t|-|2|sub:1:4", Some(7)),
         ("verify|s|k|f|t|-|3|sub:01:2", Some(7)),
         ("verify|s|k|f|t|-|3|sub:-1:2", Some(7)),
         ("verify|s|k|f|t|-|3|sub:1:2:3", Some(7)),
         ("verify|s|k|f|t|-|3|sub:1", Some(7)),
         ("verify|s|k|f|t|-|3|sub::2", Some(7)),
         ("verify|s|k|f|t|-|3|Sub:1:2", Some(7)),
+        ("verify|s|k|f|t|-|3|f2:0", Some(7)),
+        ("verify|s|k|f|t|-|3|f2:2", Some(7)),
+        ("verify|s|k|f|t|-|3|inner", Some(7)),
+        ("verify|s|k|f|t|-|3|heavy:0:4", Some(7)),
         ("verify|s|k|f|t|-|3|range:0:1:2", Some(7)),
         ("verify|s|k|f|t|-|20|sub:0:18446744073709551616", Some(7)),
         ("verify|s|k|f|t|-|3|sub:1:2|sub:1:2", Some(8)),
         ("verify|s|k|f|t|-|3|sub:1:2|", Some(8)),
         ("verify|s|k|f|t|-|3|sub:1:2", None),
+        ("verify|made:0:0|k|f|t|-|3|sub:1:2", None),
+        (
+            "verify|made:18446744073709551615:10000000|k|f|t|-|20|sub:1:2",
+            None,
+        ),
         ("verify|-|made:|text:|-|-|1|sub:0:0", None),
         ("verify|made|k|f|t|-|20|sub:0:1048575", None),
     ] {
-        assert_eq!(rt; refused_at(&words(alloc, text)?), want, "at {text}");
+        assert_eq!(rt; refused_at(&words(alloc, text)?, BUILT), want, "at {text}");
     }
-    assert_eq!(rt; refused_at(&Words::of(Vec::new(alloc))), Some(0));
+    assert_eq!(rt; refused_at(&Words::of(Vec::new(alloc)), BUILT), Some(0));
+    Ok(())
+}
+
+// The same of the commands that are still to be switched on.
+#[test]
+fn reads_the_words_of_every_command(rt: HostRuntime) -> Result<(), Fail> {
+    let alloc = rt.alloc();
+    for (text, want) in [
+        ("", Some(0)),
+        ("audit|s|t", Some(0)),
+        ("verify", Some(1)),
+        ("verify|text:s|k|f|t|-|3|sub:1:2", Some(1)),
+        ("verify|s|k|f|t|-|3|sub:1:2", None),
+        ("help", Some(1)),
+        ("help|", Some(1)),
+        ("help|f", Some(2)),
+        ("help|f|", Some(2)),
+        ("help|f|t", None),
+        ("help|made:|-", None),
+        ("help|f|t|x", Some(3)),
+        ("help|f|t|", Some(3)),
+        ("gen", Some(1)),
+        ("gen|07|1|20", Some(1)),
+        ("gen|-7|1|20", Some(1)),
+        ("gen||1|20", Some(1)),
+        ("gen|18446744073709551616|1|20", Some(1)),
+        ("gen|7", Some(2)),
+        ("gen|7|10000001|20", Some(2)),
+        ("gen|7|1e3|20", Some(2)),
+        ("gen|7|1", Some(3)),
+        ("gen|7|1|0", Some(3)),
+        ("gen|7|1|33", Some(3)),
+        ("gen|7|1|020", Some(3)),
+        ("gen|7|1|20|", Some(4)),
+        ("gen|7|1|20|20", Some(4)),
+        ("gen|18446744073709551615|10000000|32", None),
+        ("gen|0|0|1", None),
+        ("lines", Some(1)),
+        ("lines||20", Some(1)),
+        ("lines|text:|20", Some(1)),
+        ("lines|made:7:1x|20", Some(1)),
+        ("lines|made:7|20", Some(1)),
+        ("lines|s", Some(2)),
+        ("lines|made:7:1|33", Some(2)),
+        ("lines|made:7:1|0", Some(2)),
+        ("lines|s|", Some(2)),
+        ("lines|s|20|20", Some(3)),
+        ("lines|text:made:7|32", None),
+        ("lines|made:7:1|20", None),
+        ("lines|lines|1", None),
+    ] {
+        assert_eq!(rt; refused_at(&words(alloc, text)?, ALL), want, "at {text}");
+    }
     Ok(())
 }
 
@@ -78,10 +169,11 @@ fn reads_the_task(rt: HostRuntime) -> Result<(), Fail> {
     match read_words(&words) {
         Ok(Command::Verify(task)) => {
             assert_eq!(rt; task.depth.get(), 12);
+            assert_eq!(rt; task.form, Form::Binary);
             let asked = [Query::Sub { lo: 10, hi: 4095 }];
             assert_eq!(rt; task.queries.as_slice(), asked.as_slice());
         }
-        Err(usage) => assert_eq!(rt; usage.word, 8),
+        _ => assert!(rt; false),
     }
     assert_eq!(rt; words.get(3), Some("f"));
     assert_eq!(rt; words.get(8), None);
@@ -89,20 +181,97 @@ fn reads_the_task(rt: HostRuntime) -> Result<(), Fail> {
 }
 
 #[test]
-fn opens_the_files_of_a_command(rt: HostRuntime) -> Result<(), Fail> {
+fn reads_a_depth_and_a_form(rt: HostRuntime) -> Result<(), Fail> {
+    let alloc = rt.alloc();
+    for (text, form, depth) in [
+        ("gen|7|1|32", None, 32),
+        ("lines|s|1", Some(Form::Binary), 1),
+        ("lines|made:7:1|20", Some(Form::Binary), 20),
+        ("lines|text:s|13", Some(Form::Text), 13),
+    ] {
+        let found = match read_words_of(&words(alloc, text)?, ALL) {
+            Ok(Command::Gen { depth }) => Some((None, depth.get())),
+            Ok(Command::Lines { form, depth }) => Some((Some(form), depth.get())),
+            _ => None,
+        };
+        assert_eq!(rt; found, Some((form, depth)), "at {text}");
+    }
+    Ok(())
+}
+
+#[test]
+fn opens_the_ports_of_a_command(rt: HostRuntime) -> Result<(), Fail> {
     let alloc = rt.alloc();
     let file = |word| Opening::Path { word, skip: 0 };
-    let opened = PortPlan {
-        first: file(1),
+    let none = PortPlan {
+        first: Opening::Nothing,
+        second: Opening::Nothing,
+        from: Opening::Nothing,
+        to: Opening::Nothing,
+        keep: Opening::Nothing,
+    };
+    let made = |number, count, levels| match Depth::new(levels) {
+        Some(depth) => Opening::Made {
+            number,
+            count,
+            depth,
+        },
+        None => Opening::Nothing,
+    };
+    let verify = |first| PortPlan {
+        first,
         second: file(2),
         from: file(3),
         to: file(4),
         keep: Opening::Nothing,
     };
-    assert_eq!(rt; ports(&words(alloc, "verify|s|k|f|t|-|3|sub:1:2")?), opened);
-    assert_eq!(rt;
-        ports(&words(alloc, "verify|s|k|f|t|-|3")?).first,
-        Opening::Nothing
-    );
+    for (text, want) in [
+        ("verify|s|k|f|t|-|3|sub:1:2", verify(file(1))),
+        ("verify|made:7:20|k|f|t|-|3|sub:1:2", verify(made(7, 20, 3))),
+        ("verify|text:s|k|f|t|-|3|sub:1:2", none),
+        ("verify|s|k|f|t|-|3", none),
+        (
+            "help|f|t",
+            PortPlan {
+                from: file(1),
+                to: file(2),
+                ..none
+            },
+        ),
+        (
+            "gen|7|100|20",
+            PortPlan {
+                first: made(7, 100, 20),
+                ..none
+            },
+        ),
+        (
+            "lines|made:0:1|32",
+            PortPlan {
+                first: made(0, 1, 32),
+                ..none
+            },
+        ),
+        (
+            "lines|text:s|32",
+            PortPlan {
+                first: Opening::Path { word: 1, skip: 5 },
+                ..none
+            },
+        ),
+        (
+            "lines|s|32",
+            PortPlan {
+                first: file(1),
+                ..none
+            },
+        ),
+        ("lines|s|33", none),
+    ] {
+        assert_eq!(rt; ports_of(&words(alloc, text)?, ALL), want, "at {text}");
+    }
+    let text = "verify|s|k|f|t|-|3|sub:1:2";
+    assert_eq!(rt; ports(&words(alloc, text)?), verify(file(1)));
+    assert_eq!(rt; ports(&words(alloc, "help|f|t")?), none);
     Ok(())
 }

@@ -1,24 +1,26 @@
 use Rattle.std.proofs.Common.{◌≡◌, ◌≢◌, ◌↔◌, ℕ, ◌^◌, ◌<◌, ◌≤◌, List, [], length, get_or, Option, None, Some, IsSome, IfSome, MatchOption, decimal, sym, ◌∙◌, refl, arith}
 use Rattle.std.proofs.lemmas.Fmt.{decimal_injective}
+use Rattle.sip_cli.specs.Shapes.{IsDepth}
 use Rattle.sip_cli.proofs.Getting.{got}
 use Rattle.sip_cli.proofs.command.depth_at.Goals as goal
 
 -- another number is not the word's
-other : (levels : ℕ) (word : List ℕ) → levels < 2 ^ 64 → word ≡ decimal levels → (d : ℕ) → d ≤ 20 → word ≡ decimal d → levels ≡ d
-other levels word small is d most same = decimal_injective levels d small (omega arith) (sym is ∙ same)
+other : (levels : ℕ) (word : List ℕ) → levels < 2 ^ 64 → word ≡ decimal levels → (d : ℕ) → IsDepth d word → levels ≡ d
+other levels word small is d also = decimal_injective levels d small (omega (arith, also.1)) (sym is ∙ also.2)
 
 -- the depth of the word, where it is one
-depth_of : (words : List (List ℕ)) (number levels : ℕ) (r : Option ℕ) → number < length words → levels ≤ 20 → get_or words number [] ≡ decimal levels → IsSome r ↔ ((1 ≤ levels) × (levels ≤ 32)) → IfSome r (λ d. d ≡ levels)
-    → MatchOption r (number < length words → (d : ℕ) → 1 ≤ d → d ≤ 20 → get_or words number [] ≢ decimal d) (λ d. (number < length words) × (1 ≤ d) × (d ≤ 20) × (get_or words number [] ≡ decimal d))
+depth_of : (words : List (List ℕ)) (number levels : ℕ) (r : Option ℕ) → number < length words → levels ≤ 32 → get_or words number [] ≡ decimal levels → IsSome r ↔ ((1 ≤ levels) × (levels ≤ 32)) → IfSome r (λ d. d ≡ levels)
+    → MatchOption r (number < length words → (d : ℕ) → IsDepth d (get_or words number []) → ⊥) (λ d. (number < length words) × IsDepth d (get_or words number []))
 depth_of words number levels None within most is fits same =
-    λ _ d some small also. let one = other levels _ (omega arith) is d small also in let never = fits.1 (omega arith, omega arith) in cc
+    λ _ d also. let one = other levels _ (omega arith) is d also in let never = fits.1 (let least = also.0 in omega arith, omega arith) in cc
 depth_of words number levels (Some d) within most is fits same =
-    let some : 1 ≤ levels = (fits.0 refl).0 in (within, omega arith, omega arith, rw same is)
+    let some : 1 ≤ levels = (fits.0 refl).0 in (within, (omega arith, omega arith, rw same is))
 
-pub returns-then-levels-gt-MOST_DEPTH : goal.returns-then-levels-gt-MOST_DEPTH
-returns-then-levels-gt-MOST_DEPTH c _ d some most same =
+pub returns-then-levels : goal.returns-then-levels
+returns-then-levels c = λ _ d also.
     let word = got c.args.words.now c.args.number (Some c.in_ok-get.field-0) c.in_ok-get.ensures in
-    let one = other c.in_ok-levels.levels _ (omega arith) (word.1 ∙ c.in_ok-levels.ensures) d most same in
+    let one = other c.in_ok-levels.levels _ (omega arith) (word.1 ∙ c.in_ok-levels.ensures) d also in
+    let most = also.1 in
     omega arith
 
 pub returns : goal.returns

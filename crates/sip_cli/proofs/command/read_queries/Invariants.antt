@@ -1,0 +1,5 @@
+use Rattle.sip_cli.specs.Progress.{AreAsked}
+use Rattle.sip_cli.proofs.command.read_queries.Given as goal
+
+abbrev pub invariant-loop-number : goal.invariant-loop-number
+invariant-loop-number l = AreAsked l.words l.depth l.queries.items l.number

@@ -1,0 +1,41 @@
+-- How far the words of a command were read.
+use Rattle.std.specs.Prelude.{◌≡◌, ℕ, ◌+◌, ◌<◌, ◌≤◌, ◌⊎◌, IsTrue, List, length, slice_index_or}
+use Rattle.sip_vector.specs.declared.query.Query.{Query}
+use Rattle.sip_vector.specs.declared.query.Query.TheVariants.{Inner}
+use Rattle.sip_cli.specs.declared.shape.Shape.{Shape}
+use Rattle.sip_cli.specs.declared.shape.Shape.TheVariants.{Name}
+use Rattle.sip_cli.specs.declared.verb.Built.{Built}
+use Rattle.sip_cli.specs.declared.verb.Verb.{Verb}
+use Rattle.sip_cli.specs.Shapes.{IsOf, Asks}
+use Rattle.sip_cli.specs.Verbs.{has_verb, verb_word, shapes, most_queries}
+use Rattle.sip_cli.specs.Words.{word}
+
+-- there are n words behind the verb, and they have the first n shapes
+abbrev pub HaveShapes : List Shape → List (List ℕ) → ℕ → Type 0
+HaveShapes shapes words n = (n < length words) × ((i : ℕ) → i < n → IsOf (slice_index_or shapes i Name) (word words (i + 1)))
+
+-- the word of this number is the first behind the verb that has not its shape
+pub record StopsInShapes (shapes : List Shape) (words : List (List ℕ)) (number : ℕ) : Type 0 where
+  pub index : ℕ
+  pub number_is : number ≡ index + 1
+  pub within : index < length shapes
+  pub before : HaveShapes shapes words index
+  pub here : number < length words → IsOf (slice_index_or shapes index Name) (word words number) → ⊥
+
+-- the words are the verb and words of its shapes, at least
+abbrev pub Fitted : Built → Verb → List (List ℕ) → Type 0
+Fitted built verb words = IsTrue (has_verb built verb) × (word words 0 ≡ verb_word verb) × HaveShapes (shapes verb) words (length (shapes verb))
+
+-- the words from 7 up to n are these queries
+pub record AreAsked (words : List (List ℕ)) (depth : ℕ) (queries : List Query) (n : ℕ) : Type 0 where
+  pub within : n ≤ length words
+  pub count : n ≡ 7 + length queries
+  pub each : (i : ℕ) → i < length queries → Asks depth (slice_index_or queries i Inner) (word words (7 + i))
+
+-- the word of this number is the first behind the depth that asks no query, or one too many
+pub record StopsInQueries (words : List (List ℕ)) (depth : ℕ) (number : ℕ) : Type 0 where
+  pub queries : List Query
+  pub before : AreAsked words depth queries number
+  pub most : number ≤ 7 + most_queries
+  pub here : number < 7 + most_queries → number < length words → (query : Query) → Asks depth query (word words number) → ⊥
+  pub missing : length words ≤ number → number ≡ 7

@@ -1,0 +1,58 @@
+-- The commands: each is a verb, words of its shapes, and queries where it asks some.
+use Rattle.std.specs.Prelude.{ℕ, Bool, true, false, List, [], ◌∷◌, codes}
+use Rattle.sip_cli.specs.declared.shape.Shape.{Shape}
+use Rattle.sip_cli.specs.declared.shape.Shape.TheVariants.{Name, Stream, BinaryStream, NoRecord, Number, Depth}
+use Rattle.sip_cli.specs.declared.verb.Built.{Built}
+use Rattle.sip_cli.specs.declared.verb.Verb.{Verb}
+use Rattle.sip_cli.specs.declared.verb.Verb.TheVariants.{Verify, Help, Gen, Lines}
+
+-- the first word of a command
+abbrev pub verb_word : Verb → List ℕ
+verb_word Verify = codes "verify"
+verb_word Help = codes "help"
+verb_word Gen = codes "gen"
+verb_word Lines = codes "lines"
+
+-- The greatest depth of `verify`, as long as the levels of a vector's tree are kept whole.
+abbrev pub most_depth : ℕ
+most_depth = 20
+
+-- The most queries of `verify`, as long as a run asks one.
+abbrev pub most_queries : ℕ
+most_queries = 1
+
+-- The words behind the verb, and before the queries.
+--   verify STREAM SEED FROM TO RECORD DEPTH, with a binary stream and no transcript
+--   help FROM TO
+--   gen NUMBER COUNT DEPTH
+--   lines STREAM DEPTH
+abbrev pub shapes : Verb → List Shape
+shapes Verify = BinaryStream ∷ Name ∷ Name ∷ Name ∷ NoRecord ∷ Depth most_depth ∷ []
+shapes Help = Name ∷ Name ∷ []
+shapes Gen = Number 18446744073709551615 ∷ Number 10000000 ∷ Depth 32 ∷ []
+shapes Lines = Stream ∷ Depth 32 ∷ []
+
+-- at least so many queries stand behind them
+abbrev pub least_asked : Verb → ℕ
+least_asked Verify = 1
+least_asked Help = 0
+least_asked Gen = 0
+least_asked Lines = 0
+
+-- and at most so many
+abbrev pub most_asked : Verb → ℕ
+most_asked Verify = most_queries
+most_asked Help = 0
+most_asked Gen = 0
+most_asked Lines = 0
+
+-- The commands that `sip` has beside `verify`. To build one is to change its field.
+abbrev pub built : Built
+built = record { help = false; generator = false; lines = false }
+
+-- the command of this verb is built
+abbrev pub has_verb : Built → Verb → Bool
+has_verb b Verify = true
+has_verb b Help = b.help
+has_verb b Gen = b.generator
+has_verb b Lines = b.lines

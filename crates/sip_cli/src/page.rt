@@ -1,0 +1,62 @@
+//! What the program says about itself.
+
+use crate::Words;
+
+/// The page that `sip --help` prints.
+pub const HELP: &str = "\
+sip checks answers about a stream that someone else keeps for you. You keep a seed and read the stream once, a helper
+keeps all of it, and sip accepts a helper's answer only where a check with challenges from the seed holds.
+
+USAGE
+
+  sip verify STREAM SEED FROM TO - DEPTH QUERY
+
+      Sends the stream to a helper, asks the query, checks the replies and prints the answer.
+
+      STREAM  a file of records, or made:NUMBER:COUNT, which is COUNT records made from NUMBER
+      SEED    a file that begins with 32 random bytes, of which each run needs new ones
+      FROM    the file or FIFO that brings the helper's bytes
+      TO      the file or FIFO that takes ours
+      -       no record of the talk is kept
+      DEPTH   from 1 to 20; items are the numbers below 2^DEPTH
+      QUERY   sub:LO:HI, the entries from LO to HI that are not 0, with LO up to HI, and HI below 2^DEPTH
+
+      sip verify log.stream today.seed from.fifo to.fifo - 20 sub:100:199
+
+  sip --help       prints this page
+  sip --version    prints the version
+
+A record has 13 bytes: a side (one byte, 0 or 1), an item (four bytes) and what is added to its entry (eight bytes,
+signed), the first byte of a number being the greatest. Numbers among the words have no sign and no leading zero. A
+file named - is called ./-, and one whose name begins with made: or text: is called ./made:.. or ./text:..
+
+THE SEED
+
+Keep it where the helper cannot read it, make a new one for each run (head -c 32 /dev/urandom > today.seed), and throw it
+away after the run: a helper that knows the challenges can make a wrong answer pass.
+
+STATUS
+
+  0  the answer was accepted, and printed
+  1  the helper's reply was rejected
+  2  the words are no command
+  3  the stream or the seed is not as it has to be
+  4  a file, the link to the helper or the output failed
+  5  memory ran out
+";
+
+/// The line that `sip --version` prints.
+pub const VERSION: &str = "sip 0.1.0\n";
+
+/// The text that the words ask for in place of a command: the page for `--help` alone, the version for `--version`
+/// alone.
+pub fn page_of(words: &Words) -> Option<&'static str> {
+    if words.get(1).is_some() {
+        return None;
+    }
+    match words.get(0)? {
+        "--help" => Some(HELP),
+        "--version" => Some(VERSION),
+        _ => None,
+    }
+}

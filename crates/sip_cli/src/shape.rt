@@ -1,0 +1,67 @@
+//! What one word of a command may be.
+
+ghost use Rattle.std.specs.Prelude.{◌≡◌, ◌↔◌, ℕ, ◌≤◌, ◌<◌, ◌^◌, IsTrue, decimal};
+ghost use Rattle.sip_cli.specs.Shapes.{IsOf};
+
+use crate::decimal::read_decimal;
+use crate::stream::read_stream;
+use sip_stream::Form;
+
+/// What one word of a command may be.
+#[derive(Clone, Copy, Debug, PartialEq, Eq)]
+pub(crate) enum Shape {
+    /// The name of a file: any word but the empty one.
+    Name,
+    /// A stream.
+    Stream,
+    /// A stream of records.
+    BinaryStream,
+    /// No transcript: `-`.
+    NoRecord,
+    /// A number up to `most`.
+    Number { most: u64 },
+    /// A depth up to `most`, which is 32 at the most.
+    Depth { most: u64 },
+}
+
+/// A name.
+impl Default for Shape {
+    fn default() -> Shape {
+        Shape::Name
+    }
+}
+
+// Whether a word is a number from `least` to `most`.
+fn is_within(word: &str, least: u64, most: u64) -> bool
+    ensures { IsTrue result ↔ ((n : ℕ) × (least ≤ n) × (n ≤ most) × (n < 2 ^ 64) × (word.now ≡ decimal n)) }
+{
+    match read_decimal(word) {
+        Some(number) => lies_within(number, least, most),
+        None => false,
+    }
+}
+
+// Whether a number is from `least` to `most`.
+fn lies_within(number: u64, least: u64, most: u64) -> bool
+    ensures { IsTrue result ↔ ((least ≤ number) × (number ≤ most)) }
+{
+    (least..=most).contains(&number)
+}
+
+impl Shape {
+    /// Whether a word has this shape.
+    pub(crate) fn is_of(self, word: &str) -> bool
+        ensures { IsTrue result ↔ IsOf self word.now }
+    {
+        match self {
+            Shape::Name => !word.is_empty(),
+            Shape::Stream => read_stream(word).is_some(),
+            Shape::BinaryStream => {
+                read_stream(word).is_some_and(|stream| stream.form() == Form::Binary)
+            }
+            Shape::NoRecord => word == "-",
+            Shape::Number { most } => is_within(word, 0, most),
+            Shape::Depth { most } => is_within(word, 1, most.min(32)),
+        }
+    }
+}
