@@ -1,9 +1,10 @@
 //! `sip`: checks the answer of a helper that keeps a stream for you.
 #![tactic(auto)]
 
-use sip_cli::{Opening, Words, exit_code, page_of, ports, run, status_line};
-use sip_ports::{FileLink, FileSource, NullSink, PortStop, StderrSink, StdoutSink, write_whole};
-use sip_verifier::Status;
+use sip_cli::{Opening, PortPlan, Words, exit_code, page_of, ports, run, status_line};
+use sip_ports::{FileLink, FileSource, NullSink, PortStop, Source, StderrSink, StdoutSink, write_whole};
+use sip_stream::MadeSource;
+use sip_verifier::{Port, Status};
 use std::fs::File;
 use std::process::ExitCode;
 use std::{env, io};
@@ -20,7 +21,7 @@ fn words(rt: &HostRuntime) -> io::Result<Words> {
 /// The name of the file that a port is opened on, if it is one.
 fn name(words: &Words, opening: Opening) -> Option<&str> {
     match opening {
-        Opening::Nothing => None,
+        Opening::Nothing | Opening::Made { .. } => None,
         Opening::Path { word, skip } => words.get(word)?.get(skip..),
     }
 }
@@ -33,20 +34,29 @@ fn emptied(rt: &HostRuntime, words: &Words, opening: Opening) -> Option<File> {
     File::create(rt, name(words, opening)?).ok()
 }
 
-/// Opens the files that the words name and does what they say. A file that does not open is a port whose calls fail.
-/// `TO` is opened before `FROM`, so that two FIFOs can stand between this side and the helper's.
-fn obey(rt: &HostRuntime, words: &Words) -> Status {
-    let plan = ports(words);
-    let mut first = FileSource::new(opened(rt, words, plan.first));
-    let mut second = FileSource::new(opened(rt, words, plan.second));
+/// Opens the two ends of the link. A verifier opens `TO` before `FROM` and a helper, who has no stream, `FROM` before `TO`:
+/// so two FIFOs can stand between them.
+fn link(rt: &HostRuntime, words: &Words, plan: &PortPlan) -> FileLink {
+    if plan.first == Opening::Nothing {
+        let from = opened(rt, words, plan.from);
+        let to = emptied(rt, words, plan.to);
+        return FileLink::new(from, to);
+    }
     let to = emptied(rt, words, plan.to);
     let from = opened(rt, words, plan.from);
-    let mut peer = FileLink::new(from, to);
+    FileLink::new(from, to)
+}
+
+/// Opens the files that the words name, but for the first source, and does what the words say. A file that does not open
+/// is a port whose calls fail.
+fn obey_over<S: Source>(rt: &HostRuntime, words: &Words, plan: &PortPlan, first: &mut S) -> Status {
+    let mut second = FileSource::new(opened(rt, words, plan.second));
+    let mut peer = link(rt, words, plan);
     let mut report = StdoutSink::new(io::writer(rt));
     run(
         rt.alloc(),
         words,
-        &mut first,
+        first,
         &mut second,
         &mut peer,
         &mut report,
@@ -54,9 +64,41 @@ fn obey(rt: &HostRuntime, words: &Words) -> Status {
     )
 }
 
+/// Does what the words say, over the file or the made stream that is the first source.
+fn obey(rt: &HostRuntime, words: &Words) -> Status {
+    let plan = ports(words);
+    match plan.first {
+        Opening::Made {
+            number,
+            count,
+            depth,
+        } => {
+            let mut first = MadeSource::new(number, count, depth);
+            obey_over(rt, words, &plan, &mut first)
+        }
+        Opening::Nothing | Opening::Path { .. } => {
+            let mut first = FileSource::new(opened(rt, words, plan.first));
+            obey_over(rt, words, &plan, &mut first)
+        }
+    }
+}
+
+/// Prints a text.
+fn tell(rt: &HostRuntime, text: &str) -> Status {
+    let mut out = StdoutSink::new(io::writer(rt));
+    match write_whole(&mut out, text.as_bytes()) {
+        Ok(()) => Status::Accepted,
+        Err(PortStop::Failed) => Status::WriteFault { port: Port::Report },
+        Err(PortStop::OutOfMemory) => Status::OutOfMemory,
+    }
+}
+
 fn main(rt: HostRuntime) -> ExitCode {
     let status = match words(&rt) {
-        Ok(words) => obey(&rt, &words),
+        Ok(words) => match page_of(&words) {
+            Some(text) => tell(&rt, text),
+            None => obey(&rt, &words),
+        },
         Err(error) if error.kind() == io::ErrorKind::OutOfMemory => Status::OutOfMemory,
         Err(_) => Status::Usage { word: 0 },
     };

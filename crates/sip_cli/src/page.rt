@@ -60,3 +60,6 @@ pub fn page_of(words: &Words) -> Option<&'static str> {
         _ => None,
     }
 }
+
+#[cfg(test)]
+mod tests;
