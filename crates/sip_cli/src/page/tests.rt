@@ -39,7 +39,9 @@ fn the_page_speaks_of_the_commands_that_are_built(rt: HostRuntime) -> Result<(),
         "sub:100:199",
     ];
     assert!(rt; read_words(&words(alloc, &example)?).is_ok());
-    assert!(rt; HELP.contains("sip verify log.stream today.seed from.fifo to.fifo - 20 sub:100:199\n"));
+    assert!(rt;
+        HELP.contains("sip verify log.stream today.seed from.fifo to.fifo - 20 sub:100:199\n")
+    );
     assert_eq!(rt; HELP.contains("sip help "), BUILT.help);
     assert_eq!(rt; HELP.contains("sip gen "), BUILT.generator);
     assert_eq!(rt; HELP.contains("sip lines "), BUILT.lines);
