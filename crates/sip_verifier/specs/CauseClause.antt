@@ -7,7 +7,6 @@
 -- this call. Want of memory is free. No other answer comes.
 use Rattle.std.specs.Prelude.{◌≡◌, ◌≢◌, ◌<◌, ◌≤◌, ℕ, length, Some, None}
 use Rattle.sip_ports.specs.Ports.{Rose}
-use Rattle.sip_stream.specs.declared.form.Form.TheVariants.{Binary}
 use Rattle.sip_stream.specs.Records.{records}
 use Rattle.sip_verifier.specs.declared.status.Port.TheVariants as ports
 use Rattle.sip_verifier.specs.declared.status.Status.{Status}
@@ -59,7 +58,7 @@ module _ (task : Task) (x : Exchange) where
   abbrev pub CauseClause : Counts → Counts → Status → Type 0
   CauseClause before now statuses.Accepted = HasGoodInput
   CauseClause before now (statuses.Rejected query round reason) = HasGoodInput
-  CauseClause before now (statuses.BadStream at why) = (drawn task x.seed ≢ None) × (at ≡ length (updates task x)) × ((records task.depth Binary x.stream).fault ≡ Some why)
+  CauseClause before now (statuses.BadStream at why) = (drawn task x.seed ≢ None) × (at ≡ length (updates task x)) × ((records task.depth task.form x.stream).fault ≡ Some why)
   CauseClause before now statuses.BadSeed = length x.seed < 32
   CauseClause before now statuses.SeedSpent = (32 ≤ length x.seed) × (drawn task x.seed ≡ None)
   CauseClause before now (statuses.ReadFault port) = FaultClause before now (statuses.ReadFault port)

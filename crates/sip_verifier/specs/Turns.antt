@@ -13,7 +13,6 @@ use Rattle.sip_vector.specs.Streams.{vector}
 use Rattle.sip_vector.specs.Trees.{root}
 use Rattle.sip_wire.specs.declared.message.Reason.{Reason}
 use Rattle.sip_wire.specs.declared.message.Reason.TheVariants.{Closed}
-use Rattle.sip_stream.specs.declared.form.Form.TheVariants.{Binary}
 use Rattle.sip_stream.specs.Records.{records}
 use Rattle.sip_subvec.specs.Replies as sub
 use Rattle.sip_verifier.specs.declared.task.Task.{Task}
@@ -81,11 +80,11 @@ ending _ = []
 module _ (task : Task) (x : Exchange) where
   -- the legal records of the stream
   abbrev pub updates : List Update
-  updates = (records task.depth Binary x.stream).legal
+  updates = (records task.depth task.form x.stream).legal
 
   -- the stream is legal to its end
   abbrev pub IsLegalToEnd : Type 0
-  IsLegalToEnd = (records task.depth Binary x.stream).fault ≡ None
+  IsLegalToEnd = (records task.depth task.form x.stream).fault ≡ None
 
   abbrev pub Done : Type 0
   Done = List (Accepted task.depth updates)
