@@ -1,11 +1,13 @@
 -- Decimal numbers, digit by digit.
-use Rattle.std.proofs.Common.{◌≡◌, ◌≢◌, ℕ, zero, suc, ◌+◌, ◌-◌, ◌*◌, ◌^◌, ◌<◌, ◌≤◌, Bool, true, false, cond, eqb, List, [], ◌∷◌, length, drop, get_or, refl, sym, ap, ◌∙◌, arith, eq-eqb, eqb-true, add-one}
-use Rattle.std.specs.Prelude.{Option, Some, None, not, ◌&&◌, ◌||◌}
+use Rattle.std.proofs.Common.{◌≡◌, ◌≢◌, ℕ, zero, suc, ◌+◌, ◌-◌, ◌*◌, ◌^◌, ◌<◌, ◌≤◌, Bool, true, false, cond, eqb, List, [], ◌∷◌, length, drop, get_or, refl, sym, ap, ◌∙◌, arith, eq-eqb, eqb-true, add-one, inl, inr}
+use Rattle.std.specs.Prelude.{Option, Some, None, not, ◌&&◌, ◌||◌, decimal}
 use Rattle.std.specs.Char.{digit_value, is_ascii_digit}
 use Rattle.std.specs.Str.{all_ascii_digits}
 use Rattle.std.specs.Str.Parse.{digits_value, digits_value_after}
 use Rattle.std.proofs.Math.Nat.{pow-succ', pow-le-pow_right}
-use Rattle.std.proofs.lemmas.Bool.{ne_eqb}
+use Rattle.std.proofs.lemmas.Bool.{ne_eqb, cases_lt}
+use Rattle.std.proofs.lemmas.Fmt.{decimal_digit, decimal_nonempty, first_decimal, digits_decimal, digits_value-decimal, decimal-digits_value}
+use Rattle.std.proofs.lemmas.Str.Parse.{IsNumeralModel, numerals_by_value, tells_all_ascii_digits}
 use Rattle.sip_stream.specs.Lines.{decimal_at, is_decimal}
 use Rattle.sip_stream.proofs.Parts.{drop_cons}
 
@@ -57,3 +59,40 @@ reads_number (b ∷ bs) n some alone all value =
         is_zero : eqb b 48 ≡ true → b ≡ 48
         is_zero t = eqb-true b 48 t
     second false e = ap (λ t. not t || eqb (length bs) 0) e
+
+-- ---- a decimal number has one spelling
+
+model : IsNumeralModel (λ ds. all_ascii_digits ds ≡ true) (digits_value 10)
+model = numerals_by_value (λ ds. all_ascii_digits ds ≡ true) tells_all_ascii_digits
+
+both : (a b : Bool) → (a && b) ≡ true → (a ≡ true) × (b ≡ true)
+both true b e = (refl, e)
+both false b e = cc
+
+chosen_some : (text : List ℕ) (is : Bool) (n : ℕ) → chosen text is ≡ Some n → (is ≡ true) × (digits_value 10 text ≡ n)
+chosen_some text true n e = (refl, cc)
+chosen_some text false n e = cc
+
+-- what is read as a number is its spelling
+pub only_spelling : (text : List ℕ) (n : ℕ) → n < 2 ^ 64 → decimal_at text ≡ Some n → text ≡ decimal n
+only_spelling [] n small e = cc
+only_spelling (b ∷ bs) n small e =
+    let is = chosen_some (b ∷ bs) (all_ascii_digits (b ∷ bs) && (not (eqb b 48) || eqb (length bs) 0)) n e in
+    let parts = both (all_ascii_digits (b ∷ bs)) (not (eqb b 48) || eqb (length bs) 0) is.0 in
+    let fits : digits_value 10 (b ∷ bs) < 2 ^ 64 = omega (arith, is.1, small) in
+    sym (decimal-digits_value model (b ∷ bs) parts.0 (omega arith) (alone parts.1) fits) ∙ ap decimal is.1
+  where
+    alone : (not (eqb b 48) || eqb (length bs) 0) ≡ true → b ≡ 48 → length (b ∷ bs) ≡ 1
+    alone t leads =
+        let none : length bs ≡ 0 = eqb-true (length bs) 0 (ap (λ is. not is || eqb (length bs) 0) (sym (eq-eqb b 48 leads)) ∙ t) in
+        omega arith
+
+-- a spelling is read as its number
+pub spelling_read : (n : ℕ) → n < 2 ^ 64 → decimal_at (decimal n) ≡ Some n
+spelling_read n small = sym (reads_number (decimal n) n (decimal_nonempty n small) alone (digits_decimal model n small) (digits_value-decimal model n small))
+  where
+    alone : get_or (decimal n) 0 0 ≡ 48 → length (decimal n) ≤ 1
+    alone leads = elim (cases_lt 0 n) [
+      | inl above ↦ let begins = first_decimal n above small in absurd (omega arith)
+      | inr none ↦ let same : n ≡ 0 = omega arith in rw (same, decimal_digit 0 (omega arith)) (omega arith)
+    ]

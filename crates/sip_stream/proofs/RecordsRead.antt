@@ -7,10 +7,10 @@ use Rattle.std.proofs.lemmas.List.{length-take-le}
 use Rattle.sip_vector.specs.declared.update.Update.{Update}
 use Rattle.sip_vector.specs.Pieces.{cut}
 use Rattle.sip_stream.specs.declared.form.Form.{Form}
-use Rattle.sip_stream.specs.declared.form.Form.TheVariants.{Binary}
+use Rattle.sip_stream.specs.declared.form.Form.TheVariants.{Binary, Text}
 use Rattle.sip_stream.specs.declared.why.Why.{Why}
 use Rattle.sip_stream.specs.declared.why.Why.TheVariants.{Truncated, BadSide}
-use Rattle.sip_stream.specs.Records.{Records, record_at, record_fault, update_fault, fault_at, update_at, records_after, records_from, pieces_of}
+use Rattle.sip_stream.specs.Records.{records_after, records_from, record_at, record_fault, update_fault, fault_at, update_at, pieces_of}
 use Rattle.sip_stream.specs.Pieces.{IsFirst, Says, ReadsPiece, TakesFront}
 use Rattle.sip_stream.proofs.Cuts.{cut-nil, cut-cons, cut-one}
 
@@ -60,3 +60,8 @@ reads_part old new bytes buf n told took end len some short =
     let part : nat_lt (length (take n buf)) 13 ≡ true = grind (arith, nat_tests) in
     let alone : cut 13 bytes ≡ take n buf ∷ cut 13 [] = ap (cut 13) came.1 ∙ cut-one 13 (take n buf) (omega arith) (omega arith) ∙ ap (λ l. take n buf ∷ l) (sym (cut-nil 13 (omega arith))) in
     (take n buf, [], came.0, record { order = came.1 ∙ sym (append-nil (take n buf)); cut = alone }, λ depth before. ap (λ b. fault_by depth before (take n buf) b (nat_lt 1 (slice_index (take n buf) 0))) part)
+
+-- no byte is left, so the records are those that came
+pub records_end : (depth : ℕ) (form : Form) (before : List Update) → records_from depth form before [] ≡ record { legal = before; fault = None }
+records_end depth Binary before = ap (records_after depth Binary before) (cut-nil 13 (omega arith))
+records_end depth Text before = refl

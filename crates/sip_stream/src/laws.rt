@@ -3,11 +3,14 @@
 pub mod made;
 pub mod spellings;
 
-ghost use Rattle.std.specs.Prelude.{◌≡◌, [], ◌∷◌, ◌++◌, Some, None, codes, replicate};
+ghost use Rattle.std.specs.Prelude.{◌≡◌, ◌<◌, ◌^◌, ℕ, List, [], ◌∷◌, ◌++◌, Some, None, codes, decimal, replicate};
 ghost use Rattle.sip_vector.specs.Examples.{stream};
 ghost use Rattle.sip_vector.specs.declared.update.Side.TheVariants as sides;
 ghost use Rattle.sip_stream.specs.Examples.{bytes_of_three, heaviest, line, line_fault_of, lines_of_three};
-ghost use Rattle.sip_stream.specs.Records.{records};
+ghost use Rattle.sip_stream.specs.Lines.{decimal_at};
+ghost use Rattle.sip_stream.specs.Records.{records, records_from};
+ghost use Rattle.sip_vector.specs.declared.update.Update.{Update};
+ghost use Rattle.sip_stream.specs.declared.form.Form.{Form};
 ghost use Rattle.sip_stream.specs.declared.form.Form.TheVariants.{Binary, Text};
 ghost use Rattle.sip_stream.specs.declared.why.Why.TheVariants as whys;
 
@@ -79,4 +82,18 @@ pub fn lines_too_long()
     ensures with_a_feed { line_fault_of (replicate 36 57 ++ codes " 0 5") ≡ Some whys.BadLine }
     ensures without { (records 2 Text (replicate 41 48)).fault ≡ Some whys.BadLine }
     ensures greatest_of_all { line_fault_of (codes "0 18446744073709551615 -9223372036854775808") ≡ Some whys.BadLine }
+{}
+
+/// A decimal number below 2^64 has one spelling, which is read as that number.
+#[tactic(auto, using(crate::proofs::Digits::only_spelling, crate::proofs::Digits::spelling_read))]
+pub fn decimals_have_one_spelling()
+    ensures read { (text : List ℕ) (n : ℕ) → n < 2 ^ 64 → decimal_at text ≡ Some n → text ≡ decimal n }
+    ensures written { (n : ℕ) → n < 2 ^ 64 → decimal_at (decimal n) ≡ Some n }
+{}
+
+/// Where a reader met the end after these legal records, they are all. Each legal record before it left the records of
+/// the whole stream as they were, so a reader that is called to its end gives these.
+#[tactic(auto, using(crate::proofs::RecordsRead::records_end))]
+pub fn records_end()
+    ensures { (depth : ℕ) (form : Form) (before : List Update) → records_from depth form before [] ≡ record { legal = before; fault = None } }
 {}

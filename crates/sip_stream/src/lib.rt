@@ -28,3 +28,6 @@ pub use made::MadeSource;
 pub use reader::Reader;
 pub use record_bytes::put_record;
 pub use why::Why;
+
+#[cfg(test)]
+mod reader_tests;

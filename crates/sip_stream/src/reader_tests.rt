@@ -1,0 +1,237 @@
+ghost use Rattle.std.specs.Prelude.{◌≡◌, ◌≤◌, IfOk};
+
+use crate::{Form, Reader, StreamFault, Why};
+use sip_ports::MemorySource;
+use sip_vector::{Depth, Side, Update};
+use std::alloc::Global;
+use std::test::Fail;
+
+const HEAVIEST: i64 = (1 << 30) - 1;
+
+fn depth(levels: u8) -> Result<Depth, Fail>
+    ensures { IfOk result (λ d. d ≡ levels) }
+{
+    Ok(Depth::new(levels).ok_or("a depth")?)
+}
+
+fn update(side: Side, item: u64, delta: i64) -> Update {
+    Update { side, item, delta }
+}
+
+fn stream(alloc: Global, records: &[(u8, u32, i64)]) -> Result<Vec<u8>, Fail> {
+    let mut out = Vec::new(alloc);
+    for (side, item, delta) in records {
+        out.push(*side)?;
+        out.extend_from_slice(&item.to_be_bytes())?;
+        out.extend_from_slice(&delta.to_be_bytes())?;
+    }
+    Ok(out)
+}
+
+// The legal updates of some bytes at depth 2, and how they end.
+fn read_all(
+    alloc: Global,
+    form: Form,
+    bytes: &[u8],
+    chunk: usize,
+) -> Result<(Vec<Update>, Option<(u64, Why)>), Fail>
+    requires { 1 ≤ chunk }
+{
+    let mut source = MemorySource::new(bytes.to_vec(alloc)?, chunk, Vec::new(alloc));
+    let mut reader = Reader::new(depth(2)?, form);
+    let mut updates = Vec::new(alloc);
+    for _ in 0..100u32 {
+        if reader.spent() {
+            break;
+        }
+        match reader.next(&mut source) {
+            Ok(Some(update)) => updates.push(update)?,
+            Ok(None) => return Ok((updates, None)),
+            Err(StreamFault::Bad { at, why }) => return Ok((updates, Some((at, why)))),
+            Err(_) => break,
+        }
+    }
+    Err("the source stopped")?
+}
+
+// How some bytes end.
+fn fault(alloc: Global, form: Form, bytes: &[u8]) -> Result<Option<(u64, Why)>, Fail> {
+    Ok(read_all(alloc, form, bytes, 10_000)?.1)
+}
+
+#[test]
+fn both_forms_are_read_in_any_chunks(rt: HostRuntime) -> Result<(), Fail> {
+    let alloc = rt.alloc();
+    let three = [
+        update(Side::First, 0, 3),
+        update(Side::First, 2, 5),
+        update(Side::Second, 3, -1),
+    ];
+    let records = stream(alloc, &[(0, 0, 3), (0, 2, 5), (1, 3, -1)])?;
+    let lines = b"0 0 3\n0 2 5\n1 3 -1\n";
+    for chunk in 1..41 {
+        let (binary, end) = read_all(alloc, Form::Binary, &records, chunk)?;
+        assert!(rt; binary.as_slice() == three.as_slice() && end.is_none());
+        let (text, end) = read_all(alloc, Form::Text, lines, chunk)?;
+        assert!(rt; text.as_slice() == three.as_slice() && end.is_none());
+    }
+    let (binary, end) = read_all(alloc, Form::Binary, &records, 10_000)?;
+    assert!(rt; binary.as_slice() == three.as_slice() && end.is_none());
+    let (text, end) = read_all(alloc, Form::Text, lines, 10_000)?;
+    assert!(rt; text.as_slice() == three.as_slice() && end.is_none());
+    Ok(())
+}
+
+#[test]
+fn records_with_a_fault(rt: HostRuntime) -> Result<(), Fail> {
+    let alloc = rt.alloc();
+    let table = [
+        ((0, 4, 1), Why::BadItem),
+        ((2, 0, 1), Why::BadSide),
+        ((255, 9, 0), Why::BadSide),
+        ((1, 0, 0), Why::ZeroDelta),
+        ((0, 0, i64::MIN), Why::TooHeavy(Side::First)),
+        ((1, 0, HEAVIEST + 1), Why::TooHeavy(Side::Second)),
+    ];
+    for (record, why) in table {
+        let first = stream(alloc, &[record])?;
+        assert!(rt; fault(alloc, Form::Binary, &first)? == Some((0, why)));
+        let second = stream(alloc, &[(0, 3, -2), record])?;
+        assert!(rt; fault(alloc, Form::Binary, &second)? == Some((1, why)));
+    }
+    let heavy = stream(alloc, &[(0, 0, HEAVIEST), (0, 0, -1)])?;
+    assert!(rt; fault(alloc, Form::Binary, &heavy)? == Some((1, Why::TooHeavy(Side::First))));
+    assert!(rt; fault(alloc, Form::Binary, &[0; 12])? == Some((0, Why::Truncated)));
+    assert!(rt; fault(alloc, Form::Binary, &[])?.is_none());
+    Ok(())
+}
+
+fn expect_line(alloc: Global, line: &str, why: Option<Why>) -> Result<bool, Fail> {
+    let want = match why {
+        Some(why) => Some((0, why)),
+        None => None,
+    };
+    Ok(fault(alloc, Form::Text, line.as_bytes())? == want)
+}
+
+#[test]
+fn lines_of_another_shape(rt: HostRuntime) -> Result<(), Fail> {
+    let alloc = rt.alloc();
+    let lines = [
+        "2 x 5\n",
+        "00 0 5\n",
+        "01 0 5\n",
+        "-1 0 5\n",
+        "0 01 5\n",
+        "0 +1 5\n",
+        "0 -1 5\n",
+        "0 1 +5\n",
+        "0 1 -0\n",
+        "0 1 -01\n",
+        "0 1 00\n",
+        "0 1 -\n",
+        "0 1 --5\n",
+        "0 1 5\r\n",
+        "\n",
+        " \n",
+        "  \n",
+        "0  1 5\n",
+        "0 1  5\n",
+        " 0 1 5\n",
+        "0 1 5 \n",
+        "0 1\n",
+        "0 1 5 6\n",
+        "0,1,5\n",
+        "0\t1\t5\n",
+        "0 18446744073709551616 5\n",
+        "0 1 9223372036854775808\n",
+        "1 1 -9223372036854775809\n",
+        "0000000000000000000000000000000000000000\n",
+        "999999999999999999999999999999999999 0 5\n",
+        "0 18446744073709551615 -9223372036854775808\n",
+    ];
+    for line in lines {
+        assert!(rt; expect_line(alloc, line, Some(Why::BadLine))?);
+    }
+    Ok(())
+}
+
+#[test]
+fn lines_of_the_right_shape(rt: HostRuntime) -> Result<(), Fail> {
+    let alloc = rt.alloc();
+    let table = [
+        ("0 0 3\n", None),
+        ("1 3 -1073741823\n", None),
+        ("0 3 1073741823\n", None),
+        ("2 0 5\n", Some(Why::BadSide)),
+        ("10 9 0\n", Some(Why::BadSide)),
+        (
+            "99999999999999999999999999999999999 0 5\n",
+            Some(Why::BadSide),
+        ),
+        ("0 4 5\n", Some(Why::BadItem)),
+        ("0 9 0\n", Some(Why::BadItem)),
+        ("0 18446744073709551615 5\n", Some(Why::BadItem)),
+        ("0 1 0\n", Some(Why::ZeroDelta)),
+        ("0 1 1073741824\n", Some(Why::TooHeavy(Side::First))),
+        (
+            "0 1 9223372036854775807\n",
+            Some(Why::TooHeavy(Side::First)),
+        ),
+        (
+            "1 1 -9223372036854775808\n",
+            Some(Why::TooHeavy(Side::Second)),
+        ),
+        ("0 1 5", Some(Why::Truncated)),
+        ("x", Some(Why::Truncated)),
+        (
+            "0000000000000000000000000000000000000000",
+            Some(Why::Truncated),
+        ),
+    ];
+    for (line, why) in table {
+        assert!(rt; expect_line(alloc, line, why)?);
+    }
+    Ok(())
+}
+
+// Call 2 fails: after one record of 13 bytes, and after the first byte of a line.
+#[test]
+fn a_source_that_fails_is_no_end(rt: HostRuntime) -> Result<(), Fail> {
+    let alloc = rt.alloc();
+    let records = stream(alloc, &[(0, 0, 3), (0, 2, 5)])?;
+    let mut source = MemorySource::new(records, 13, vec![in alloc; 2]?);
+    let mut reader = Reader::new(depth(2)?, Form::Binary);
+    assert!(rt; reader.next(&mut source) == Ok(Some(update(Side::First, 0, 3))));
+    if !reader.spent() {
+        assert!(rt; reader.next(&mut source) == Err(StreamFault::ReadFault));
+    }
+    assert!(rt; reader.spent());
+    let mut source = MemorySource::new(b"0 0 3\n".to_vec(alloc)?, 1, vec![in alloc; 2]?);
+    let mut reader = Reader::new(depth(2)?, Form::Text);
+    assert!(rt; reader.next(&mut source) == Err(StreamFault::ReadFault));
+    assert!(rt; reader.spent());
+    Ok(())
+}
+
+#[test]
+fn faults_have_texts(rt: HostRuntime) -> Result<(), Fail> {
+    let alloc = rt.alloc();
+    let bad = StreamFault::Bad {
+        at: 7,
+        why: Why::BadItem,
+    };
+    assert_eq!(rt;
+        bad.to_string(alloc)?.as_str(),
+        "record 7 is not legal: BadItem"
+    );
+    assert_eq!(rt;
+        StreamFault::ReadFault.to_string(alloc)?.as_str(),
+        "the source failed"
+    );
+    assert_eq!(rt;
+        StreamFault::OutOfMemory.to_string(alloc)?.as_str(),
+        "out of memory"
+    );
+    Ok(())
+}
