@@ -1,10 +1,11 @@
 -- Replies of strategies.
-use Rattle.std.proofs.Common.{◌≡◌, ℕ, zero, suc, ◌+◌, ◌<◌, All, Bool, true, false, Option, Some, None, not, List, [], ◌∷◌, length, map, take, get_or, refl, ap, ◌∙◌, arith}
+use Rattle.std.proofs.Common.{◌≡◌, ℕ, zero, suc, ◌+◌, ◌<◌, All, Bool, true, false, Option, Some, None, not, List, [], ◌∷◌, length, map, take, get_or, eqb, inl, inr, subst, refl, ap, ◌∙◌, arith}
 use Rattle.std.specs.List.{range_with_len}
+use Rattle.std.specs.Cmp.Lexicographic.{pointwise}
 use Rattle.std.proofs.lemmas.List.{length-map}
 use Rattle.std.proofs.lemmas.List.Elements.{All-head, All-tail}
-use Rattle.std.proofs.lemmas.Bool.{and_from, not_from_false}
-use Rattle.sip_counts.specs.Strategies.{Strategy, IsOfBytes, replies, before, all_there, is_wrong, takes_wrong}
+use Rattle.std.proofs.lemmas.Bool.{cases_Bool, and_from, not_from_false}
+use Rattle.sip_counts.specs.Strategies.{Strategy, IsOfBytes, strategy_of, replies, before, all_there, is_wrong, takes_wrong}
 
 -- a function at numbers that are larger by one
 map_range-more : {R : Type 0} (f : ℕ → R) (a n : ℕ) → map f (range_with_len (suc a) n) ≡ map (λ j. f (suc j)) (range_with_len a n)
@@ -46,3 +47,16 @@ of_bytes_at (b ∷ taken) all (suc i) reply e = of_bytes_at taken (All-tail (λ 
 pub talk_strategy : (block : List ℕ) (taken : List (List ℕ)) → length taken ≡ length block → All (λ (reply : List ℕ). All (λ b. b < 256) reply) taken → (strategy : Strategy) × IsOfBytes strategy × (replies strategy block ≡ map Some taken)
 talk_strategy block taken len all =
     (λ v. get_or (map Some taken) (length v) None, λ v reply e. of_bytes_at taken all (length v) reply e, replies-one_by_one (map Some taken) block None (length-map taken Some ∙ len))
+
+-- ---- finite maps
+
+-- what a finite map gives is one of its values
+pub map_of_bytes : (entries : List (List ℕ × List ℕ)) → All (λ (e : List ℕ × List ℕ). All (λ b. b < 256) e.1) entries → IsOfBytes (strategy_of entries)
+map_of_bytes [] all v reply e = absurd (cc)
+map_of_bytes (x ∷ entries) all v reply e = elim (cases_Bool (pointwise eqb v x.0)) [
+  | inl t ↦
+      let here : Some x.1 ≡ Some reply = rw t at e in
+      let same : x.1 ≡ reply = cc in
+      subst (λ (r : List ℕ). All (λ b. b < 256) r) same (All-head (λ (y : List ℕ × List ℕ). All (λ b. b < 256) y.1) x entries all)
+  | inr t ↦ map_of_bytes entries (All-tail (λ (y : List ℕ × List ℕ). All (λ b. b < 256) y.1) x entries all) v reply (rw t at e)
+]

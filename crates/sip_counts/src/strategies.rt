@@ -11,11 +11,13 @@ pub fn each_talk_is_a_strategys()
         → (strategy : Strategy) × IsOfBytes strategy × (replies strategy block ≡ map Some taken) }
 {}
 
-/// A finite map gives a key's first value, and nothing where the key is missing.
+/// A finite map gives a key's first value, and nothing where the key is missing. With values of bytes it is a strategy of
+/// bytes, so what holds for each of those holds for it.
 pub fn finite_maps_are_strategies()
     ensures found { (key value : List ℕ) (entries : List (List ℕ × List ℕ)) → strategy_of ((key, value) ∷ entries) key ≡ Some value }
     ensures passed { (key other value : List ℕ) (entries : List (List ℕ × List ℕ)) → key ≢ other → strategy_of ((other, value) ∷ entries) key ≡ strategy_of entries key }
     ensures missing { (key : List ℕ) → strategy_of [] key ≡ None }
+    ensures bytes { (entries : List (List ℕ × List ℕ)) → All (λ e. All (λ b. b < 256) e.1) entries → IsOfBytes (strategy_of entries) }
 {}
 
 /// The first reply depends on no challenge, and the others are those of what the strategy does once the first challenge
