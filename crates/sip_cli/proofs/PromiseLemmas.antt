@@ -26,7 +26,7 @@ use Rattle.sip_verifier.specs.Talks.{stream_sent, asked, bye_sent}
 use Rattle.sip_verifier.specs.TalkClause.{EndsAtFault, IsUnderWay, before_end}
 use Rattle.sip_verifier.specs.Turns.{Turn, Accepted, ending, true_root, updates, IsLegalToEnd, AreTurns, Reached}
 use Rattle.sip_verifier.specs.declared.status.Port.TheVariants as status_ports
-use Rattle.sip_verifier.specs.VerdictClause.{SomeWritten, NoneLeft}
+use Rattle.sip_verifier.specs.VerdictClause.{SomeWritten, PartWritten, PartRejected, CutInLine, NoneLeft}
 use Rattle.sip_wire.specs.declared.message.Reason.{Reason}
 use Rattle.sip_cli.specs.Asking as asking
 use Rattle.sip_cli.specs.Drawing.{Draws}
@@ -310,18 +310,15 @@ module _ (depth lo hi : ℕ) (x : Exchange) where
       let reached = at_fault block round reason old mid new s legal told went asks in
       let fault : Fault = record { round = round; reason = reason } in
       let text = rejection 1 round reason in
-      let some : SomeWritten task x = record {
-        done = [];
-        part = take n text;
-        reached = inl refl;
-        part_of = inr (inr (record { last = turn block asks.replies; fault = fault; faulty = asks.faulty; reached = reached; front = (drop n text, sym (take-append-drop n text)) }));
-        report = written_is blank full _ _ part wrote;
-      } in
+      let rejected : PartRejected task x [] (take n text) = record { last = turn block asks.replies; fault = fault; faulty = asks.faulty; reached = reached; front = (drop n text, sym (take-append-drop n text)) } in
+      let report = written_is blank full _ _ part wrote in
+      let some : SomeWritten task x = record { done = []; part = take n text; reached = inl refl; part_of = inr (inr rejected); report = report } in
+      let cut : CutInLine task x = record { done = []; part = take n text; reached = inl refl; verdict = inr rejected; report = report } in
       let ends : EndsAtFault task x fault = record { done = []; last = turn block asks.replies; faulty = asks.faulty; reached = reached } in
       let caused : FaultClause before now (status_of_report stop) = subst (FaultClause before now) is cause in
       let promises : Promises task x before now (status_of_report stop) =
       elim stop as (λ p. FaultClause before now (status_of_report p) → Promises task x before now (status_of_report p)) [
-        | port_stops.Failed ↦ λ f. record { verdict = some; talk = inr (fault, ends); cause = f }
+        | port_stops.Failed ↦ λ f. record { verdict = cut; talk = inr (fault, ends); cause = f }
         | port_stops.OutOfMemory ↦ λ f. record { verdict = some; talk = inr (fault, ends); cause = tt }
       ] caused in
       subst (Promises task x before now) (sym is) promises
@@ -405,16 +402,12 @@ module _ (depth lo hi : ℕ) (x : Exchange) where
       → FaultClause before now (status_of_report stop) → Promises task x before now (status_of_report stop)
   after_line {block = block} {entries = entries} before now stop n a part cause =
       let acc : Accepted depth (updates task x) = accepted block a.replies entries a.accepts in
-      let some : SomeWritten task x = record {
-        done = [];
-        part = take n (its_line entries);
-        reached = inl refl;
-        part_of = inr (inl (record { next = acc; reached = its_turn a; front = (drop n (its_line entries), sym (take-append-drop n (its_line entries))) }));
-        report = part;
-      } in
+      let written : PartWritten task x [] (take n (its_line entries)) = record { next = acc; reached = its_turn a; front = (drop n (its_line entries), sym (take-append-drop n (its_line entries))) } in
+      let some : SomeWritten task x = record { done = []; part = take n (its_line entries); reached = inl refl; part_of = inr (inl written); report = part } in
+      let cut : CutInLine task x = record { done = []; part = take n (its_line entries); reached = inl refl; verdict = inl written; report = part } in
       let way : IsUnderWay task x = under_way_answered [] bye_sent a refl (λ more. absurd (more ([], sym a.talk ∙ sym (append-nil x.talk)))) in
       elim stop as (λ p. FaultClause before now (status_of_report p) → Promises task x before now (status_of_report p)) [
-        | port_stops.Failed ↦ λ f. record { verdict = some; talk = inl way; cause = f }
+        | port_stops.Failed ↦ λ f. record { verdict = cut; talk = inl way; cause = f }
         | port_stops.OutOfMemory ↦ λ f. record { verdict = some; talk = inl way; cause = tt }
       ] cause
 

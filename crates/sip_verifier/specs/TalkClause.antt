@@ -3,7 +3,8 @@
 -- Where every query was accepted, the talk is the whole one, in its order. Where a query's replies have a fault, it is
 -- the talk up to the last byte that the fault needed, followed by the end of the link exactly where that is the fault.
 -- With an illegal stream it ends before the end of the stream is sent: the opening, and a frame for each 512 legal
--- records. With bad words or a bad seed nothing is said. With any other answer it is a front of that same talk: so each
+-- records. Where reading the stream failed, it ends before that too. With bad words or a bad seed, or where reading the
+-- seed failed, nothing is said. With any other answer it is a front of that same talk: so each
 -- reply was taken and passed its tests before the next challenge leaves, and the last challenge never leaves; and a
 -- query's line was written before anything is said after its last reply. Where the line of a rejection could not be
 -- written whole, the talk is that of the rejection.

@@ -64,6 +64,15 @@ module _ (task : Task) (x : Exchange) where
     pub part_of : (part ≡ []) ⊎ PartWritten done part ⊎ PartRejected done part
     pub report : x.report ≡ lines task x done ++ part
 
+  -- Writing the report failed in the line of a verdict that was reached: the lines of the queries before stand, and a
+  -- front of that one.
+  pub record CutInLine : Type 0 where
+    pub done : Done task x
+    pub part : List ℕ
+    pub reached : WereReached done
+    pub verdict : PartWritten done part ⊎ PartRejected done part
+    pub report : x.report ≡ lines task x done ++ part
+
   -- The lines of all queries that were accepted. What was said after them is a front of the farewell, or of a query
   -- that waits for replies, so that no other verdict was reached.
   pub record NoneLeft : Type 0 where
@@ -82,7 +91,7 @@ module _ (task : Task) (x : Exchange) where
   VerdictClause statuses.BadSeed = x.report ≡ []
   VerdictClause statuses.SeedSpent = x.report ≡ []
   VerdictClause (statuses.ReadFault port) = x.report ≡ []
-  VerdictClause (statuses.WriteFault ports.Report) = SomeWritten
+  VerdictClause (statuses.WriteFault ports.Report) = CutInLine
   VerdictClause statuses.PeerFault = NoneLeft
   VerdictClause statuses.OutOfMemory = SomeWritten
   VerdictClause _ = ⊥
