@@ -11,6 +11,7 @@ use Rattle.sip_verifier.specs.declared.status.Status.TheVariants as statuses
 -- the name of why a record is not legal, which a side that is too heavy has with its number
 abbrev pub why_name : Why → List ℕ
 why_name whys.Truncated = codes "Truncated"
+why_name whys.BadLine = codes "BadLine"
 why_name whys.BadSide = codes "BadSide"
 why_name whys.BadItem = codes "BadItem"
 why_name whys.ZeroDelta = codes "ZeroDelta"

@@ -20,6 +20,7 @@ fn put_why(gathered: &mut ArrayVec<u8, ROOM>, why: Why)
 {
     match why {
         Why::Truncated => put(gathered, b"Truncated"),
+        Why::BadLine => put(gathered, b"BadLine"),
         Why::BadSide => put(gathered, b"BadSide"),
         Why::BadItem => put(gathered, b"BadItem"),
         Why::ZeroDelta => put(gathered, b"ZeroDelta"),
@@ -163,6 +164,14 @@ mod tests {
             },
             3,
             b"sip: bad stream at record 0: Truncated\n",
+        ),
+        (
+            Status::BadStream {
+                at: 2,
+                why: Why::BadLine,
+            },
+            3,
+            b"sip: bad stream at record 2: BadLine\n",
         ),
         (
             Status::BadStream {
