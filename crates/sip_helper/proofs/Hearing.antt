@@ -1,0 +1,124 @@
+-- What messages that fit have, and which may never come.
+use Rattle.std.proofs.Common.{◌≡◌, ℕ, ◌+◌, ◌^◌, ◌<◌, ◌≤◌, Bool, true, false, cond, nat_lt, if◌then◌else◌, List, Option, Some, None, inl, inr, refl, sym, ap, subst, ◌∙◌, arith}
+use Rattle.std.specs.Prelude.{IfSome, IsTrue}
+use Rattle.std.specs.List.{list_all}
+use Rattle.std.specs.Option.{option_map}
+use Rattle.std.proofs.lemmas.Bool.{and_parts}
+use Rattle.std.proofs.lemmas.Bool.Decides.{nat_tests}
+use Rattle.arrayvec.specs.ArrayVec.{ArrayVec}
+use Rattle.sip_field.specs.Moduli.{m61_modulus}
+use Rattle.sip_vector.specs.declared.query.Query.{Query}
+use Rattle.sip_vector.specs.declared.query.Query.TheVariants as queries
+use Rattle.sip_vector.specs.declared.update.Update.{Update}
+use Rattle.sip_wire.specs.declared.message.Message.{Message}
+use Rattle.sip_wire.specs.declared.message.Message.TheVariants as messages
+use Rattle.sip_wire.specs.Spelling.{fits, has_room, all_hold}
+use Rattle.sip_helper.specs.declared.asked.Asked.{Asked}
+use Rattle.sip_helper.specs.declared.heard.Heard.{Heard}
+use Rattle.sip_helper.specs.declared.vectors.Vectors.{Vectors}
+use Rattle.sip_helper.specs.declared.vectors.Weights.{Weights}
+use Rattle.sip_helper.specs.Answering.{Stands}
+use Rattle.sip_helper.specs.Keeping.{IsKept}
+use Rattle.sip_helper.specs.declared.heard.Heard.TheVariants.{Nothing, Part, Whole}
+use Rattle.sip_helper.specs.Legal.{AreOf, legal_weights}
+use Rattle.sip_helper.specs.Turns.{HelperState, depth_of, is_allowed, is_light, part_of, stays_legal, weights_after, with_updates}
+use Rattle.sip_helper.proofs.LegalUpdates.{are_after, bool_tells, none_or_some, same_some}
+
+pub open_some : (version depth : ℕ) → IsTrue (fits (messages.Open version depth)) → 1 ≤ depth
+unfolding fits has_room all_hold
+open_some version depth h = grind (arith, nat_tests)
+
+pub open_most : (version depth : ℕ) → IsTrue (fits (messages.Open version depth)) → depth ≤ 32
+unfolding fits has_room all_hold
+open_most version depth h = grind (arith, nat_tests)
+
+pub element_fits : (challenge : ℕ) → IsTrue (fits (messages.Reveal challenge)) → challenge < m61_modulus
+unfolding fits has_room all_hold
+element_fits challenge h = grind (arith, nat_tests)
+
+pub interval_fits : (lo hi : ℕ) → IsTrue (fits (messages.Query (queries.Sub lo hi))) → lo ≤ hi
+unfolding fits has_room all_hold
+interval_fits lo hi h = grind (arith, nat_tests)
+
+-- a message of another kind may never come
+pub others_out : (s : HelperState) (m : Message)
+    → ((version depth : ℕ) → m ≡ messages.Open version depth → ⊥)
+    → ((updates : ArrayVec Update) → m ≡ messages.Updates updates → ⊥)
+    → (m ≡ messages.EndStream → ⊥)
+    → ((query : Query) → m ≡ messages.Query query → ⊥)
+    → ((challenge : ℕ) → m ≡ messages.Reveal challenge → ⊥)
+    → (m ≡ messages.Bye → ⊥)
+    → is_allowed s m ≡ false
+others_out s (messages.Open version depth) a b c d e f = absurd (a version depth refl)
+others_out s (messages.Updates updates) a b c d e f = absurd (b updates refl)
+others_out s messages.EndStream a b c d e f = absurd (c refl)
+others_out s (messages.Query query) a b c d e f = absurd (d query refl)
+others_out s (messages.Reveal challenge) a b c d e f = absurd (e challenge refl)
+others_out s messages.Bye a b c d e f = absurd (f refl)
+others_out s (messages.Claim _) a b c d e f = refl
+others_out s (messages.Poly _ _ _) a b c d e f = refl
+others_out s (messages.Entries _) a b c d e f = refl
+others_out s (messages.Siblings _ _) a b c d e f = refl
+others_out s (messages.Leaves _) a b c d e f = refl
+others_out s (messages.Nodes _) a b c d e f = refl
+others_out s messages.LevelEnd a b c d e f = refl
+others_out s (messages.Refuse _) a b c d e f = refl
+
+-- the open query changed, and still stands
+pub kept_with : (heard : Heard) (weights : Weights) (vectors : Option Vectors) (queries : ℕ) (asked : Option Asked) (old new : Asked)
+    → IsKept heard weights vectors queries asked → asked ≡ Some old → (Stands (depth_of heard) vectors old → Stands (depth_of heard) vectors new) → IsKept heard weights vectors queries (Some new)
+kept_with heard weights vectors queries asked old new kept is still =
+    let was = subst (IsKept heard weights vectors queries) is kept in
+    record { deep = was.deep; light = was.light; none = was.none; are = was.are; few = was.few; behind = was.behind; stands = still was.stands }
+
+-- ---- updates
+
+legal_tells : (depth : ℕ) (w next : Weights) (us : List Update) → legal_weights depth w us ≡ Some next → (next ≡ weights_after w us) × IsTrue (is_light next)
+legal_tells depth w next us e = elim (bool_tells (stays_legal depth w us)) [
+  | inl t ↦
+      let same : next ≡ weights_after w us = same_some next (weights_after w us) (sym e ∙ ap (λ (b : Bool). cond b (Some (weights_after w us)) None) t) in
+      let light = and_parts (list_all (λ (u : Update). nat_lt u.item (2 ^ depth)) us) (is_light (weights_after w us)) t in
+      (same, subst (λ (x : Weights). IsTrue (is_light x)) (sym same) light.1)
+  | inr t ↦ absurd (none_or_some next (sym e ∙ ap (λ (b : Bool). cond b (Some (weights_after w us)) None) t))
+]
+
+-- the vectors that are left, once updates were added or memory was refused
+are_grown : (depth : ℕ) (w : Weights) (us : List Update) (vectors grown : Option Vectors) (refused : Bool) → IfSome vectors (AreOf depth w)
+    → grown ≡ (if refused then None else option_map (λ v. with_updates v us) vectors) → IfSome grown (AreOf depth (weights_after w us))
+are_grown depth w us vectors grown true are is = subst (λ (x : Option Vectors). IfSome x (AreOf depth (weights_after w us))) (sym is) tt
+are_grown depth w us None grown false are is = subst (λ (x : Option Vectors). IfSome x (AreOf depth (weights_after w us))) (sym is) tt
+are_grown depth w us (Some v) grown false are is = subst (λ (x : Option Vectors). IfSome x (AreOf depth (weights_after w us))) (sym is) (are_after depth w v us are)
+
+none_behind : (d : ℕ) (vectors : Option Vectors) (asked : Option Asked) → IfSome asked (λ _. Part d ≡ Whole d) → IfSome asked (Stands d vectors)
+none_behind d vectors None h = tt
+none_behind d vectors (Some a) h = absurd (part_or_whole d h)
+  where
+    part_or_whole : (k : ℕ) → Part k ≡ Whole k → ⊥
+    part_or_whole k e = cc
+
+-- updates were heard: there is no open query, and the vectors have the new weights
+pub kept_grown : (heard : Heard) (weights : Weights) (vectors : Option Vectors) (queries : ℕ) (asked : Option Asked) (depth : ℕ) (us : List Update) (next : Weights) (grown : Option Vectors)
+    → IsKept heard weights vectors queries asked → part_of heard ≡ Some depth → legal_weights depth weights us ≡ Some next
+    → ((refused : Bool) × (grown ≡ (if refused then None else option_map (λ v. with_updates v us) vectors))) → IsKept heard next grown queries asked
+kept_grown Nothing weights vectors queries asked depth us next grown kept part legal more = absurd cc
+kept_grown (Whole d) weights vectors queries asked depth us next grown kept part legal more = absurd cc
+kept_grown (Part d) weights vectors queries asked depth us next grown kept part legal more =
+    let tells = legal_tells depth weights next us legal in
+    record {
+      deep = kept.deep;
+      light = tells.1;
+      none = λ e. absurd (part_or_nothing d e);
+      are = subst (λ (x : Weights). IfSome grown (AreOf d x)) (sym tells.0) (are_grown d weights us vectors grown more.0 kept.are more.1);
+      few = kept.few;
+      behind = kept.behind;
+      stands = none_behind d grown asked kept.behind;
+    }
+  where
+    part_or_nothing : (k : ℕ) → Part k ≡ Nothing → ⊥
+    part_or_nothing k e = cc
+
+pub same_grown : (refused : Bool) (a b : Option Vectors) (us vs : List Update) → a ≡ b → us ≡ vs
+    → (if refused then None else option_map (λ v. with_updates v us) a) ≡ (if refused then None else option_map (λ v. with_updates v vs) b)
+same_grown refused a b us vs e f =
+    ap (λ (x : Option Vectors). if refused then None else option_map (λ v. with_updates v us) x) e
+    ∙ ap (λ (x : List Update). if refused then None else option_map (λ v. with_updates v x) b) f

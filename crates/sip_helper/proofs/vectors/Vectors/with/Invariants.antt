@@ -1,0 +1,13 @@
+-- The updates to come are legal, and give with the vectors so far what all of them give.
+use Rattle.std.proofs.Common.{◌≡◌, drop}
+use Rattle.std.specs.Prelude.{IsTrue}
+use Rattle.sip_helper.specs.Turns.{stays_legal, with_updates}
+use Rattle.sip_helper.specs.Legal.{weights_of}
+use Rattle.sip_helper.proofs.vectors.Vectors.with.Given as goal
+
+abbrev pub invariant-loop-update : goal.invariant-loop-update
+invariant-loop-update l = record {
+  legal : IsTrue (stays_legal l.vectors.first.depth (weights_of l.vectors) (drop l.update-index l.updates));
+  depths : l.vectors.second.depth ≡ l.vectors.first.depth;
+  rest : with_updates l.vectors (drop l.update-index l.updates) ≡ with_updates l.fn.self l.updates;
+}

@@ -1,0 +1,203 @@
+-- The turns of a helper: what it has heard, which message may come next, and the reply that it owes.
+--
+-- Whether memory is refused is open: at an opening, at updates and at a query each of the two may happen. Where it is refused
+-- at an opening or at updates, the helper has the weights from then on and no longer the vectors.
+use Rattle.std.specs.Prelude.{ℕ, ◌+◌, ◌^◌, Bool, true, false, not, ◌&&◌, ◌||◌, nat_le, nat_lt, is_none, is_some, List, [], ◌∷◌, ◌++◌, length, fold, Option, Some, None, if◌then◌else◌}
+use Rattle.std.specs.List.{list_all, flat_map}
+use Rattle.std.specs.Option.{option_map, option_and_then}
+use Rattle.sip_field.specs.Moduli.{m61_modulus}
+use Rattle.sip_vector.specs.declared.query.Query.{Query}
+use Rattle.sip_vector.specs.declared.query.Query.TheVariants as queries
+use Rattle.sip_vector.specs.declared.update.Side.TheVariants.{First, Second}
+use Rattle.sip_vector.specs.declared.update.Update.{Update}
+use Rattle.sip_vector.specs.Streams.{weight, most_weight}
+use Rattle.sip_vector.specs.Vectors.{zero_vector, with_update, nonzero_within}
+use Rattle.sip_wire.specs.declared.message.Message.{Message}
+use Rattle.sip_wire.specs.declared.message.Message.TheVariants as messages
+use Rattle.sip_wire.specs.Spelling.{spelling}
+use Rattle.sip_subvec.specs.Honest.{honest_messages}
+use Rattle.sip_subvec.specs.Replies.{most_entries}
+use Rattle.sip_helper.specs.declared.heard.Heard.{Heard}
+use Rattle.sip_helper.specs.declared.heard.Heard.TheVariants.{Nothing, Part, Whole}
+use Rattle.sip_helper.specs.declared.vectors.Vectors.{Vectors}
+use Rattle.sip_helper.specs.declared.vectors.Weights.{Weights}
+
+-- ---- the state
+
+-- a query that is open, the challenges that were revealed behind it, whether its last reply was given or is owed, and whether
+-- memory was refused for it
+pub record OpenQuery : Type 0 where
+  pub query : Query
+  pub revealed : List ℕ
+  pub given : Bool
+  pub refused : Bool
+
+-- what was heard of the stream, the vectors and their weights, how many queries were asked and which one is open, whether the
+-- talk is over, and whether a reply was cut short
+pub record HelperState : Type 0 where
+  pub heard : Heard
+  pub vectors : Option Vectors
+  pub weights : Weights
+  pub queries : ℕ
+  pub open_query : Option OpenQuery
+  pub done : Bool
+  pub spent : Bool
+
+abbrev pub no_weight : Weights
+no_weight = record { first = 0; second = 0 }
+
+-- nothing was heard
+abbrev pub fresh : HelperState
+fresh = record { heard = Nothing; vectors = None; weights = no_weight; queries = 0; open_query = None; done = false; spent = false }
+
+abbrev pub depth_of : Heard → ℕ
+depth_of Nothing = 0
+depth_of (Part depth) = depth
+depth_of (Whole depth) = depth
+
+-- the depth of a stream that goes on, and of one that has ended
+abbrev pub part_of : Heard → Option ℕ
+part_of (Part depth) = Some depth
+part_of _ = None
+
+abbrev pub whole_of : Heard → Option ℕ
+whole_of (Whole depth) = Some depth
+whole_of _ = None
+
+-- ---- the stream
+
+abbrev pub zero_vectors : ℕ → Vectors
+zero_vectors depth = record { first = zero_vector depth; second = zero_vector depth }
+
+-- the vectors once these updates are added
+abbrev pub with_updates : Vectors → List Update → Vectors
+with_updates v us = record { first = fold (with_update First) v.first us; second = fold (with_update Second) v.second us }
+
+-- the weights once these updates are added
+abbrev pub weights_after : Weights → List Update → Weights
+weights_after w us = record { first = w.first + weight us First; second = w.second + weight us Second }
+
+-- no side is too heavy
+abbrev pub is_light : Weights → Bool
+is_light w = nat_le w.first most_weight && nat_le w.second most_weight
+
+-- each item is below 2 ^ depth, and no side becomes too heavy
+abbrev pub stays_legal : ℕ → Weights → List Update → Bool
+stays_legal depth w us = list_all (λ u. nat_lt u.item (2 ^ depth)) us && is_light (weights_after w us)
+
+-- ---- which message may come next
+
+-- how many queries are asked at most
+abbrev pub most_queries : ℕ
+most_queries = 16
+
+-- the queries that a helper answers
+abbrev pub is_built : Query → Bool
+is_built (queries.Sub lo hi) = true
+is_built _ = false
+
+-- the query's items are below 2 ^ depth
+abbrev pub is_below : ℕ → Query → Bool
+is_below depth (queries.Sub lo hi) = nat_lt hi (2 ^ depth)
+is_below depth (queries.Range side lo hi) = nat_lt hi (2 ^ depth)
+is_below depth _ = true
+
+-- a query may be asked of a stream of this depth
+abbrev pub may_ask : ℕ → HelperState → Query → Bool
+may_ask depth s q = is_none s.open_query && nat_lt s.queries most_queries && is_built q && is_below depth q
+
+-- a challenge may be revealed: the last reply was given, and a level is left above it
+abbrev pub may_reveal : ℕ → OpenQuery → Bool
+may_reveal depth o = o.given && nat_lt (length o.revealed + 1) depth
+
+-- the message may come next; one that may not is out of turn
+abbrev pub is_allowed : HelperState → Message → Bool
+is_allowed s (messages.Open version depth) = elim s.heard [ Nothing ↦ true | _ ↦ false ]
+is_allowed s (messages.Updates us) = elim s.heard [ Part depth ↦ stays_legal depth s.weights us.items | _ ↦ false ]
+is_allowed s messages.EndStream = elim s.heard [ Part depth ↦ true | _ ↦ false ]
+is_allowed s (messages.Query q) = elim s.heard [
+  | Whole depth ↦ is_none s.open_query && nat_lt s.queries most_queries && is_built q && is_below depth q
+  | _ ↦ false
+]
+is_allowed s (messages.Reveal r) = elim s.open_query [ Some o ↦ may_reveal (depth_of s.heard) o | None ↦ false ]
+is_allowed s messages.Bye = true
+is_allowed s _ = false
+
+-- ---- what it does
+
+abbrev pub asked : Query → Bool → OpenQuery
+asked q refused = record { query = q; revealed = []; given = false; refused = refused }
+
+abbrev pub with_challenge : ℕ → OpenQuery → OpenQuery
+with_challenge r o = record o { revealed = o.revealed ++ r ∷ []; given = false }
+
+-- the state after a message that may come next, by whether memory is refused for it
+abbrev pub step : HelperState → Bool → Message → HelperState
+step s refused (messages.Open version depth) = record s { heard = Part depth; vectors = if refused then None else Some (zero_vectors depth) }
+step s refused (messages.Updates us) = record s { weights = weights_after s.weights us.items; vectors = if refused then None else option_map (λ v. with_updates v us.items) s.vectors }
+step s refused messages.EndStream = record s { heard = Whole (depth_of s.heard) }
+step s refused (messages.Query q) = record s { queries = s.queries + 1; open_query = Some (asked q refused) }
+step s refused (messages.Reveal r) = record s { open_query = option_map (with_challenge r) s.open_query }
+step s refused messages.Bye = record s { done = true }
+step s refused _ = s
+
+-- ---- the reply that is owed
+
+-- the codes of refusals: for want of memory, of an answer with too many entries, and of a message out of turn
+abbrev pub want_of_memory : ℕ
+want_of_memory = 1
+
+abbrev pub too_many : ℕ
+too_many = 2
+
+abbrev pub out_of_turn : ℕ
+out_of_turn = 4
+
+abbrev pub refusal : ℕ → List Message
+refusal code = messages.Refuse code ∷ []
+
+-- the answer has more entries than one may have
+abbrev pub is_too_long : Vectors → Query → Bool
+is_too_long v (queries.Sub lo hi) = nat_lt most_entries (length (nonzero_within lo hi v.first.numbers))
+is_too_long v _ = false
+
+-- the messages of an honest reply
+abbrev pub honest_to : Vectors → Query → List ℕ → List Message
+honest_to v (queries.Sub lo hi) revealed = honest_messages m61_modulus v.first.numbers lo hi revealed
+honest_to v _ revealed = []
+
+-- the messages of a reply to a query
+abbrev pub reply_to : Option Vectors → OpenQuery → List Message
+reply_to None o = refusal want_of_memory
+reply_to (Some v) o =
+    if o.refused then refusal want_of_memory
+    else if is_too_long v o.query then refusal too_many
+    else honest_to v o.query o.revealed
+
+-- that reply is a refusal
+abbrev pub is_refused : Option Vectors → OpenQuery → Bool
+is_refused None o = true
+is_refused (Some v) o = o.refused || is_too_long v o.query
+
+-- a reply is owed
+abbrev pub owes : HelperState → Bool
+owes s = elim s.open_query [ Some o ↦ not o.given | None ↦ false ]
+
+-- the messages of the reply that is owed
+abbrev pub owed_messages : HelperState → List Message
+owed_messages s = elim s.open_query [ Some o ↦ if o.given then [] else reply_to s.vectors o | None ↦ [] ]
+
+-- its bytes
+abbrev pub owed : HelperState → List ℕ
+owed s = flat_map spelling (owed_messages s)
+
+-- the query once its reply was given; a refusal and the last reply close it
+abbrev pub after_reply : ℕ → Option Vectors → OpenQuery → Option OpenQuery
+after_reply depth vectors o =
+    if o.given then Some o
+    else if is_refused vectors o || nat_le depth (length o.revealed + 1) then None
+    else Some (record o { given = true })
+
+-- the state once the reply that is owed was given
+abbrev pub after_answer : HelperState → HelperState
+after_answer s = record s { open_query = option_and_then (after_reply (depth_of s.heard) s.vectors) s.open_query }

@@ -1,0 +1,226 @@
+//! The helper's side of a talk, message by message.
+
+ghost use Rattle.std.specs.Prelude.{◌≡◌, ◌<◌, ◌≤◌, Bool, ℕ, IsOk, IsTrue, OnErr, OnOk, ◌↔◌, false, true};
+ghost use Rattle.sip_field.specs.Moduli.{m61_modulus};
+ghost use Rattle.sip_ports.specs.Ports.{HasCause, SendsWhole};
+ghost use Rattle.sip_wire.specs.Spelling.{fits};
+ghost use Rattle.sip_wire.specs.declared.message.Message.TheVariants as messages;
+ghost use Rattle.sip_helper.specs.Turns.{after_answer, fresh, is_allowed, owed, owes, step};
+
+use crate::OutOfTurn;
+use crate::asked::{Answerer, Asked};
+use crate::heard::Heard;
+use crate::vectors::{Vectors, Weights, grown};
+use arrayvec::ArrayVec;
+use sip_ports::{PortStop, Sink};
+use sip_vector::{Depth, Query, Update};
+use sip_wire::{MOST_ROWS, Message};
+use std::alloc::Global;
+use std::marker::Model;
+
+/// How many queries are asked at most.
+const MOST_QUERIES: u8 = 16;
+
+/// What a helper knows: the stream that it heard, and the query that is open.
+///
+/// A message that may come is heard by [`hear`](HelperCore::hear), and the reply that is owed then is sent by
+/// [`answer`](HelperCore::answer). Where memory is refused, the query is answered by a refusal.
+#[derive(Drop)]
+pub struct HelperCore {
+    alloc: Global,
+    heard: Heard,
+    weights: Weights,
+    vectors: Option<Vectors>,
+    queries: u8,
+    asked: Option<Asked>,
+    done: bool,
+    spent: bool,
+}
+
+impl Model for HelperCore {
+    ghost use Rattle.std.specs.Option.{option_map};
+    ghost use Rattle.sip_helper.specs.Turns.{HelperState};
+    ghost use Rattle.sip_helper.specs.Answering.{open_of};
+    ghost use Rattle.sip_helper.specs.Keeping.{IsKept};
+
+    ghost Value = { HelperState };
+
+    ghost view = { λ h. record { heard = h.heard; vectors = h.vectors; weights = h.weights; queries = h.queries; open_query = option_map open_of h.asked; done = h.done; spent = h.spent } };
+
+    ghost invariant = { λ h. IsKept h.heard h.weights h.vectors h.queries h.asked };
+}
+
+impl HelperCore {
+    /// A helper that has heard nothing. It takes no memory yet.
+    pub fn new(alloc: Global) -> HelperCore
+        ensures { result ≡ fresh }
+    {
+        HelperCore {
+            alloc,
+            heard: Heard::Nothing,
+            weights: Weights {
+                first: 0,
+                second: 0,
+            },
+            vectors: None,
+            queries: 0,
+            asked: None,
+            done: false,
+            spent: false,
+        }
+    }
+
+    fn open(&mut self, depth: u8) -> Result<(), OutOfTurn>
+        requires some { 1 ≤ depth }
+        requires most { depth ≤ 32 }
+        ensures turn { (version : ℕ) → IsOk result ↔ IsTrue (is_allowed self.old (messages.Open version depth)) }
+        ensures ok { (version : ℕ) → OnOk result ((refused : Bool) × (self.new ≡ step self.old refused (messages.Open version depth))) }
+        ensures err { OnErr result (self.new ≡ self.old) }
+    {
+        let Heard::Nothing = self.heard else {
+            return Err(OutOfTurn);
+        };
+        let Some(depth) = Depth::new(depth) else {
+            return Err(OutOfTurn);
+        };
+        self.heard = Heard::Part(depth);
+        self.vectors = Vectors::new(self.alloc, depth).ok();
+        Ok(())
+    }
+
+    fn add(&mut self, updates: &ArrayVec<Update, MOST_ROWS>) -> Result<(), OutOfTurn>
+        ensures turn { IsOk result ↔ IsTrue (is_allowed self.old (messages.Updates updates.now)) }
+        ensures ok { OnOk result ((refused : Bool) × (self.new ≡ step self.old refused (messages.Updates updates.now))) }
+        ensures err { OnErr result (self.new ≡ self.old) }
+    {
+        let Some(depth) = self.heard.part() else {
+            return Err(OutOfTurn);
+        };
+        let Some(weights) = self.weights.with(depth, updates) else {
+            return Err(OutOfTurn);
+        };
+        self.vectors = grown(self.vectors.take(), updates);
+        self.weights = weights;
+        Ok(())
+    }
+
+    fn end(&mut self) -> Result<(), OutOfTurn>
+        ensures turn { IsOk result ↔ IsTrue (is_allowed self.old messages.EndStream) }
+        ensures ok { OnOk result ((refused : Bool) × (self.new ≡ step self.old refused messages.EndStream)) }
+        ensures err { OnErr result (self.new ≡ self.old) }
+    {
+        let Some(depth) = self.heard.part() else {
+            return Err(OutOfTurn);
+        };
+        self.heard = Heard::Whole(depth);
+        Ok(())
+    }
+
+    fn ask(&mut self, query: Query) -> Result<(), OutOfTurn>
+        requires { IsTrue (fits (messages.Query query)) }
+        ensures turn { IsOk result ↔ IsTrue (is_allowed self.old (messages.Query query)) }
+        ensures ok { OnOk result ((refused : Bool) × (self.new ≡ step self.old refused (messages.Query query))) }
+        ensures err { OnErr result (self.new ≡ self.old) }
+    {
+        let Some(depth) = self.heard.whole() else {
+            return Err(OutOfTurn);
+        };
+        let Query::Sub { lo, hi } = query else {
+            return Err(OutOfTurn);
+        };
+        if self.asked.is_some() || self.queries >= MOST_QUERIES || hi >= 1 << depth.get() {
+            return Err(OutOfTurn);
+        }
+        self.asked = Some(Asked::new(Answerer::start(self.alloc, &self.vectors, lo, hi)));
+        self.queries += 1;
+        Ok(())
+    }
+
+    fn reveal(&mut self, challenge: u64) -> Result<(), OutOfTurn>
+        requires { challenge < m61_modulus }
+        ensures turn { IsOk result ↔ IsTrue (is_allowed self.old (messages.Reveal challenge)) }
+        ensures ok { OnOk result ((refused : Bool) × (self.new ≡ step self.old refused (messages.Reveal challenge))) }
+        ensures err { OnErr result (self.new ≡ self.old) }
+    {
+        let depth = self.heard.depth();
+        match &mut self.asked {
+            Some(asked) => asked.reveal(depth, challenge),
+            None => Err(OutOfTurn),
+        }
+    }
+
+    /// Takes a message, where it may come: the state is the next one then, and the reply that is owed, if one is, may be sent.
+    ///
+    /// A message that may not come is [`OutOfTurn`] and leaves the helper as it was. Where one update of a frame may not come, no
+    /// update of it is added. Where memory is refused the message is heard all the same.
+    pub fn hear(&mut self, message: &Message) -> Result<(), OutOfTurn>
+        requires fits { IsTrue (fits message.now) }
+        requires live { self.old.spent ≡ false }
+        ensures turn { IsOk result ↔ IsTrue (is_allowed self.old message.now) }
+        ensures heard { OnOk result ((refused : Bool) × (self.new ≡ step self.old refused message.now)) }
+        ensures same { OnErr result (self.new ≡ self.old) }
+    {
+        match message {
+            Message::Open { version: _, depth } => self.open(*depth),
+            Message::Updates(updates) => self.add(updates),
+            Message::EndStream => self.end(),
+            Message::Query(query) => self.ask(*query),
+            Message::Reveal { challenge } => self.reveal(*challenge),
+            Message::Bye => {
+                self.done = true;
+                Ok(())
+            }
+            _ => Err(OutOfTurn),
+        }
+    }
+
+    /// Whether a reply is owed.
+    pub fn owes(&self) -> bool
+        ensures { result ≡ owes self.now }
+    {
+        match &self.asked {
+            Some(asked) => !asked.given,
+            None => false,
+        }
+    }
+
+    /// Whether the talk is over: a Bye was heard.
+    pub fn done(&self) -> bool
+        ensures { result ≡ self.now.done }
+    {
+        self.done
+    }
+
+    /// Whether a reply was cut short. No message is heard and nothing is answered from then on.
+    pub fn spent(&self) -> bool
+        ensures { result ≡ self.now.spent }
+    {
+        self.spent
+    }
+
+    /// Sends the reply that is owed, one write a frame. It takes no memory.
+    ///
+    /// After an `Err` a part of the reply was sent, and not all; the helper is spent then.
+    pub fn answer<K: Sink>(&mut self, out: &mut K) -> Result<(), PortStop>
+        requires owes { IsTrue (owes self.old) }
+        requires live { self.old.spent ≡ false }
+        ensures talk { SendsWhole (K.talk out.old) (K.talk out.new) result (owed self.old) }
+        ensures ok { OnOk result (self.new ≡ after_answer self.old) }
+        ensures err { OnErr result (self.new ≡ record self.old { spent = true }) }
+        ensures cause { HasCause K.faults K.is_sure out.old out.new result }
+    {
+        let Some(asked) = &self.asked else {
+            return Ok(());
+        };
+        if let Err(stop) = asked.put_reply(&self.vectors, out) {
+            self.spent = true;
+            return Err(stop);
+        }
+        let depth = self.heard.depth();
+        self.asked = match self.asked.take() {
+            Some(asked) => asked.after_reply(depth),
+            None => None,
+        };
+        Ok(())
+    }
+}

@@ -1,0 +1,27 @@
+//! The helper: what it hears of a talk, and the replies that it owes.
+//!
+//! [`HelperCore`] hears the messages of a talk one by one, and sends the reply that is owed after each. It keeps the two vectors
+//! of the stream, and for an open query what the replies to it are made from.
+//!
+//! # What is proved
+//!
+//! - A message is refused exactly where the turns do not allow it (`is_allowed`), and then nothing changes.
+//! - A message that is allowed leads to the next state (`step`), whether memory was refused or not.
+//! - `answer` sends the reply that is owed (`owed`), or after a fault of the sink a shorter front of it. A reply is the honest one,
+//!   or a refusal: for want of memory, or exactly where an answer has more entries than one may have.
+//!
+//! # The definitions to read
+//!
+//! `specs/Turns.antt` has the state, which message may come next, what it does, and the reply that is owed. The queries that are
+//! answered are those of `is_built`; another one is out of turn.
+#![tactic(auto)]
+
+mod asked;
+mod entries;
+mod heard;
+mod helper;
+mod turn;
+mod vectors;
+
+pub use helper::HelperCore;
+pub use turn::OutOfTurn;
