@@ -43,7 +43,7 @@ weights-more w u us =
     let second = weight-cons u us Second in
     same_weights _ _ _ _ (omega (arith, first)) (omega (arith, second))
 
-light_parts : (w : Weights) → is_light w ≡ true → (w.first ≤ most_weight) × (w.second ≤ most_weight)
+pub light_parts : (w : Weights) → is_light w ≡ true → (w.first ≤ most_weight) × (w.second ≤ most_weight)
 light_parts w h =
     let both = and_parts (nat_le w.first most_weight) (nat_le w.second most_weight) h in
     (leb-true w.first most_weight both.0, leb-true w.second most_weight both.1)

@@ -1,6 +1,9 @@
 pub mod EntryFrames
+pub mod Falling
 pub mod Hearing
 pub mod LegalUpdates
 pub mod Proving
 pub mod Rows
 pub mod Sending
+pub mod Talks
+pub mod Turning

@@ -20,8 +20,12 @@ mod asked;
 mod entries;
 mod heard;
 mod helper;
+mod serving;
+mod status;
 mod turn;
 mod vectors;
 
 pub use helper::HelperCore;
+pub use serving::serve;
+pub use status::HelpStatus;
 pub use turn::OutOfTurn;

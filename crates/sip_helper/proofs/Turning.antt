@@ -1,0 +1,161 @@
+-- How one turn ends.
+use Rattle.std.proofs.Common.{◌≡◌, ◌⊎◌, ℕ, ◌<◌, ◌+◌, Bool, true, false, not, ◌||◌, nat_le, if◌then◌else◌, Option, Some, None, List, [], ◌∷◌, ◌++◌, length, take, Result, Ok, Err, inl, inr, refl, sym, ap, subst, ◌∙◌, append-nil}
+use Rattle.std.specs.Prelude.{IsOk, IsTrue, OnOk, is_err}
+use Rattle.std.specs.Option.{option_and_then}
+use Rattle.std.specs.List.{flat_map}
+use Rattle.std.proofs.lemmas.Bool.{both_ways, not-false}
+use Rattle.sip_ports.specs.declared.port.PortStop.{PortStop}
+use Rattle.sip_ports.specs.declared.port.PortStop.TheVariants as stops
+use Rattle.sip_ports.specs.declared.port.TalkEvent.{TalkEvent}
+use Rattle.sip_ports.specs.Ports.{GoesOn, SendsWhole, Rose, ins, outs}
+use Rattle.sip_ports.proofs.TalkLemmas.{GoesOn-trans}
+use Rattle.sip_wire.specs.declared.kind.Place.TheVariants as places
+use Rattle.sip_wire.specs.declared.message.Message.{Message}
+use Rattle.sip_wire.specs.declared.message.Message.TheVariants as messages
+use Rattle.sip_wire.specs.declared.message.WireFault.{WireFault}
+use Rattle.sip_wire.specs.declared.message.WireFault.TheVariants as faults
+use Rattle.sip_wire.specs.Decoding.{Decodes, Took}
+use Rattle.sip_wire.specs.Faults.{IsOfBytes}
+use Rattle.sip_wire.specs.Reading.{read_frame}
+use Rattle.sip_wire.specs.Spelling.{spelling}
+use Rattle.sip_helper.specs.declared.status.HelpStatus.{HelpStatus}
+use Rattle.sip_helper.specs.declared.status.HelpStatus.TheVariants.{Served, BadFrame, PeerFault, OutOfMemory}
+use Rattle.sip_helper.specs.OneTurn.{Stopped, Taken}
+use Rattle.sip_helper.specs.Serving.{IsMessage, IsNoFrame, IsTurn, Turn, after_turn, heard_in, turn_talk}
+use Rattle.sip_helper.specs.Statuses.{status_of_fault, status_of_stop}
+use Rattle.sip_helper.specs.Turns.{HelperState, OpenQuery, after_answer, after_reply, depth_of, is_allowed, is_refused, out_of_turn, owed, owes, reply_to, step}
+
+module _ (old mid : Option (List TalkEvent)) (before now : ℕ) (got : List ℕ) where
+  -- ---- no message came
+
+  shown : (s : HelperState) (at : ℕ) (f : WireFault) → Decodes places.ToHelper old mid before now got (Err f) → GoesOn old mid (ins got ++ []) → IsOfBytes f → read_frame places.ToHelper got ≡ Err f → Stopped old mid s at (BadFrame at)
+  shown s at f did talk bytes read = record {
+    rest = ins got ++ [];
+    talk = talk;
+    ends = (refl, inl (record { got = got; fault = f; shown = bytes; read = read; shortest = did.short; said = append-nil (ins got) }));
+  }
+
+  pub no_message : (s : HelperState) (at : ℕ) (f : WireFault) → Decodes places.ToHelper old mid before now got (Err f) → Stopped old mid s at (status_of_fault f at)
+  no_message s at faults.Closed did = record { rest = _; talk = did.heard; ends = record { got = got; read = did.answer; said = refl } }
+  no_message s at faults.BadKind did = shown s at faults.BadKind did did.heard tt did.answer
+  no_message s at faults.BadLength did = shown s at faults.BadLength did did.heard tt did.answer
+  no_message s at faults.BadCount did = shown s at faults.BadCount did did.heard tt did.answer
+  no_message s at faults.BadNumber did = shown s at faults.BadNumber did did.heard tt did.answer
+  no_message s at faults.PeerFault did = record { rest = _; talk = did.heard; ends = inl (record { got = got; read = did.answer.0; said = refl }) }
+  no_message s at faults.OutOfMemory did = record { rest = _; talk = did.heard; ends = inl (record { got = got; read = did.answer; said = refl }) }
+
+  -- and the link failed only where its count rose
+  pub fault_rose : (f : WireFault) (at : ℕ) → Decodes places.ToHelper old mid before now got (Err f) → status_of_fault f at ≡ PeerFault → Rose before now
+  fault_rose faults.Closed at did e = absurd cc
+  fault_rose faults.BadKind at did e = absurd cc
+  fault_rose faults.BadLength at did e = absurd cc
+  fault_rose faults.BadCount at did e = absurd cc
+  fault_rose faults.BadNumber at did e = absurd cc
+  fault_rose faults.PeerFault at did e = did.answer.1
+  fault_rose faults.OutOfMemory at did e = absurd cc
+
+  -- ---- a message came
+
+  module _ (m : Message) (did : Decodes places.ToHelper old mid before now got (Ok m)) where
+    pub came : IsMessage m
+    came = record { has_spelling = did.answer.has_spelling; to_helper = did.answer.allowed; in_range = did.answer.in_range }
+
+    pub received : GoesOn old mid (ins (spelling m))
+    received = subst (GoesOn old mid) (append-nil (ins got) ∙ ap ins did.answer.spelled) did.heard
+
+    -- it may not come, and the refusal went out
+    pub refused : (new : Option (List TalkEvent)) (s : HelperState) (at : ℕ) → is_allowed s m ≡ false → GoesOn mid new (outs (spelling (messages.Refuse out_of_turn))) → Stopped old new s at (BadFrame at)
+    refused new s at out went = record {
+      rest = ins (spelling m) ++ outs (spelling (messages.Refuse out_of_turn));
+      talk = GoesOn-trans old mid new _ _ received went;
+      ends = (refl, inr (record { message = m; is = came; out = out; said = refl }));
+    }
+
+    -- a part of it went out
+    pub refusal_cut : (new : Option (List TalkEvent)) (s : HelperState) (at : ℕ) (stop : PortStop) → is_allowed s m ≡ false → SendsWhole {T = Unit {0}} mid new (Err stop) (spelling (messages.Refuse out_of_turn)) → Stopped old new s at (status_of_stop stop)
+    refusal_cut new s at stop out went = by_stop stop
+      where
+        by_stop : (stop : PortStop) → Stopped old new s at (status_of_stop stop)
+        by_stop stops.Failed = record { rest = _; talk = GoesOn-trans old mid new _ _ received went.2; ends = inr (inr (record { message = m; is = came; out = out; sent = went.0; short = went.1; said = refl })) }
+        by_stop stops.OutOfMemory = record { rest = _; talk = GoesOn-trans old mid new _ _ received went.2; ends = inr (inr (record { message = m; is = came; out = out; sent = went.0; short = went.1; said = refl })) }
+
+    -- it was heard
+    module _ (s : HelperState) (allowed : IsTrue (is_allowed s m)) (memory : Bool) where
+      abbrev turn : Turn
+      turn = record { message = m; refused = memory }
+
+      is_turn : IsTurn s turn
+      is_turn = record { message = came; allowed = allowed }
+
+      -- it is a farewell
+      pub farewell : (at : ℕ) → m ≡ messages.Bye → Stopped old mid s at Served
+      farewell at bye = record { rest = _; talk = received; ends = ap (λ (x : Message). ins (spelling x)) bye }
+
+      -- its reply was cut short
+      pub reply_cut : (new : Option (List TalkEvent)) (at : ℕ) (stop : PortStop) → SendsWhole {T = Unit {0}} mid new (Err stop) (owed (heard_in s turn)) → Stopped old new s at (status_of_stop stop)
+      reply_cut new at stop went = by_stop stop
+        where
+          by_stop : (stop : PortStop) → Stopped old new s at (status_of_stop stop)
+          by_stop stops.Failed = record { rest = _; talk = GoesOn-trans old mid new _ _ received went.2; ends = inr (inl (record { turn = turn; is = is_turn; sent = went.0; short = went.1; said = refl })) }
+          by_stop stops.OutOfMemory = record { rest = _; talk = GoesOn-trans old mid new _ _ received went.2; ends = inr (inl (record { turn = turn; is = is_turn; sent = went.0; short = went.1; said = refl })) }
+
+      -- its reply was given
+      pub given : (new : Option (List TalkEvent)) (next : HelperState) → next ≡ after_answer (heard_in s turn) → next.done ≡ false → GoesOn mid new (outs (owed (heard_in s turn))) → Taken old new s next got
+      given new next state going went = record {
+        turn = turn;
+        is = is_turn;
+        state = state;
+        going = going;
+        talk = GoesOn-trans old mid new _ _ received went;
+        whole = did.answer.spelled;
+      }
+
+-- ---- states
+
+-- only a farewell ends the talk
+pub only_bye : (s : HelperState) (memory : Bool) (m : Message) → s.done ≡ false → (step s memory m).done ≡ true → m ≡ messages.Bye
+only_bye s memory messages.Bye going done = refl
+only_bye s memory (messages.Open _ _) going done = absurd (both_ways s.done going done)
+only_bye s memory (messages.Updates _) going done = absurd (both_ways s.done going done)
+only_bye s memory messages.EndStream going done = absurd (both_ways s.done going done)
+only_bye s memory (messages.Query _) going done = absurd (both_ways s.done going done)
+only_bye s memory (messages.Reveal _) going done = absurd (both_ways s.done going done)
+only_bye s memory (messages.Claim _) going done = absurd (both_ways s.done going done)
+only_bye s memory (messages.Poly _ _ _) going done = absurd (both_ways s.done going done)
+only_bye s memory (messages.Entries _) going done = absurd (both_ways s.done going done)
+only_bye s memory (messages.Siblings _ _) going done = absurd (both_ways s.done going done)
+only_bye s memory (messages.Leaves _) going done = absurd (both_ways s.done going done)
+only_bye s memory (messages.Nodes _) going done = absurd (both_ways s.done going done)
+only_bye s memory messages.LevelEnd going done = absurd (both_ways s.done going done)
+only_bye s memory (messages.Refuse _) going done = absurd (both_ways s.done going done)
+
+stays : (s : HelperState) (q : Option OpenQuery) → s.open_query ≡ q → option_and_then (after_reply (depth_of s.heard) s.vectors) q ≡ q → after_answer s ≡ s
+stays s q is e = ap (λ (x : Option OpenQuery). record s { open_query = x }) (ap (option_and_then (after_reply (depth_of s.heard) s.vectors)) is ∙ e ∙ sym is)
+
+-- where no reply is owed, none is sent and nothing changes
+pub owes_nothing : (s : HelperState) → owes s ≡ false → (owed s ≡ []) × (after_answer s ≡ s)
+owes_nothing s not_owed = by_query s.open_query refl
+  where
+    by_query : (q : Option OpenQuery) → s.open_query ≡ q → (owed s ≡ []) × (after_answer s ≡ s)
+    by_query None is = (ap (λ (x : Option OpenQuery). owed (record s { open_query = x })) is, stays s None is refl)
+    by_query (Some o) is =
+        let owing : not o.given ≡ false = sym (ap (λ (x : Option OpenQuery). owes (record s { open_query = x })) is) ∙ not_owed in
+        let given : o.given ≡ true = not-false o.given owing in (
+          ap (λ (x : Option OpenQuery). owed (record s { open_query = x })) is ∙ ap (λ (b : Bool). flat_map spelling (if b then [] else reply_to s.vectors o)) given,
+          stays s (Some o) is (ap (λ (b : Bool). if b then Some o else (if is_refused s.vectors o || nat_le (depth_of s.heard) (length o.revealed + 1) then None else Some (record o { given = true }))) given),
+        )
+
+-- ---- what a call answered
+
+pub not_allowed : {T E : Type 0} (r : Result T E) (b : Bool) → (IsOk r → IsTrue b) × (IsTrue b → IsOk r) → is_err r ≡ true → b ≡ false
+not_allowed (Ok x) b h e = absurd cc
+not_allowed (Err x) true h e = absurd (both_ways false refl (h.1 refl))
+not_allowed (Err x) false h e = refl
+
+pub is_allowed_by : {T E : Type 0} (r : Result T E) (b : Bool) → (IsOk r → IsTrue b) × (IsTrue b → IsOk r) → is_err r ≡ false → IsTrue b
+is_allowed_by (Ok x) b h e = h.0 refl
+is_allowed_by (Err x) b h e = absurd cc
+
+pub on_ok_holds : {T E : Type 0} (P : Type 0) (r : Result T E) → is_err r ≡ false → OnOk r P → P
+on_ok_holds P (Ok x) e h = h
+on_ok_holds P (Err x) e h = absurd cc

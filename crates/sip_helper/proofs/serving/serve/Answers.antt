@@ -1,0 +1,22 @@
+-- Turn after turn.
+use Rattle.std.proofs.Common.{◌≡◌, ◌<◌, ap, inl, refl, arith, length}
+use Rattle.sip_ports.proofs.FaultLemmas.{Lasts-trans}
+use Rattle.sip_ports.proofs.TalkLemmas.{GoesOn-refl}
+use Rattle.sip_wire.specs.declared.kind.Place.TheVariants as places
+use Rattle.sip_wire.specs.Frames.{frame_bytes}
+use Rattle.sip_helper.proofs.Talks.{fewer, goes_on, serves_nothing}
+use Rattle.sip_helper.proofs.serving.serve.Goals as goal
+
+pub returns-in_default-clause-serves : goal.returns-in_default-clause-serves
+returns-in_default-clause-serves g c = serves_nothing (g.L.Sink.talk c.args.link.now)
+
+pub loop-status-smaller : goal.loop-status-smaller
+loop-status-smaller g c =
+    let fall = fewer _ _ _ _ _ c.loop-status.invariant.under_way c.take_turn.new.core (frame_bytes c.take_turn.new.frame) c.in_default-take_turn.ensures.turn in
+    omega (arith, fall)
+
+pub loop-status-preserved : goal.loop-status-preserved
+loop-status-preserved g c = record {
+  under_way = goes_on _ _ _ _ _ c.loop-status.invariant.under_way c.take_turn.new.core (frame_bytes c.take_turn.new.frame) (length c.bytes.result.now) (ap length c.bytes.ensures) c.in_default-take_turn.ensures.turn;
+  lasts = Lasts-trans g.L.Sink.faults g.L.Sink.is_sure c.args.link.now c.loop-status.link c.take_turn.new.link c.loop-status.invariant.lasts c.take_turn.ensures.lasts;
+}

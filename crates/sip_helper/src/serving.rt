@@ -1,0 +1,69 @@
+//! A whole talk, on a link.
+
+ghost use Rattle.std.specs.Prelude.{◌≡◌, ◌≢◌, false, true, Err};
+ghost use Rattle.sip_ports.specs.Ports.{Lasts, Rose};
+ghost use Rattle.sip_wire.specs.Frames.{frame_bytes};
+ghost use Rattle.sip_helper.specs.OneTurn.{TakesTurn};
+ghost use Rattle.sip_helper.specs.Serving.{Serves};
+
+use crate::{HelpStatus, HelperCore};
+use sip_ports::Link;
+use sip_wire::{Frame, Message, Place, decode, encode};
+use std::alloc::Global;
+
+/// The code of the refusal of a message out of turn.
+const OUT_OF_TURN: u8 = 4;
+
+/// Receives one frame, hears its message and sends the reply that is owed. The status says why the talk is over.
+fn take_turn<L: Link>(
+    core: &mut HelperCore,
+    link: &mut L,
+    frame: &mut Frame,
+    offset: u64,
+) -> Result<(), HelpStatus>
+    requires live { core.old.spent ≡ false }
+    requires going { core.old.done ≡ false }
+    ensures turn { TakesTurn (L.talk link.old) (L.talk link.new) core.old core.new offset (frame_bytes frame.new) result }
+    ensures cause { result ≡ Err HelpStatus.PeerFault → Rose (L.faults link.old) (L.faults link.new) }
+    ensures lasts { Lasts L.faults L.is_sure link.old link.new }
+{
+    let message = match decode(link, Place::ToHelper, frame) {
+        Ok(message) => message,
+        Err(fault) => return Err(HelpStatus::of_fault(fault, offset)),
+    };
+    if core.hear(&message).is_err() {
+        encode(&Message::Refuse { code: OUT_OF_TURN }, link)?;
+        return Err(HelpStatus::BadFrame { offset });
+    }
+    if core.done() {
+        return Err(HelpStatus::Served);
+    }
+    if core.owes() {
+        core.answer(link)?;
+    }
+    Ok(())
+}
+
+/// Hears a helper's talk and answers, until a Bye.
+///
+/// Each reply that is owed goes out before the next frame is taken. A message out of turn is answered by a refusal, and ends the
+/// talk; a frame without a spelling ends it with no answer. Memory is taken for one frame, for the two vectors, and for what the
+/// replies to a query are made from. The loop ends, since each update weighs something and a side's weight is bounded, and since
+/// there are at most 16 queries with fewer than 32 challenges each.
+pub fn serve<L: Link>(alloc: Global, link: &mut L) -> HelpStatus
+    ensures serves { Serves (L.talk link.old) (L.talk link.new) result }
+    ensures cause { result ≡ HelpStatus.PeerFault → Rose (L.faults link.old) (L.faults link.new) }
+    ensures lasts { Lasts L.faults L.is_sure link.old link.new }
+{
+    let Ok(mut frame) = Frame::new(alloc) else {
+        return HelpStatus::OutOfMemory;
+    };
+    let mut core = HelperCore::new(alloc);
+    let mut offset = 0;
+    loop {
+        if let Err(status) = take_turn(&mut core, link, &mut frame, offset) {
+            return status;
+        }
+        offset += frame.bytes().len() as u64;
+    }
+}
