@@ -1,7 +1,7 @@
 //! The helper: what it hears of a talk, and the replies that it owes.
 //!
 //! [`HelperCore`] hears the messages of a talk one by one, and sends the reply that is owed after each. It keeps the two vectors
-//! of the stream, and for an open query what the replies to it are made from.
+//! of the stream, and for an open query what the replies to it are made from. [`serve`] does so over a link until a Bye.
 //!
 //! # What is proved
 //!
@@ -10,10 +10,14 @@
 //! - `answer` sends the reply that is owed (`owed`), or after a fault of the sink a shorter front of it. A reply is the honest one,
 //!   or a refusal: for want of memory, or exactly where an answer has more entries than one may have.
 //!
+//! - `serve` takes turns, each of them a message that may come and then its reply, and stops at a Bye, a frame that has no spelling
+//!   or is out of turn, the end of the link, or a fault of it; its status says at which, and a frame's offset is exact (`Serves`).
+//!   It ends, whatever comes.
+//!
 //! # The definitions to read
 //!
 //! `specs/Turns.antt` has the state, which message may come next, what it does, and the reply that is owed. The queries that are
-//! answered are those of `is_built`; another one is out of turn.
+//! answered are those of `is_built`; another one is out of turn. `specs/Serving.antt` says what a talk on a link is, by its status.
 #![tactic(auto)]
 
 mod asked;
@@ -29,3 +33,6 @@ pub use helper::HelperCore;
 pub use serving::serve;
 pub use status::HelpStatus;
 pub use turn::OutOfTurn;
+
+#[cfg(test)]
+mod tests;
