@@ -9,3 +9,4 @@ pub mod Parts
 pub mod Digits
 pub mod LinesRead
 pub mod RecordsRead
+pub mod Copies

@@ -6,3 +6,5 @@ pub mod MadeSources
 pub mod Pieces
 pub mod Reading
 pub mod Examples
+pub mod Copying
+pub mod Copied

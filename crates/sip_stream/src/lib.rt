@@ -5,9 +5,11 @@
 //!
 //! `specs/Spellings.antt` says how an update is written. [`put_record`] writes one as a record of 13 bytes, and
 //! [`put_line`] as a line of text, both at once and without memory. [`MadeSource`] is a source of the records of
-//! `specs/Made.antt`, a stream that is made from a number.
+//! `specs/Made.antt`, a stream that is made from a number. [`Reader`] reads a stream one record at a time, and [`copy`]
+//! writes what it reads in one form or the other, in blocks.
 #![tactic(auto)]
 
+mod copying;
 mod fault;
 mod form;
 mod generator;
@@ -21,6 +23,7 @@ mod record_bytes;
 mod record_reader;
 mod why;
 
+pub use copying::{CopyStop, copy};
 pub use fault::StreamFault;
 pub use form::Form;
 pub use line::put_line;

@@ -24,9 +24,9 @@ fn put(line: &mut ArrayVec<u8, MOST_LINE>, text: &[u8])
     prove!(added);
 }
 
-// The line of an update.
+/// The line of an update: at most 34 bytes.
 #[tactic(auto, using(std::proofs::lemmas::Grind::common_steps), unfolding(crate::specs::Spellings::line_bytes))]
-fn line_of(update: &Update) -> ArrayVec<u8, MOST_LINE>
+pub(crate) fn line_of(update: &Update) -> ArrayVec<u8, MOST_LINE>
     requires { update.now.item < 2 ^ 32 }
     ensures { result.items ≡ line_bytes update.now }
 {

@@ -1,0 +1,43 @@
+-- What holds at each exit follows from how far the copy came.
+use Rattle.std.proofs.Common.{rules, Some, None, Ok, Err, subst, sym}
+use Rattle.std.proofs.lemmas.Result.{err_from_is_err_and}
+use Rattle.sip_stream.specs.Reading.{GoesOnAfter, Reads}
+use Rattle.sip_stream.proofs.Copies.{goes_on, ends, stops_reading, stops_writing}
+use Rattle.sip_stream.proofs.copying.copy_on.Goals as goal
+
+pub returns-in-Ok-None-clause-copied : goal.returns-in-Ok-None-clause-copied
+returns-in-Ok-None-clause-copied g c = λ bytes all.
+    let so = c.loop-update.invariant.underway bytes all in
+    let reads = rw (c.loop-update.invariant.depth, c.loop-update.invariant.form, c.in-Ok-None.is, c.in-Ok-None.field-0-is) at (c.next.ensures.reads so.stream so.rest so.after so.to_come) in
+    ends c.args.depth c.args.from c.args.to bytes (g.K.Sink.talk c.args.sink.now) (g.A.Source.left c.loop-update.source) (g.A.Source.left c.next.new.source) (g.K.Sink.talk c.loop-update.sink) c.loop-update.reader c.loop-update.gathered.items so reads
+
+pub returns-in-Err-clause-copied : goal.returns-in-Err-clause-copied
+returns-in-Err-clause-copied g c = λ bytes all.
+    let so = c.loop-update.invariant.underway bytes all in
+    let reads = rw (c.loop-update.invariant.depth, c.loop-update.invariant.form, c.in-Err.is) at (c.next.ensures.reads so.stream so.rest so.after so.to_come) in
+    stops_reading c.args.depth c.args.from c.args.to bytes (g.K.Sink.talk c.args.sink.now) (g.A.Source.left c.loop-update.source) (g.A.Source.left c.next.new.source) (g.K.Sink.talk c.loop-update.sink) c.loop-update.reader c.loop-update.gathered.items c.in-Err.fault so reads
+
+pub returns-in_err-make_room-clause-copied : goal.returns-in_err-make_room-clause-copied
+returns-in_err-make_room-clause-copied g c = λ bytes all.
+    let so = c.loop-update.invariant.underway bytes all in
+    let p = err_from_is_err_and c.from_residual.result c.from_residual.ensures.1 in
+    let talk = c.in_err-make_room.ensures.talk in
+    rw p.1 (stops_writing c.args.depth c.args.from c.args.to bytes (g.K.Sink.talk c.args.sink.now) (g.A.Source.left c.loop-update.source) (g.K.Sink.talk c.loop-update.sink) (g.K.Sink.talk c.make_room.new.sink) c.loop-update.reader c.loop-update.gathered.items talk.0 so talk.1 talk.2)
+
+pub loop-update-preserved : goal.loop-update-preserved
+loop-update-preserved g c = record {
+  underway = λ bytes all.
+      let so = c.loop-update.invariant.underway bytes all in
+      let reads = rw (c.loop-update.invariant.depth, c.loop-update.invariant.form, c.in-Ok-Some.is, c.in-Ok-Some.field-0-is) at (c.next.ensures.reads so.stream so.rest so.after so.to_come) in
+      let after = rw (c.in-Ok-Some.is, c.in-Ok-Some.field-0-is) at (c.next.ensures.after so.stream so.after) in
+      let talk = c.in_ok-make_room.ensures.talk in
+      goes_on c.args.depth c.args.from c.args.to bytes (g.K.Sink.talk c.args.sink.now) (g.A.Source.left c.loop-update.source) (g.A.Source.left c.next.new.source) (g.K.Sink.talk c.loop-update.sink) (g.K.Sink.talk c.make_room.new.sink)
+      c.loop-update.reader c.next.new.self c.loop-update.gathered.items c.make_room.new.gathered.items c.put_update.new.gathered.items talk.0 c.in-Ok-Some.update so reads after talk.1 talk.2 c.put_update.ensures.items;
+  same_to = search rules;
+  depth = search rules;
+  form = search rules;
+  ready = search rules;
+  told = search rules;
+  source = search rules;
+  sink = search rules;
+}

@@ -1,0 +1,170 @@
+//! A stream, copied record by record from one form to another.
+
+ghost use Rattle.std.specs.Prelude.{◌≡◌, ◌<◌, ◌≤◌, ◌+◌, ◌^◌, ◌++◌, [], ℕ, List, Some, None, IsSome, MatchResult, OnOk, Err, Ok, length, pos, ◌≢◌, take};
+ghost use Rattle.arrayvec.specs.ArrayVec.{array_vec_len};
+ghost use Rattle.sip_ports.specs.Ports.{GoesOn, HasCause, Lasts, Rose, outs};
+ghost use Rattle.sip_stream.specs.declared.fault.StreamFault.TheVariants as faults;
+ghost use Rattle.sip_stream.specs.Copying.{Copies, stop_of_sink, stop_of_stream};
+ghost use Rattle.sip_stream.specs.Spellings.{spelled};
+ghost use Rattle.sip_stream.specs.Copied.{CopiesOn};
+
+use crate::line::line_of;
+use crate::record_bytes::record_of;
+use crate::{Form, Reader, StreamFault, Why};
+use arrayvec::ArrayVec;
+use sip_ports::{PortStop, Sink, Source, write_whole};
+use sip_vector::{Depth, Update};
+use thiserror::Error;
+
+/// How many bytes are gathered before they are written.
+const BLOCK: usize = 8192;
+
+/// The most bytes of an update in either form.
+const MOST_SPELLING: usize = 40;
+
+/// Why a copy is not whole.
+#[derive(Clone, Copy, Debug, PartialEq, Eq, Error)]
+pub enum CopyStop {
+    /// Record `at`, numbered from 0, is not legal.
+    #[error("record {at} is not legal: {why:?}")]
+    Bad {
+        /// The record's number.
+        at: u64,
+        /// Why it is not legal.
+        why: Why,
+    },
+    /// The source failed.
+    #[error("the source failed")]
+    ReadFault,
+    /// The sink failed.
+    #[error("the sink failed")]
+    WriteFault,
+    /// Memory was refused to the source or the sink.
+    #[error("out of memory")]
+    OutOfMemory,
+}
+
+impl From<PortStop> for CopyStop {
+    ghost from_gives = { λ stop e. e ≡ stop_of_sink stop };
+
+    fn from(stop: PortStop) -> Self {
+        match stop {
+            PortStop::Failed => CopyStop::WriteFault,
+            PortStop::OutOfMemory => CopyStop::OutOfMemory,
+        }
+    }
+}
+
+impl From<StreamFault> for CopyStop {
+    ghost from_gives = { λ fault e. e ≡ stop_of_stream fault };
+
+    fn from(fault: StreamFault) -> Self {
+        match fault {
+            StreamFault::Bad { at, why } => CopyStop::Bad { at, why },
+            StreamFault::ReadFault => CopyStop::ReadFault,
+            StreamFault::OutOfMemory => CopyStop::OutOfMemory,
+        }
+    }
+}
+
+// Adds bytes that there is room for.
+fn put(gathered: &mut ArrayVec<u8, BLOCK>, bytes: &[u8])
+    requires { array_vec_len gathered.old + length bytes.now ≤ BLOCK }
+    ensures items { gathered.new.items ≡ gathered.old.items ++ bytes.now }
+    ensures len { array_vec_len gathered.new ≡ array_vec_len gathered.old + length bytes.now }
+{
+    let added = gathered.try_extend_from_slice(bytes).is_ok();
+    prove!(added);
+}
+
+// Adds an update in the spelling of a form.
+fn put_update(to: Form, update: &Update, gathered: &mut ArrayVec<u8, BLOCK>)
+    requires item { update.now.item < 2 ^ 32 }
+    requires room { array_vec_len gathered.old + MOST_SPELLING ≤ BLOCK }
+    ensures items { gathered.new.items ≡ gathered.old.items ++ spelled to update.now }
+{
+    match to {
+        Form::Binary => put(gathered, &record_of(update)),
+        Form::Text => put(gathered, line_of(update).as_slice()),
+    }
+}
+
+// Writes what is gathered where it leaves no room for one more update.
+fn make_room<K: Sink>(sink: &mut K, gathered: &mut ArrayVec<u8, BLOCK>) -> Result<(), PortStop>
+    ensures talk { MatchResult result
+        (λ _. (sent : List ℕ) × (gathered.old.items ≡ sent ++ gathered.new.items)
+        × GoesOn (K.talk sink.old) (K.talk sink.new) (outs sent))
+        (λ _. (n : ℕ) × (n < array_vec_len gathered.old)
+        × GoesOn (K.talk sink.old) (K.talk sink.new) (outs (take n gathered.old.items))) }
+    ensures room { OnOk result (array_vec_len gathered.new + MOST_SPELLING ≤ BLOCK) }
+    ensures cause { HasCause K.faults K.is_sure sink.old sink.new result }
+{
+    if gathered.remaining_capacity() >= MOST_SPELLING {
+        return Ok(());
+    }
+    write_whole(sink, gathered.as_slice())?;
+    gathered.clear();
+    Ok(())
+}
+
+// Copies until the stream ends, is read no further, or the sink stops. What is gathered then is still to be written.
+fn copy_on<A: Source, K: Sink>(
+    depth: Depth,
+    from: Form,
+    to: Form,
+    source: &mut A,
+    sink: &mut K,
+    gathered: &mut ArrayVec<u8, BLOCK>,
+) -> Result<Option<StreamFault>, PortStop>
+    requires { gathered.old.items ≡ [] }
+    ensures copied { (bytes : List ℕ) → A.left source.old ≡ Some bytes
+        → CopiesOn depth from to bytes (A.left source.new) (K.talk sink.old) (K.talk sink.new) gathered.new.items result }
+    ensures told { IsSome (A.left source.old) → IsSome (A.left source.new) }
+    ensures read { result ≡ Ok (Some StreamFault.ReadFault) → Rose (A.faults source.old) (A.faults source.new) }
+    ensures source { Lasts A.faults A.is_sure source.old source.new }
+    ensures cause { HasCause K.faults K.is_sure sink.old sink.new result }
+{
+    let mut reader = Reader::new(depth, from);
+    loop {
+        let update = match reader.next(source) {
+            Ok(Some(update)) => update,
+            Ok(None) => return Ok(None),
+            Err(fault) => return Ok(Some(fault)),
+        };
+        make_room(sink, gathered)?;
+        put_update(to, &update, gathered);
+    }
+}
+
+/// Copies the legal records of a stream, read in one form and written in another, in blocks of 8,192 bytes. It takes no memory.
+///
+/// # Errors
+///
+/// `Bad` exactly where a record is not legal: those before it are written then. `ReadFault` and `WriteFault` only where the
+/// count of faults of the source, of the sink, rose; a front of the records is written then.
+pub fn copy<A: Source, K: Sink>(
+    depth: Depth,
+    from: Form,
+    to: Form,
+    source: &mut A,
+    sink: &mut K,
+) -> Result<(), CopyStop>
+    ensures copied { (bytes : List ℕ) → A.left source.old ≡ Some bytes
+        → Copies depth from to bytes (A.left source.new) (K.talk sink.old) (K.talk sink.new) result }
+    ensures told { IsSome (A.left source.old) → IsSome (A.left source.new) }
+    ensures read { result ≡ Err CopyStop.ReadFault → Rose (A.faults source.old) (A.faults source.new) }
+    ensures write { result ≡ Err CopyStop.WriteFault → Rose (K.faults sink.old) (K.faults sink.new) }
+    ensures source { Lasts A.faults A.is_sure source.old source.new }
+    ensures sink { Lasts K.faults K.is_sure sink.old sink.new }
+{
+    let mut gathered = ArrayVec::new();
+    let stopped = copy_on(depth, from, to, source, sink, &mut gathered)?;
+    write_whole(sink, gathered.as_slice())?;
+    match stopped {
+        Some(fault) => Err(CopyStop::from(fault)),
+        None => Ok(()),
+    }
+}
+
+#[cfg(test)]
+mod tests;
