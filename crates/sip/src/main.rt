@@ -2,7 +2,9 @@
 #![tactic(auto)]
 
 use sip_cli::{Opening, PortPlan, Words, exit_code, page_of, ports, run, status_line};
-use sip_ports::{FileLink, FileSource, NullSink, PortStop, Source, StderrSink, StdoutSink, write_whole};
+use sip_ports::{
+    FileLink, FileSource, NullSink, PortStop, Source, StderrSink, StdoutSink, write_whole,
+};
 use sip_stream::MadeSource;
 use sip_verifier::{Port, Status};
 use std::fs::File;

@@ -1,21 +1,18 @@
 -- A copy under way: what was read, what of it was sent, and what is gathered.
-use Rattle.std.proofs.Common.{◌≡◌, ℕ, ◌+◌, ◌<◌, ◌≤◌, List, [], ◌∷◌, ◌++◌, length, take, drop, None, Some, Option, Result, Ok, Err, refl, sym, ap, ◌∙◌, subst, arith, append_assoc, append-nil, length-append, take-append-drop}
-use Rattle.std.specs.List.{flat_map}
+use Rattle.std.proofs.Common.{◌≡◌, ℕ, ◌+◌, ◌<◌, ◌≤◌, List, [], ◌∷◌, ◌++◌, length, take, drop, None, Some, Option, Ok, Err, refl, sym, ap, ◌∙◌, subst, arith, append_assoc, append-nil, length-append, take-append-drop}
 use Rattle.std.proofs.lemmas.List.{length-take-le, take_at, take_all}
 use Rattle.std.proofs.lemmas.List.Concat.{flat_map-append}
 use Rattle.sip_ports.specs.declared.port.PortStop.{PortStop}
 use Rattle.sip_ports.specs.declared.port.PortStop.TheVariants as ports
 use Rattle.sip_ports.specs.declared.port.TalkEvent.{TalkEvent}
-use Rattle.sip_ports.specs.Ports.{GoesOn, SendsWhole, outs}
+use Rattle.sip_ports.specs.Ports.{GoesOn, outs}
 use Rattle.sip_ports.proofs.TalkLemmas.{GoesOn-refl, GoesOn-trans, outs-append}
 use Rattle.sip_vector.specs.declared.update.Update.{Update}
-use Rattle.sip_stream.specs.declared.copying.CopyStop.{CopyStop}
-use Rattle.sip_stream.specs.declared.copying.CopyStop.TheVariants as stops
 use Rattle.sip_stream.specs.declared.fault.StreamFault.{StreamFault}
 use Rattle.sip_stream.specs.declared.fault.StreamFault.TheVariants as faults
 use Rattle.sip_stream.specs.declared.form.Form.{Form}
 use Rattle.sip_stream.specs.declared.why.Why.{Why}
-use Rattle.sip_stream.specs.Copied.{IsSentBut, IsCut, legal, fault_is, were_read, CopiesOn}
+use Rattle.sip_stream.specs.Copied.{IsSentBut, IsCut, legal, were_read, CopiesOn}
 use Rattle.sip_stream.specs.Copying.{all_spelled, copied, Copies, stop_of_sink, stop_of_stream}
 use Rattle.sip_stream.specs.Reading.{Reading, IsAfter, Reads}
 use Rattle.sip_stream.specs.Records.{Records, records, records_after, records_from, fault_at, update_at, pieces_of}

@@ -1,5 +1,5 @@
 -- Lines, taken byte by byte: what a whole line says, and where it was cut short or is too long.
-use Rattle.std.proofs.Common.{◌≡◌, ◌≢◌, ℕ, ◌+◌, ◌<◌, ◌≤◌, Bool, true, false, cond, eqb, List, [], ◌∷◌, ◌++◌, length, refl, sym, ap, ◌∙◌, subst, arith, append_assoc, append-nil, length-append, eq-eqb}
+use Rattle.std.proofs.Common.{◌≡◌, ◌≢◌, ℕ, ◌+◌, ◌<◌, ◌≤◌, Bool, true, false, cond, eqb, List, [], ◌∷◌, ◌++◌, length, refl, sym, ap, ◌∙◌, subst, arith, append_assoc, length-append}
 use Rattle.std.specs.Prelude.{Option, Some, None, Result, Ok, Err, nat_lt, nat_le, ◌||◌, option_and_then, pos}
 use Rattle.std.proofs.lemmas.Bool.{ne_eqb}
 use Rattle.std.proofs.lemmas.Bool.Decides.{nat_tests}
@@ -11,9 +11,7 @@ use Rattle.sip_stream.specs.declared.why.Why.{Why}
 use Rattle.sip_stream.specs.declared.why.Why.TheVariants.{Truncated, BadLine, BadSide}
 use Rattle.sip_stream.specs.Lines.{parts_at, numbers_at, lines_from, begun, most_line}
 use Rattle.sip_stream.specs.Records.{said, said_fault, line_at, line_fault, update_fault}
-use Rattle.sip_stream.specs.Pieces.{IsBegun, IsFirst, Says, ReadsPiece, TakesFront, TakesLine, line_said}
-use Rattle.sip_stream.specs.declared.line_reader.LineEnd.{LineEnd}
-use Rattle.sip_stream.specs.declared.line_reader.LineEnd.TheVariants.{Feed, Input, TooLong}
+use Rattle.sip_stream.specs.Pieces.{IsBegun, IsFirst, Says, ReadsPiece, line_said}
 use Rattle.sip_stream.proofs.Parts.{parts_found, parts_more}
 
 -- nothing was taken yet

@@ -1,6 +1,6 @@
 -- Binary records: what 13 bytes say, and what a part of them is.
-use Rattle.std.proofs.Common.{◌≡◌, ℕ, ◌+◌, ◌<◌, ◌≤◌, Bool, true, false, cond, List, [], ◌∷◌, ◌++◌, length, take, refl, sym, ap, ◌∙◌, subst, arith, append-nil, take_all}
-use Rattle.std.specs.Prelude.{Option, Some, None, Result, Ok, Err, nat_lt, slice_index}
+use Rattle.std.proofs.Common.{◌≡◌, ℕ, ◌<◌, ◌≤◌, Bool, true, false, cond, List, [], ◌∷◌, ◌++◌, length, take, refl, sym, ap, ◌∙◌, arith, append-nil, take_all}
+use Rattle.std.specs.Prelude.{Option, Some, None, Ok, Err, nat_lt, slice_index}
 use Rattle.std.specs.Io.KnownBytes.{Consumes, IsAtEnd}
 use Rattle.std.proofs.lemmas.Bool.Decides.{nat_tests}
 use Rattle.std.proofs.lemmas.List.{length-take-le}
@@ -10,8 +10,8 @@ use Rattle.sip_stream.specs.declared.form.Form.{Form}
 use Rattle.sip_stream.specs.declared.form.Form.TheVariants.{Binary, Text}
 use Rattle.sip_stream.specs.declared.why.Why.{Why}
 use Rattle.sip_stream.specs.declared.why.Why.TheVariants.{Truncated, BadSide}
-use Rattle.sip_stream.specs.Records.{records_after, records_from, record_at, record_fault, update_fault, fault_at, update_at, pieces_of}
-use Rattle.sip_stream.specs.Pieces.{IsFirst, Says, ReadsPiece, TakesFront}
+use Rattle.sip_stream.specs.Records.{records_after, records_from, record_at, update_fault}
+use Rattle.sip_stream.specs.Pieces.{IsFirst, ReadsPiece}
 use Rattle.sip_stream.proofs.Cuts.{cut-nil, cut-cons, cut-one}
 
 -- what a read that filled its buffer took

@@ -13,7 +13,6 @@ use Rattle.sip_vector.specs.declared.update.Side.{Side}
 use Rattle.sip_vector.specs.declared.update.Side.TheVariants.{First, Second}
 use Rattle.sip_vector.specs.declared.update.Update.{Update}
 use Rattle.sip_stream.specs.Lines.{most_line, parts_at, is_decimal, decimal_at, item_at, above_zero, below_zero, delta_at, three, numbers_at, lines_from}
-use Rattle.sip_stream.specs.declared.numbers.Numbers.{Numbers}
 use Rattle.sip_stream.specs.Spellings.{side_number, line_bytes}
 
 -- digits and their value, in std's words

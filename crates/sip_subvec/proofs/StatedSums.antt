@@ -1,7 +1,7 @@
 -- The whole check is that one sum is the root.
-use Rattle.std.proofs.Common.{◌≡◌, ℕ, zero, suc, ◌+◌, ◌-◌, ◌*◌, ◌%◌, ◌^◌, ◌<◌, ◌≤◌, ℤ, pos, Bool, true, false, ◌&&◌, Result, Ok, Err, List, [], ◌∷◌, ◌++◌, length, map, inl, inr, All, refl, sym, ap, ◌∙◌, arith}
+use Rattle.std.proofs.Common.{◌≡◌, ℕ, zero, suc, ◌+◌, ◌-◌, ◌*◌, ◌%◌, ◌^◌, ◌<◌, ◌≤◌, ℤ, pos, Bool, true, false, Result, Ok, List, [], ◌∷◌, ◌++◌, length, map, inl, inr, All, refl, sym, ap, ◌∙◌, arith}
 use Rattle.std.specs.Prelude.{nat_eq, nat_lt, ◌==◌}
-use Rattle.std.specs.List.{range_with_len, list_all, sum_by}
+use Rattle.std.specs.List.{range_with_len, list_all}
 use Rattle.std.specs.Cmp.Lexicographic.{pointwise}
 use Rattle.std.proofs.Math.Bool.{and-true}
 use Rattle.std.proofs.Math.Nat.{mod-eq_of_lt}
@@ -11,16 +11,14 @@ use Rattle.std.proofs.lemmas.List.Elements.{All-map}
 use Rattle.std.proofs.lemmas.List.FromFn.{length-map-range_with_len}
 use Rattle.std.proofs.lemmas.List.Sums.{sum_by-cons}
 use Rattle.sip_field.specs.Residue.{residue}
-use Rattle.sip_vector.specs.Answers.{is_within}
 use Rattle.sip_vector.specs.Steps.{◌>>=◌, needs}
 use Rattle.sip_vector.specs.Weights.{weight_above, weighted_sum}
 use Rattle.sip_vector.specs.declared.update.Entry.{Entry}
 use Rattle.sip_vector.proofs.TreeResidues.{residue_below}
 use Rattle.sip_vector.proofs.TreeSums.{weighted_sum-cons}
 use Rattle.sip_wire.specs.declared.message.Reason.{Reason}
-use Rattle.sip_wire.specs.declared.message.Reason.TheVariants as reasons
-use Rattle.sip_subvec.specs.AcceptsSub.{Siblings, Stated, stated_value, stated_level, folded, gives_root}
-use Rattle.sip_subvec.specs.Replies.{most_entries, with_entries}
+use Rattle.sip_subvec.specs.AcceptsSub.{Stated, stated_value, stated_level, folded, gives_root}
+use Rattle.sip_subvec.specs.Replies.{with_entries}
 use Rattle.sip_subvec.specs.Checking.{entries_sum, siblings_sum, stated_sum, HasPassed}
 use Rattle.sip_subvec.proofs.WeightedFolds.{fold_of_level}
 

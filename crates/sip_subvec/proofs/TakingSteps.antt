@@ -1,5 +1,5 @@
 -- What a check has taken, after one call more.
-use Rattle.std.proofs.Common.{◌≡◌, ℕ, zero, suc, ◌+◌, ◌*◌, ◌/◌, ◌%◌, ◌^◌, ◌<◌, ◌≤◌, Bool, true, false, ◌&&◌, Option, Some, None, Result, Ok, Err, List, [], ◌∷◌, ◌++◌, length, refl, sym, ap, subst, ◌∙◌, arith, length-append, ◌-◌, inl, inr, not, cond, eqb}
+use Rattle.std.proofs.Common.{◌≡◌, ℕ, suc, ◌+◌, ◌*◌, ◌/◌, ◌%◌, ◌^◌, ◌<◌, ◌≤◌, Bool, true, false, ◌&&◌, Option, Some, None, Result, Ok, Err, List, [], ◌∷◌, ◌++◌, length, refl, sym, ap, subst, ◌∙◌, arith, length-append, ◌-◌, inl, inr, not, cond, eqb}
 use Rattle.std.specs.Prelude.{nat_lt, nat_le, ◌==◌, is_some, is_none}
 use Rattle.std.specs.Option.{option_map}
 use Rattle.std.specs.List.{list_all}
@@ -18,7 +18,7 @@ use Rattle.sip_wire.specs.declared.message.Reason.{Reason}
 use Rattle.sip_wire.specs.declared.message.Reason.TheVariants as reasons
 use Rattle.sip_subvec.specs.AcceptsSub.{Siblings, Stated, gives_root}
 use Rattle.sip_subvec.specs.Replies.{most_entries, with_entries, are_asked, asked_siblings}
-use Rattle.sip_subvec.specs.Checking.{Kept, HasTaken, nothing, HasPassed, AreAsked, AnswersAs, entry_test, is_above, entries_sum, level_sum, siblings_sum, stated_sum}
+use Rattle.sip_subvec.specs.Checking.{Kept, HasTaken, nothing, AreAsked, AnswersAs, entry_test, is_above, entries_sum, level_sum, siblings_sum}
 use Rattle.sip_subvec.proofs.StatedSums.{root_is_sum}
 
 -- ---- intervals

@@ -1,5 +1,4 @@
 -- The last bytes are written, whatever ended the reading.
-use Rattle.std.proofs.Common.{rules, Some, None, Ok, Err}
 use Rattle.std.proofs.lemmas.Result.{err_from_is_err_and}
 use Rattle.sip_stream.proofs.Copies.{cut_at_last, stopped_early}
 use Rattle.sip_stream.proofs.copying.copy.Goals as goal

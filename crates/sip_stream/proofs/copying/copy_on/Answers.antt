@@ -1,7 +1,6 @@
 -- What holds at each exit follows from how far the copy came.
-use Rattle.std.proofs.Common.{rules, Some, None, Ok, Err, subst, sym}
+use Rattle.std.proofs.Common.{rules}
 use Rattle.std.proofs.lemmas.Result.{err_from_is_err_and}
-use Rattle.sip_stream.specs.Reading.{GoesOnAfter, Reads}
 use Rattle.sip_stream.proofs.Copies.{goes_on, ends, stops_reading, stops_writing}
 use Rattle.sip_stream.proofs.copying.copy_on.Goals as goal
 

@@ -1,5 +1,5 @@
 -- A line that the input ends in, and a whole line.
-use Rattle.std.proofs.Common.{rules, arith}
+use Rattle.std.proofs.Common.{rules}
 use Rattle.sip_stream.proofs.LinesRead.{reads_short, reads_line}
 use Rattle.sip_stream.proofs.line_reader.next_line.Goals as goal
 

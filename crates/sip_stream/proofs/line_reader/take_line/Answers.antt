@@ -1,5 +1,5 @@
 -- One more byte of the line.
-use Rattle.std.proofs.Common.{◌<◌, length, subst, rules, arith}
+use Rattle.std.proofs.Common.{◌<◌, length, subst, rules}
 use Rattle.sip_stream.specs.Pieces.{IsBegun}
 use Rattle.sip_stream.proofs.LinesRead.{begun_more}
 use Rattle.sip_stream.proofs.line_reader.take_line.Goals as goal

@@ -1,5 +1,5 @@
 -- Up to 38 digits fit.
-use Rattle.std.proofs.Common.{◌<◌, ◌^◌, slice_index_or, rules, arith}
+use Rattle.std.proofs.Common.{◌<◌, slice_index_or, rules, arith}
 use Rattle.sip_stream.proofs.Digits.{small_fits}
 use Rattle.sip_stream.proofs.numbers.decimal.Goals as goal
 

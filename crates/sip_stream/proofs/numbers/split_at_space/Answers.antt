@@ -1,5 +1,4 @@
 -- The first space, or none so far.
-use Rattle.std.proofs.Common.{rules, arith}
 use Rattle.sip_stream.proofs.Parts.{split_there, split_more}
 use Rattle.sip_stream.proofs.numbers.split_at_space.Goals as goal
 

@@ -1,5 +1,5 @@
 -- There is no space in front of this place.
-use Rattle.std.proofs.Common.{◌≡◌, ◌≤◌, length, take}
+use Rattle.std.proofs.Common.{◌≡◌, take}
 use Rattle.std.specs.Prelude.{None}
 use Rattle.sip_stream.specs.Lines.{parts_at}
 use Rattle.sip_stream.proofs.numbers.split_at_space.Given as goal

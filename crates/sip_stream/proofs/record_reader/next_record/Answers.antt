@@ -1,5 +1,5 @@
 -- 13 bytes came, or fewer at the end.
-use Rattle.std.proofs.Common.{rules, arith, refl}
+use Rattle.std.proofs.Common.{rules}
 use Rattle.sip_stream.proofs.RecordsRead.{reads_side, reads_record}
 use Rattle.sip_stream.proofs.record_reader.next_record.Goals as goal
 
