@@ -1,10 +1,10 @@
 -- Each turn but a farewell leaves fewer turns.
-use Rattle.std.proofs.Common.{◌≡◌, ℕ, zero, suc, ◌+◌, ◌-◌, ◌*◌, ◌^◌, ◌<◌, ◌≤◌, Bool, true, false, not, ◌&&◌, ◌||◌, ◌==◌, nat_lt, nat_le, eqb, cond, Option, Some, None, List, [], ◌∷◌, ◌++◌, length, ℤ, pos, negsuc, nat_abs, w64, refl, sym, ap, subst, ◌∙◌, inl, inr, arith}
-use Rattle.std.specs.Prelude.{IsTrue, is_none, is_some}
+use Rattle.std.proofs.Common.{◌≡◌, ℕ, zero, suc, ◌+◌, ◌^◌, ◌<◌, ◌≤◌, Bool, true, false, not, ◌&&◌, ◌||◌, ◌==◌, nat_lt, nat_le, eqb, cond, Option, Some, None, List, [], ◌∷◌, length, ℤ, pos, negsuc, nat_abs, w64, refl, ap, arith}
+use Rattle.std.specs.Prelude.{IsTrue, is_none}
 use Rattle.std.specs.Int.{cast_unsigned}
 use Rattle.std.specs.List.{list_all, flat_map}
 use Rattle.std.specs.Option.{option_map, option_and_then}
-use Rattle.std.proofs.lemmas.Bool.{and_parts, both_ways, ltb-true}
+use Rattle.std.proofs.lemmas.Bool.{and_parts, ltb-true}
 use Rattle.std.proofs.lemmas.List.{length_push}
 use Rattle.sip_vector.specs.declared.query.Query.{Query}
 use Rattle.sip_vector.specs.declared.update.Side.{Side}
@@ -21,9 +21,9 @@ use Rattle.sip_helper.specs.declared.heard.Heard.{Heard}
 use Rattle.sip_helper.specs.declared.heard.Heard.TheVariants.{Nothing, Part, Whole}
 use Rattle.sip_helper.specs.declared.vectors.Vectors.{Vectors}
 use Rattle.sip_helper.specs.Measures.{stream_left, challenges_left, turns_left}
-use Rattle.sip_helper.specs.Serving.{IsMessage, IsTurn, Turn, after_turn}
-use Rattle.sip_helper.specs.Turns.{HelperState, OpenQuery, after_answer, after_reply, asked, depth_of, is_allowed, is_below, is_built, is_light, is_refused, may_ask, may_reveal, most_queries, part_of, stays_legal, step, weights_after, whole_of, with_challenge}
-use Rattle.sip_helper.proofs.LegalUpdates.{bool_tells, weight-cons, weight-one, light_parts}
+use Rattle.sip_helper.specs.Serving.{IsTurn, Turn, after_turn}
+use Rattle.sip_helper.specs.Turns.{HelperState, OpenQuery, after_answer, after_reply, depth_of, is_allowed, is_below, is_built, is_light, is_refused, most_queries, step, weights_after, with_challenge}
+use Rattle.sip_helper.proofs.LegalUpdates.{weight-cons, weight-one, light_parts}
 
 -- ---- updates weigh something
 

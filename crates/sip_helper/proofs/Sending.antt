@@ -1,5 +1,5 @@
 -- Several pieces are sent one after another, and the last one may be cut short.
-use Rattle.std.proofs.Common.{◌≡◌, ℕ, ◌+◌, ◌<◌, ◌≤◌, List, [], ◌∷◌, ◌++◌, length, take, Result, Ok, Err, refl, sym, ap, subst, ◌∙◌, arith, length-append}
+use Rattle.std.proofs.Common.{◌≡◌, ℕ, ◌+◌, List, ◌++◌, length, take, Result, Ok, Err, sym, subst, arith, length-append}
 use Rattle.std.specs.declared.option.Option.{Option}
 use Rattle.std.proofs.lemmas.List.{take-append-le}
 use Rattle.std.proofs.Math.Seq.{take-append-add}

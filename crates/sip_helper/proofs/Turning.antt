@@ -1,5 +1,5 @@
 -- How one turn ends.
-use Rattle.std.proofs.Common.{◌≡◌, ◌⊎◌, ℕ, ◌<◌, ◌+◌, Bool, true, false, not, ◌||◌, nat_le, if◌then◌else◌, Option, Some, None, List, [], ◌∷◌, ◌++◌, length, take, Result, Ok, Err, inl, inr, refl, sym, ap, subst, ◌∙◌, append-nil}
+use Rattle.std.proofs.Common.{◌≡◌, ℕ, ◌+◌, Bool, true, false, not, ◌||◌, nat_le, if◌then◌else◌, Option, Some, None, List, [], ◌++◌, length, Result, Ok, Err, inl, inr, refl, sym, ap, subst, ◌∙◌, append-nil}
 use Rattle.std.specs.Prelude.{IsOk, IsTrue, OnOk, is_err}
 use Rattle.std.specs.Option.{option_and_then}
 use Rattle.std.specs.List.{flat_map}
@@ -14,14 +14,13 @@ use Rattle.sip_wire.specs.declared.message.Message.{Message}
 use Rattle.sip_wire.specs.declared.message.Message.TheVariants as messages
 use Rattle.sip_wire.specs.declared.message.WireFault.{WireFault}
 use Rattle.sip_wire.specs.declared.message.WireFault.TheVariants as faults
-use Rattle.sip_wire.specs.Decoding.{Decodes, Took}
+use Rattle.sip_wire.specs.Decoding.{Decodes}
 use Rattle.sip_wire.specs.Faults.{IsOfBytes}
 use Rattle.sip_wire.specs.Reading.{read_frame}
 use Rattle.sip_wire.specs.Spelling.{spelling}
-use Rattle.sip_helper.specs.declared.status.HelpStatus.{HelpStatus}
-use Rattle.sip_helper.specs.declared.status.HelpStatus.TheVariants.{Served, BadFrame, PeerFault, OutOfMemory}
+use Rattle.sip_helper.specs.declared.status.HelpStatus.TheVariants.{Served, BadFrame, PeerFault}
 use Rattle.sip_helper.specs.OneTurn.{Stopped, Taken}
-use Rattle.sip_helper.specs.Serving.{IsMessage, IsNoFrame, IsTurn, Turn, after_turn, heard_in, turn_talk}
+use Rattle.sip_helper.specs.Serving.{IsMessage, IsTurn, Turn, heard_in}
 use Rattle.sip_helper.specs.Statuses.{status_of_fault, status_of_stop}
 use Rattle.sip_helper.specs.Turns.{HelperState, OpenQuery, after_answer, after_reply, depth_of, is_allowed, is_refused, out_of_turn, owed, owes, reply_to, step}
 

@@ -3,7 +3,7 @@
 -- It takes one message after another: the spelling of a message that may come is received, and the reply that is owed then is
 -- sent, before more is received. It stops at a farewell, at bytes that are no frame, at a message out of turn, at the end of the
 -- link, or where the link fails or memory runs out.
-use Rattle.std.specs.Prelude.{◌≡◌, ◌≢◌, ◌⊎◌, ℕ, ◌<◌, Bool, true, false, IsTrue, List, [], ◌∷◌, ◌++◌, length, take, Option, Err}
+use Rattle.std.specs.Prelude.{◌≡◌, ◌≢◌, ◌⊎◌, ℕ, ◌<◌, Bool, false, IsTrue, List, [], ◌∷◌, ◌++◌, length, take, Option, Err}
 use Rattle.sip_ports.specs.declared.port.TalkEvent.{TalkEvent}
 use Rattle.sip_ports.specs.declared.port.TalkEvent.TheVariants.{Ended}
 use Rattle.sip_ports.specs.Ports.{GoesOn, ins, outs, heard}

@@ -1,10 +1,9 @@
 -- One frame after another is sent.
-use Rattle.std.proofs.Common.{◌≡◌, ◌<◌, ◌≤◌, List, ◌++◌, length, All, rules, refl, sym, subst, arith}
+use Rattle.std.proofs.Common.{◌<◌, ◌≤◌, ◌++◌, length, All, rules, refl, subst, arith}
 use Rattle.std.proofs.lemmas.List.{take_at}
 use Rattle.std.proofs.lemmas.List.Elements.{All-take}
 use Rattle.std.proofs.lemmas.Result.{err_from_is_err_and}
 use Rattle.sip_ports.proofs.FaultLemmas.{Lasts-trans, Lasts-of_HasCause}
-use Rattle.sip_vector.specs.declared.update.Entry.{Entry}
 use Rattle.sip_vector.specs.Vectors.{nonzero_within}
 use Rattle.sip_subvec.proofs.HonestFrames.{IsRow, entries_fit}
 use Rattle.sip_helper.proofs.EntryFrames.{goes_on, stops}

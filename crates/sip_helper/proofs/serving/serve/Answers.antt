@@ -1,8 +1,6 @@
 -- Turn after turn.
-use Rattle.std.proofs.Common.{◌≡◌, ◌<◌, ap, inl, refl, arith, length}
+use Rattle.std.proofs.Common.{ap, arith, length}
 use Rattle.sip_ports.proofs.FaultLemmas.{Lasts-trans}
-use Rattle.sip_ports.proofs.TalkLemmas.{GoesOn-refl}
-use Rattle.sip_wire.specs.declared.kind.Place.TheVariants as places
 use Rattle.sip_wire.specs.Frames.{frame_bytes}
 use Rattle.sip_helper.proofs.Talks.{fewer, goes_on, serves_nothing}
 use Rattle.sip_helper.proofs.serving.serve.Goals as goal

@@ -1,9 +1,7 @@
 -- A message came: it may come or not, and its reply goes out whole or not.
-use Rattle.std.proofs.Common.{◌≡◌, Bool, true, false, List, ℕ, [], rules, refl, sym, ap, subst, ◌∙◌, lit≤}
-use Rattle.std.specs.Prelude.{is_err, Err, IsTrue}
-use Rattle.std.specs.declared.option.Option.{Option}
+use Rattle.std.proofs.Common.{◌≡◌, Bool, true, false, List, ℕ, rules, sym, ap, subst, ◌∙◌, lit≤}
+use Rattle.std.specs.Prelude.{is_err, Err}
 use Rattle.std.proofs.lemmas.Result.{err_from_is_err_and}
-use Rattle.sip_ports.specs.declared.port.TalkEvent.{TalkEvent}
 use Rattle.sip_ports.specs.Ports.{GoesOn, SendsWhole, outs}
 use Rattle.sip_ports.proofs.TalkLemmas.{GoesOn-refl}
 use Rattle.sip_helper.specs.Turns.{HelperState, after_answer, is_allowed, owed, step}

@@ -1,5 +1,5 @@
 -- The prover goes one level up.
-use Rattle.std.proofs.Common.{◌≡◌, refl, sym, ◌∙◌, arith}
+use Rattle.std.proofs.Common.{refl, arith}
 use Rattle.sip_helper.proofs.Proving.{height_at, stands_higher}
 use Rattle.sip_helper.proofs.asked.Asked.reveal.Goals as goal
 

@@ -1,6 +1,4 @@
-use Rattle.std.proofs.Common.{◌≡◌, List, Some, Option, ap, sym, subst, ◌∙◌}
-use Rattle.sip_vector.specs.declared.update.Update.{Update}
-use Rattle.sip_helper.specs.Legal.{legal_weights}
+use Rattle.std.proofs.Common.{sym, ◌∙◌}
 use Rattle.sip_helper.proofs.Hearing.{kept_grown, same_grown}
 use Rattle.sip_helper.proofs.helper.HelperCore.add.Goals as goal
 

@@ -1,5 +1,5 @@
 -- Each kind of message is heard by a call of its own.
-use Rattle.std.proofs.Common.{◌≡◌, subst, sym, ap, ◌∙◌, refl, true}
+use Rattle.std.proofs.Common.{subst, refl}
 use Rattle.std.specs.Prelude.{IsTrue}
 use Rattle.std.proofs.lemmas.Bool.{both_ways}
 use Rattle.sip_wire.specs.declared.message.Message.{Message}

@@ -1,4 +1,4 @@
-use Rattle.std.proofs.Common.{◌≡◌, Some, Option, subst, sym, ap}
+use Rattle.std.proofs.Common.{subst, sym}
 use Rattle.sip_helper.specs.Answering.{Stands}
 use Rattle.sip_helper.proofs.Hearing.{kept_with}
 use Rattle.sip_helper.proofs.helper.HelperCore.reveal.Goals as goal

@@ -1,10 +1,10 @@
 -- The update at hand is judged with the weights so far, and the others with the weights that it leaves.
-use Rattle.std.proofs.Common.{◌≡◌, ◌+◌, drop, get_or, pos, sym, ◌∙◌}
-use Rattle.std.proofs.lemmas.List.{at_drop_more, at_drop_all}
+use Rattle.std.proofs.Common.{◌+◌, drop, get_or, pos, sym, ◌∙◌}
+use Rattle.std.proofs.lemmas.List.{at_drop_more}
 use Rattle.sip_vector.specs.declared.update.Side.TheVariants.{First}
 use Rattle.sip_vector.specs.declared.update.Update.{Update}
 use Rattle.sip_helper.specs.Legal.{legal_weights}
-use Rattle.sip_helper.proofs.LegalUpdates.{judged, settled_now}
+use Rattle.sip_helper.proofs.LegalUpdates.{judged}
 use Rattle.sip_helper.proofs.vectors.Weights.with.Goals as goal
 
 none : Update
