@@ -1,10 +1,9 @@
 -- How words begin a command, and where they are refused.
-use Rattle.std.proofs.Common.{◌≡◌, ◌≢◌, IsTrue, ℕ, zero, suc, ◌+◌, ◌-◌, ◌^◌, ◌<◌, ◌≤◌, false, nat_eq, List, [], ◌∷◌, ◌++◌, length, get_or, take, drop, sym, refl, ap, subst, ◌∙◌, inl, inr, arith}
+use Rattle.std.proofs.Common.{◌≡◌, ◌≢◌, IsTrue, ℕ, zero, suc, ◌+◌, ◌-◌, ◌<◌, ◌≤◌, List, [], ◌∷◌, ◌++◌, length, get_or, take, drop, sym, refl, ap, subst, ◌∙◌, inl, inr, arith}
 use Rattle.std.specs.Prelude.{codes, decimal}
 use Rattle.std.proofs.lemmas.Bool.{cases_lt}
-use Rattle.std.proofs.lemmas.List.{take_all, length-take-le, length-drop, length-append, get_or-take, get_or-drop, get_or_append_left, get_or-append_right}
+use Rattle.std.proofs.lemmas.List.{length-take-le, length-drop, length-append, get_or-take, get_or-drop, get_or_append_left, get_or-append_right}
 use Rattle.std.proofs.lemmas.Nat.{pow_pos}
-use Rattle.std.proofs.lemmas.Fmt.{decimal_injective}
 use Rattle.sip_stream.specs.declared.form.Form.TheVariants as forms
 use Rattle.sip_vector.specs.declared.query.Query.{Query}
 use Rattle.sip_vector.specs.declared.query.Query.TheVariants.{Sub}
@@ -15,7 +14,7 @@ use Rattle.sip_cli.specs.declared.verb.Built.{Built}
 use Rattle.sip_cli.specs.declared.verb.Verb.{Verb}
 use Rattle.sip_cli.specs.declared.verb.Verb.TheVariants.{Verify, Help, Gen, Lines}
 use Rattle.sip_cli.specs.Shapes.{IsOf, IsDepth, Asks}
-use Rattle.sip_cli.specs.Verbs.{has_verb, verb_word, shapes, least_asked, most_asked, most_queries}
+use Rattle.sip_cli.specs.Verbs.{has_verb, verb_word, shapes, least_asked, most_asked}
 use Rattle.sip_cli.specs.Words.{word, IsWhole, BeginsOf, IsRefusedOf}
 
 -- words of a command to end with

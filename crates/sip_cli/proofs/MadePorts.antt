@@ -1,5 +1,5 @@
 -- A made stream that is opened has at most ten million records.
-use Rattle.std.proofs.Common.{◌≡◌, ℕ, ◌≤◌, List, sym, ap, ◌∙◌, arith}
+use Rattle.std.proofs.Common.{◌≡◌, ℕ, ◌≤◌, List, ap, arith}
 use Rattle.sip_cli.specs.declared.command.Command.{Command}
 use Rattle.sip_cli.specs.declared.command.Command.TheVariants as command
 use Rattle.sip_cli.specs.declared.plan.Opening.{Opening}

@@ -1,5 +1,5 @@
 -- A run's words and its task.
-use Rattle.std.proofs.Common.{◌≡◌, ℕ, ◌^◌, ◌<◌, ◌≤◌, List, [], ◌∷◌, length, get_or, refl, sym, ap, subst, ◌∙◌, arith}
+use Rattle.std.proofs.Common.{◌≡◌, ℕ, List, [], ◌∷◌, length, get_or, refl, sym, ap, subst, ◌∙◌, arith}
 use Rattle.std.specs.Prelude.{◌↔◌}
 use Rattle.sip_stream.specs.declared.form.Form.TheVariants.{Binary}
 use Rattle.sip_vector.specs.declared.query.Query.{Query}
@@ -9,13 +9,14 @@ use Rattle.sip_cli.specs.declared.command.Command.TheVariants.{Verify, Help, Gen
 use Rattle.sip_verifier.specs.declared.status.Status.{Status}
 use Rattle.sip_verifier.specs.declared.status.Status.TheVariants as statuses
 use Rattle.sip_verifier.specs.declared.task.Task.{Task}
-use Rattle.sip_verifier.specs.CauseClause.{Counts, IsListed}
+use Rattle.sip_verifier.specs.CauseClause.{Counts}
 use Rattle.sip_verifier.specs.Exchanges.{Exchange}
-use Rattle.sip_cli.specs.Promises.{Promises, IsServed, one_query, IsVerify}
+use Rattle.sip_cli.specs.Promises.{Promises, IsServed}
+use Rattle.sip_cli.specs.Statuses.{Ends}
 use Rattle.sip_cli.specs.Verbs.{built}
 use Rattle.sip_cli.specs.Words.{word, Spells, IsRefusedAt}
 use Rattle.sip_cli.proofs.QueryWords.{asked_interval}
-use Rattle.sip_cli.proofs.Refusals.{refused_once, spelled_not_refused, task_once, task_of}
+use Rattle.sip_cli.proofs.Refusals.{refused_once, spelled_not_refused, task_of}
 use Rattle.sip_cli.proofs.Stopping.{depth_once}
 use Rattle.sip_cli.proofs.StreamWords.{form_once}
 
@@ -46,20 +47,20 @@ served words task (whole, says) =
       within = q.4;
     }
 
--- the promises on the task that was read are those on the task that the words spell
-pub promised : (words : List (List ℕ)) (read task : Task) (x : Exchange) (before now : Counts) (status : Status) → Spells words (Verify read) → Spells words (Verify task) → Promises read x before now status → Promises task x before now status
-promised words read task x before now status s t p = subst (λ (k : Task). Promises k x before now status) (task_once words read task s.1 t.1) p
+-- a command that words spell, if it is to verify, has a task that is served
+pub served_task : (words : List (List ℕ)) (c : Command) → Spells words c → (task : Task) → c ≡ Verify task → IsServed task
+served_task words c s task e = served words task (subst (Spells words) e s)
 
--- words that spell a task are refused nowhere, and no listed answer is Usage
-pub usage_never : (words : List (List ℕ)) (task : Task) (status : Status) (word : ℕ) → Spells words (Verify task) → IsListed status → (status ≡ statuses.Usage word) ↔ IsRefusedAt words word
-usage_never words task status word s listed = (λ e. absurd (subst IsListed e listed), λ refused. absurd (spelled_not_refused built words (Verify task) word s refused))
+-- no command ends with Usage
+ends_otherwise : (c : Command) (word : ℕ) → Ends c (statuses.Usage word) → ⊥
+ends_otherwise (Verify task) word listed = listed
+ends_otherwise Help word listed = listed
+ends_otherwise (Gen depth) word listed = listed
+ends_otherwise (Lines form depth) word listed = listed
 
--- the one command that is built is `verify`
-pub only_verify : (words : List (List ℕ)) (c : Command) → Spells words c → IsVerify c
-only_verify words (Verify task) s = tt
-only_verify words Help s = let never = s.is_built in absurd cc
-only_verify words (Gen depth) s = let never = s.0.is_built in absurd cc
-only_verify words (Lines form depth) s = let never = s.0.is_built in absurd cc
+-- words that spell a command are refused nowhere, and it does not end with Usage
+pub usage_never : (words : List (List ℕ)) (c : Command) (status : Status) (word : ℕ) → Spells words c → Ends c status → (status ≡ statuses.Usage word) ↔ IsRefusedAt words word
+usage_never words c status word s listed = (λ e. absurd (ends_otherwise c word (subst (Ends c) e listed)), λ refused. absurd (spelled_not_refused built words c word s refused))
 
 -- refused words are refused at the number that is answered, and there alone
 pub usage_at : (words : List (List ℕ)) (word other : ℕ) → IsRefusedAt words word → (statuses.Usage word ≡ statuses.Usage other) ↔ IsRefusedAt words other

@@ -1,6 +1,5 @@
 -- Where the words behind a verb stop to be a command.
-use Rattle.std.proofs.Common.{◌≡◌, ◌↔◌, Bool, true, false, true≢false, IsTrue, ℕ, zero, suc, ◌+◌, ◌-◌, ◌^◌, ◌<◌, ◌≤◌, List, [], ◌∷◌, ◌++◌, Result, Ok, Err, IfErr, length, get_or, sym, refl, ap, subst, ◌∙◌, inl, inr, arith}
-use Rattle.std.specs.Prelude.{decimal}
+use Rattle.std.proofs.Common.{◌≡◌, ◌↔◌, Bool, true, false, true≢false, IsTrue, ℕ, ◌+◌, ◌-◌, ◌<◌, ◌≤◌, List, [], ◌∷◌, ◌++◌, Result, Ok, Err, IfErr, length, get_or, sym, refl, subst, ◌∙◌, inl, inr, arith}
 use Rattle.std.proofs.lemmas.Bool.{cases_lt}
 use Rattle.std.proofs.lemmas.Fmt.{decimal_injective}
 use Rattle.std.proofs.lemmas.List.{length-append, get_or_append_left}
@@ -18,7 +17,7 @@ use Rattle.sip_cli.specs.Shapes.{IsOf, IsDepth, Asks}
 use Rattle.sip_cli.specs.Verbs.{has_verb, verb_word, shapes, least_asked, most_asked, most_queries}
 use Rattle.sip_cli.specs.Words.{word, IsWhole, IsRefusedOf}
 use Rattle.sip_cli.specs.Progress.{HaveShapes, StopsInShapes, Fitted, AreAsked, StopsInQueries}
-use Rattle.sip_cli.proofs.Beginning.{Begun, refused, least_below_most}
+use Rattle.sip_cli.proofs.Beginning.{Begun, refused}
 
 -- a word has one depth
 pub depth_once : (word : List ℕ) (d e : ℕ) → IsDepth d word → IsDepth e word → d ≡ e

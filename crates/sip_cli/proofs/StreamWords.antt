@@ -1,15 +1,13 @@
 -- The word of a stream: what each begins with, and that no two streams share one.
-use Rattle.std.proofs.Common.{◌≡◌, ◌≢◌, Bool, true, false, not, IsTrue, ℕ, ◌^◌, ◌<◌, ◌≤◌, nat_eq, List, [], ◌∷◌, ◌++◌, length, get_or, Option, None, Some, Bor, MatchOption, true≢false, drop, subst, sym, refl, ap, ◌∙◌, arith}
+use Rattle.std.proofs.Common.{◌≡◌, false, ℕ, ◌^◌, ◌<◌, ◌≤◌, nat_eq, List, ◌∷◌, ◌++◌, get_or, Option, Some, Bor, MatchOption, true≢false, drop, subst, sym, refl, ap, ◌∙◌, arith}
 use Rattle.std.specs.Prelude.{codes, decimal}
-use Rattle.std.specs.Bool.{then_some}
 use Rattle.std.specs.List.{starts_with}
-use Rattle.std.specs.Str.Pattern.{FindsTextPrefix}
 use Rattle.std.proofs.lemmas.Fmt.{decimal_injective}
-use Rattle.std.proofs.lemmas.Str.Pattern.{starts_text, split_parts, split_after, IsSplitOnceResult}
+use Rattle.std.proofs.lemmas.Str.Pattern.{split_parts, split_after, IsSplitOnceResult}
 use Rattle.sip_stream.specs.declared.form.Form.{Form}
 use Rattle.sip_cli.specs.declared.stream.Stream.{Stream}
 use Rattle.sip_cli.specs.declared.stream.Stream.TheVariants.{Made, Text, File}
-use Rattle.sip_cli.specs.Shapes.{made_word, IsStreamWord, HasForm, form_of}
+use Rattle.sip_cli.specs.Shapes.{IsStreamWord, HasForm, form_of}
 use Rattle.sip_cli.proofs.QueryWords.{same_parts, decimal_lacks_colon}
 
 -- what follows `made:`

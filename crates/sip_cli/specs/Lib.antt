@@ -15,3 +15,6 @@ pub mod Tallies
 pub mod Sending
 pub mod Rows
 pub mod Reading
+pub mod CopyClause
+pub mod HelpClause
+pub mod Statuses

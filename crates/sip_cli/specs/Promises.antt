@@ -1,9 +1,7 @@
 -- The three promises on one call, together.
-use Rattle.std.specs.Prelude.{◌≡◌, ℕ, ◌^◌, ◌<◌, ◌≤◌, ⊤, [], ◌∷◌}
+use Rattle.std.specs.Prelude.{◌≡◌, ℕ, ◌^◌, ◌<◌, ◌≤◌, [], ◌∷◌}
 use Rattle.sip_stream.specs.declared.form.Form.TheVariants.{Binary}
 use Rattle.sip_vector.specs.declared.query.Query.TheVariants.{Sub}
-use Rattle.sip_cli.specs.declared.command.Command.{Command}
-use Rattle.sip_cli.specs.declared.command.Command.TheVariants.{Verify, Help, Gen, Lines}
 use Rattle.sip_verifier.specs.declared.status.Status.{Status}
 use Rattle.sip_verifier.specs.declared.task.Task.{Task}
 use Rattle.sip_verifier.specs.CauseClause.{CauseClause, Counts}
@@ -28,10 +26,3 @@ pub record IsServed (task : Task) : Type 0 where
   pub shallow : task.depth ≤ 20
   pub order : lo ≤ hi
   pub within : hi < 2 ^ task.depth
-
--- the command is to verify
-abbrev pub IsVerify : Command → Type 0
-IsVerify (Verify _) = ⊤
-IsVerify Help = ⊥
-IsVerify (Gen _) = ⊥
-IsVerify (Lines _ _) = ⊥

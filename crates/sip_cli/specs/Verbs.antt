@@ -1,5 +1,5 @@
 -- The commands: each is a verb, words of its shapes, and queries where it asks some.
-use Rattle.std.specs.Prelude.{ℕ, Bool, true, false, List, [], ◌∷◌, codes}
+use Rattle.std.specs.Prelude.{ℕ, Bool, true, List, [], ◌∷◌, codes}
 use Rattle.sip_cli.specs.declared.shape.Shape.{Shape}
 use Rattle.sip_cli.specs.declared.shape.Shape.TheVariants.{Name, Stream, BinaryStream, NoRecord, Number, Depth}
 use Rattle.sip_cli.specs.declared.verb.Built.{Built}
@@ -48,7 +48,7 @@ most_asked Lines = 0
 
 -- The commands that `sip` has beside `verify`. To build one is to change its field.
 abbrev pub built : Built
-built = record { help = false; generator = false; lines = false }
+built = record { help = true; generator = true; lines = true }
 
 -- the command of this verb is built
 abbrev pub has_verb : Built → Verb → Bool

@@ -3,11 +3,13 @@
 
 mod ask;
 mod command;
+mod copying;
 mod decimal;
 mod draw;
 mod exit;
 mod feed;
 mod gather;
+mod helping;
 mod level;
 mod page;
 mod plan;

@@ -23,6 +23,34 @@ USAGE
 
       sip verify log.stream today.seed from.fifo to.fifo - 20 sub:100:199
 
+  sip help FROM TO
+
+      Is the helper: keeps the stream that a verifying sip sends, and answers its query.
+
+      FROM    the file or FIFO that brings the verifier's bytes, which is its TO
+      TO      the file or FIFO that takes ours, which is its FROM
+
+      sip help to.fifo from.fifo
+
+  sip gen NUMBER COUNT DEPTH
+
+      Writes a stream of COUNT records that are made from NUMBER.
+
+      NUMBER  below 2^64
+      COUNT   up to 10000000
+      DEPTH   from 1 to 32
+
+      sip gen 7 100000 20 > log.stream
+
+  sip lines STREAM DEPTH
+
+      Prints a stream as lines of text: a side, an item and what is added to its entry, with one space between them.
+
+      STREAM  a file of records, made:NUMBER:COUNT, or text:PATH, which is a file of such lines
+      DEPTH   from 1 to 32
+
+      sip lines log.stream 20
+
   sip --help       prints this page
   sip --version    prints the version
 
@@ -37,11 +65,11 @@ away after the run: a helper that knows the challenges can make a wrong answer p
 
 STATUS
 
-  0  the answer was accepted, and printed
+  0  the answer was accepted and printed, a talk was served to its end, or a stream was written to its end
   1  the helper's reply was rejected
   2  the words are no command
-  3  the stream or the seed is not as it has to be
-  4  a file, the link to the helper or the output failed
+  3  the stream, the seed or a frame of the verifier is not as it has to be
+  4  a file, the link or the output failed, or the verifier left before its farewell
   5  memory ran out
 ";
 

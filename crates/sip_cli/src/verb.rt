@@ -30,9 +30,9 @@ pub(crate) struct Built {
 
 /// The commands of the program.
 pub(crate) const BUILT: Built = Built {
-    help: false,
-    generator: false,
-    lines: false,
+    help: true,
+    generator: true,
+    lines: true,
 };
 
 /// The greatest depth of `verify`, as long as the levels of a vector's tree are kept whole.

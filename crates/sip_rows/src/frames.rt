@@ -31,6 +31,9 @@ pub const TOO_HEAVY: [u8; 26] = [
     0, 0, 0, 0, 0, 0xff, 0xff, 0xff, 0xff, 0xff, 0xff, 0xff, 0xff, // item 0
 ];
 
+// The first of these two.
+pub const GREATEST_RECORD: [u8; 13] = [0, 0, 0, 0, 0, 0, 0, 0, 0, 0x3f, 0xff, 0xff, 0xff];
+
 pub const ZERO_SEED: [u8; 32] = [0; 32];
 
 // One byte less than a seed.
@@ -57,6 +60,8 @@ pub const SUB_0_1: [u8; 12] = [0x04, 0, 9, 1, 0, 0, 0, 0, 0, 0, 0, 1];
 // The key stream of ChaCha20 for a key of zeros begins 76 b8 e0 ad a0 f1 3d 90. Its first word, the low byte first, is
 // 0x903df1a0ade0b876, and without the last three bits 0x1207be3415bc170e = 1299216148431902478.
 pub const REVEAL: [u8; 11] = [0x05, 0, 8, 0x12, 0x07, 0xbe, 0x34, 0x15, 0xbc, 0x17, 0x0e];
+
+pub const REVEAL_OF_2: [u8; 11] = [0x05, 0, 8, 0, 0, 0, 0, 0, 0, 0, 2];
 
 pub const BYE: [u8; 3] = [0x06, 0, 0];
 
@@ -107,9 +112,14 @@ pub const SIBLINGS_P_1: [u8; 20] = [
 // No memory.
 pub const REFUSE_1: [u8; 4] = [0x18, 0, 1, 1];
 
+// Out of turn.
+pub const REFUSE_4: [u8; 4] = [0x18, 0, 1, 4];
+
 pub const REFUSE_5: [u8; 4] = [0x18, 0, 1, 5];
 
-// Headers, and frames that are cut short.
+// Headers, and frames that are cut short. Kind 7 is none.
+pub const NO_FRAME: [u8; 3] = [0x07, 0, 0];
+
 pub const CLAIM_HEADER: [u8; 3] = [0x11, 0, 8];
 
 pub const ENTRY_HEADER: [u8; 3] = [0x13, 0, 0x0e];

@@ -8,11 +8,15 @@ mod memory;
 pub use memory::run_in_memory;
 
 #[cfg(test)]
+mod copy_tests;
+#[cfg(test)]
 mod failing_tests;
 #[cfg(test)]
 mod fault_tests;
 #[cfg(test)]
 mod frames;
+#[cfg(test)]
+mod help_tests;
 #[cfg(test)]
 mod row;
 #[cfg(test)]

@@ -1,12 +1,18 @@
 //! A run over ports in memory.
 
-ghost use Rattle.std.specs.Prelude.{◌≡◌, ◌≢◌, ◌↔◌, ◌⊎◌, ℕ};
-ghost use Rattle.sip_ports.specs.Memory.{source_is_sure, sink_is_sure, link_is_sure};
+ghost use Rattle.std.specs.Prelude.{◌≡◌, ◌≢◌, ◌↔◌, ℕ, Some};
+ghost use Rattle.sip_ports.specs.Memory.{source_is_sure, sink_is_sure, link_is_sure, source_left, sink_bytes, link_talk};
+ghost use Rattle.sip_ports.specs.Ports.{outs};
+ghost use Rattle.sip_stream.specs.declared.form.Form.{Form};
+ghost use Rattle.sip_stream.specs.declared.form.Form.TheVariants.{Binary, Text};
 ghost use Rattle.sip_verifier.specs.declared.task.Task.{Task};
-ghost use Rattle.sip_verifier.specs.CauseClause.{IsListed};
 ghost use Rattle.sip_verifier.specs.declared.status.Port.TheVariants as ports;
 ghost use Rattle.sip_verifier.specs.Exchanges.{Exchange};
-ghost use Rattle.sip_cli.specs.declared.command.Command.TheVariants.{Verify};
+ghost use Rattle.sip_cli.specs.declared.command.Command.{Command};
+ghost use Rattle.sip_cli.specs.declared.command.Command.TheVariants.{Verify, Gen, Lines, Help};
+ghost use Rattle.sip_cli.specs.CopyClause.{CopyClause};
+ghost use Rattle.sip_cli.specs.HelpClause.{HelpClause};
+ghost use Rattle.sip_cli.specs.Statuses.{Ends};
 ghost use Rattle.sip_cli.specs.Promises.{Promises};
 ghost use Rattle.sip_cli.specs.Words.{Spells, IsRefusedAt};
 ghost use Rattle.sip_rows.specs.Moves.{Moves, moment_of, faults_of};
@@ -33,6 +39,13 @@ pub fn run_in_memory(
         × Moves (moment_of first.old second.old peer.old report.old) (moment_of first.new second.new peer.new report.new) x
         × Promises task x (faults_of first.old second.old peer.old report.old) (faults_of first.new second.new peer.new report.new) result }
 
+    // A copy is written to the report, and a talk is served on the link.
+    ensures made { (depth : ℕ) → Spells words.now (Gen depth) → CopyClause depth Binary Binary (source_left first.old)
+        (Some (source_left first.new)) (Some (outs (sink_bytes report.old))) (Some (outs (sink_bytes report.new))) result }
+    ensures lines { (form : Form) (depth : ℕ) → Spells words.now (Lines form depth) → CopyClause depth form Text (source_left first.old)
+        (Some (source_left first.new)) (Some (outs (sink_bytes report.old))) (Some (outs (sink_bytes report.new))) result }
+    ensures help { Spells words.now Help → HelpClause (Some (link_talk peer.old)) (Some (link_talk peer.new)) result }
+
     // Words that are no command are refused, and move nothing.
     ensures usage { (word : ℕ) → (result ≡ Status.Usage word) ↔ IsRefusedAt words.now word }
     ensures untouched { (word : ℕ) → result ≡ Status.Usage word
@@ -44,8 +57,8 @@ pub fn run_in_memory(
     ensures sure_peer { link_is_sure peer.old → result ≢ Status.PeerFault }
     ensures sure_report { sink_is_sure report.old → result ≢ Status.WriteFault ports.Report }
 
-    // No other status comes.
-    ensures listed { IsListed result ⊎ ((word : ℕ) × (result ≡ Status.Usage word)) }
+    // No status comes but those of the command.
+    ensures listed { (command : Command) → Spells words.now command → Ends command result }
 {
     run(
         alloc,

@@ -64,7 +64,8 @@ pub struct Row<'a> {
     pub then: &'a [Said<'a>],
 }
 
-fn words_of(alloc: Global, text: &str) -> Result<Words, Fail> {
+// The words of a text.
+pub fn words_of(alloc: Global, text: &str) -> Result<Words, Fail> {
     let mut list = Vec::new(alloc);
     for word in text.split_whitespace() {
         list.push(String::from_str(alloc, word)?)?;

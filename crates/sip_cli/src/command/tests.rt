@@ -1,18 +1,9 @@
-use super::{Command, read_words, read_words_of};
-use crate::plan::ports_of;
-use crate::verb::{BUILT, Built};
+use super::{Command, read_words};
 use crate::{Opening, PortPlan, Usage, Words, ports};
 use sip_stream::Form;
 use sip_vector::{Depth, Query};
 use std::alloc::Global;
 use std::test::Fail;
-
-// Every command whose words can be read.
-const ALL: Built = Built {
-    help: true,
-    generator: true,
-    lines: true,
-};
 
 // The words of a text, with a bar between them.
 fn words(alloc: Global, text: &str) -> Result<Words, Fail> {
@@ -23,8 +14,8 @@ fn words(alloc: Global, text: &str) -> Result<Words, Fail> {
     Ok(Words::of(list))
 }
 
-fn refused_at(words: &Words, built: Built) -> Option<u32> {
-    match read_words_of(words, built) {
+fn refused_at(words: &Words) -> Option<u32> {
+    match read_words(words) {
         Ok(_) => None,
         Err(Usage { word }) => Some(word),
     }
@@ -39,9 +30,6 @@ fn refuses_the_first_word_that_begins_no_command(rt: HostRuntime) -> Result<(), 
         ("audit|s|t", Some(0)),
         ("show|t", Some(0)),
         ("play|s|k|honest|-|3|sub:1:2", Some(0)),
-        ("help|f|t", Some(0)),
-        ("gen|7|1|20", Some(0)),
-        ("lines|s|20", Some(0)),
         ("Verify|s|k|f|t|-|3|sub:1:2", Some(0)),
         ("verify ", Some(0)),
         ("verify", Some(1)),
@@ -104,22 +92,17 @@ fn refuses_the_first_word_that_begins_no_command(rt: HostRuntime) -> Result<(), 
         ("verify|-|made:|text:|-|-|1|sub:0:0", None),
         ("verify|made|k|f|t|-|20|sub:0:1048575", None),
     ] {
-        assert_eq!(rt; refused_at(&words(alloc, text)?, BUILT), want, "at {text}");
+        assert_eq!(rt; refused_at(&words(alloc, text)?), want, "at {text}");
     }
-    assert_eq!(rt; refused_at(&Words::of(Vec::new(alloc)), BUILT), Some(0));
+    assert_eq!(rt; refused_at(&Words::of(Vec::new(alloc))), Some(0));
     Ok(())
 }
 
-// The same of the commands that are still to be switched on.
+// The same of the other commands.
 #[test]
-fn reads_the_words_of_every_command(rt: HostRuntime) -> Result<(), Fail> {
+fn refuses_the_first_word_that_no_other_command_has(rt: HostRuntime) -> Result<(), Fail> {
     let alloc = rt.alloc();
     for (text, want) in [
-        ("", Some(0)),
-        ("audit|s|t", Some(0)),
-        ("verify", Some(1)),
-        ("verify|text:s|k|f|t|-|3|sub:1:2", Some(1)),
-        ("verify|s|k|f|t|-|3|sub:1:2", None),
         ("help", Some(1)),
         ("help|", Some(1)),
         ("help|f", Some(2)),
@@ -158,7 +141,7 @@ fn reads_the_words_of_every_command(rt: HostRuntime) -> Result<(), Fail> {
         ("lines|made:7:1|20", None),
         ("lines|lines|1", None),
     ] {
-        assert_eq!(rt; refused_at(&words(alloc, text)?, ALL), want, "at {text}");
+        assert_eq!(rt; refused_at(&words(alloc, text)?), want, "at {text}");
     }
     Ok(())
 }
@@ -189,7 +172,7 @@ fn reads_a_depth_and_a_form(rt: HostRuntime) -> Result<(), Fail> {
         ("lines|made:7:1|20", Some(Form::Binary), 20),
         ("lines|text:s|13", Some(Form::Text), 13),
     ] {
-        let found = match read_words_of(&words(alloc, text)?, ALL) {
+        let found = match read_words(&words(alloc, text)?) {
             Ok(Command::Gen { depth }) => Some((None, depth.get())),
             Ok(Command::Lines { form, depth }) => Some((Some(form), depth.get())),
             _ => None,
@@ -268,10 +251,7 @@ fn opens_the_ports_of_a_command(rt: HostRuntime) -> Result<(), Fail> {
         ),
         ("lines|s|33", none),
     ] {
-        assert_eq!(rt; ports_of(&words(alloc, text)?, ALL), want, "at {text}");
+        assert_eq!(rt; ports(&words(alloc, text)?), want, "at {text}");
     }
-    let text = "verify|s|k|f|t|-|3|sub:1:2";
-    assert_eq!(rt; ports(&words(alloc, text)?), verify(file(1)));
-    assert_eq!(rt; ports(&words(alloc, "help|f|t")?), none);
     Ok(())
 }

@@ -1,4 +1,4 @@
-use Rattle.std.proofs.Common.{◌≡◌, ◌≢◌, ◌↔◌, ℕ, ◌^◌, ◌<◌, ◌≤◌, List, [], length, get_or, Option, None, Some, IsSome, IfSome, MatchOption, decimal, sym, ◌∙◌, refl, arith}
+use Rattle.std.proofs.Common.{◌≡◌, ◌↔◌, ℕ, ◌^◌, ◌<◌, ◌≤◌, List, [], length, get_or, Option, None, Some, IsSome, IfSome, MatchOption, decimal, sym, ◌∙◌, refl, arith}
 use Rattle.std.proofs.lemmas.Fmt.{decimal_injective}
 use Rattle.sip_cli.specs.Shapes.{IsDepth}
 use Rattle.sip_cli.proofs.Getting.{got}

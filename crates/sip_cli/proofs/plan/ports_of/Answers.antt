@@ -1,4 +1,4 @@
-use Rattle.std.proofs.Common.{◌≡◌, sym, subst}
+use Rattle.std.proofs.Common.{subst}
 use Rattle.sip_cli.specs.Plan.{Opens}
 use Rattle.sip_cli.proofs.Refusals.{spelled_not_refused, command_once}
 use Rattle.sip_cli.proofs.MadePorts.{opens_counted, made_never}

@@ -1,3 +1,4 @@
+use Rattle.std.proofs.Common.{refl}
 use Rattle.sip_ports.specs.Calls.{failed_of-sure}
 use Rattle.sip_rows.specs.Moves.{moment_of}
 use Rattle.sip_rows.proofs.Telling.{all_told, Moves-told, first_sure, second_sure, peer_sure, report_sure}
@@ -17,6 +18,12 @@ returns-clause-promises c = λ task spells.
         cause = c.run.ensures.cause task x spells told.1;
       },
     )
+
+pub returns-clause-made : goal.returns-clause-made
+returns-clause-made c = λ depth spells. c.run.ensures.made depth _ spells refl
+
+pub returns-clause-lines : goal.returns-clause-lines
+returns-clause-lines c = λ form depth spells. c.run.ensures.lines form depth _ spells refl
 
 pub returns-clause-sure_first : goal.returns-clause-sure_first
 returns-clause-sure_first c = λ sure. first_sure _ _ c.run.result c.run.ensures.fault (failed_of-sure _ _ (c.run.ensures.first.sure sure))

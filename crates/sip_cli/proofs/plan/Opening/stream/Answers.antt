@@ -1,4 +1,4 @@
-use Rattle.std.proofs.Common.{◌≡◌, sym, ap, ◌∙◌}
+use Rattle.std.proofs.Common.{ap, ◌∙◌}
 use Rattle.sip_cli.specs.Plan.{opening_of}
 use Rattle.sip_cli.proofs.StreamWords.{stream_once}
 use Rattle.sip_cli.proofs.plan.Opening.stream.Goals as goal

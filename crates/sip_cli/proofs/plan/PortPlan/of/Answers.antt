@@ -1,4 +1,4 @@
-use Rattle.std.proofs.Common.{◌≡◌, refl, ap, ◌∙◌, arith}
+use Rattle.std.proofs.Common.{refl, ap, ◌∙◌, arith}
 use Rattle.sip_cli.specs.Plan.{source_ports}
 use Rattle.sip_cli.proofs.plan.PortPlan.of.Goals as goal
 

@@ -1,0 +1,38 @@
+-- The statuses that each command may answer.
+use Rattle.sip_cli.specs.declared.command.Command.{Command}
+use Rattle.sip_cli.specs.declared.command.Command.TheVariants as command
+use Rattle.sip_verifier.specs.CauseClause.{IsListed}
+use Rattle.sip_verifier.specs.declared.status.Port.TheVariants as ports
+use Rattle.sip_verifier.specs.declared.status.Status.{Status}
+use Rattle.sip_verifier.specs.declared.status.Status.TheVariants as statuses
+
+-- of `gen` and `lines`
+abbrev pub EndsCopy : Status → Type 0
+EndsCopy statuses.Wrote = Unit {0}
+EndsCopy (statuses.BadStream at why) = Unit {0}
+EndsCopy (statuses.ReadFault ports.First) = Unit {0}
+EndsCopy (statuses.WriteFault ports.Report) = Unit {0}
+EndsCopy statuses.OutOfMemory = Unit {0}
+EndsCopy _ = ⊥
+
+-- of `help`
+abbrev pub EndsHelp : Status → Type 0
+EndsHelp statuses.Served = Unit {0}
+EndsHelp (statuses.BadFrame offset) = Unit {0}
+EndsHelp statuses.PeerClosed = Unit {0}
+EndsHelp statuses.PeerFault = Unit {0}
+EndsHelp statuses.OutOfMemory = Unit {0}
+EndsHelp _ = ⊥
+
+abbrev pub Ends : Command → Status → Type 0
+Ends (command.Verify task) status = IsListed status
+Ends command.Help status = EndsHelp status
+Ends (command.Gen depth) status = EndsCopy status
+Ends (command.Lines form depth) status = EndsCopy status
+
+-- the command copies a stream
+abbrev pub IsCopy : Command → Type 0
+IsCopy (command.Verify task) = ⊥
+IsCopy command.Help = ⊥
+IsCopy (command.Gen depth) = Unit {0}
+IsCopy (command.Lines form depth) = Unit {0}

@@ -1,0 +1,249 @@
+// The commands that copy a stream.
+ghost use Rattle.std.specs.Prelude.{◌≤◌};
+
+use crate::frames::*;
+use crate::row::{At, Failing, Given, words_of};
+use sip_cli::{Opening, exit_code, ports, run};
+use sip_ports::{MemoryLink, MemorySink, MemorySource, NullSink};
+use sip_stream::{MadeSource, Why};
+use sip_vector::Side;
+use sip_verifier::{Port, Status};
+use std::alloc::Global;
+use std::process::Abort;
+use std::test::Fail;
+
+// A command that copies what the stream has: how it ends, with which exit code, and what it writes.
+#[derive(Clone, Copy)]
+struct Copied<'a> {
+    words: &'a str,
+    stream: &'a [u8],
+    status: Status,
+    code: u8,
+    report: &'a [u8],
+}
+
+impl Copied<'_> {
+    fn given(&self) -> Given<'_> {
+        Given {
+            words: self.words,
+            stream: self.stream,
+            seed: &ZERO_SEED,
+            replies: &[],
+        }
+    }
+
+    // Runs it in single bytes, and in pieces that are as long as is asked for. Nothing is said on the link.
+    fn check(&self, rt: &impl Abort, alloc: Global) -> Result<(), Fail> {
+        for chunk in [1, 10_000] {
+            let shown = self.given().run(alloc, chunk, None)?;
+            let (words, stream) = (self.words, self.stream);
+            assert_eq!(rt; shown.status, self.status, "{words} of {stream:?}");
+            assert_eq!(rt;
+                exit_code(&shown.status),
+                self.code,
+                "{words} of {stream:?}"
+            );
+            assert_eq!(rt; shown.report.bytes(), self.report, "{words} of {stream:?}");
+            assert!(rt; shown.peer.talk().is_empty());
+        }
+        Ok(())
+    }
+}
+
+fn wrote<'a>(words: &'a str, stream: &'a [u8], report: &'a [u8]) -> Copied<'a> {
+    Copied {
+        words,
+        stream,
+        status: Status::Wrote,
+        code: 0,
+        report,
+    }
+}
+
+// The lines of the records (0, 0, 3), (0, 2, 5), (0, 3, 1).
+const THREE_LINES: &[u8] = b"0 0 3\n0 2 5\n0 3 1\n";
+
+#[test]
+fn whole_copies(rt: HostRuntime) -> Result<(), Fail> {
+    for row in [
+        wrote("lines s 2", &THREE_RECORDS, THREE_LINES),
+        wrote("lines text:s 2", THREE_LINES, THREE_LINES),
+        wrote("gen 7 3 2", &THREE_RECORDS, &THREE_RECORDS),
+        wrote("lines s 2", &[], &[]),
+        wrote("lines text:s 2", &[], &[]),
+        wrote("gen 7 0 2", &[], &[]),
+        // The greatest and the least delta, and the greatest item.
+        wrote(
+            "lines text:s 32",
+            b"1 4294967295 -1073741823\n0 0 1073741823\n",
+            b"1 4294967295 -1073741823\n0 0 1073741823\n",
+        ),
+    ] {
+        row.check(&rt, rt.alloc())?;
+    }
+    Ok(())
+}
+
+fn bad<'a>(words: &'a str, stream: &'a [u8], at: u64, why: Why, report: &'a [u8]) -> Copied<'a> {
+    Copied {
+        words,
+        stream,
+        status: Status::BadStream { at, why },
+        code: 3,
+        report,
+    }
+}
+
+// The records before the one that is not legal are written.
+#[test]
+fn copies_of_bad_streams(rt: HostRuntime) -> Result<(), Fail> {
+    let heavy = Why::TooHeavy(Side::First);
+    for row in [
+        bad("lines s 1", &TOO_HEAVY, 1, heavy, b"0 0 1073741823\n"),
+        bad("lines s 1", &LEAST_DELTA, 0, heavy, &[]),
+        bad("gen 7 2 1", &TOO_HEAVY, 1, heavy, &GREATEST_RECORD),
+        bad("lines s 2", &ITEM_4, 0, Why::BadItem, &[]),
+        bad("lines s 2", &SIDE_2, 0, Why::BadSide, &[]),
+        bad("lines s 2", &DELTA_0, 0, Why::ZeroDelta, &[]),
+        bad("lines s 2", &TWELVE_BYTES, 0, Why::Truncated, &[]),
+        bad("gen 7 1 2", &TWELVE_BYTES, 0, Why::Truncated, &[]),
+        bad(
+            "lines text:s 2",
+            b"0 0 3\n0 02 5\n",
+            1,
+            Why::BadLine,
+            b"0 0 3\n",
+        ),
+        bad(
+            "lines text:s 2",
+            b"0 0 3\n0 2 5",
+            1,
+            Why::Truncated,
+            b"0 0 3\n",
+        ),
+        bad("lines text:s 2", b"2 0 3\n", 0, Why::BadSide, &[]),
+        bad("lines text:s 2", b"0 4 1\n", 0, Why::BadItem, &[]),
+        bad("lines text:s 2", b"0 0 0\n", 0, Why::ZeroDelta, &[]),
+        // A line of text where records are asked for: the side is the digit 0, which has the code 48.
+        bad("lines s 2", THREE_LINES, 0, Why::BadSide, &[]),
+    ] {
+        row.check(&rt, rt.alloc())?;
+    }
+    Ok(())
+}
+
+// Each call of the report fails once: the bytes before it are written. So does each of the source, where a front is.
+#[test]
+fn copies_over_ports_that_fail(rt: HostRuntime) -> Result<(), Fail> {
+    let alloc = rt.alloc();
+    let row = wrote("lines s 2", &THREE_RECORDS, THREE_LINES);
+    for number in 1..=18usize {
+        let failing = Failing {
+            at: At::Report,
+            number: number as u64,
+        };
+        let shown = row.given().run(alloc, 1, Some(failing))?;
+        let status = Status::WriteFault { port: Port::Report };
+        assert_eq!(rt; shown.status, status, "call {number}");
+        assert_eq!(rt; exit_code(&shown.status), 4, "call {number}");
+        assert!(rt;
+            THREE_LINES.starts_with(shown.report.bytes()),
+            "call {number}"
+        );
+        assert_eq!(rt; shown.report.bytes().len(), number - 1);
+    }
+    for number in 1..=40 {
+        let failing = Failing {
+            at: At::First,
+            number,
+        };
+        let shown = row.given().run(alloc, 1, Some(failing))?;
+        let status = Status::ReadFault { port: Port::First };
+        assert_eq!(rt; shown.status, status, "call {number}");
+        assert!(rt;
+            THREE_LINES.starts_with(shown.report.bytes()),
+            "call {number}"
+        );
+    }
+    Ok(())
+}
+
+// Runs a command whose stream is made, over the source that its words name.
+fn run_made(alloc: Global, text: &str, chunk: usize) -> Result<(Status, MemorySink), Fail>
+    requires { 1 ≤ chunk }
+{
+    let words = words_of(alloc, text)?;
+    let mut report = MemorySink::new(alloc, chunk, Vec::new(alloc));
+    let Opening::Made {
+        number,
+        count,
+        depth,
+    } = ports(&words).first
+    else {
+        return Ok((Status::Usage { word: 0 }, report));
+    };
+    let mut first = MadeSource::new(number, count, depth);
+    let mut second = MemorySource::new(Vec::new(alloc), chunk, Vec::new(alloc));
+    let mut peer = MemoryLink::new(alloc, Vec::new(alloc), chunk, Vec::new(alloc));
+    let status = run(
+        alloc,
+        &words,
+        &mut first,
+        &mut second,
+        &mut peer,
+        &mut report,
+        &mut NullSink::new(),
+    );
+    Ok((status, report))
+}
+
+#[test]
+fn made_streams(rt: HostRuntime) -> Result<(), Fail> {
+    let rows: [(&str, &[u8]); 3] = [
+        ("lines made:7:1 20", b"0 532219 8\n"),
+        ("lines made:0:1 20", b"0 913103 1\n"),
+        ("gen 7 1 20", &[0, 0, 8, 0x1e, 0xfb, 0, 0, 0, 0, 0, 0, 0, 8]),
+    ];
+    for (text, want) in rows {
+        for chunk in [1, 10_000] {
+            let (status, report) = run_made(rt.alloc(), text, chunk)?;
+            assert_eq!(rt; status, Status::Wrote, "at {text}");
+            assert_eq!(rt; report.bytes(), want, "at {text}");
+        }
+    }
+    Ok(())
+}
+
+fn sum(bytes: &[u8]) -> u64 {
+    let mut sum = 0u64;
+    for byte in bytes {
+        sum = sum.wrapping_add(u64::from(*byte));
+    }
+    sum
+}
+
+// Streams of several blocks. Their lengths and the sums of their bytes were computed apart.
+#[test]
+fn long_streams(rt: HostRuntime) -> Result<(), Fail> {
+    let alloc = rt.alloc();
+    for chunk in [1, 10_000] {
+        let (status, lines) = run_made(alloc, "lines made:7:1000 20", chunk)?;
+        assert_eq!(rt; status, Status::Wrote);
+        assert!(rt;
+            lines
+                .bytes()
+                .starts_with(b"0 532219 8\n1 991056 3\n1 367341 2\n0 1 5\n")
+        );
+        assert!(rt; lines.bytes().ends_with(b"\n0 678910 7\n"));
+        assert_eq!(rt; (lines.bytes().len(), sum(lines.bytes())), (9_708, 421_314));
+        let (status, records) = run_made(alloc, "gen 7 1000 20", chunk)?;
+        assert_eq!(rt; status, Status::Wrote);
+        assert_eq!(rt;
+            (records.bytes().len(), sum(records.bytes())),
+            (13_000, 198_709)
+        );
+        wrote("lines s 20", records.bytes(), lines.bytes()).check(&rt, alloc)?;
+        wrote("lines text:s 20", lines.bytes(), lines.bytes()).check(&rt, alloc)?;
+    }
+    Ok(())
+}

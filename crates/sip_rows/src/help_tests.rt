@@ -1,0 +1,96 @@
+use crate::frames::*;
+use crate::row::{Given, Row, Said};
+use sip_verifier::Status;
+use std::test::Fail;
+
+// A talk of `help`, by what the verifier says. The stream, the seed and the report are left alone.
+fn ended<'a>(
+    name: &'a str,
+    replies: &'a [&'a [u8]],
+    status: Status,
+    code: u8,
+    then: &'a [Said<'a>],
+) -> Row<'a> {
+    Row {
+        name,
+        given: Given {
+            words: "help from to",
+            stream: &THREE_RECORDS,
+            seed: &ZERO_SEED,
+            replies,
+        },
+        status,
+        code,
+        report: "",
+        sent: &[],
+        then,
+    }
+}
+
+// A talk that is served, and how talks end otherwise.
+#[test]
+fn talks_that_are_served(rt: HostRuntime) -> Result<(), Fail> {
+    let rows: [Row<'static>; 4] = [
+        ended(
+            "a whole talk",
+            &[
+                &OPEN_2,
+                &UPDATES_OF_THREE,
+                &THREE_RECORDS,
+                &END_STREAM,
+                &SUB_1_2,
+                &REVEAL_OF_2,
+                &BYE,
+            ],
+            Status::Served,
+            0,
+            &[
+                Said::In(&OPEN_2),
+                Said::In(&UPDATES_OF_THREE),
+                Said::In(&THREE_RECORDS),
+                Said::In(&END_STREAM),
+                Said::In(&SUB_1_2),
+                Said::Out(&ENTRY_2),
+                Said::Out(&SIBLINGS_3_1),
+                Said::In(&REVEAL_OF_2),
+                Said::Out(&NO_SIBLINGS),
+                Said::In(&BYE),
+            ],
+        ),
+        ended(
+            "the verifier leaves after the stream",
+            &[&OPEN_2, &UPDATES_OF_THREE, &THREE_RECORDS, &END_STREAM],
+            Status::PeerClosed,
+            4,
+            &[
+                Said::In(&OPEN_2),
+                Said::In(&UPDATES_OF_THREE),
+                Said::In(&THREE_RECORDS),
+                Said::In(&END_STREAM),
+                Said::Ended,
+            ],
+        ),
+        ended(
+            "bytes that are no frame",
+            &[&NO_FRAME],
+            Status::BadFrame { offset: 0 },
+            3,
+            &[Said::In(&NO_FRAME)],
+        ),
+        ended(
+            "a challenge that no query is open for",
+            &[&OPEN_2, &REVEAL_OF_2],
+            Status::BadFrame { offset: 5 },
+            3,
+            &[
+                Said::In(&OPEN_2),
+                Said::In(&REVEAL_OF_2),
+                Said::Out(&REFUSE_4),
+            ],
+        ),
+    ];
+    for row in &rows {
+        row.check(&rt, rt.alloc())?;
+    }
+    Ok(())
+}
