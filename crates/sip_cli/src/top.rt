@@ -78,7 +78,7 @@ fn obey<A: Source, B: Source, L: Link, K: Sink>(
 /// rejection once they show a fault. Time and memory grow with 2^DEPTH, since levels are kept whole; the stream itself is
 /// not kept.
 ///
-/// `help FROM TO`: serves one talk over `peer`. Memory grows with 2^DEPTH of the talk's depth.
+/// `help FROM TO`: serves one talk over `peer`. Memory grows with the entries that are not 0.
 ///
 /// `gen NUMBER COUNT DEPTH` and `lines STREAM DEPTH`: write the legal records of `first` to `report`, as records or as lines
 /// of text, up to the first record that is not legal. They take no memory.
