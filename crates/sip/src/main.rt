@@ -69,13 +69,13 @@ fn obey_over<S: Source>(rt: &HostRuntime, words: &Words, plan: &PortPlan, first:
 /// Does what the words say, over the file or the made stream that is the first source.
 fn obey(rt: &HostRuntime, words: &Words) -> Status {
     let plan = ports(words);
-    match plan.first {
+    match &plan.first {
         Opening::Made {
             number,
             count,
             depth,
         } => {
-            let mut first = MadeSource::new(number, count, depth);
+            let mut first = MadeSource::new(*number, *count, *depth);
             obey_over(rt, words, &plan, &mut first)
         }
         Opening::Nothing | Opening::Path { .. } => {

@@ -143,7 +143,7 @@ mod tests {
     use std::test::Fail;
 
     // Each status with its exit code and its line.
-    const ROWS: [(Status, u8, &[u8]); 25] = [
+    const ROWS: [(Status, u8, &[u8]); 26] = [
         (Status::Accepted, 0, b""),
         (Status::Served, 0, b""),
         (Status::Wrote, 0, b""),

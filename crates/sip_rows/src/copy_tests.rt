@@ -174,15 +174,16 @@ fn run_made(alloc: Global, text: &str, chunk: usize) -> Result<(Status, MemorySi
 {
     let words = words_of(alloc, text)?;
     let mut report = MemorySink::new(alloc, chunk, Vec::new(alloc));
+    let plan = ports(&words);
     let Opening::Made {
         number,
         count,
         depth,
-    } = ports(&words).first
+    } = &plan.first
     else {
         return Ok((Status::Usage { word: 0 }, report));
     };
-    let mut first = MadeSource::new(number, count, depth);
+    let mut first = MadeSource::new(*number, *count, *depth);
     let mut second = MemorySource::new(Vec::new(alloc), chunk, Vec::new(alloc));
     let mut peer = MemoryLink::new(alloc, Vec::new(alloc), chunk, Vec::new(alloc));
     let status = run(

@@ -8,6 +8,8 @@ mod memory;
 pub use memory::run_in_memory;
 
 #[cfg(test)]
+mod check_tests;
+#[cfg(test)]
 mod copy_tests;
 #[cfg(test)]
 mod failing_tests;

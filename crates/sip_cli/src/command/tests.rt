@@ -163,6 +163,15 @@ fn reads_the_task(rt: HostRuntime) -> Result<(), Fail> {
     Ok(())
 }
 
+// The form of what is read, if it has one, and the depth.
+fn form_and_depth(command: &Command) -> (Option<Form>, u8) {
+    match command {
+        Command::Gen { depth } => (None, depth.get()),
+        Command::Lines { form, depth } => (Some(*form), depth.get()),
+        Command::Verify(_) | Command::Help => (None, 0),
+    }
+}
+
 #[test]
 fn reads_a_depth_and_a_form(rt: HostRuntime) -> Result<(), Fail> {
     let alloc = rt.alloc();
@@ -172,12 +181,10 @@ fn reads_a_depth_and_a_form(rt: HostRuntime) -> Result<(), Fail> {
         ("lines|made:7:1|20", Some(Form::Binary), 20),
         ("lines|text:s|13", Some(Form::Text), 13),
     ] {
-        let found = match read_words(&words(alloc, text)?) {
-            Ok(Command::Gen { depth }) => Some((None, depth.get())),
-            Ok(Command::Lines { form, depth }) => Some((Some(form), depth.get())),
-            _ => None,
-        };
-        assert_eq!(rt; found, Some((form, depth)), "at {text}");
+        match read_words(&words(alloc, text)?) {
+            Ok(command) => assert_eq!(rt; form_and_depth(&command), (form, depth), "at {text}"),
+            Err(_) => assert!(rt; false, "at {text}"),
+        }
     }
     Ok(())
 }
