@@ -118,3 +118,11 @@ later_grows lo hi bytes byte more (Err fault) is = elim (fault_or_not fault) [
 
 pub later_front : (lo hi : ℕ) (front : List ℕ) (byte : ℕ) (more : List ℕ) (x : Siblings) → later_reply lo hi (front ++ byte ∷ more) ≡ Ok x → later_reply lo hi front ≡ Err reasons.Closed
 later_front lo hi front byte more x whole = front_of (later_reply lo hi front) _ x (later_grows lo hi front byte more (read_frame places.Siblings front) refl) whole
+
+-- ---- what is whole has too many bytes with one more
+
+pub first_full : (lo hi : ℕ) (before : List Entry) (bytes : List ℕ) (byte : ℕ) (more : List ℕ) (x : List Entry × Siblings) → read_first lo hi before bytes ≡ Ok x → read_first lo hi before (bytes ++ byte ∷ more) ≡ Err reasons.BadLength
+first_full lo hi before bytes byte more x whole = (first_grows (length bytes) lo hi before bytes byte more (omega arith)).full x whole
+
+pub later_full : (lo hi : ℕ) (bytes : List ℕ) (byte : ℕ) (more : List ℕ) (x : Siblings) → later_reply lo hi bytes ≡ Ok x → later_reply lo hi (bytes ++ byte ∷ more) ≡ Err reasons.BadLength
+later_full lo hi bytes byte more x whole = (later_grows lo hi bytes byte more (read_frame places.Siblings bytes) refl).full x whole
