@@ -7,3 +7,4 @@ pub mod VerdictClause
 pub mod TalkClause
 pub mod CauseClause
 pub mod Examples
+pub mod CountClause

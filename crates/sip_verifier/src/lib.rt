@@ -10,8 +10,10 @@
 //! | `VerdictClause` | which lines are written, and when |
 //! | `TalkClause` | in which order the bytes go |
 //! | `CauseClause` | when each other answer comes |
+//! | `CountClause` | how many challenges a helper can win by, and that no line has a wrong answer but at those |
 #![tactic(auto)]
 
+pub mod counting;
 pub mod laws;
 mod status;
 mod task;

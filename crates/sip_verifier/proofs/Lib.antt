@@ -1,0 +1,3 @@
+pub mod LegalRecords
+pub mod CountedTurns
+pub mod CountedReports

@@ -1,0 +1,5 @@
+use Rattle.sip_verifier.proofs.LegalRecords.{records_legal}
+use Rattle.sip_verifier.proofs.counting.records_are_legal.Goals as goal
+
+pub returns : goal.returns
+returns c = λ task x. records_legal task.depth task.form x.stream

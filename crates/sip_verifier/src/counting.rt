@@ -1,0 +1,29 @@
+//! Laws: reports that keep to the clause of verdicts keep to that of counts. These functions do nothing: each contract is a fact
+//! that holds.
+
+ghost use Rattle.std.specs.Prelude.{ℕ, List, All};
+ghost use Rattle.sip_vector.specs.declared.update.Update.{Update};
+ghost use Rattle.sip_vector.specs.Answers.{Answer, Fits};
+ghost use Rattle.sip_vector.specs.Streams.{IsLegal};
+ghost use Rattle.sip_verifier.specs.declared.status.Status.{Status};
+ghost use Rattle.sip_verifier.specs.declared.task.Task.{Task};
+ghost use Rattle.sip_verifier.specs.CauseClause.{IsListed};
+ghost use Rattle.sip_verifier.specs.CountClause.{CountsFor, CountClause};
+ghost use Rattle.sip_verifier.specs.Exchanges.{Exchange};
+ghost use Rattle.sip_verifier.specs.Turns.{Turn, Accepts, updates};
+ghost use Rattle.sip_verifier.specs.VerdictClause.{VerdictClause};
+
+/// What is read of a stream is a legal stream.
+pub fn records_are_legal()
+    ensures { (task : Task) (x : Exchange) → IsLegal task.depth (updates task x) }
+{}
+
+/// Where a turn's replies are accepted and state an answer, that answer is counted.
+pub fn accepted_turns_are_counted()
+    ensures { (depth : ℕ) (stream : List Update) (t : Turn) (answer : Answer) → Fits depth t.query → IsLegal depth stream → Accepts depth stream t answer → CountsFor depth stream t answer }
+{}
+
+/// Each report of a verifying command is counted, where its queries fit the depth.
+pub fn reports_are_counted()
+    ensures { (task : Task) (x : Exchange) (status : Status) → All (Fits task.depth) task.queries.items → VerdictClause task x status → IsListed status → CountClause task x }
+{}
