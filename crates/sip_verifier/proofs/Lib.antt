@@ -1,3 +1,9 @@
 pub mod LegalRecords
 pub mod CountedTurns
 pub mod CountedReports
+pub mod WholeReplies
+pub mod Blocks
+pub mod HeardTalks
+pub mod HonestTurns
+pub mod HonestRuns
+pub mod CompleteRuns

@@ -8,3 +8,4 @@ pub mod TalkClause
 pub mod CauseClause
 pub mod Examples
 pub mod CountClause
+pub mod CompletenessClause

@@ -1,5 +1,5 @@
 -- The lines of a report.
-use Rattle.std.specs.Prelude.{ℕ, List, [], ◌∷◌, ◌++◌, codes, decimal}
+use Rattle.std.specs.Prelude.{ℕ, List, [], ◌∷◌, ◌++◌, codes, decimal, flat_map}
 use Rattle.std.specs.Fmt.{signed_decimal}
 use Rattle.std.specs.List.{join_by}
 use Rattle.sip_vector.specs.declared.update.Entry.{Entry}
@@ -7,7 +7,8 @@ use Rattle.sip_vector.specs.declared.update.Side.{Side}
 use Rattle.sip_vector.specs.declared.update.Side.TheVariants.{First, Second}
 use Rattle.sip_vector.specs.declared.query.Query.{Query}
 use Rattle.sip_vector.specs.declared.query.Query.TheVariants.{Sub, Range, F2, Inner, Heavy}
-use Rattle.sip_vector.specs.Answers.{Answer, pairs, number}
+use Rattle.sip_vector.specs.declared.update.Update.{Update}
+use Rattle.sip_vector.specs.Answers.{Answer, answer, pairs, number}
 use Rattle.sip_wire.specs.declared.message.Reason.{Reason}
 use Rattle.sip_wire.specs.declared.message.Reason.TheVariants as reasons
 
@@ -61,3 +62,7 @@ reason_name reasons.Root = codes "Root"
 abbrev pub rejection : ℕ → ℕ → Reason → List ℕ
 rejection query round reason =
     codes "rejected query " ++ decimal query ++ codes " round " ++ decimal round ++ codes " " ++ reason_name reason ++ 10 ∷ []
+
+-- the report of a run whose queries were all accepted, with the answers that the stream's own vectors give
+abbrev pub report_of : ℕ → List Update → List Query → List ℕ
+report_of depth stream queries = flat_map (λ q. line q (answer depth stream q)) queries

@@ -11,8 +11,10 @@
 //! | `TalkClause` | in which order the bytes go |
 //! | `CauseClause` | when each other answer comes |
 //! | `CountClause` | how many challenges a helper can win by, and that no line has a wrong answer but at those |
+//! | `CompletenessClause` | what an honest helper comes to |
 #![tactic(auto)]
 
+pub mod completeness;
 pub mod counting;
 pub mod laws;
 mod status;

@@ -1,0 +1,94 @@
+-- The clause of completeness, by those of verdicts and of causes.
+use Rattle.std.proofs.Common.{◌≡◌, ◌≢◌, ℕ, ◌≤◌, List, [], ◌∷◌, ◌++◌, length, take, All, Some, None, inl, inr, refl, ap, subst, ◌∙◌, arith, append_assoc, take_all}
+use Rattle.std.specs.Prelude.{flat_map}
+use Rattle.std.proofs.lemmas.List.{length-map}
+use Rattle.std.proofs.lemmas.List.Elements.{All-append, All-cons, All-nil}
+use Rattle.sip_ports.specs.declared.port.TalkEvent.{TalkEvent}
+use Rattle.sip_ports.specs.declared.port.TalkEvent.TheVariants.{Ended}
+use Rattle.sip_ports.specs.Ports.{heard}
+use Rattle.sip_vector.specs.Answers.{Fits}
+use Rattle.sip_vector.specs.Streams.{IsLegal}
+use Rattle.sip_wire.specs.declared.message.Reason.{Reason}
+use Rattle.sip_wire.specs.declared.message.Reason.TheVariants as reasons
+use Rattle.sip_verifier.specs.declared.status.Port.TheVariants as ports
+use Rattle.sip_verifier.specs.declared.status.Status.{Status}
+use Rattle.sip_verifier.specs.declared.status.Status.TheVariants as statuses
+use Rattle.sip_verifier.specs.declared.task.Task.{Task}
+use Rattle.sip_verifier.specs.CauseClause.{Counts, IsListed, CauseClause}
+use Rattle.sip_verifier.specs.CompletenessClause.{IsHonest, CompletenessClause}
+use Rattle.sip_verifier.specs.Draws.{challenge_count, drawn, blocks}
+use Rattle.sip_verifier.specs.Exchanges.{Exchange}
+use Rattle.sip_verifier.specs.Reports.{report_of}
+use Rattle.sip_verifier.specs.Talks.{bye_sent, stream_sent}
+use Rattle.sip_verifier.specs.Turns.{Turn, said_in_turn, ending, updates, turns_of, AreTurns, Reached}
+use Rattle.sip_verifier.specs.VerdictClause.{AllWritten, OneFaulty, VerdictClause}
+use Rattle.sip_verifier.proofs.Blocks.{none_drawn, block_sizes}
+use Rattle.sip_verifier.proofs.HeardTalks.{HasFew, replied, heard-talk, last_is}
+use Rattle.sip_verifier.proofs.HonestRuns.{faulty_few, done_few, CanBeAsked, AreFirst, all_honest, done_honest, none_faulty}
+use Rattle.sip_verifier.proofs.LegalRecords.{records_legal}
+
+module _ (task : Task) (x : Exchange) (some : 1 ≤ task.depth) (most : task.depth ≤ 32) (fits : All (Fits task.depth) task.queries.items) (honest : IsHonest task x) where
+  legal : IsLegal task.depth (updates task x)
+  legal = records_legal task.depth task.form x.stream
+
+  can : CanBeAsked task.depth (updates task x) task.queries.items (blocks task honest.challenges)
+  can = record { fits = fits; few = honest.few; sizes = block_sizes task x.seed honest.challenges some honest.drawn }
+
+  same_challenges : (other : List ℕ) → drawn task x.seed ≡ Some other → other ≡ honest.challenges
+  same_challenges other is = let own = honest.drawn in cc
+
+  are_first : (turns : List Turn) → AreTurns task x turns → AreFirst task.depth (updates task x) turns task.queries.items (blocks task honest.challenges)
+  are_first turns are = record {
+    queries_are = are.queries;
+    blocks_are = are.blocks ∙ ap (λ (c : List ℕ). take (length turns) (blocks task c)) (same_challenges are.challenges are.drawn);
+  }
+
+  -- the honest bytes begin with what was heard in turns
+  front : (turns : List Turn) (rest : List TalkEvent) → All HasFew turns → Reached task x turns rest → all_honest task.depth (updates task x) task.queries.items (blocks task honest.challenges) ≡ replied turns ++ (heard rest ++ honest.heard.0)
+  front turns rest few reached =
+      honest.heard.1 ∙ ap (λ (l : List ℕ). l ++ honest.heard.0) (ap heard reached.talk ∙ heard-talk task.depth (updates task x) turns rest few)
+      ∙ append_assoc (replied turns) (heard rest) honest.heard.0
+
+  accepted_report : AllWritten task x → x.report ≡ report_of task.depth (updates task x) task.queries.items
+  accepted_report v =
+      let turns = turns_of task x v.done in
+      let are = v.reached.are_turns in
+      let count : length turns ≡ length v.done = length-map v.done (λ a. a.turn) in
+      let all : take (length turns) task.queries.items ≡ task.queries.items = take_all (length turns) task.queries.items (omega (arith, count, v.all)) in
+      v.report
+      ∙ done_honest task.depth (updates task x) some most legal v.done task.queries.items (blocks task honest.challenges) (heard bye_sent ++ honest.heard.0) can (are_first turns are)
+      (front turns bye_sent (done_few task.depth (updates task x) v.done) v.reached)
+      ∙ ap (report_of task.depth (updates task x)) (are.queries ∙ all)
+
+  -- the link did not end
+  not_ended : (turns : List Turn) (reason : Reason) → Reached task x turns (ending reason) → reason ≢ reasons.Closed
+  not_ended turns reason reached closed =
+      let talk : x.talk ≡ (stream_sent task.depth (updates task x) ++ flat_map said_in_turn turns) ++ Ended ∷ [] =
+      reached.talk ∙ ap (λ (r : Reason). (stream_sent task.depth (updates task x) ++ flat_map said_in_turn turns) ++ ending r) closed in
+      last_is (λ (e : TalkEvent). e ≢ Ended) (stream_sent task.depth (updates task x) ++ flat_map said_in_turn turns) Ended (subst (All (λ (e : TalkEvent). e ≢ Ended)) talk honest.lasts) refl
+
+  not_rejected : (query round : ℕ) (reason : Reason) → OneFaulty task x query round reason → ⊥
+  not_rejected query round reason v =
+      let last = v.last in
+      let turns = turns_of task x v.done ++ last ∷ [] in
+      let few = All-append HasFew (turns_of task x v.done) (last ∷ []) (done_few task.depth (updates task x) v.done)
+      (All-cons HasFew last [] (faulty_few task.depth (updates task x) last.query last.block last.replies (record { round = round; reason = reason }) v.faulty) (All-nil HasFew)) in
+      none_faulty task.depth (updates task x) some most legal v.done last (record { round = round; reason = reason }) task.queries.items (blocks task honest.challenges) (heard (ending reason) ++ honest.heard.0) can
+      (are_first turns v.reached.are_turns) v.faulty (not_ended turns reason v.reached) (front turns (ending reason) few v.reached)
+
+  some_drawn : drawn task x.seed ≡ None → ⊥
+  some_drawn none = let is = honest.drawn in cc
+
+module _ (task : Task) (x : Exchange) (some : 1 ≤ task.depth) (most : task.depth ≤ 32) (fits : All (Fits task.depth) task.queries.items) where
+  pub completes : (before now : Counts) (status : Status) → VerdictClause task x status → CauseClause task x before now status → IsListed status → CompletenessClause task x before now status
+  completes before now statuses.Accepted v cause is = λ honest none. inl (refl, accepted_report task x some most fits honest v)
+  completes before now (statuses.Rejected query round reason) v cause is = λ honest none. absurd (not_rejected task x some most fits honest query round reason v)
+  completes before now (statuses.BadStream at why) v cause is = λ honest none. absurd (let fault = cause.2 in let legal = honest.legal in cc)
+  completes before now statuses.BadSeed v cause is = λ honest none. absurd (some_drawn task x some most fits honest (none_drawn (challenge_count task) x.seed cause))
+  completes before now statuses.SeedSpent v cause is = λ honest none. absurd (some_drawn task x some most fits honest cause.1)
+  completes before now (statuses.ReadFault ports.First) v cause is = λ honest none. absurd (none.first cause)
+  completes before now (statuses.ReadFault ports.Second) v cause is = λ honest none. absurd (none.second cause)
+  completes before now (statuses.WriteFault ports.Report) v cause is = λ honest none. absurd (none.report cause)
+  completes before now statuses.PeerFault v cause is = λ honest none. absurd (none.peer cause)
+  completes before now statuses.OutOfMemory v cause is = λ honest none. inr refl
+  completes before now _ v cause is = absurd is

@@ -1,0 +1,71 @@
+-- What is heard in a talk: the replies, one after another.
+use Rattle.std.proofs.Common.{◌≡◌, ℕ, ◌+◌, ◌≤◌, List, [], ◌∷◌, ◌++◌, length, All, refl, sym, ap, ◌∙◌, arith, append-nil}
+use Rattle.std.specs.Prelude.{flat_map}
+use Rattle.std.proofs.lemmas.List.Elements.{All-head, All-tail}
+use Rattle.sip_ports.specs.declared.port.TalkEvent.{TalkEvent}
+use Rattle.sip_ports.specs.Ports.{outs, ins, heard}
+use Rattle.sip_ports.proofs.TalkLemmas.{heard-append}
+use Rattle.sip_vector.specs.declared.update.Update.{Update}
+use Rattle.sip_wire.specs.declared.message.Message.TheVariants as messages
+use Rattle.sip_wire.specs.Spelling.{spelling}
+use Rattle.sip_verifier.specs.Talks.{sent, exchanged, stream_sent, opening_sent, update_frames}
+use Rattle.sip_verifier.specs.Turns.{Turn, said_in_turn}
+use Rattle.sip_verifier.proofs.WholeReplies.{joined}
+
+-- what was sent is not heard
+pub heard-outs : (bytes : List ℕ) → heard (outs bytes) ≡ []
+heard-outs [] = refl
+heard-outs (b ∷ bytes) = heard-outs bytes
+
+heard-ins : (bytes : List ℕ) → heard (ins bytes) ≡ bytes
+heard-ins [] = refl
+heard-ins (b ∷ bytes) = ap (λ l. b ∷ l) (heard-ins bytes)
+
+-- what follows something that was sent
+after_sent : (bytes : List ℕ) (talk : List TalkEvent) → heard (outs bytes ++ talk) ≡ heard talk
+after_sent bytes talk = heard-append (outs bytes) talk ∙ ap (λ l. l ++ heard talk) (heard-outs bytes)
+
+-- what stands before it
+before_sent : (talk : List TalkEvent) (bytes : List ℕ) → heard (talk ++ outs bytes) ≡ heard talk
+before_sent talk bytes = heard-append talk (outs bytes) ∙ ap (λ l. heard talk ++ l) (heard-outs bytes) ∙ append-nil (heard talk)
+
+heard-exchanged : (replies : List (List ℕ)) (challenges : List ℕ) → length replies ≤ length challenges + 1 → heard (exchanged replies challenges) ≡ joined replies
+heard-exchanged [] challenges few = refl
+heard-exchanged (r ∷ []) challenges few = heard-ins r ∙ sym (append-nil r)
+heard-exchanged (r ∷ next ∷ more) [] few = absurd (omega arith)
+heard-exchanged (r ∷ next ∷ more) (c ∷ challenges) few =
+    heard-append (ins r ++ sent (messages.Reveal c ∷ [])) (exchanged (next ∷ more) challenges)
+    ∙ ap (λ l. l ++ heard (exchanged (next ∷ more) challenges)) (before_sent (ins r) (flat_map spelling (messages.Reveal c ∷ [])) ∙ heard-ins r)
+    ∙ ap (λ l. r ++ l) (heard-exchanged (next ∷ more) challenges (omega arith))
+
+-- no more replies came than there are challenges
+abbrev pub HasFew : Turn → Type 0
+HasFew t = length t.replies ≤ length t.block
+
+heard-turn : (t : Turn) → HasFew t → heard (said_in_turn t) ≡ joined t.replies
+heard-turn t few = after_sent (flat_map spelling (messages.Query t.query ∷ [])) (exchanged t.replies t.block) ∙ heard-exchanged t.replies t.block (omega arith)
+
+-- the reply bytes of turns
+abbrev pub replied : List Turn → List ℕ
+replied turns = flat_map (λ t. joined t.replies) turns
+
+heard-turns : (turns : List Turn) → All HasFew turns → heard (flat_map said_in_turn turns) ≡ replied turns
+heard-turns [] few = refl
+heard-turns (t ∷ turns) few =
+    heard-append (said_in_turn t) (flat_map said_in_turn turns)
+    ∙ ap (λ l. l ++ heard (flat_map said_in_turn turns)) (heard-turn t (All-head HasFew t turns few))
+    ∙ ap (λ l. joined t.replies ++ l) (heard-turns turns (All-tail HasFew t turns few))
+
+heard-stream : (depth : ℕ) (stream : List Update) → heard (stream_sent depth stream) ≡ []
+heard-stream depth stream = before_sent (opening_sent depth stream) (flat_map spelling (messages.EndStream ∷ [])) ∙ heard-outs (flat_map spelling (messages.Open 1 depth ∷ update_frames stream))
+
+pub heard-talk : (depth : ℕ) (stream : List Update) (turns : List Turn) (rest : List TalkEvent) → All HasFew turns → heard (stream_sent depth stream ++ flat_map said_in_turn turns ++ rest) ≡ replied turns ++ heard rest
+heard-talk depth stream turns rest few =
+    heard-append (stream_sent depth stream ++ flat_map said_in_turn turns) rest
+    ∙ ap (λ l. l ++ heard rest)
+    (heard-append (stream_sent depth stream) (flat_map said_in_turn turns) ∙ ap (λ l. l ++ heard (flat_map said_in_turn turns)) (heard-stream depth stream) ∙ heard-turns turns few)
+
+-- the last event of a talk in which each event is such
+pub last_is : (P : TalkEvent → Type 0) (talk : List TalkEvent) (event : TalkEvent) → All P (talk ++ event ∷ []) → P event
+last_is P [] event all = All-head P event [] all
+last_is P (e ∷ talk) event all = last_is P talk event (All-tail P e (talk ++ event ∷ []) all)

@@ -1,0 +1,135 @@
+-- A run that heard honest replies is accepted, with the stream's own answers.
+use Rattle.std.proofs.Common.{◌≡◌, ◌≢◌, ℕ, ◌≤◌, List, [], ◌∷◌, ◌++◌, length, take, map, All, refl, sym, ap, subst, ◌∙◌, arith, append_assoc, append-nil}
+use Rattle.std.specs.Prelude.{flat_map}
+use Rattle.std.specs.List.{zip}
+use Rattle.std.proofs.lemmas.List.Elements.{All-cons, All-nil, All-head, All-tail}
+use Rattle.sip_ports.specs.Ports.{heard}
+use Rattle.sip_vector.specs.declared.query.Query.{Query}
+use Rattle.sip_vector.specs.declared.query.Query.TheVariants.{Sub, Range, F2, Inner, Heavy}
+use Rattle.sip_vector.specs.declared.update.Update.{Update}
+use Rattle.sip_vector.specs.Answers.{Answer, Fits, answer}
+use Rattle.sip_vector.specs.Streams.{IsLegal}
+use Rattle.sip_wire.specs.declared.message.Reason.TheVariants as reasons
+use Rattle.sip_subvec.specs.Replies.{Fault}
+use Rattle.sip_verifier.specs.CompletenessClause.{honest_bytes, HasFewEntries}
+use Rattle.sip_verifier.specs.Reports.{line, report_of}
+use Rattle.sip_verifier.specs.Turns.{Turn, Accepts, Accepted, IsFaulty}
+use Rattle.sip_verifier.proofs.HeardTalks.{HasFew, replied}
+use Rattle.sip_verifier.proofs.HonestTurns.{turn_done, turn_faulty}
+use Rattle.sip_verifier.proofs.WholeReplies.{joined}
+
+-- ---- how many replies a turn has
+
+accepted_few : (depth : ℕ) (stream : List Update) (query : Query) (block : List ℕ) (replies : List (List ℕ)) (written : Answer) → Accepts depth stream (record { query = query; block = block; replies = replies }) written → length replies ≤ length block
+accepted_few depth stream (Sub lo hi) block replies written accepts = omega (arith, (accepts.1).all)
+accepted_few depth stream (Range side lo hi) block replies written accepts = absurd accepts
+accepted_few depth stream (F2 side) block replies written accepts = absurd accepts
+accepted_few depth stream Inner block replies written accepts = absurd accepts
+accepted_few depth stream (Heavy side at_least) block replies written accepts = absurd accepts
+
+pub faulty_few : (depth : ℕ) (stream : List Update) (query : Query) (block : List ℕ) (replies : List (List ℕ)) (fault : Fault) → IsFaulty depth stream (record { query = query; block = block; replies = replies }) fault → length replies ≤ length block
+faulty_few depth stream (Sub lo hi) block replies fault faulty = omega (arith, faulty.taken)
+faulty_few depth stream (Range side lo hi) block replies fault faulty = absurd faulty
+faulty_few depth stream (F2 side) block replies fault faulty = absurd faulty
+faulty_few depth stream Inner block replies fault faulty = absurd faulty
+faulty_few depth stream (Heavy side at_least) block replies fault faulty = absurd faulty
+
+module _ (depth : ℕ) (stream : List Update) where
+  -- the turns of accepted ones
+  abbrev pub their_turns : List (Accepted depth stream) → List Turn
+  their_turns done = map (λ (a : Accepted depth stream). a.turn) done
+
+  pub done_few : (done : List (Accepted depth stream)) → All HasFew (their_turns done)
+  done_few [] = All-nil HasFew
+  done_few (a ∷ done) = All-cons HasFew a.turn (their_turns done) (accepted_few depth stream a.turn.query a.turn.block a.turn.replies a.answer a.accepts) (done_few done)
+
+  -- these queries can be asked, have few enough entries in their answers, and have whole blocks
+  pub record CanBeAsked (queries : List Query) (blocks : List (List ℕ)) : Type 0 where
+    pub fits : All (Fits depth) queries
+    pub few : All (HasFewEntries depth stream) queries
+    pub sizes : All (λ (b : List ℕ). length b ≡ depth) blocks
+
+  can_rest : (q : Query) (queries : List Query) (b : List ℕ) (blocks : List (List ℕ)) → CanBeAsked (q ∷ queries) (b ∷ blocks) → CanBeAsked queries blocks
+  can_rest q queries b blocks can = record {
+    fits = All-tail (Fits depth) q queries can.fits;
+    few = All-tail (HasFewEntries depth stream) q queries can.few;
+    sizes = All-tail (λ (c : List ℕ). length c ≡ depth) b blocks can.sizes;
+  }
+
+  abbrev queries_of : List Turn → List Query
+  queries_of turns = map (λ (t : Turn). t.query) turns
+
+  abbrev blocks_of : List Turn → List (List ℕ)
+  blocks_of turns = map (λ (t : Turn). t.block) turns
+
+  -- the turns are the first of these queries, at their blocks
+  pub record AreFirst (turns : List Turn) (queries : List Query) (blocks : List (List ℕ)) : Type 0 where
+    pub queries_are : queries_of turns ≡ take (length turns) queries
+    pub blocks_are : blocks_of turns ≡ take (length turns) blocks
+
+  -- the first turn is the first query at the first block
+  record Begins (t : Turn) (turns : List Turn) (queries : List Query) (blocks : List (List ℕ)) : Type 0 where
+    more : List Query
+    others : List (List ℕ)
+    queries_are : queries ≡ t.query ∷ more
+    blocks_are : blocks ≡ t.block ∷ others
+    rest : AreFirst turns more others
+
+  begins : (t : Turn) (turns : List Turn) (queries : List Query) (blocks : List (List ℕ)) → AreFirst (t ∷ turns) queries blocks → Begins t turns queries blocks
+  begins t turns [] blocks first = absurd (let e = first.queries_are in cc)
+  begins t turns (q ∷ queries) [] first = absurd (let e = first.blocks_are in cc)
+  begins t turns (q ∷ queries) (b ∷ blocks) first =
+      let e = first.queries_are in
+      let f = first.blocks_are in
+      let same_query : t.query ≡ q = cc in
+      let same_block : t.block ≡ b = cc in
+      record {
+        more = queries;
+        others = blocks;
+        queries_are = ap (λ x. x ∷ queries) (sym same_query);
+        blocks_are = ap (λ x. x ∷ blocks) (sym same_block);
+        rest = record { queries_are = cc; blocks_are = cc };
+      }
+
+  -- the bytes of honest replies to queries at their blocks
+  abbrev pub all_honest : List Query → List (List ℕ) → List ℕ
+  all_honest queries blocks = flat_map (honest_bytes depth stream) (zip queries blocks)
+
+  module _ (some : 1 ≤ depth) (most : depth ≤ 32) (legal : IsLegal depth stream) where
+    -- the first turn, where it is accepted
+    first_done : (a : Accepted depth stream) (queries : List Query) (blocks : List (List ℕ)) (later rest : List ℕ) → CanBeAsked (a.turn.query ∷ queries) (a.turn.block ∷ blocks)
+        → all_honest (a.turn.query ∷ queries) (a.turn.block ∷ blocks) ≡ (joined a.turn.replies ++ later) ++ rest → (all_honest queries blocks ≡ later ++ rest) × (a.answer ≡ answer depth stream a.turn.query)
+    first_done a queries blocks later rest can heard =
+        turn_done depth stream some most legal a.turn.query a.turn.block a.turn.replies a.answer (all_honest queries blocks) (later ++ rest)
+        (All-head (Fits depth) a.turn.query queries can.fits) (All-head (HasFewEntries depth stream) a.turn.query queries can.few) (All-head (λ (c : List ℕ). length c ≡ depth) a.turn.block blocks can.sizes)
+        a.accepts (heard ∙ append_assoc (joined a.turn.replies) later rest)
+
+    -- accepted turns have the stream's answers
+    pub done_honest : (done : List (Accepted depth stream)) (queries : List Query) (blocks : List (List ℕ)) (rest : List ℕ) → CanBeAsked queries blocks → AreFirst (their_turns done) queries blocks
+        → all_honest queries blocks ≡ replied (their_turns done) ++ rest → flat_map (λ (a : Accepted depth stream). line a.turn.query a.answer) done ≡ report_of depth stream (queries_of (their_turns done))
+    done_honest [] queries blocks rest can first heard = refl
+    done_honest (a ∷ done) queries blocks rest can first heard =
+        let b = begins a.turn (their_turns done) queries blocks first in
+        let asked = subst (λ (x : List Query). CanBeAsked x (a.turn.block ∷ b.others)) b.queries_are (subst (λ (x : List (List ℕ)). CanBeAsked queries x) b.blocks_are can) in
+        let bytes : all_honest (a.turn.query ∷ b.more) (a.turn.block ∷ b.others) ≡ all_honest queries blocks = ap (λ (x : List Query). all_honest x (a.turn.block ∷ b.others)) (sym b.queries_are) ∙ ap (all_honest queries) (sym b.blocks_are) in
+        let here = first_done a b.more b.others (replied (their_turns done)) rest asked (bytes ∙ heard) in
+        let later = done_honest done b.more b.others rest (can_rest a.turn.query b.more a.turn.block b.others asked) b.rest here.0 in
+        ap (λ (y : Answer). line a.turn.query y ++ flat_map (λ (d : Accepted depth stream). line d.turn.query d.answer) done) here.1
+        ∙ ap (λ (l : List ℕ). line a.turn.query (answer depth stream a.turn.query) ++ l) later
+
+    -- and none after them has a fault, but that of the end of the link
+    pub none_faulty : (done : List (Accepted depth stream)) (last : Turn) (fault : Fault) (queries : List Query) (blocks : List (List ℕ)) (rest : List ℕ) → CanBeAsked queries blocks → AreFirst (their_turns done ++ last ∷ []) queries blocks
+        → IsFaulty depth stream last fault → fault.reason ≢ reasons.Closed → all_honest queries blocks ≡ replied (their_turns done ++ last ∷ []) ++ rest → ⊥
+    none_faulty [] last fault queries blocks rest can first faulty other heard =
+        let b = begins last [] queries blocks first in
+        let asked = subst (λ (x : List Query). CanBeAsked x (last.block ∷ b.others)) b.queries_are (subst (λ (x : List (List ℕ)). CanBeAsked queries x) b.blocks_are can) in
+        let bytes : all_honest (last.query ∷ b.more) (last.block ∷ b.others) ≡ all_honest queries blocks = ap (λ (x : List Query). all_honest x (last.block ∷ b.others)) (sym b.queries_are) ∙ ap (all_honest queries) (sym b.blocks_are) in
+        turn_faulty depth stream some most legal last.query last.block last.replies fault (all_honest b.more b.others) rest
+        (All-head (Fits depth) last.query b.more asked.fits) (All-head (HasFewEntries depth stream) last.query b.more asked.few) (All-head (λ (c : List ℕ). length c ≡ depth) last.block b.others asked.sizes)
+        faulty other (bytes ∙ heard ∙ ap (λ (l : List ℕ). l ++ rest) (append-nil (joined last.replies)))
+    none_faulty (a ∷ done) last fault queries blocks rest can first faulty other heard =
+        let b = begins a.turn (their_turns done ++ last ∷ []) queries blocks first in
+        let asked = subst (λ (x : List Query). CanBeAsked x (a.turn.block ∷ b.others)) b.queries_are (subst (λ (x : List (List ℕ)). CanBeAsked queries x) b.blocks_are can) in
+        let bytes : all_honest (a.turn.query ∷ b.more) (a.turn.block ∷ b.others) ≡ all_honest queries blocks = ap (λ (x : List Query). all_honest x (a.turn.block ∷ b.others)) (sym b.queries_are) ∙ ap (all_honest queries) (sym b.blocks_are) in
+        let here = first_done a b.more b.others (replied (their_turns done ++ last ∷ [])) rest asked (bytes ∙ heard) in
+        none_faulty done last fault b.more b.others rest (can_rest a.turn.query b.more a.turn.block b.others asked) b.rest faulty other here.0

@@ -1,0 +1,59 @@
+-- Completeness.
+--
+-- Take a seed that gives challenges, a legal stream, and queries of sub-vectors that have at most 65,536 entries in their answers.
+-- Let the link give the bytes of honest replies at the run's blocks, or a front of them, and not end. If no port's count of faults
+-- rises, then each query is accepted and the report has the stream's own answers; or memory ran out.
+use Rattle.std.specs.Prelude.{◌≡◌, ◌≢◌, ◌≤◌, ◌⊎◌, ℕ, List, [], length, flat_map, Some, All}
+use Rattle.std.specs.List.{zip}
+use Rattle.sip_field.specs.Moduli.{m61_modulus}
+use Rattle.sip_ports.specs.declared.port.TalkEvent.TheVariants.{Ended}
+use Rattle.sip_ports.specs.Ports.{heard, Rose}
+use Rattle.sip_vector.specs.declared.query.Query.{Query}
+use Rattle.sip_vector.specs.declared.query.Query.TheVariants.{Sub}
+use Rattle.sip_vector.specs.declared.update.Side.TheVariants.{First}
+use Rattle.sip_vector.specs.declared.update.Update.{Update}
+use Rattle.sip_vector.specs.Streams.{vector}
+use Rattle.sip_vector.specs.Vectors.{nonzero_within}
+use Rattle.sip_subvec.specs.Honest.{honest_replies}
+use Rattle.sip_subvec.specs.Replies.{most_entries}
+use Rattle.sip_verifier.specs.declared.status.Status.{Status}
+use Rattle.sip_verifier.specs.declared.status.Status.TheVariants as statuses
+use Rattle.sip_verifier.specs.declared.task.Task.{Task}
+use Rattle.sip_verifier.specs.CauseClause.{Counts}
+use Rattle.sip_verifier.specs.Draws.{drawn, blocks}
+use Rattle.sip_verifier.specs.Exchanges.{Exchange, IsPrefix}
+use Rattle.sip_verifier.specs.Reports.{report_of}
+use Rattle.sip_verifier.specs.Turns.{updates, IsLegalToEnd}
+
+-- the bytes of all honest replies to a query at its block; of a query whose check does not stand here there are none, for it is
+-- never asked
+abbrev pub honest_bytes : ℕ → List Update → Query × List ℕ → List ℕ
+honest_bytes depth stream (Sub lo hi, block) = flat_map (λ b. b) (honest_replies m61_modulus (vector depth stream First) lo hi block)
+honest_bytes depth stream (_, block) = []
+
+-- the answer has no more entries than may be sent
+abbrev pub HasFewEntries : ℕ → List Update → Query → Type 0
+HasFewEntries depth stream (Sub lo hi) = length (nonzero_within lo hi (vector depth stream First)) ≤ most_entries
+HasFewEntries depth stream _ = Unit {0}
+
+-- no port's count of faults rose
+pub record NoneRose (before now : Counts) : Type 0 where
+  pub first : ¬ Rose before.first now.first
+  pub second : ¬ Rose before.second now.second
+  pub peer : ¬ Rose before.peer now.peer
+  pub report : ¬ Rose before.report now.report
+
+module _ (task : Task) (x : Exchange) where
+  -- the seed and the stream are good, and what was heard is a front of honest replies, which the link's end did not cut
+  pub record IsHonest : Type 0 where
+    pub challenges : List ℕ
+    pub drawn : drawn task x.seed ≡ Some challenges
+    pub legal : IsLegalToEnd task x
+    pub few : All (HasFewEntries task.depth (updates task x)) task.queries.items
+    pub heard : IsPrefix (heard x.talk) (flat_map (honest_bytes task.depth (updates task x)) (zip task.queries.items (blocks task challenges)))
+    pub lasts : All (λ e. e ≢ Ended) x.talk
+
+  abbrev pub CompletenessClause : Counts → Counts → Status → Type 0
+  CompletenessClause before now status =
+      IsHonest → NoneRose before now
+      → ((status ≡ statuses.Accepted) × (x.report ≡ report_of task.depth (updates task x) task.queries.items)) ⊎ (status ≡ statuses.OutOfMemory)
