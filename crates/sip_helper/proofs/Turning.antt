@@ -22,7 +22,7 @@ use Rattle.sip_helper.specs.declared.status.HelpStatus.TheVariants.{Served, BadF
 use Rattle.sip_helper.specs.OneTurn.{Stopped, Taken}
 use Rattle.sip_helper.specs.Serving.{IsMessage, IsTurn, Turn, heard_in}
 use Rattle.sip_helper.specs.Statuses.{status_of_fault, status_of_stop}
-use Rattle.sip_helper.specs.Turns.{HelperState, OpenQuery, after_answer, after_reply, depth_of, is_allowed, is_refused, out_of_turn, owed, owes, reply_to, step}
+use Rattle.sip_helper.specs.Turns.{HelperState, OpenQuery, after_answer, after_reply, depth_of, is_allowed, is_known, is_refused, out_of_turn, owed, owes, reply_to, step}
 
 module _ (old mid : Option (List TalkEvent)) (before now : ℕ) (got : List ℕ) where
   -- ---- no message came
@@ -62,21 +62,29 @@ module _ (old mid : Option (List TalkEvent)) (before now : ℕ) (got : List ℕ)
     pub received : GoesOn old mid (ins (spelling m))
     received = subst (GoesOn old mid) (append-nil (ins got) ∙ ap ins did.answer.spelled) did.heard
 
+    -- it is a query that is not answered
+    pub unknown : (s : HelperState) (at : ℕ) → is_known m ≡ false → Stopped old mid s at (BadFrame at)
+    unknown s at out = record {
+      rest = ins (spelling m);
+      talk = received;
+      ends = (refl, inr (inl (record { message = m; is = came; unknown = out; said = refl })));
+    }
+
     -- it may not come, and the refusal went out
-    pub refused : (new : Option (List TalkEvent)) (s : HelperState) (at : ℕ) → is_allowed s m ≡ false → GoesOn mid new (outs (spelling (messages.Refuse out_of_turn))) → Stopped old new s at (BadFrame at)
-    refused new s at out went = record {
+    pub refused : (new : Option (List TalkEvent)) (s : HelperState) (at : ℕ) → IsTrue (is_known m) → is_allowed s m ≡ false → GoesOn mid new (outs (spelling (messages.Refuse out_of_turn))) → Stopped old new s at (BadFrame at)
+    refused new s at known out went = record {
       rest = ins (spelling m) ++ outs (spelling (messages.Refuse out_of_turn));
       talk = GoesOn-trans old mid new _ _ received went;
-      ends = (refl, inr (record { message = m; is = came; out = out; said = refl }));
+      ends = (refl, inr (inr (record { message = m; is = came; known = known; out = out; said = refl })));
     }
 
     -- a part of it went out
-    pub refusal_cut : (new : Option (List TalkEvent)) (s : HelperState) (at : ℕ) (stop : PortStop) → is_allowed s m ≡ false → SendsWhole {T = Unit {0}} mid new (Err stop) (spelling (messages.Refuse out_of_turn)) → Stopped old new s at (status_of_stop stop)
-    refusal_cut new s at stop out went = by_stop stop
+    pub refusal_cut : (new : Option (List TalkEvent)) (s : HelperState) (at : ℕ) (stop : PortStop) → IsTrue (is_known m) → is_allowed s m ≡ false → SendsWhole {T = Unit {0}} mid new (Err stop) (spelling (messages.Refuse out_of_turn)) → Stopped old new s at (status_of_stop stop)
+    refusal_cut new s at stop known out went = by_stop stop
       where
         by_stop : (stop : PortStop) → Stopped old new s at (status_of_stop stop)
-        by_stop stops.Failed = record { rest = _; talk = GoesOn-trans old mid new _ _ received went.2; ends = inr (inr (record { message = m; is = came; out = out; sent = went.0; short = went.1; said = refl })) }
-        by_stop stops.OutOfMemory = record { rest = _; talk = GoesOn-trans old mid new _ _ received went.2; ends = inr (inr (record { message = m; is = came; out = out; sent = went.0; short = went.1; said = refl })) }
+        by_stop stops.Failed = record { rest = _; talk = GoesOn-trans old mid new _ _ received went.2; ends = inr (inr (record { message = m; is = came; known = known; out = out; sent = went.0; short = went.1; said = refl })) }
+        by_stop stops.OutOfMemory = record { rest = _; talk = GoesOn-trans old mid new _ _ received went.2; ends = inr (inr (record { message = m; is = came; known = known; out = out; sent = went.0; short = went.1; said = refl })) }
 
     -- it was heard
     module _ (s : HelperState) (allowed : IsTrue (is_allowed s m)) (memory : Bool) where

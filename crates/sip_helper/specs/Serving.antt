@@ -1,8 +1,8 @@
 -- What a helper does on a link.
 --
 -- It takes one message after another: the spelling of a message that may come is received, and the reply that is owed then is
--- sent, before more is received. It stops at a farewell, at bytes that are no frame, at a message out of turn, at the end of the
--- link, or where the link fails or memory runs out.
+-- sent, before more is received. It stops at a farewell, at bytes that are no frame, at a query of a kind that it does not answer,
+-- at a message out of turn, at the end of the link, or where the link fails or memory runs out.
 use Rattle.std.specs.Prelude.{◌≡◌, ◌≢◌, ◌⊎◌, ℕ, ◌<◌, Bool, false, IsTrue, List, [], ◌∷◌, ◌++◌, length, take, Option, Err}
 use Rattle.sip_ports.specs.declared.port.TalkEvent.{TalkEvent}
 use Rattle.sip_ports.specs.declared.port.TalkEvent.TheVariants.{Ended}
@@ -19,7 +19,7 @@ use Rattle.sip_wire.specs.Table.{allows}
 use Rattle.sip_wire.specs.Values.{InRange}
 use Rattle.sip_helper.specs.declared.status.HelpStatus.{HelpStatus}
 use Rattle.sip_helper.specs.declared.status.HelpStatus.TheVariants.{Served, BadFrame, PeerClosed, PeerFault, OutOfMemory}
-use Rattle.sip_helper.specs.Turns.{HelperState, after_answer, fresh, is_allowed, out_of_turn, owed, step}
+use Rattle.sip_helper.specs.Turns.{HelperState, after_answer, fresh, is_allowed, is_known, out_of_turn, owed, step}
 
 -- ---- turns
 
@@ -76,10 +76,18 @@ pub record IsNoFrame (rest : List TalkEvent) : Type 0 where
   pub shortest : (front more : List ℕ) → got ≡ front ++ more → more ≢ [] → read_frame places.ToHelper front ≡ Err faults.Closed
   pub said : rest ≡ ins got
 
--- a message that may not come, and the refusal
+-- a query of a kind that is not answered, wherever it stands: nothing is sent, as where the bytes are no frame
+pub record IsUnknown (rest : List TalkEvent) : Type 0 where
+  pub message : Message
+  pub is : IsMessage message
+  pub unknown : is_known message ≡ false
+  pub said : rest ≡ ins (spelling message)
+
+-- a message that is known and may not come, and the refusal
 pub record IsRefused (s : HelperState) (rest : List TalkEvent) : Type 0 where
   pub message : Message
   pub is : IsMessage message
+  pub known : IsTrue (is_known message)
   pub out : is_allowed s message ≡ false
   pub said : rest ≡ ins (spelling message) ++ outs (spelling (messages.Refuse out_of_turn))
 
@@ -97,10 +105,11 @@ pub record IsReplyCut (s : HelperState) (rest : List TalkEvent) : Type 0 where
   pub short : sent < length (owed (heard_in s turn))
   pub said : rest ≡ ins (spelling turn.message) ++ outs (take sent (owed (heard_in s turn)))
 
--- the refusal of a message that may not come is cut short
+-- the refusal of a message that is known and may not come is cut short
 pub record IsRefusalCut (s : HelperState) (rest : List TalkEvent) : Type 0 where
   pub message : Message
   pub is : IsMessage message
+  pub known : IsTrue (is_known message)
   pub out : is_allowed s message ≡ false
   pub sent : ℕ
   pub short : sent < length (spelling (messages.Refuse out_of_turn))
@@ -113,7 +122,7 @@ IsCutShort s rest = IsPart [] rest ⊎ IsReplyCut s rest ⊎ IsRefusalCut s rest
 -- `at` is how many bytes were received in the turns
 abbrev pub EndsBy : HelperState → ℕ → List TalkEvent → HelpStatus → Type 0
 EndsBy s at rest Served = rest ≡ ins (spelling messages.Bye)
-EndsBy s at rest (BadFrame offset) = (offset ≡ at) × (IsNoFrame rest ⊎ IsRefused s rest)
+EndsBy s at rest (BadFrame offset) = (offset ≡ at) × (IsNoFrame rest ⊎ IsUnknown rest ⊎ IsRefused s rest)
 EndsBy s at rest PeerClosed = IsPart (Ended ∷ []) rest
 EndsBy s at rest PeerFault = IsCutShort s rest
 EndsBy s at rest OutOfMemory = IsCutShort s rest

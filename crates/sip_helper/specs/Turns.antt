@@ -96,6 +96,11 @@ abbrev pub is_built : Query → Bool
 is_built (queries.Sub lo hi) = true
 is_built _ = false
 
+-- the messages that a helper knows, which are all but the queries that it does not answer
+abbrev pub is_known : Message → Bool
+is_known (messages.Query q) = is_built q
+is_known _ = true
+
 -- the query's items are below 2 ^ depth
 abbrev pub is_below : ℕ → Query → Bool
 is_below depth (queries.Sub lo hi) = nat_lt hi (2 ^ depth)

@@ -10,7 +10,7 @@ ghost use Rattle.sip_wire.specs.declared.message.Message.TheVariants as messages
 ghost use Rattle.sip_wire.specs.Spelling.{fits, spelling};
 ghost use Rattle.sip_subvec.specs.Honest.{honest_reply, its_siblings, proving, siblings_message};
 ghost use Rattle.sip_helper.specs.declared.vectors.Vectors.{Vectors as AnyVectors};
-ghost use Rattle.sip_helper.specs.Turns.{after_reply, may_reveal, reply_to, with_challenge};
+ghost use Rattle.sip_helper.specs.Turns.{after_reply, is_known, may_reveal, reply_to, with_challenge};
 ghost use Rattle.sip_helper.specs.Answering.{query_of, open_of, IsReady, Stands};
 
 use crate::OutOfTurn;
@@ -154,6 +154,16 @@ impl Asked {
         let mut asked = self;
         asked.given = true;
         Some(asked)
+    }
+}
+
+/// Whether a helper knows the message: it knows none of the queries that it does not answer.
+pub(crate) fn is_known(message: &Message) -> bool
+    ensures { result ≡ is_known message.now }
+{
+    match message {
+        Message::Query(query) => matches!(query, Query::Sub { .. }),
+        _ => true,
     }
 }
 

@@ -10,14 +10,15 @@
 //! - `answer` sends the reply that is owed (`owed`), or after a fault of the sink a shorter front of it. A reply is the honest one,
 //!   or a refusal: for want of memory, or exactly where an answer has more entries than one may have.
 //!
-//! - `serve` takes turns, each of them a message that may come and then its reply, and stops at a Bye, a frame that has no spelling
-//!   or is out of turn, the end of the link, or a fault of it; its status says at which, and a frame's offset is exact (`Serves`).
-//!   It ends, whatever comes.
+//! - `serve` takes turns, each of them a message that may come and then its reply, and stops at a Bye, a frame that has no spelling,
+//!   a query of a kind that is not answered, a message out of turn, the end of the link, or a fault of it; its status says at
+//!   which, and a frame's offset is exact (`Serves`). It ends, whatever comes.
 //!
 //! # The definitions to read
 //!
 //! `specs/Turns.antt` has the state, which message may come next, what it does, and the reply that is owed. The queries that are
-//! answered are those of `is_built`; another one is out of turn. `specs/Serving.antt` says what a talk on a link is, by its status.
+//! answered are those of `is_built`; `hear` refuses another one as out of turn, and `serve` does not come to it: it ends there as
+//! at bytes without a spelling (`is_known`, `IsUnknown`). `specs/Serving.antt` says what a talk on a link is, by its status.
 #![tactic(auto)]
 
 mod asked;

@@ -6,6 +6,7 @@ ghost use Rattle.sip_wire.specs.Frames.{frame_bytes};
 ghost use Rattle.sip_helper.specs.OneTurn.{TakesTurn};
 ghost use Rattle.sip_helper.specs.Serving.{Serves};
 
+use crate::asked::is_known;
 use crate::{HelpStatus, HelperCore};
 use sip_ports::Link;
 use sip_wire::{Frame, Message, Place, decode, encode};
@@ -31,6 +32,9 @@ fn take_turn<L: Link>(
         Ok(message) => message,
         Err(fault) => return Err(HelpStatus::of_fault(fault, offset)),
     };
+    if !is_known(&message) {
+        return Err(HelpStatus::BadFrame { offset });
+    }
     if core.hear(&message).is_err() {
         encode(&Message::Refuse { code: OUT_OF_TURN }, link)?;
         return Err(HelpStatus::BadFrame { offset });
@@ -47,9 +51,10 @@ fn take_turn<L: Link>(
 /// Hears a helper's talk and answers, until a Bye.
 ///
 /// Each reply that is owed goes out before the next frame is taken. A message out of turn is answered by a refusal, and ends the
-/// talk; a frame without a spelling ends it with no answer. Memory is taken for one frame, for the two vectors, and for what the
-/// replies to a query are made from. The loop ends, since each update weighs something and a side's weight is bounded, and since
-/// there are at most 16 queries with fewer than 32 challenges each.
+/// talk; a frame without a spelling ends it with no answer, and so does a query of a kind that is not answered, wherever it
+/// stands. Memory is taken for one frame, for the two vectors, and for what the replies to a query are made from. The loop ends,
+/// since each update weighs something and a side's weight is bounded, and since there are at most 16 queries with fewer than 32
+/// challenges each.
 pub fn serve<L: Link>(alloc: Global, link: &mut L) -> HelpStatus
     ensures serves { Serves (L.talk link.old) (L.talk link.new) result }
     ensures cause { result ≡ HelpStatus.PeerFault → Rose (L.faults link.old) (L.faults link.new) }

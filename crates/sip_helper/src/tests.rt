@@ -62,7 +62,7 @@ fn a_talk_is_served(rt: HostRuntime) -> Result<(), Fail> {
 }
 
 /// What is received, how it ends, and what is sent.
-const ENDS: [(&[u8], HelpStatus, &[u8]); 12] = [
+const ENDS: [(&[u8], HelpStatus, &[u8]); 11] = [
     // The link ends before the opening, behind it, and inside a frame.
     (&[], HelpStatus::PeerClosed, &[]),
     (&[1, 0, 2, 1, 2], HelpStatus::PeerClosed, &[]),
@@ -104,12 +104,6 @@ const ENDS: [(&[u8], HelpStatus, &[u8]); 12] = [
         HelpStatus::BadFrame { offset: 5 },
         &[0x18, 0, 1, 4],
     ),
-    // A query that is not built.
-    (
-        &[1, 0, 2, 1, 1, 3, 0, 0, 4, 0, 1, 4],
-        HelpStatus::BadFrame { offset: 8 },
-        &[0x18, 0, 1, 4],
-    ),
 ];
 
 #[test]
@@ -119,6 +113,40 @@ fn a_talk_ends(rt: HostRuntime) -> Result<(), Fail> {
         for chunk in [1, 10_000] {
             let (status, sent) = served(alloc, incoming, chunk, &[])?;
             assert_eq!(rt; status, *ends);
+            assert_eq!(rt; sent.as_slice(), *replies);
+        }
+    }
+    Ok(())
+}
+
+/// A query of each kind that is not answered: a sum over an interval, F2, the inner product and heavy hitters.
+const NOT_ANSWERED: [&[u8]; 4] = [
+    &[4, 0, 10, 2, 0, 0, 0, 0, 0, 0, 0, 0, 1],
+    &[4, 0, 2, 3, 0],
+    &[4, 0, 1, 4],
+    &[4, 0, 10, 5, 0, 0, 0, 0, 0, 0, 0, 0, 3],
+];
+
+// Wherever such a query stands, it ends the talk as bytes without a spelling do: nothing is sent behind the replies before it.
+#[test]
+fn a_query_that_is_not_answered(rt: HostRuntime) -> Result<(), Fail> {
+    let alloc = rt.alloc();
+    let queried = joined(alloc, &STREAM, ASKED.get(..12).unwrap_or(&[]))?;
+    let served_once = joined(alloc, &STREAM, ASKED.get(..23).unwrap_or(&[]))?;
+    let before: [(&[u8], &[u8]); 5] = [
+        // Nothing was heard; the stream goes on; it has ended; a query is open; it was answered to its end.
+        (&[], &[]),
+        (&[1, 0, 2, 1, 2], &[]),
+        (&STREAM, &[]),
+        (&queried, REPLIES.get(..37).unwrap_or(&[])),
+        (&served_once, &REPLIES),
+    ];
+    for (heard, replies) in &before {
+        for query in &NOT_ANSWERED {
+            let talk = joined(alloc, heard, query)?;
+            let (status, sent) = served(alloc, &talk, 10_000, &[])?;
+            let offset = heard.len() as u64;
+            assert_eq!(rt; status, HelpStatus::BadFrame { offset });
             assert_eq!(rt; sent.as_slice(), *replies);
         }
     }

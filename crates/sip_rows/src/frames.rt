@@ -57,6 +57,15 @@ pub const SUB_0_3: [u8; 12] = [0x04, 0, 9, 1, 0, 0, 0, 0, 0, 0, 0, 3];
 
 pub const SUB_0_1: [u8; 12] = [0x04, 0, 9, 1, 0, 0, 0, 0, 0, 0, 0, 1];
 
+// Queries of side 0 that are no sub-vectors: the sum of the entries 0 to 1, F2, the inner product, and the entries from 3 on.
+pub const RANGE_0_1: [u8; 13] = [0x04, 0, 10, 2, 0, 0, 0, 0, 0, 0, 0, 0, 1];
+
+pub const F2: [u8; 5] = [0x04, 0, 2, 3, 0];
+
+pub const INNER: [u8; 4] = [0x04, 0, 1, 4];
+
+pub const HEAVY_3: [u8; 13] = [0x04, 0, 10, 5, 0, 0, 0, 0, 0, 0, 0, 0, 3];
+
 // The key stream of ChaCha20 for a key of zeros begins 76 b8 e0 ad a0 f1 3d 90. Its first word, the low byte first, is
 // 0x903df1a0ade0b876, and without the last three bits 0x1207be3415bc170e = 1299216148431902478.
 pub const REVEAL: [u8; 11] = [0x05, 0, 8, 0x12, 0x07, 0xbe, 0x34, 0x15, 0xbc, 0x17, 0x0e];

@@ -94,3 +94,43 @@ fn talks_that_are_served(rt: HostRuntime) -> Result<(), Fail> {
     }
     Ok(())
 }
+
+// A query that is no sub-vector ends the talk as bytes without a spelling do, also before the stream has ended and while a query
+// is open: nothing is written then.
+#[test]
+fn queries_that_help_does_not_answer(rt: HostRuntime) -> Result<(), Fail> {
+    let queries: [&'static [u8]; 4] = [&RANGE_0_1, &F2, &INNER, &HEAVY_3];
+    for query in &queries {
+        ended(
+            "after the opening",
+            &[&OPEN_2, query],
+            Status::BadFrame { offset: 5 },
+            3,
+            &[Said::In(&OPEN_2), Said::In(query)],
+        )
+        .check(&rt, rt.alloc())?;
+        ended(
+            "after the stream",
+            &[&OPEN_2, &END_STREAM, query],
+            Status::BadFrame { offset: 8 },
+            3,
+            &[Said::In(&OPEN_2), Said::In(&END_STREAM), Said::In(query)],
+        )
+        .check(&rt, rt.alloc())?;
+        ended(
+            "behind a reply",
+            &[&OPEN_2, &END_STREAM, &SUB_0_3, query],
+            Status::BadFrame { offset: 20 },
+            3,
+            &[
+                Said::In(&OPEN_2),
+                Said::In(&END_STREAM),
+                Said::In(&SUB_0_3),
+                Said::Out(&NO_SIBLINGS),
+                Said::In(query),
+            ],
+        )
+        .check(&rt, rt.alloc())?;
+    }
+    Ok(())
+}

@@ -1,10 +1,10 @@
--- A message came: it may come or not, and its reply goes out whole or not.
+-- A message came: it is known or not, it may come or not, and its reply goes out whole or not.
 use Rattle.std.proofs.Common.{◌≡◌, Bool, true, false, List, ℕ, rules, sym, ap, subst, ◌∙◌, lit≤}
 use Rattle.std.specs.Prelude.{is_err, Err}
 use Rattle.std.proofs.lemmas.Result.{err_from_is_err_and}
 use Rattle.sip_ports.specs.Ports.{GoesOn, SendsWhole, outs}
 use Rattle.sip_ports.proofs.TalkLemmas.{GoesOn-refl}
-use Rattle.sip_helper.specs.Turns.{HelperState, after_answer, is_allowed, owed, step}
+use Rattle.sip_helper.specs.Turns.{HelperState, after_answer, is_allowed, is_known, owed, step}
 use Rattle.sip_helper.proofs.Proving.{refusal_fits}
 use Rattle.sip_helper.proofs.Turning.{refused, refusal_cut, reply_cut, given, owes_nothing, not_allowed, is_allowed_by, on_ok_holds}
 use Rattle.sip_helper.proofs.serving.take_turn.Goals as goal
@@ -16,14 +16,16 @@ pub returns-in_err-encode-clause-turn : goal.returns-in_err-encode-clause-turn
 returns-in_err-encode-clause-turn g c =
     let failed : is_err c.hear.result ≡ true = search rules in
     let out = not_allowed c.hear.result (is_allowed c.args.core.now c.in-Ok.message) c.hear.ensures.turn failed in
+    let known : is_known c.in-Ok.message ≡ true = search rules in
     let p = err_from_is_err_and c.from_residual.result c.from_residual.ensures.1 in
-    rw (p.1, p.2) (refusal_cut _ _ _ _ _ c.in-Ok.message c.in-Ok.ensures.did _ c.args.core.now c.args.offset c.in_err-encode.field-0.0 out c.in_err-encode.ensures.talk)
+    rw (p.1, p.2) (refusal_cut _ _ _ _ _ c.in-Ok.message c.in-Ok.ensures.did _ c.args.core.now c.args.offset c.in_err-encode.field-0.0 known out c.in_err-encode.ensures.talk)
 
 pub returns-then-is_err-clause-turn : goal.returns-then-is_err-clause-turn
 returns-then-is_err-clause-turn g c =
     let failed : is_err c.hear.result ≡ true = search rules in
     let out = not_allowed c.hear.result (is_allowed c.args.core.now c.in-Ok.message) c.hear.ensures.turn failed in
-    refused _ _ _ _ _ c.in-Ok.message c.in-Ok.ensures.did _ c.args.core.now c.args.offset out c.in_ok-encode.ensures.talk
+    let known : is_known c.in-Ok.message ≡ true = search rules in
+    refused _ _ _ _ _ c.in-Ok.message c.in-Ok.ensures.did _ c.args.core.now c.args.offset known out c.in_ok-encode.ensures.talk
 
 pub returns-in_err-answer-clause-turn : goal.returns-in_err-answer-clause-turn
 returns-in_err-answer-clause-turn g c =
