@@ -33,7 +33,7 @@ examples_long Lines = refl
 
 -- each has its shape
 pub examples_fit : (verb : Verb) (n : ℕ) → n < length (shapes verb) → IsOf (get_or (shapes verb) n Name) (word (examples verb) (n + 1))
-examples_fit Verify zero h = (stream.File, refl, (λ e. cc, refl, refl))
+examples_fit Verify zero h = (forms.Binary, (stream.File, refl, (λ e. cc, refl, refl)))
 examples_fit Verify (suc zero) h = λ e. cc
 examples_fit Verify (suc (suc zero)) h = λ e. cc
 examples_fit Verify (suc (suc (suc zero))) h = λ e. cc

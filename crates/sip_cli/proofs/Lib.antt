@@ -1,11 +1,4 @@
-pub mod RepliesInOrder
-pub mod RepliesTaking
-pub mod RepliesFirst
-pub mod RepliesLater
-pub mod AskingTurns
-pub mod DrawLemmas
-pub mod PromiseLemmas
-pub mod StatedLevels
+pub mod Talks
 pub mod Decimals
 pub mod QueryWords
 pub mod Beginning
@@ -15,12 +8,3 @@ pub mod MadePorts
 pub mod Refusals
 pub mod Getting
 pub mod RunLemmas
-pub mod Lines
-pub mod RecordsCut
-pub mod RecordsRead
-pub mod RecordsSpelled
-pub mod RecordsSent
-pub mod RecordsFramed
-pub mod VectorsGrown
-pub mod Tallies
-pub mod Feeding

@@ -1,9 +1,9 @@
 -- A run's words and its task.
-use Rattle.std.proofs.Common.{◌≡◌, ℕ, List, [], ◌∷◌, length, get_or, refl, sym, ap, subst, ◌∙◌, arith}
+use Rattle.std.proofs.Common.{◌≡◌, ℕ, ◌+◌, List, get_or, sym, ap, subst, arith}
+use Rattle.std.proofs.lemmas.List.Elements.{All-from_get_or}
 use Rattle.std.specs.Prelude.{◌↔◌}
-use Rattle.sip_stream.specs.declared.form.Form.TheVariants.{Binary}
 use Rattle.sip_vector.specs.declared.query.Query.{Query}
-use Rattle.sip_vector.specs.declared.query.Query.TheVariants.{Sub, Inner}
+use Rattle.sip_vector.specs.declared.query.Query.TheVariants.{Inner}
 use Rattle.sip_cli.specs.declared.command.Command.{Command}
 use Rattle.sip_cli.specs.declared.command.Command.TheVariants.{Verify, Help, Gen, Lines}
 use Rattle.sip_verifier.specs.declared.status.Status.{Status}
@@ -11,44 +11,30 @@ use Rattle.sip_verifier.specs.declared.status.Status.TheVariants as statuses
 use Rattle.sip_verifier.specs.declared.task.Task.{Task}
 use Rattle.sip_verifier.specs.CauseClause.{Counts}
 use Rattle.sip_verifier.specs.Exchanges.{Exchange}
-use Rattle.sip_cli.specs.Promises.{Promises, IsServed}
+use Rattle.sip_verifier.specs.Tasks.{CanBeAsked, CanBeDone}
+use Rattle.sip_cli.specs.Promises.{Promises}
+use Rattle.sip_cli.specs.Shapes.{Asks}
 use Rattle.sip_cli.specs.Statuses.{Ends}
 use Rattle.sip_cli.specs.Verbs.{built}
 use Rattle.sip_cli.specs.Words.{word, Spells, IsRefusedAt}
-use Rattle.sip_cli.proofs.QueryWords.{asked_interval}
-use Rattle.sip_cli.proofs.Refusals.{refused_once, spelled_not_refused, task_of}
-use Rattle.sip_cli.proofs.Stopping.{depth_once}
-use Rattle.sip_cli.proofs.StreamWords.{form_once}
+use Rattle.sip_cli.proofs.Refusals.{refused_once, spelled_not_refused}
 
--- a list of one element
-one_only : (qs : List Query) → length qs ≡ 1 → qs ≡ get_or qs 0 Inner ∷ []
-one_only [] is = absurd (omega arith)
-one_only (q ∷ []) is = refl
-one_only (q ∷ r ∷ qs) is = absurd (omega arith)
+-- a query that a word asks can be asked
+can_be_asked : (depth : ℕ) (query : Query) (word : List ℕ) → Asks depth query word → CanBeAsked depth query
+can_be_asked depth query word asks = (asks.0, asks.1)
 
--- a task that words spell is served
-pub served : (words : List (List ℕ)) (task : Task) → Spells words (Verify task) → IsServed task
+-- a task that words spell can be done
+pub served : (words : List (List ℕ)) (task : Task) → Spells words (Verify task) → CanBeDone task
 served words task (whole, says) =
-    let deep = whole.shaped 5 (omega arith) in
-    let depth : deep.0 ≡ task.depth = depth_once (word words 6) deep.0 task.depth deep.2 says.depth in
-    let form : task.form ≡ Binary = form_once task.form Binary (word words 1) says.form (whole.shaped 0 (omega arith)) in
     let least = whole.least in
-    let most = whole.most in
     let count = says.count in
-    let one : length task.queries.items ≡ 1 = omega arith in
-    let q = asked_interval task.depth (get_or task.queries.items 0 Inner) (word words 7) says.depth.1 (says.queries 0 (omega arith)) in
-    let items : task.queries.items ≡ Sub q.0 q.1 ∷ [] = one_only task.queries.items one ∙ ap (λ query. query ∷ []) q.2 in
     record {
-      lo = q.0;
-      hi = q.1;
-      is = ap (λ f. task_of task.depth f task.queries.items) form ∙ ap (λ qs. task_of task.depth Binary qs) items;
-      shallow = let shallow = deep.1 in omega arith;
-      order = q.3;
-      within = q.4;
+      some = omega arith;
+      asked = All-from_get_or (CanBeAsked task.depth) task.queries.items Inner (λ i less. can_be_asked task.depth (get_or task.queries.items i Inner) (word words (7 + i)) (says.queries i less));
     }
 
--- a command that words spell, if it is to verify, has a task that is served
-pub served_task : (words : List (List ℕ)) (c : Command) → Spells words c → (task : Task) → c ≡ Verify task → IsServed task
+-- a command that words spell, if it is to verify, has a task that can be done
+pub served_task : (words : List (List ℕ)) (c : Command) → Spells words c → (task : Task) → c ≡ Verify task → CanBeDone task
 served_task words c s task e = served words task (subst (Spells words) e s)
 
 -- no command ends with Usage

@@ -1,12 +1,12 @@
 -- What one word of a command may be.
-use Rattle.std.specs.Prelude.{◌≡◌, ◌≢◌, ℕ, ◌^◌, ◌<◌, ◌≤◌, Bool, true, false, IsTrue, nat_eq, List, [], ◌∷◌, ◌++◌, codes, decimal}
+use Rattle.std.specs.Prelude.{◌≡◌, ◌≢◌, ℕ, ◌^◌, ◌<◌, ◌≤◌, false, IsTrue, nat_eq, List, [], ◌∷◌, ◌++◌, codes, decimal}
 use Rattle.std.specs.List.{starts_with}
 use Rattle.sip_stream.specs.declared.form.Form.{Form}
 use Rattle.sip_stream.specs.declared.form.Form.TheVariants as forms
 use Rattle.sip_vector.specs.declared.query.Query.{Query}
-use Rattle.sip_vector.specs.declared.query.Query.TheVariants.{Sub, Range, F2, Inner, Heavy}
 use Rattle.sip_vector.specs.Answers.{Fits}
 use Rattle.sip_verifier.specs.Reports.{query_word}
+use Rattle.sip_verifier.specs.Tasks.{is_built}
 use Rattle.sip_cli.specs.declared.shape.Shape.{Shape}
 use Rattle.sip_cli.specs.declared.shape.Shape.TheVariants as shape
 use Rattle.sip_cli.specs.declared.stream.Stream.{Stream}
@@ -40,19 +40,10 @@ IsDepth depth word = (1 ≤ depth) × (depth ≤ 32) × (word ≡ decimal depth)
 abbrev pub IsOf : Shape → List ℕ → Type 0
 IsOf shape.Name word = word ≢ []
 IsOf shape.Stream word = (form : Form) × HasForm form word
-IsOf shape.BinaryStream word = HasForm forms.Binary word
 IsOf shape.NoRecord word = word ≡ codes "-"
 IsOf (shape.Number most) word = (n : ℕ) × (n ≤ most) × (n < 2 ^ 64) × (word ≡ decimal n)
 IsOf (shape.Depth most) word = (d : ℕ) × (d ≤ most) × IsDepth d word
 
--- The queries that a word can ask. To build one is to change its line.
-abbrev pub is_built_query : Query → Bool
-is_built_query (Sub _ _) = true
-is_built_query (Range _ _ _) = false
-is_built_query (F2 _) = false
-is_built_query Inner = false
-is_built_query (Heavy _ _) = false
-
--- the word asks this query, which fits the depth
+-- the word asks this query, whose check is built and which fits the depth
 abbrev pub Asks : ℕ → Query → List ℕ → Type 0
-Asks depth query word = IsTrue (is_built_query query) × Fits depth query × (word ≡ query_word query)
+Asks depth query word = IsTrue (is_built query) × Fits depth query × (word ≡ query_word query)

@@ -1,7 +1,7 @@
 -- The commands: each is a verb, words of its shapes, and queries where it asks some.
 use Rattle.std.specs.Prelude.{ℕ, Bool, true, List, [], ◌∷◌, codes}
 use Rattle.sip_cli.specs.declared.shape.Shape.{Shape}
-use Rattle.sip_cli.specs.declared.shape.Shape.TheVariants.{Name, Stream, BinaryStream, NoRecord, Number, Depth}
+use Rattle.sip_cli.specs.declared.shape.Shape.TheVariants.{Name, Stream, NoRecord, Number, Depth}
 use Rattle.sip_cli.specs.declared.verb.Built.{Built}
 use Rattle.sip_cli.specs.declared.verb.Verb.{Verb}
 use Rattle.sip_cli.specs.declared.verb.Verb.TheVariants.{Verify, Help, Gen, Lines}
@@ -13,21 +13,17 @@ verb_word Help = codes "help"
 verb_word Gen = codes "gen"
 verb_word Lines = codes "lines"
 
--- The greatest depth of `verify`, as long as the levels of a vector's tree are kept whole.
-abbrev pub most_depth : ℕ
-most_depth = 20
-
--- The most queries of `verify`, as long as a run asks one.
+-- the most queries of `verify`
 abbrev pub most_queries : ℕ
-most_queries = 1
+most_queries = 16
 
 -- The words behind the verb, and before the queries.
---   verify STREAM SEED FROM TO RECORD DEPTH, with a binary stream and no transcript
+--   verify STREAM SEED FROM TO RECORD DEPTH, without a transcript
 --   help FROM TO
 --   gen NUMBER COUNT DEPTH
 --   lines STREAM DEPTH
 abbrev pub shapes : Verb → List Shape
-shapes Verify = BinaryStream ∷ Name ∷ Name ∷ Name ∷ NoRecord ∷ Depth most_depth ∷ []
+shapes Verify = Stream ∷ Name ∷ Name ∷ Name ∷ NoRecord ∷ Depth 32 ∷ []
 shapes Help = Name ∷ Name ∷ []
 shapes Gen = Number 18446744073709551615 ∷ Number 10000000 ∷ Depth 32 ∷ []
 shapes Lines = Stream ∷ Depth 32 ∷ []

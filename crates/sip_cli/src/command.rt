@@ -35,8 +35,8 @@ pub enum Command {
 /// The number of the first query of `verify`.
 const FIRST_QUERY: usize = 7;
 
-/// The most queries of `verify`, as long as a run asks one.
-const MOST_QUERIES: usize = 1;
+/// The most queries of `verify`.
+const MOST_QUERIES: usize = 16;
 
 // The verb that word 0 is.
 fn verb_of(words: &Words, built: Built) -> Option<Verb>

@@ -9,23 +9,24 @@ keeps all of it, and sip accepts a helper's answer only where a check with chall
 
 USAGE
 
-  sip verify STREAM SEED FROM TO - DEPTH QUERY
+  sip verify STREAM SEED FROM TO - DEPTH QUERY..
 
-      Sends the stream to a helper, asks the query, checks the replies and prints the answer.
+      Sends the stream to a helper, asks 1 to 16 queries, checks the replies and prints a line for each answer.
 
-      STREAM  a file of records, or made:NUMBER:COUNT, which is COUNT records made from NUMBER
+      STREAM  a file of records, or text:PATH, which is a file of lines as sip lines prints them, or made:NUMBER:COUNT,
+              which is COUNT records made from NUMBER
       SEED    a file that begins with 32 random bytes, of which each run needs new ones
       FROM    the file or FIFO that brings the helper's bytes
       TO      the file or FIFO that takes ours
       -       no record of the talk is kept
-      DEPTH   from 1 to 20; items are the numbers below 2^DEPTH
+      DEPTH   from 1 to 32; items are the numbers below 2^DEPTH
       QUERY   sub:LO:HI, the entries from LO to HI that are not 0, with LO up to HI, and HI below 2^DEPTH
 
-      sip verify log.stream today.seed from.fifo to.fifo - 20 sub:100:199
+      sip verify log.stream today.seed from.fifo to.fifo - 20 sub:100:199 sub:7:7
 
   sip help FROM TO
 
-      Is the helper: keeps the stream that a verifying sip sends, and answers its query.
+      Is the helper: keeps the stream that a verifying sip sends, and answers its queries.
 
       FROM    the file or FIFO that brings the verifier's bytes, which is its TO
       TO      the file or FIFO that takes ours, which is its FROM
@@ -46,7 +47,7 @@ USAGE
 
       Prints a stream as lines of text: a side, an item and what is added to its entry, with one space between them.
 
-      STREAM  a file of records, made:NUMBER:COUNT, or text:PATH, which is a file of such lines
+      STREAM  as above
       DEPTH   from 1 to 32
 
       sip lines log.stream 20
@@ -65,8 +66,8 @@ away after the run: a helper that knows the challenges can make a wrong answer p
 
 STATUS
 
-  0  the answer was accepted and printed, a talk was served to its end, or a stream was written to its end
-  1  the helper's reply was rejected
+  0  every answer was accepted and printed, a talk was served to its end, or a stream was written to its end
+  1  a reply of the helper was rejected
   2  the words are no command
   3  the stream, the seed or a frame of the verifier is not as it has to be
   4  a file, the link or the output failed, or the verifier left before its farewell

@@ -5,7 +5,6 @@ ghost use Rattle.sip_cli.specs.Shapes.{IsOf};
 
 use crate::decimal::read_decimal;
 use crate::stream::read_stream;
-use sip_stream::Form;
 
 /// What one word of a command may be.
 #[derive(Clone, Copy, Debug, PartialEq, Eq)]
@@ -14,8 +13,6 @@ pub(crate) enum Shape {
     Name,
     /// A stream.
     Stream,
-    /// A stream of records.
-    BinaryStream,
     /// No transcript: `-`.
     NoRecord,
     /// A number up to `most`.
@@ -56,9 +53,6 @@ impl Shape {
         match self {
             Shape::Name => !word.is_empty(),
             Shape::Stream => read_stream(word).is_some(),
-            Shape::BinaryStream => {
-                read_stream(word).is_some_and(|stream| stream.form() == Form::Binary)
-            }
             Shape::NoRecord => word == "-",
             Shape::Number { most } => is_within(word, 0, most),
             Shape::Depth { most } => is_within(word, 1, most.min(32)),

@@ -5,11 +5,11 @@ ghost use Rattle.arrayvec.specs.ArrayVec.{array_vec_len};
 ghost use Rattle.sip_ports.specs.Ports.{HasCause, SendsWhole};
 ghost use Rattle.sip_cli.specs.StatusLine.{line_of_status, port_name, why_name};
 
-use crate::gather::{ROOM, put, put_number};
 use arrayvec::ArrayVec;
 use sip_ports::{PortStop, Sink, write_whole};
 use sip_stream::Why;
 use sip_vector::Side;
+use sip_verifier::text::{ROOM, put, put_number};
 use sip_verifier::{Port, Status};
 
 // Adds the name of why a record is not legal.

@@ -6,35 +6,38 @@ ghost use Rattle.sip_stream.specs.declared.form.Form.{Form as AnyForm};
 ghost use Rattle.sip_stream.specs.declared.form.Form.TheVariants.{Binary, Text};
 ghost use Rattle.sip_verifier.specs.declared.task.Task.{Task as AnyTask};
 ghost use Rattle.sip_verifier.specs.CauseClause.{CauseClause, FaultClause, counts};
+ghost use Rattle.sip_verifier.specs.CompletenessClause.{CompletenessClause};
+ghost use Rattle.sip_verifier.specs.CountClause.{CountClause};
 ghost use Rattle.sip_verifier.specs.Exchanges.{Exchange, Tells, IsTold, TakesAtMost, told};
 ghost use Rattle.sip_verifier.specs.TalkClause.{TalkClause};
+ghost use Rattle.sip_verifier.specs.Tasks.{CanBeDone};
 ghost use Rattle.sip_verifier.specs.VerdictClause.{VerdictClause};
 ghost use Rattle.sip_cli.specs.declared.command.Command.{Command as AnyCommand};
 ghost use Rattle.sip_cli.specs.CopyClause.{CopyClause};
 ghost use Rattle.sip_cli.specs.HelpClause.{HelpClause};
-ghost use Rattle.sip_cli.specs.Promises.{Promises, IsServed};
+ghost use Rattle.sip_cli.specs.Promises.{Promises};
 ghost use Rattle.sip_cli.specs.Statuses.{Ends, IsCopy};
 ghost use Rattle.sip_cli.specs.Words.{Spells, IsRefusedAt};
 
 use crate::copying::copy_stream;
 use crate::helping::help;
-use crate::verify::verify;
 use crate::{Command, Usage, Words, read_words};
 use sip_ports::{Link, Sink, Source};
 use sip_stream::Form;
-use sip_verifier::Status;
+use sip_verifier::{Status, check_stream};
 use std::alloc::Global;
 
 // Does a command.
-fn obey<A: Source, B: Source, L: Link, K: Sink>(
+fn obey<A: Source, B: Source, L: Link, K: Sink, C: Sink>(
     alloc: Global,
     command: &Command,
     first: &mut A,
     second: &mut B,
     peer: &mut L,
     report: &mut K,
+    keep: &mut C,
 ) -> Status
-    requires served { (task : AnyTask) → command.now ≡ Command.Verify task → IsServed task }
+    requires served { (task : AnyTask) → command.now ≡ Command.Verify task → CanBeDone task }
     ensures promises { (task : AnyTask) (x : Exchange) → command.now ≡ Command.Verify task → Tells
         (told (A.left first.old) (B.left second.old) (L.talk peer.old) (K.talk report.old))
         (told (A.left first.new) (B.left second.new) (L.talk peer.new) (K.talk report.new)) x
@@ -62,9 +65,10 @@ fn obey<A: Source, B: Source, L: Link, K: Sink>(
     ensures second { Lasts B.faults B.is_sure second.old second.new }
     ensures peer { Lasts L.faults L.is_sure peer.old peer.new }
     ensures report { Lasts K.faults K.is_sure report.old report.new }
+    ensures kept { keep.new ≡ keep.old }
 {
     match command {
-        Command::Verify(task) => verify(alloc, task, first, second, peer, report),
+        Command::Verify(task) => check_stream(alloc, task, first, second, peer, report, keep),
         Command::Help => help(alloc, peer),
         Command::Gen { depth } => copy_stream(*depth, Form::Binary, Form::Binary, first, report),
         Command::Lines { form, depth } => copy_stream(*depth, *form, Form::Text, first, report),
@@ -73,10 +77,10 @@ fn obey<A: Source, B: Source, L: Link, K: Sink>(
 
 /// Does what the words say.
 ///
-/// `verify STREAM SEED FROM TO - DEPTH sub:LO:HI`: reads a seed from `second` and a stream from `first`, talks to the
-/// helper over `peer`, and writes the line of the query to `report` once its replies were accepted, or the line of the
-/// rejection once they show a fault. Time and memory grow with 2^DEPTH, since levels are kept whole; the stream itself is
-/// not kept.
+/// `verify STREAM SEED FROM TO - DEPTH QUERY..`: reads a seed from `second` and a stream from `first`, talks to the helper
+/// over `peer`, and writes the line of each query to `report` once its replies were accepted, or the line of the rejection
+/// once they show a fault. Neither the stream nor a vector is kept: memory grows with the entries of one answer alone, and
+/// each record costs at most DEPTH multiplications for each query.
 ///
 /// `help FROM TO`: serves one talk over `peer`. Memory grows with the entries that are not 0.
 ///
@@ -106,6 +110,18 @@ pub fn run<A: Source, B: Source, L: Link, K: Sink, C: Sink>(
         (told (A.left first.old) (B.left second.old) (L.talk peer.old) (K.talk report.old))
         (told (A.left first.new) (B.left second.new) (L.talk peer.new) (K.talk report.new)) x
         → CauseClause task x
+        (counts (A.faults first.old) (B.faults second.old) (L.faults peer.old) (K.faults report.old))
+        (counts (A.faults first.new) (B.faults second.new) (L.faults peer.new) (K.faults report.new))
+        result }
+    // Of a helper that lies: how many challenges it can win by. Of an honest one: the report has the stream's own answers.
+    ensures count { (task : AnyTask) (x : Exchange) → Spells words.now (Command.Verify task) → Tells
+        (told (A.left first.old) (B.left second.old) (L.talk peer.old) (K.talk report.old))
+        (told (A.left first.new) (B.left second.new) (L.talk peer.new) (K.talk report.new)) x
+        → CountClause task x }
+    ensures complete { (task : AnyTask) (x : Exchange) → Spells words.now (Command.Verify task) → Tells
+        (told (A.left first.old) (B.left second.old) (L.talk peer.old) (K.talk report.old))
+        (told (A.left first.new) (B.left second.new) (L.talk peer.new) (K.talk report.new)) x
+        → CompletenessClause task x
         (counts (A.faults first.old) (B.faults second.old) (L.faults peer.old) (K.faults report.old))
         (counts (A.faults first.new) (B.faults second.new) (L.faults peer.new) (K.faults report.new))
         result }
@@ -145,7 +161,7 @@ pub fn run<A: Source, B: Source, L: Link, K: Sink, C: Sink>(
     ensures report { Lasts K.faults K.is_sure report.old report.new }
 {
     match read_words(words) {
-        Ok(command) => obey(alloc, &command, first, second, peer, report),
+        Ok(command) => obey(alloc, &command, first, second, peer, report, keep),
         Err(Usage { word }) => Status::Usage { word },
     }
 }

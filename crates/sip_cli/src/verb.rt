@@ -35,11 +35,11 @@ pub(crate) const BUILT: Built = Built {
     lines: true,
 };
 
-/// The greatest depth of `verify`, as long as the levels of a vector's tree are kept whole.
-const MOST_DEPTH: u64 = 20;
+/// The greatest depth.
+const MOST_DEPTH: u64 = 32;
 
 const VERIFY: [Shape; 6] = [
-    Shape::BinaryStream,
+    Shape::Stream,
     Shape::Name,
     Shape::Name,
     Shape::Name,
@@ -52,10 +52,10 @@ const HELP: [Shape; 2] = [Shape::Name, Shape::Name];
 const GEN: [Shape; 3] = [
     Shape::Number { most: u64::MAX },
     Shape::Number { most: MOST_COUNT },
-    Shape::Depth { most: 32 },
+    Shape::Depth { most: MOST_DEPTH },
 ];
 
-const LINES: [Shape; 2] = [Shape::Stream, Shape::Depth { most: 32 }];
+const LINES: [Shape; 2] = [Shape::Stream, Shape::Depth { most: MOST_DEPTH }];
 
 impl Built {
     // Whether there is a command of this verb.

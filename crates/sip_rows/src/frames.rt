@@ -34,6 +34,9 @@ pub const TOO_HEAVY: [u8; 26] = [
 // The first of these two.
 pub const GREATEST_RECORD: [u8; 13] = [0, 0, 0, 0, 0, 0, 0, 0, 0, 0x3f, 0xff, 0xff, 0xff];
 
+// The three records as lines of text.
+pub const THREE_LINES: [u8; 18] = *b"0 0 3\n0 2 5\n0 3 1\n";
+
 pub const ZERO_SEED: [u8; 32] = [0; 32];
 
 // One byte less than a seed.
@@ -70,6 +73,16 @@ pub const HEAVY_3: [u8; 13] = [0x04, 0, 10, 5, 0, 0, 0, 0, 0, 0, 0, 0, 3];
 // 0x903df1a0ade0b876, and without the last three bits 0x1207be3415bc170e = 1299216148431902478.
 pub const REVEAL: [u8; 11] = [0x05, 0, 8, 0x12, 0x07, 0xbe, 0x34, 0x15, 0xbc, 0x17, 0x0e];
 
+// At depth 2 each query has two challenges of its own, of which the first is revealed. Words 2 and 4 of that key stream
+// are 0x1aed8da0b819d2bd and 0x8d4857517c5941da; these are they without the last three bits.
+pub const REVEAL_FOR_QUERY_2: [u8; 11] = [
+    0x05, 0, 8, 0x03, 0x5d, 0xb1, 0xb4, 0x17, 0x03, 0x3a, 0x57,
+];
+
+pub const REVEAL_FOR_QUERY_3: [u8; 11] = [
+    0x05, 0, 8, 0x11, 0xa9, 0x0a, 0xea, 0x2f, 0x8b, 0x28, 0x3b,
+];
+
 pub const REVEAL_OF_2: [u8; 11] = [0x05, 0, 8, 0, 0, 0, 0, 0, 0, 0, 2];
 
 pub const BYE: [u8; 3] = [0x06, 0, 0];
@@ -83,6 +96,13 @@ pub const ENTRY_1: [u8; 17] = [0x13, 0, 0x0e, 0, 1, 0, 0, 0, 1, 0, 0, 0, 0, 0, 0
 pub const ENTRIES_0_1: [u8; 29] = [
     0x13, 0, 0x1a, 0, 2, 0, 0, 0, 0, 0, 0, 0, 0, 0, 0, 0, 3, 0, 0, 0, 1, 0, 0, 0, 0, 0, 0, 0, 5,
 ];
+
+// Entries 0, 2 and 3 have values 3, 5 and 1.
+pub const ENTRIES_0_2_3: [u8; 41] = [
+    0x13, 0, 0x26, 0, 3, 0, 0, 0, 0, 0, 0, 0, 0, 0, 0, 0, 3, 0, 0, 0, 2, 0, 0, 0, 0, 0, 0, 0, 5, 0,
+    0, 0, 3, 0, 0, 0, 0, 0, 0, 0, 1,
+];
+
 // Leaf 0 is 3 and leaf 3 is 1.
 pub const SIBLINGS_3_1: [u8; 20] = [
     0x14, 0, 0x11, 3, 0, 0, 0, 0, 0, 0, 0, 3, 0, 0, 0, 0, 0, 0, 0, 1,

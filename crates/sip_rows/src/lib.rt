@@ -12,6 +12,10 @@ mod check_tests;
 #[cfg(test)]
 mod copy_tests;
 #[cfg(test)]
+mod duel;
+#[cfg(test)]
+mod duel_tests;
+#[cfg(test)]
 mod failing_tests;
 #[cfg(test)]
 mod fault_tests;
@@ -19,6 +23,8 @@ mod fault_tests;
 mod frames;
 #[cfg(test)]
 mod help_tests;
+#[cfg(test)]
+mod query_tests;
 #[cfg(test)]
 mod row;
 #[cfg(test)]

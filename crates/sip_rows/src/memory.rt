@@ -34,7 +34,7 @@ pub fn run_in_memory(
     peer: &mut MemoryLink,
     report: &mut MemorySink,
 ) -> Status
-    // What moved between the ports before and the ports after keeps the promises on verdicts, talk and causes.
+    // What moved between the ports before and the ports after keeps the five promises of `verify`.
     ensures promises { (task : Task) → Spells words.now (Verify task) → (x : Exchange)
         × Moves (moment_of first.old second.old peer.old report.old) (moment_of first.new second.new peer.new report.new) x
         × Promises task x (faults_of first.old second.old peer.old report.old) (faults_of first.new second.new peer.new report.new) result }

@@ -7,11 +7,25 @@ use std::alloc::Global;
 use std::process::Abort;
 use std::test::Fail;
 
+// The first run, of a stream of text: what is said is the same.
+fn of_lines() -> Row<'static> {
+    Row {
+        name: "a stream of text",
+        given: Given {
+            words: "verify text:s seed a b - 2 sub:1:2",
+            stream: &THREE_LINES,
+            ..first_run().given
+        },
+        ..first_run()
+    }
+}
+
 // A program that always answers that memory ran out would keep every promise, since that answer is free. It fails here.
 #[test]
 fn runs_that_are_accepted(rt: HostRuntime) -> Result<(), Fail> {
     let rows = [
         first_run(),
+        of_lines(),
         Row {
             name: "a stream of nothing has no entries",
             given: Given {
@@ -66,19 +80,26 @@ fn runs_that_are_accepted(rt: HostRuntime) -> Result<(), Fail> {
     Ok(())
 }
 
-// A stream, its first record that is not legal, and why.
+// The words and the bytes of a stream, its first record that is not legal, and why.
 #[derive(Clone, Copy)]
 struct Bad<'a> {
     name: &'a str,
+    words: &'a str,
     stream: &'a [u8],
     at: u64,
     why: Why,
 }
 
+// The words for a stream of records, and for one of text.
+const RECORDS: &str = "verify s seed a b - 2 sub:1:2";
+
+const TEXT: &str = "verify text:s seed a b - 2 sub:1:2";
+
 fn check_bad(rt: &impl Abort, alloc: Global, rows: &[Bad]) -> Result<(), Fail> {
     let honest = first_run();
     for row in rows {
         let given = Given {
+            words: row.words,
             stream: row.stream,
             ..honest.given
         };
@@ -105,54 +126,102 @@ fn streams_that_are_bad(rt: HostRuntime) -> Result<(), Fail> {
     let rows = [
         Bad {
             name: "12 bytes are no record",
+            words: RECORDS,
             stream: &TWELVE_BYTES,
             at: 0,
             why: Why::Truncated,
         },
         Bad {
             name: "item 4 is none of 4",
+            words: RECORDS,
             stream: &ITEM_4,
             at: 0,
             why: Why::BadItem,
         },
         Bad {
             name: "side 2 is none",
+            words: RECORDS,
             stream: &SIDE_2,
             at: 0,
             why: Why::BadSide,
         },
         Bad {
             name: "delta 0 is none",
+            words: RECORDS,
             stream: &DELTA_0,
             at: 0,
             why: Why::ZeroDelta,
         },
         Bad {
             name: "a side weighs 2^30",
+            words: RECORDS,
             stream: &TOO_HEAVY,
             at: 1,
             why: Why::TooHeavy(Side::First),
         },
         Bad {
             name: "a record weighs 2^63",
+            words: RECORDS,
             stream: &LEAST_DELTA,
             at: 0,
             why: Why::TooHeavy(Side::First),
+        },
+        Bad {
+            name: "a line of two numbers is none",
+            words: TEXT,
+            stream: b"0 0 3\n0 2\n0 3 1\n",
+            at: 1,
+            why: Why::BadLine,
+        },
+        Bad {
+            name: "the last line has no end",
+            words: TEXT,
+            stream: b"0 0 3\n0 2 5",
+            at: 1,
+            why: Why::Truncated,
+        },
+        Bad {
+            name: "item 4 of a line is none of 4",
+            words: TEXT,
+            stream: b"0 4 3\n",
+            at: 0,
+            why: Why::BadItem,
+        },
+        Bad {
+            name: "records are no lines",
+            words: TEXT,
+            stream: &THREE_RECORDS,
+            at: 0,
+            why: Why::Truncated,
         },
     ];
     check_bad(&rt, rt.alloc(), &rows)
 }
 
+// Words that are no command, and the first one that is none.
+fn refused<'a>(words: &'a str, word: u32) -> Row<'a> {
+    Row {
+        name: words,
+        given: Given {
+            words,
+            ..first_run().given
+        },
+        status: Status::Usage { word },
+        code: 2,
+        report: "",
+        sent: &[],
+        then: &[],
+    }
+}
+
 #[test]
 fn runs_that_say_nothing(rt: HostRuntime) -> Result<(), Fail> {
-    let rows: [Row<'static>; 2] = [
+    let rows: [Row<'static>; 8] = [
         Row {
             name: "31 bytes are no seed",
             given: Given {
-                words: "verify s seed a b - 2 sub:1:2",
-                stream: &THREE_RECORDS,
                 seed: &SHORT_SEED,
-                replies: &[],
+                ..first_run().given
             },
             status: Status::BadSeed,
             code: 3,
@@ -160,20 +229,17 @@ fn runs_that_say_nothing(rt: HostRuntime) -> Result<(), Fail> {
             sent: &[],
             then: &[],
         },
-        Row {
-            name: "a query of another kind is word 7",
-            given: Given {
-                words: "verify s seed a b - 2 f2:0",
-                stream: &THREE_RECORDS,
-                seed: &ZERO_SEED,
-                replies: &[],
-            },
-            status: Status::Usage { word: 7 },
-            code: 2,
-            report: "",
-            sent: &[],
-            then: &[],
-        },
+        refused("verify", 1),
+        refused("verify s seed a b - 2 sub:1:4", 7),
+        refused("verify s seed a b - 2 f2:2", 7),
+        refused("verify s seed a b - 2 sub:01:2", 7),
+        refused("verify s seed a b - 33 sub:1:2", 6),
+        refused("verify s seed a b r 2 sub:1:2", 5),
+        refused(
+            "verify s seed a b - 2 sub:0:0 sub:0:0 sub:0:0 sub:0:0 sub:0:0 sub:0:0 sub:0:0 sub:0:0 sub:0:0 \
+             sub:0:0 sub:0:0 sub:0:0 sub:0:0 sub:0:0 sub:0:0 sub:0:0 sub:0:0",
+            23,
+        ),
     ];
     for row in &rows {
         row.check(&rt, rt.alloc())?;

@@ -1,3 +1,27 @@
+mod Seating
+mod SeatsRaised
+mod FramesFit
+mod Sends
+mod DueFrames
+mod SeatsGiven
+mod SeatsDrawn
+mod SeatsHead
+pub mod Lines
+pub mod FramesCut
+pub mod StreamSent
+pub mod StreamSending
+pub mod SeedRead
+pub mod Gathered
+mod RepliesTaking
+mod RoomForEntries
+mod GivenEntries
+mod RepliesFirst
+mod RepliesLater
+mod AskingTurns
+pub mod QueriesChecked
+pub mod RunTalks
+pub mod StreamPromises
+pub mod QueryPromises
 pub mod LegalRecords
 pub mod CountedTurns
 pub mod CountedReports
@@ -7,3 +31,6 @@ pub mod HeardTalks
 pub mod HonestTurns
 pub mod HonestRuns
 pub mod CompleteRuns
+mod RoomForAnswers
+mod RunPromises
+mod AnswersCounted

@@ -1,7 +1,8 @@
-//! What a verifier promises: its task, how it ends, and the definitions that its contracts cite.
+//! The verifier: from a seed and a stream to verdicts, in a few numbers for each query.
 //!
 //! | file of `specs/` | what it defines |
 //! |---|---|
+//! | `Tasks` | which tasks can be done |
 //! | `Draws` | the challenges of a run, and the block of each query |
 //! | `Talks` | the order of bytes in a talk |
 //! | `Reports` | the lines of a report |
@@ -12,13 +13,43 @@
 //! | `CauseClause` | when each other answer comes |
 //! | `CountClause` | how many challenges a helper can win by, and that no line has a wrong answer but at those |
 //! | `CompletenessClause` | what an honest helper comes to |
+//! | `QuerySeats`, `Seats` | which streams the running numbers stand for |
+//! | `Feeding` | what is still to send of a stream |
+//! | `Transcripts` | the head of a transcript |
+//! | `Gathering` | what a call did that reads the stream |
+//! | `Sittings`, `Asking` | what is seen of a session, and what a call did that asks a query |
+//!
+//! The other files there say what one private part of a run did: `Drawing`, `Sending`, `Questions`, `Taking`, `Ending`, `Progress`.
+//!
+//! [`check_stream`] is a whole run: [`gather`], then a [`Session`] that asks the queries. It carries the five clauses.
 #![tactic(auto)]
 
+mod asking;
+mod checking;
 pub mod completeness;
 pub mod counting;
+mod ending;
+mod feed;
+mod gathering;
 pub mod laws;
+mod replies;
+mod report;
+mod seat;
+mod seats;
+mod session;
 mod status;
 mod task;
+pub mod text;
 
+pub use checking::check_stream;
+pub use feed::Feed;
+pub use gathering::gather;
+pub use seats::{MOST_QUERIES, Seats};
+pub use session::{Session, SessionFault, SessionStart, Verdict};
 pub use status::{Port, Status};
 pub use task::Task;
+
+#[cfg(test)]
+mod feed_tests;
+#[cfg(test)]
+mod seats_tests;

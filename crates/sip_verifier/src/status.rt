@@ -49,7 +49,7 @@ pub enum Status {
     BadTranscript {
         offset: u64,
     },
-    /// The frame at this byte has no spelling, or is out of turn.
+    /// The frame at this byte has no spelling, is a query that the helper does not answer, or is out of turn.
     BadFrame {
         offset: u64,
     },

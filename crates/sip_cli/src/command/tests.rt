@@ -34,7 +34,6 @@ fn refuses_the_first_word_that_begins_no_command(rt: HostRuntime) -> Result<(), 
         ("verify ", Some(0)),
         ("verify", Some(1)),
         ("verify||k|f|t|-|3|sub:1:2", Some(1)),
-        ("verify|text:s|k|f|t|-|3|sub:1:2", Some(1)),
         ("verify|text:|k|f|t|-|3|sub:1:2", Some(1)),
         ("verify|made:|k|f|t|-|3|sub:1:2", Some(1)),
         ("verify|made:7|k|f|t|-|3|sub:1:2", Some(1)),
@@ -58,7 +57,7 @@ fn refuses_the_first_word_that_begins_no_command(rt: HostRuntime) -> Result<(), 
         ("verify|s|k|f|t||3|sub:1:2", Some(5)),
         ("verify|s|k|f|t|-", Some(6)),
         ("verify|s|k|f|t|-|0|sub:0:0", Some(6)),
-        ("verify|s|k|f|t|-|21|sub:1:2", Some(6)),
+        ("verify|s|k|f|t|-|33|sub:1:2", Some(6)),
         ("verify|s|k|f|t|-|03|sub:1:2", Some(6)),
         ("verify|s|k|f|t|-|+3|sub:1:2", Some(6)),
         ("verify|s|k|f|t|-|3x|sub:1:2", Some(6)),
@@ -80,10 +79,22 @@ fn refuses_the_first_word_that_begins_no_command(rt: HostRuntime) -> Result<(), 
         ("verify|s|k|f|t|-|3|inner", Some(7)),
         ("verify|s|k|f|t|-|3|heavy:0:4", Some(7)),
         ("verify|s|k|f|t|-|3|range:0:1:2", Some(7)),
-        ("verify|s|k|f|t|-|20|sub:0:18446744073709551616", Some(7)),
-        ("verify|s|k|f|t|-|3|sub:1:2|sub:1:2", Some(8)),
+        ("verify|s|k|f|t|-|20|sub:0:1048576", Some(7)),
+        ("verify|s|k|f|t|-|32|sub:0:4294967296", Some(7)),
+        ("verify|s|k|f|t|-|32|sub:0:18446744073709551616", Some(7)),
+        ("verify|s|k|f|t|-|2|f2:2", Some(7)),
+        ("verify|s|k|f|t|-|2|sub:01:2", Some(7)),
         ("verify|s|k|f|t|-|3|sub:1:2|", Some(8)),
+        ("verify|s|k|f|t|-|3|sub:1:2|f2:0", Some(8)),
+        ("verify|s|k|f|t|-|3|sub:1:2|sub:0:8|sub:2:1", Some(8)),
+        ("verify|s|k|f|t|-|3|sub:1:2|sub:0:7|sub:0:8", Some(9)),
         ("verify|s|k|f|t|-|3|sub:1:2", None),
+        ("verify|s|k|f|t|-|3|sub:1:2|sub:1:2", None),
+        ("verify|s|k|f|t|-|3|sub:0:7|sub:7:7|sub:0:0", None),
+        ("verify|s|k|f|t|-|21|sub:1:2", None),
+        ("verify|s|k|f|t|-|32|sub:0:4294967295", None),
+        ("verify|text:s|k|f|t|-|3|sub:1:2", None),
+        ("verify|text:made:7:20|k|f|t|-|3|sub:1:2", None),
         ("verify|made:0:0|k|f|t|-|3|sub:1:2", None),
         (
             "verify|made:18446744073709551615:10000000|k|f|t|-|20|sub:1:2",
@@ -95,6 +106,27 @@ fn refuses_the_first_word_that_begins_no_command(rt: HostRuntime) -> Result<(), 
         assert_eq!(rt; refused_at(&words(alloc, text)?), want, "at {text}");
     }
     assert_eq!(rt; refused_at(&Words::of(Vec::new(alloc))), Some(0));
+    Ok(())
+}
+
+// Sixteen queries are a command, and a seventeenth is word 23.
+#[test]
+fn reads_16_queries(rt: HostRuntime) -> Result<(), Fail> {
+    let alloc = rt.alloc();
+    for (count, want) in [
+        (1, None),
+        (2, None),
+        (15, None),
+        (16, None),
+        (17, Some(23)),
+        (20, Some(23)),
+    ] {
+        let mut text = String::from_str(alloc, "verify|s|k|f|t|-|3")?;
+        for _ in 0..count {
+            text.push_str("|sub:1:2")?;
+        }
+        assert_eq!(rt; refused_at(&words(alloc, &text)?), want, "{count} queries");
+    }
     Ok(())
 }
 
@@ -148,18 +180,18 @@ fn refuses_the_first_word_that_no_other_command_has(rt: HostRuntime) -> Result<(
 
 #[test]
 fn reads_the_task(rt: HostRuntime) -> Result<(), Fail> {
-    let words = words(rt.alloc(), "verify|s|k|f|t|-|12|sub:10:4095")?;
+    let words = words(rt.alloc(), "verify|text:s|k|f|t|-|12|sub:10:4095|sub:0:0")?;
     match read_words(&words) {
         Ok(Command::Verify(task)) => {
             assert_eq!(rt; task.depth.get(), 12);
-            assert_eq!(rt; task.form, Form::Binary);
-            let asked = [Query::Sub { lo: 10, hi: 4095 }];
+            assert_eq!(rt; task.form, Form::Text);
+            let asked = [Query::Sub { lo: 10, hi: 4095 }, Query::Sub { lo: 0, hi: 0 }];
             assert_eq!(rt; task.queries.as_slice(), asked.as_slice());
         }
         _ => assert!(rt; false),
     }
     assert_eq!(rt; words.get(3), Some("f"));
-    assert_eq!(rt; words.get(8), None);
+    assert_eq!(rt; words.get(9), None);
     Ok(())
 }
 
@@ -218,7 +250,10 @@ fn opens_the_ports_of_a_command(rt: HostRuntime) -> Result<(), Fail> {
     for (text, want) in [
         ("verify|s|k|f|t|-|3|sub:1:2", verify(file(1))),
         ("verify|made:7:20|k|f|t|-|3|sub:1:2", verify(made(7, 20, 3))),
-        ("verify|text:s|k|f|t|-|3|sub:1:2", none),
+        (
+            "verify|text:s|k|f|t|-|32|sub:1:2|sub:3:4",
+            verify(Opening::Path { word: 1, skip: 5 }),
+        ),
         ("verify|s|k|f|t|-|3", none),
         (
             "help|f|t",

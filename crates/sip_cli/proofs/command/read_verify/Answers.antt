@@ -1,13 +1,13 @@
 use Rattle.std.proofs.Common.{arith}
 use Rattle.std.proofs.lemmas.Result.{err_from_is_err_and}
-use Rattle.sip_stream.specs.declared.form.Form.TheVariants.{Binary}
 use Rattle.sip_cli.proofs.Stopping.{refused_query, whole_asked}
 use Rattle.sip_cli.proofs.command.read_verify.Goals as goal
 
 pub returns-in_default-clause-refused : goal.returns-in_default-clause-refused
 returns-in_default-clause-refused c = λ built fitted.
     let more = fitted.2.0 in
-    absurd (c.in_default.ensures (omega arith) Binary (fitted.2.1 0 (omega arith)))
+    let named = fitted.2.1 0 (omega arith) in
+    absurd (c.in_default.ensures (omega arith) named.0 named.1)
 
 pub returns-in_default-depth_at-clause-refused : goal.returns-in_default-depth_at-clause-refused
 returns-in_default-depth_at-clause-refused c = λ built fitted.

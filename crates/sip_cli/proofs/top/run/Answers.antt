@@ -1,5 +1,5 @@
 use Rattle.std.proofs.Common.{[], sym, subst}
-use Rattle.sip_cli.proofs.PromiseLemmas.{GoesOn-still, tells}
+use Rattle.sip_cli.proofs.Talks.{GoesOn-still, tells}
 use Rattle.sip_cli.proofs.Refusals.{command_once, spelled_not_refused}
 use Rattle.sip_cli.proofs.RunLemmas.{served_task, usage_never, usage_at}
 use Rattle.sip_cli.specs.declared.command.Command.TheVariants.{Verify, Help, Gen, Lines}
@@ -66,3 +66,15 @@ returns-in-Err-clause-help g c = λ spells. absurd (spelled_not_refused built _ 
 
 pub returns-in-Err-clause-listed : goal.returns-in-Err-clause-listed
 returns-in-Err-clause-listed g c = λ command spells. absurd (spelled_not_refused built _ command _ spells c.in-Err.ensures.refused)
+
+pub returns-in-Ok-clause-count : goal.returns-in-Ok-clause-count
+returns-in-Ok-clause-count g c = λ task x spells t. (c.obey.ensures.promises task x (command_once built _ _ (Verify task) c.in-Ok.ensures.command spells) t).count
+
+pub returns-in-Ok-clause-complete : goal.returns-in-Ok-clause-complete
+returns-in-Ok-clause-complete g c = λ task x spells t. (c.obey.ensures.promises task x (command_once built _ _ (Verify task) c.in-Ok.ensures.command spells) t).complete
+
+pub returns-in-Err-clause-count : goal.returns-in-Err-clause-count
+returns-in-Err-clause-count g c = λ task x spells t. absurd (spelled_not_refused built _ (Verify task) _ spells c.in-Err.ensures.refused)
+
+pub returns-in-Err-clause-complete : goal.returns-in-Err-clause-complete
+returns-in-Err-clause-complete g c = λ task x spells t. absurd (spelled_not_refused built _ (Verify task) _ spells c.in-Err.ensures.refused)

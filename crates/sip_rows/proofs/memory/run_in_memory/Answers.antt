@@ -16,6 +16,8 @@ returns-clause-promises c = λ task spells.
         verdict = c.run.ensures.verdict task x spells told.1;
         talk = c.run.ensures.talk task x spells told.1;
         cause = c.run.ensures.cause task x spells told.1;
+        count = c.run.ensures.count task x spells told.1;
+        complete = c.run.ensures.complete task x spells told.1;
       },
     )
 

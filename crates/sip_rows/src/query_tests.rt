@@ -1,0 +1,229 @@
+// Runs of three queries: 1 to 2, 0 to 3, and 1 to 2 again.
+
+use crate::frames::*;
+use crate::row::{At, Failing, Given, Row, Said, first_run};
+use sip_verifier::{Port, Status};
+use sip_wire::Reason;
+use std::alloc::Global;
+use std::process::Abort;
+use std::test::Fail;
+
+// The run that is accepted.
+fn three_queries() -> Row<'static> {
+    Row {
+        name: "three queries",
+        given: Given {
+            words: "verify s seed a b - 2 sub:1:2 sub:0:3 sub:1:2",
+            stream: &THREE_RECORDS,
+            seed: &ZERO_SEED,
+            replies: &[
+                &ENTRY_2,
+                &SIBLINGS_3_1,
+                &NO_SIBLINGS,
+                &ENTRIES_0_2_3,
+                &NO_SIBLINGS,
+                &NO_SIBLINGS,
+                &ENTRY_2,
+                &SIBLINGS_3_1,
+                &NO_SIBLINGS,
+            ],
+        },
+        report: "sub:1:2 2:5\nsub:0:3 0:3 2:5 3:1\nsub:1:2 2:5\n",
+        then: &[
+            Said::In(&ENTRY_2),
+            Said::In(&SIBLINGS_3_1),
+            Said::Out(&REVEAL),
+            Said::In(&NO_SIBLINGS),
+            Said::Out(&SUB_0_3),
+            Said::In(&ENTRIES_0_2_3),
+            Said::In(&NO_SIBLINGS),
+            Said::Out(&REVEAL_FOR_QUERY_2),
+            Said::In(&NO_SIBLINGS),
+            Said::Out(&SUB_1_2),
+            Said::In(&ENTRY_2),
+            Said::In(&SIBLINGS_3_1),
+            Said::Out(&REVEAL_FOR_QUERY_3),
+            Said::In(&NO_SIBLINGS),
+            Said::Out(&BYE),
+        ],
+        ..first_run()
+    }
+}
+
+#[test]
+fn three_queries_are_accepted(rt: HostRuntime) -> Result<(), Fail> {
+    three_queries().check(&rt, rt.alloc())
+}
+
+// Replies to query 2 of which one has a fault, its round and reason, the report, and what is said from query 2 on.
+#[derive(Clone, Copy)]
+struct Faulty<'a> {
+    name: &'a str,
+    replies: &'a [&'a [u8]],
+    then: &'a [Said<'a>],
+    round: u8,
+    reason: Reason,
+    report: &'a str,
+}
+
+fn check(rt: &impl Abort, alloc: Global, rows: &[Faulty]) -> Result<(), Fail> {
+    let honest = three_queries();
+    for row in rows {
+        let given = Given {
+            replies: row.replies,
+            ..honest.given
+        };
+        let rejected = Row {
+            name: row.name,
+            given,
+            status: Status::Rejected {
+                query: 2,
+                round: row.round,
+                reason: row.reason,
+            },
+            code: 1,
+            report: row.report,
+            then: row.then,
+            ..honest
+        };
+        rejected.check(rt, alloc)?;
+    }
+    Ok(())
+}
+
+// The line of query 1 stands, the line of the rejection is the last one, and nothing more is sent. The bytes behind the
+// fault are not taken.
+#[test]
+fn query_2_is_rejected_in_each_round(rt: HostRuntime) -> Result<(), Fail> {
+    let rows = [
+        Faulty {
+            name: "nothing of reply 0 comes",
+            replies: &[&ENTRY_2, &SIBLINGS_3_1, &NO_SIBLINGS],
+            then: &[
+                Said::In(&ENTRY_2),
+                Said::In(&SIBLINGS_3_1),
+                Said::Out(&REVEAL),
+                Said::In(&NO_SIBLINGS),
+                Said::Out(&SUB_0_3),
+                Said::Ended,
+            ],
+            round: 0,
+            reason: Reason::Closed,
+            report: "sub:1:2 2:5\nrejected query 2 round 0 Closed\n",
+        },
+        Faulty {
+            name: "all items have no sibling",
+            replies: &[
+                &ENTRY_2,
+                &SIBLINGS_3_1,
+                &NO_SIBLINGS,
+                &SIBLINGS_3_1,
+                &NO_SIBLINGS,
+            ],
+            then: &[
+                Said::In(&ENTRY_2),
+                Said::In(&SIBLINGS_3_1),
+                Said::Out(&REVEAL),
+                Said::In(&NO_SIBLINGS),
+                Said::Out(&SUB_0_3),
+                Said::In(&SIBLINGS_3_1),
+            ],
+            round: 0,
+            reason: Reason::BadFlags,
+            report: "sub:1:2 2:5\nrejected query 2 round 0 BadFlags\n",
+        },
+        Faulty {
+            name: "the helper refuses in reply 1",
+            replies: &[
+                &ENTRY_2,
+                &SIBLINGS_3_1,
+                &NO_SIBLINGS,
+                &ENTRIES_0_2_3,
+                &NO_SIBLINGS,
+                &REFUSE_1,
+                &ENTRY_2,
+            ],
+            then: &[
+                Said::In(&ENTRY_2),
+                Said::In(&SIBLINGS_3_1),
+                Said::Out(&REVEAL),
+                Said::In(&NO_SIBLINGS),
+                Said::Out(&SUB_0_3),
+                Said::In(&ENTRIES_0_2_3),
+                Said::In(&NO_SIBLINGS),
+                Said::Out(&REVEAL_FOR_QUERY_2),
+                Said::In(&REFUSE_1),
+            ],
+            round: 1,
+            reason: Reason::Refused(1),
+            report: "sub:1:2 2:5\nrejected query 2 round 1 Refused(1)\n",
+        },
+        Faulty {
+            name: "entries 0 and 3 are left out",
+            replies: &[
+                &ENTRY_2,
+                &SIBLINGS_3_1,
+                &NO_SIBLINGS,
+                &ENTRY_2,
+                &NO_SIBLINGS,
+                &NO_SIBLINGS,
+                &ENTRY_2,
+                &SIBLINGS_3_1,
+                &NO_SIBLINGS,
+            ],
+            then: &[
+                Said::In(&ENTRY_2),
+                Said::In(&SIBLINGS_3_1),
+                Said::Out(&REVEAL),
+                Said::In(&NO_SIBLINGS),
+                Said::Out(&SUB_0_3),
+                Said::In(&ENTRY_2),
+                Said::In(&NO_SIBLINGS),
+                Said::Out(&REVEAL_FOR_QUERY_2),
+                Said::In(&NO_SIBLINGS),
+            ],
+            round: 2,
+            reason: Reason::Root,
+            report: "sub:1:2 2:5\nrejected query 2 round 2 Root\n",
+        },
+    ];
+    check(&rt, rt.alloc(), &rows)
+}
+
+// A port, the first call that the run does not make on it, and how it ends where an earlier one fails. Ports move as many
+// bytes a call as are asked for: 3 records and the end; the seed; 10 frames out, and 9 in of a header and a body each; 3
+// lines.
+const PORTS: [(At, u64, Status); 4] = [
+    (At::First, 5, Status::ReadFault { port: Port::First }),
+    (At::Second, 2, Status::ReadFault { port: Port::Second }),
+    (At::Peer, 29, Status::PeerFault),
+    (At::Report, 4, Status::WriteFault { port: Port::Report }),
+];
+
+// Each call of each port fails once: the report has whole lines of the run, and the talk is a front of its talk.
+#[test]
+fn each_call_of_three_queries_fails_once(rt: HostRuntime) -> Result<(), Fail> {
+    let alloc = rt.alloc();
+    let row = three_queries();
+    let talk = row.talk(alloc)?;
+    for (at, after, status) in PORTS {
+        for number in 1..after {
+            let shown = row.given.run(alloc, 10_000, Some(Failing { at, number }))?;
+            let (said, written) = (shown.peer.talk(), shown.report.bytes());
+            assert_eq!(rt; shown.status, status, "call {number} of {at:?}");
+            assert!(rt; talk.starts_with(said), "call {number} of {at:?}");
+            assert!(rt;
+                row.report.as_bytes().starts_with(written),
+                "call {number} of {at:?}"
+            );
+            assert!(rt;
+                written.is_empty() || written.ends_with(b"\n"),
+                "call {number} of {at:?}"
+            );
+        }
+        let not_made = Failing { at, number: after };
+        let shown = row.given.run(alloc, 10_000, Some(not_made))?;
+        assert_eq!(rt; shown.status, Status::Accepted, "call {after} of {at:?}");
+    }
+    Ok(())
+}

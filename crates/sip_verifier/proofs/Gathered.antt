@@ -1,0 +1,148 @@
+-- How far a stream was read, sent and added to the seats, and where the call may stop.
+use Rattle.std.proofs.Common.{◌≡◌, ℕ, List, [], ◌∷◌, ◌++◌, length, inr, refl, sym, ap, ◌∙◌, subst}
+use Rattle.std.specs.Prelude.{Some, None, Ok, Err}
+use Rattle.std.specs.declared.option.Option.{Option}
+use Rattle.sip_ports.specs.declared.port.PortStop.{PortStop}
+use Rattle.sip_ports.specs.declared.port.PortStop.TheVariants as ports
+use Rattle.sip_ports.specs.declared.port.TalkEvent.{TalkEvent}
+use Rattle.sip_ports.specs.Ports.{GoesOn}
+use Rattle.sip_vector.specs.declared.update.Update.{Update}
+use Rattle.sip_stream.specs.declared.fault.StreamFault.{StreamFault}
+use Rattle.sip_stream.specs.declared.fault.StreamFault.TheVariants as faults
+use Rattle.sip_stream.specs.Reading.{Reading, IsAfter, Reads}
+use Rattle.sip_stream.specs.Records.{Records, records, records_from, pieces_of}
+use Rattle.sip_stream.proofs.Copies.{read_front}
+use Rattle.sip_stream.proofs.RecordsRead.{records_end}
+use Rattle.sip_verifier.specs.declared.seats.Seats.{Seats}
+use Rattle.sip_verifier.specs.declared.task.Task.{Task}
+use Rattle.sip_verifier.specs.Drawing.{HasDrawn}
+use Rattle.sip_verifier.specs.Draws.{blocks}
+use Rattle.sip_verifier.specs.Ending.{status_of_link, status_of_stream}
+use Rattle.sip_verifier.specs.Exchanges.{IsPrefix}
+use Rattle.sip_verifier.specs.Gathering.{legal, before_end, IsGathered, IsCut, IsCutBefore, HasSeed, Gathers}
+use Rattle.sip_verifier.specs.Seats.{AreSeats}
+use Rattle.sip_verifier.specs.Sending.{IsSentBut, IsStopped, IsStoppedAtEnd}
+use Rattle.sip_verifier.specs.Talks.{whole_frames, opening_sent, stream_sent}
+use Rattle.sip_verifier.proofs.StreamSending.{stopped}
+use Rattle.sip_verifier.proofs.StreamSent.{IsPrefix-trans, frames_front, stream_sent-front, whole_frames-waiting}
+
+-- The records read so far are this stream. The seats stand for it, and all but what waits was sent.
+pub record IsUnderway (task : Task) (bytes : List ℕ) (at_blocks : List (List ℕ)) (left : Option (List ℕ)) (start now : Option (List TalkEvent)) (reader : Reading) (seats : Seats) (waiting : List Update) : Type 0 where
+  pub rest : List ℕ
+  pub to_come : left ≡ Some rest
+  pub stream : List Update
+  pub after : IsAfter reader stream
+  pub ahead : records task.depth task.form bytes ≡ records_from task.depth task.form stream rest
+  pub said : IsSentBut task.depth start now stream waiting
+  pub stand : AreSeats task.depth task.queries.items at_blocks stream seats
+
+module _ (task : Task) (bytes seed : List ℕ) (start : Option (List TalkEvent)) (first : Seats) (has : HasDrawn task seed first) where
+  abbrev at_blocks : List (List ℕ)
+  at_blocks = blocks task has.challenges
+
+  gives : HasSeed task bytes seed
+  gives = (has.challenges, has.draws)
+
+  -- before the first record
+  pub begins : (left : Option (List ℕ)) (now : Option (List TalkEvent)) (reader : Reading) (waiting : List Update)
+      → left ≡ Some bytes → IsAfter reader [] → IsSentBut task.depth start now [] waiting → IsUnderway task bytes at_blocks left start now reader first waiting
+  begins left now reader waiting all after said = record { rest = bytes; to_come = all; stream = []; after = after; ahead = refl; said = said; stand = has.stand }
+
+  -- after one more record
+  pub goes_on : (left left' : Option (List ℕ)) (now now' : Option (List TalkEvent)) (reader reader' : Reading) (seats seats' : Seats) (waiting waiting' : List Update) (u : Update)
+      (so : IsUnderway task bytes at_blocks left start now reader seats waiting) → Reads task.depth task.form so.stream so.rest left' (Ok (Some u)) → IsAfter reader' (so.stream ++ u ∷ [])
+      → IsSentBut task.depth start now' (so.stream ++ u ∷ []) waiting' → AreSeats task.depth task.queries.items at_blocks (so.stream ++ u ∷ []) seats' → IsUnderway task bytes at_blocks left' start now' reader' seats' waiting'
+  goes_on left left' now now' reader reader' seats seats' waiting waiting' u so (piece, rest, told, split, same) after said stand = record {
+    rest = rest;
+    to_come = told;
+    stream = so.stream ++ u ∷ [];
+    after = after;
+    ahead = so.ahead ∙ same;
+    said = said;
+    stand = stand;
+  }
+
+  -- the records so far are a front of the legal ones
+  is_front : (stream : List Update) (rest : List ℕ) → records task.depth task.form bytes ≡ records_from task.depth task.form stream rest → IsPrefix stream (legal task bytes seed)
+  is_front stream rest ahead = subst (λ (r : Records). IsPrefix stream r.legal) (sym ahead) (read_front task.depth task.form stream (pieces_of task.form rest))
+
+  -- what was said of a front of the legal records is a front of what is said of them
+  cut_before : (now : Option (List TalkEvent)) (stream : List Update) → IsPrefix stream (legal task bytes seed) → IsStopped task.depth start now stream → IsCutBefore task bytes seed start now
+  cut_before now stream front stop = record {
+    said = stop.said;
+    talk = stop.talk;
+    order = IsPrefix-trans _ _ _ stop.order (subst (λ l. IsPrefix (opening_sent task.depth (whole_frames stream)) (opening_sent task.depth (whole_frames l))) (sym front.1) (frames_front task.depth stream front.0));
+  }
+
+  cut_short : (now : Option (List TalkEvent)) → IsCutBefore task bytes seed start now → IsCut task bytes seed start now
+  cut_short now cut = record {
+    said = cut.said;
+    talk = cut.talk;
+    order = IsPrefix-trans _ _ _ cut.order (stream_sent-front task.depth (legal task bytes seed));
+    illegal = λ _. cut.order;
+  }
+
+  -- it stopped in the opening
+  pub stops_first : (now : Option (List TalkEvent)) → IsStopped task.depth start now [] → IsCut task bytes seed start now
+  stops_first now stop = cut_short now (cut_before now [] (legal task bytes seed, refl) stop)
+
+  -- it stopped after one more record was read
+  pub stops_after : (left left' : Option (List ℕ)) (now now' : Option (List TalkEvent)) (reader : Reading) (seats : Seats) (waiting : List Update) (u : Update)
+      (so : IsUnderway task bytes at_blocks left start now reader seats waiting) → Reads task.depth task.form so.stream so.rest left' (Ok (Some u)) → IsStopped task.depth start now' (so.stream ++ u ∷ []) → IsCut task bytes seed start now'
+  stops_after left left' now now' reader seats waiting u so (piece, rest, told, split, same) stop =
+      cut_short now' (cut_before now' (so.stream ++ u ∷ []) (is_front (so.stream ++ u ∷ []) rest (so.ahead ∙ same)) stop)
+
+  -- every record was legal
+  ended : (left left' : Option (List ℕ)) (now : Option (List TalkEvent)) (reader : Reading) (seats : Seats) (waiting : List Update)
+      (so : IsUnderway task bytes at_blocks left start now reader seats waiting) → Reads task.depth task.form so.stream so.rest left' (Ok None) → records task.depth task.form bytes ≡ record { legal = so.stream; fault = None }
+  ended left left' now reader seats waiting so (told, none) = so.ahead ∙ ap (records_from task.depth task.form so.stream) none ∙ records_end task.depth task.form so.stream
+
+  -- the rest or the end was cut short
+  pub stops_at_end : (left left' : Option (List ℕ)) (now new : Option (List TalkEvent)) (reader : Reading) (seats : Seats) (waiting : List Update)
+      (so : IsUnderway task bytes at_blocks left start now reader seats waiting) → Reads task.depth task.form so.stream so.rest left' (Ok None) → IsStoppedAtEnd task.depth start new so.stream → IsCut task bytes seed start new
+  stops_at_end left left' now new reader seats waiting so reads stop =
+      let is = ended left left' now reader seats waiting so reads in
+      record {
+        said = stop.said;
+        talk = stop.talk;
+        order = subst (λ (r : Records). IsPrefix stop.said (stream_sent task.depth r.legal)) (sym is) stop.order;
+        illegal = λ not. absurd (not (ap (λ (r : Records). r.fault) is));
+      }
+
+  -- the stream was read and sent whole
+  pub gathered : (left left' : Option (List ℕ)) (now new : Option (List TalkEvent)) (reader : Reading) (seats : Seats) (waiting : List Update)
+      (so : IsUnderway task bytes at_blocks left start now reader seats waiting) → Reads task.depth task.form so.stream so.rest left' (Ok None) → GoesOn start new (stream_sent task.depth so.stream) → IsGathered task bytes seed left' start new seats
+  gathered left left' now new reader seats waiting so reads said =
+      let is = ended left left' now reader seats waiting so reads in
+      record {
+        challenges = has.challenges;
+        draws = has.draws;
+        to_end = ap (λ (r : Records). r.fault) is;
+        read = reads.0;
+        talk = subst (λ (r : Records). GoesOn start new (stream_sent task.depth r.legal)) (sym is) said;
+        stand = subst (λ (r : Records). AreSeats task.depth task.queries.items at_blocks r.legal seats) (sym is) so.stand;
+      }
+
+  -- ---- what is answered
+
+  -- the link stopped
+  pub link_stops : (left : Option (List ℕ)) (now : Option (List TalkEvent)) (stop : PortStop) → IsCut task bytes seed start now → Gathers task bytes seed left start now (Err (status_of_link stop))
+  link_stops left now ports.Failed cut = (gives, cut)
+  link_stops left now ports.OutOfMemory cut = inr (gives, cut)
+
+  -- it stopped between two records
+  stops_between : (left : Option (List ℕ)) (now : Option (List TalkEvent)) (reader : Reading) (seats : Seats) (waiting : List Update) → IsUnderway task bytes at_blocks left start now reader seats waiting → IsCutBefore task bytes seed start now
+  stops_between left now reader seats waiting so = cut_before now so.stream (is_front so.stream so.rest so.ahead) (stopped task.depth start now so.stream waiting so.said)
+
+  -- no record was read: the next one is not legal, or the source stopped
+  pub reading_stops : (left left' : Option (List ℕ)) (now : Option (List TalkEvent)) (reader : Reading) (seats : Seats) (waiting : List Update) (fault : StreamFault)
+      (so : IsUnderway task bytes at_blocks left start now reader seats waiting) → Reads task.depth task.form so.stream so.rest left' (Err fault) → Gathers task bytes seed left' start now (Err (status_of_stream fault))
+  reading_stops left left' now reader seats waiting (faults.Bad at why) so (front, number, same) =
+      let is : records task.depth task.form bytes ≡ record { legal = so.stream; fault = Some why } = so.ahead ∙ same in
+      let frames : before_end task bytes seed ≡ opening_sent task.depth so.said.sent =
+      ap (λ (r : Records). opening_sent task.depth (whole_frames r.legal)) is
+      ∙ ap (λ l. opening_sent task.depth (whole_frames l)) so.said.order
+      ∙ ap (opening_sent task.depth) (whole_frames-waiting so.said.sent waiting so.said.whole so.said.few) in
+      (gives, number ∙ ap (λ (r : Records). length r.legal) (sym is), ap (λ (r : Records). r.fault) is, subst (GoesOn start now) (sym frames) so.said.talk)
+  reading_stops left left' now reader seats waiting faults.ReadFault so front = (gives, stops_between left now reader seats waiting so)
+  reading_stops left left' now reader seats waiting faults.OutOfMemory so front = inr (gives, cut_short now (stops_between left now reader seats waiting so))

@@ -1,0 +1,203 @@
+-- What came of a query, and of the queries up to it.
+use Rattle.std.proofs.Common.{◌≡◌, ℕ, suc, ◌+◌, ◌≤◌, Option, Result, Ok, Err, List, [], ◌∷◌, ◌++◌, length, take, drop, refl, sym, ap, subst, ◌∙◌, inl, inr, arith, append-nil, take-append-drop}
+use Rattle.std.specs.Prelude.{map, flat_map, MatchResult, All}
+use Rattle.std.proofs.Math.Seq.{take-add}
+use Rattle.std.proofs.lemmas.Grind.{flat_map-append}
+use Rattle.std.proofs.lemmas.List.{drop-map, length-append, length-map, map-append}
+use Rattle.std.proofs.lemmas.List.Elements.{All-drop}
+use Rattle.sip_ports.specs.declared.port.PortStop.{PortStop}
+use Rattle.sip_ports.specs.declared.port.PortStop.TheVariants as port_stops
+use Rattle.sip_ports.specs.declared.port.TalkEvent.{TalkEvent}
+use Rattle.sip_ports.specs.Ports.{GoesOn, SendsWhole, outs}
+use Rattle.sip_ports.proofs.FaultLemmas.{Rose-since}
+use Rattle.sip_ports.proofs.TalkLemmas.{GoesOn-trans, outs-append}
+use Rattle.sip_vector.specs.declared.query.Query.{Query}
+use Rattle.sip_vector.specs.declared.update.Entry.{Entry}
+use Rattle.sip_vector.specs.declared.update.Update.{Update}
+use Rattle.sip_vector.specs.Answers.{Answer}
+use Rattle.sip_wire.specs.declared.message.Reason.{Reason}
+use Rattle.sip_verifier.specs.declared.seat.QuerySeat.{QuerySeat}
+use Rattle.sip_verifier.specs.declared.seats.Seats.{Seats}
+use Rattle.sip_verifier.specs.declared.session.SessionFault.{SessionFault}
+use Rattle.sip_verifier.specs.declared.session.SessionFault.TheVariants as faults
+use Rattle.sip_verifier.specs.declared.status.Port.TheVariants as ports
+use Rattle.sip_verifier.specs.declared.status.Status.{Status}
+use Rattle.sip_verifier.specs.declared.status.Status.TheVariants as statuses
+use Rattle.sip_verifier.specs.declared.task.Task.{Task}
+use Rattle.sip_verifier.specs.Asking.{Asks, IsAnswered, IsRejected, turn_of}
+use Rattle.sip_verifier.specs.CauseClause.{FaultClause, counts}
+use Rattle.sip_verifier.specs.Draws.{blocks}
+use Rattle.sip_verifier.specs.Ending.{status_of_fault, status_of_report}
+use Rattle.sip_verifier.specs.Progress.{Checks, ChecksAll, CheckFault, Passes, PassesInPart, FailsInPart, AreFirst, PassedBy, EndsWith}
+use Rattle.sip_verifier.specs.QuerySeats.{StandsFor, block_of}
+use Rattle.sip_verifier.specs.Reports.{line, rejection}
+use Rattle.sip_verifier.specs.Seats.{AreSeats}
+use Rattle.sip_verifier.specs.Turns.{Turn, Accepted, said_in_turn}
+
+-- what a write to the report becomes
+abbrev pub OnReport : Result (Unit {0}) PortStop → Result (Unit {0}) Status → Type 0
+OnReport written r = MatchResult r (λ x. written ≡ Ok x) (λ status. (port : PortStop) × (written ≡ Err port) × (status ≡ status_of_report port))
+
+-- ---- one query
+
+module _ (depth : ℕ) (stream : List Update) (query : Query) (block : List ℕ) (number : ℕ) (old new blank full : Option (List TalkEvent)) where
+  -- its replies were accepted, and its line was written, whole or not
+  pub line_checked : (answer : Answer) (written : Result (Unit {0}) PortStop) (r : Result (Unit {0}) Status) → IsAnswered depth stream query block old new answer → SendsWhole blank full written (line query answer)
+      → OnReport written r → Checks depth stream query block number old new blank full r
+  line_checked answer (Ok u) (Ok v) answered sent on = record { answer = answer; answered = answered; wrote = sent }
+  line_checked answer (Ok u) (Err status) answered sent (port, is, so) = absurd cc
+  line_checked answer (Err stop) (Ok v) answered sent on = absurd cc
+  line_checked answer (Err stop) (Err status) answered (n, less, went) (port, is, so) =
+      let text = line query answer in
+      let part : PassesInPart depth stream query block number old new blank full = record { answer = answer; answered = answered; part = take n text; front = (drop n text, sym (take-append-drop n text)); wrote = went } in
+      let checks : Checks depth stream query block number old new blank full (Err (status_of_report port)) =
+      elim port as (λ p. Checks depth stream query block number old new blank full (Err (status_of_report p))) [
+        | port_stops.Failed ↦ inl part
+        | port_stops.OutOfMemory ↦ inl part
+      ] in
+      subst (λ (s : Status). Checks depth stream query block number old new blank full (Err s)) (sym so) checks
+
+  -- its replies were rejected, and a front of the line was written
+  pub rejection_cut : (round : ℕ) (reason : Reason) (written : Result (Unit {0}) PortStop) (status : Status) → IsRejected depth stream query block old new round reason
+      → SendsWhole blank full written (rejection number round reason) → OnReport written (Err status) → Checks depth stream query block number old new blank full (Err status)
+  rejection_cut round reason (Ok u) status rejected sent (port, is, so) = absurd cc
+  rejection_cut round reason (Err stop) status rejected (n, less, went) (port, is, so) =
+      let text = rejection number round reason in
+      let part : FailsInPart depth stream query block number old new blank full = record { round = round; reason = reason; rejected = rejected; part = take n text; front = (drop n text, sym (take-append-drop n text)); wrote = went } in
+      let checks : Checks depth stream query block number old new blank full (Err (status_of_report port)) =
+      elim port as (λ p. Checks depth stream query block number old new blank full (Err (status_of_report p))) [
+        | port_stops.Failed ↦ inr part
+        | port_stops.OutOfMemory ↦ inr (inl part)
+      ] in
+      subst (λ (s : Status). Checks depth stream query block number old new blank full (Err s)) (sym so) checks
+
+-- it has no verdict, and nothing was written
+pub fault_checked : (depth : ℕ) (stream : List Update) (query : Query) (block : List ℕ) (number : ℕ) (old new blank : Option (List TalkEvent)) (entries : List Entry) (fault : SessionFault)
+    → Asks depth stream query block old new entries (Err fault) → Checks depth stream query block number old new blank blank (Err (status_of_fault fault))
+fault_checked depth stream query block number old new blank entries faults.PeerFault asks = record { interrupted = asks; same = refl }
+fault_checked depth stream query block number old new blank entries faults.KeepFault asks = absurd asks
+fault_checked depth stream query block number old new blank entries faults.OutOfMemory asks = inr (inr (record { interrupted = asks; same = refl }))
+
+-- ---- the queries so far
+
+-- one turn more
+pub first_more : (queries more : List Query) (blocks others : List (List ℕ)) (turns : List Turn) (query : Query) (block : List ℕ) (replies : List (List ℕ)) → AreFirst queries blocks turns
+    → drop (length turns) queries ≡ query ∷ more → drop (length turns) blocks ≡ block ∷ others → AreFirst queries blocks (turns ++ turn_of query block replies ∷ [])
+first_more queries more blocks others turns query block replies first asks at =
+    let turn = turn_of query block replies in
+    let count : length (turns ++ turn ∷ []) ≡ length turns + 1 = length-append turns (turn ∷ []) in
+    let asked : take (length turns + 1) queries ≡ take (length turns) queries ++ query ∷ [] = take-add (length turns) 1 queries ∙ ap (λ (l : List Query). take (length turns) queries ++ take 1 l) asks in
+    let placed : take (length turns + 1) blocks ≡ take (length turns) blocks ++ block ∷ [] = take-add (length turns) 1 blocks ∙ ap (λ (l : List (List ℕ)). take (length turns) blocks ++ take 1 l) at in
+    record {
+      asked = map-append (λ (t : Turn). t.query) turns (turn ∷ []) ∙ ap (λ (l : List Query). l ++ query ∷ []) first.asked ∙ sym asked ∙ ap (λ (n : ℕ). take n queries) (sym count);
+      at_blocks = map-append (λ (t : Turn). t.block) turns (turn ∷ []) ∙ ap (λ (l : List (List ℕ)). l ++ block ∷ []) first.at_blocks ∙ sym placed ∙ ap (λ (n : ℕ). take n blocks) (sym count);
+    }
+
+-- a concatenation over one element more
+pub flat_map_snoc : {X Y : Type 0} (f : X → List Y) (xs : List X) (x : X) → flat_map f (xs ++ x ∷ []) ≡ flat_map f xs ++ f x
+flat_map_snoc f xs x = flat_map-append f xs (x ∷ []) ∙ ap (λ l. flat_map f xs ++ l) (append-nil (f x))
+
+module _ (depth : ℕ) (stream : List Update) (queries : List Query) (blocks : List (List ℕ)) (old mid new blank half full : Option (List TalkEvent)) where
+  -- one query more was accepted
+  pub passed_more : (count : ℕ) (query : Query) (more : List Query) (block : List ℕ) (others : List (List ℕ)) (number : ℕ) (r : Result (Unit {0}) Status) (u : Unit {0}) → r ≡ Ok u → PassedBy depth stream queries blocks old mid blank half count → drop count queries ≡ query ∷ more → drop count blocks ≡ block ∷ others
+      → Checks depth stream query block number mid new half full r → PassedBy depth stream queries blocks old new blank full (count + 1)
+  passed_more count query more block others number r u went so asks at checks =
+      let passes : Passes depth stream query block number mid new half full = subst (Checks depth stream query block number mid new half full) went checks in
+      let turns = map (λ (a : Accepted depth stream). a.turn) so.done in
+      let turn = turn_of query block passes.answered.replies in
+      let one : Accepted depth stream = record { turn = turn; answer = passes.answer; accepts = passes.answered.accepted } in
+      let is : length turns ≡ count = length-map so.done (λ (a : Accepted depth stream). a.turn) ∙ so.counted in
+      let first : AreFirst queries blocks (turns ++ turn ∷ []) =
+      first_more queries more blocks others turns query block passes.answered.replies so.passed.first (ap (λ (n : ℕ). drop n queries) is ∙ asks) (ap (λ (n : ℕ). drop n blocks) is ∙ at) in
+      let same : map (λ (a : Accepted depth stream). a.turn) (so.done ++ one ∷ []) ≡ turns ++ turn ∷ [] = map-append (λ (a : Accepted depth stream). a.turn) so.done (one ∷ []) in
+      let said : flat_map said_in_turn turns ++ said_in_turn turn ≡ flat_map said_in_turn (map (λ (a : Accepted depth stream). a.turn) (so.done ++ one ∷ [])) = sym (ap (λ (l : List Turn). flat_map said_in_turn l) same ∙ flat_map_snoc said_in_turn turns turn) in
+      let lines = flat_map (λ (a : Accepted depth stream). line a.turn.query a.answer) so.done in
+      let wrote : outs lines ++ outs (line query passes.answer) ≡ outs (flat_map (λ (a : Accepted depth stream). line a.turn.query a.answer) (so.done ++ one ∷ [])) =
+      sym (ap outs (flat_map_snoc (λ (a : Accepted depth stream). line a.turn.query a.answer) so.done one) ∙ outs-append lines (line query passes.answer)) in
+      record {
+        done = so.done ++ one ∷ [];
+        counted = length-append so.done (one ∷ []) ∙ ap (λ (n : ℕ). n + 1) so.counted;
+        passed = record {
+          first = subst (AreFirst queries blocks) (sym same) first;
+          talk = subst (GoesOn old new) said (GoesOn-trans old mid new _ _ so.passed.talk passes.answered.talk);
+          report = subst (GoesOn blank full) wrote (GoesOn-trans blank half full _ _ so.passed.report passes.wrote);
+        };
+      }
+
+  -- the next query ended the run
+  pub ends_with : (count : ℕ) (query : Query) (more : List Query) (block : List ℕ) (others : List (List ℕ)) (number : ℕ) (r : Result (Unit {0}) Status) (status : Status) → r ≡ Err status → number ≡ suc count → PassedBy depth stream queries blocks old mid blank half count → drop count queries ≡ query ∷ more → drop count blocks ≡ block ∷ others
+      → Checks depth stream query block number mid new half full r → EndsWith depth stream queries blocks old new blank full status
+  ends_with count query more block others number r status ended is so asks at checks = record {
+    done = so.done;
+    mid = mid;
+    half = half;
+    passed = so.passed;
+    query = query;
+    block = block;
+    next_query = more;
+    next_block = others;
+    asks = ap (λ (n : ℕ). drop n queries) so.counted ∙ asks;
+    at = ap (λ (n : ℕ). drop n blocks) so.counted ∙ at;
+    checks = subst (λ (n : ℕ). Checks depth stream query block n mid new half full (Err status)) (is ∙ ap suc (sym so.counted)) (subst (Checks depth stream query block number mid new half full) ended checks);
+  }
+
+-- ---- the seat of a query
+
+-- the seat of this number, which is within the list
+pub record NextSeat (depth : ℕ) (stream : List Update) (seats : List QuerySeat) (queries : List Query) (count : ℕ) (query : Query) : Type 0 where
+  pub seat : QuerySeat
+  pub more : List QuerySeat
+  pub is : drop count seats ≡ seat ∷ more
+  pub asks : seat.query ≡ query
+  pub stands : StandsFor depth stream seat
+  pub next_query : List Query
+  pub next_block : List (List ℕ)
+  pub queries_from : drop count queries ≡ query ∷ next_query
+  pub blocks_from : drop count (map block_of seats) ≡ block_of seat ∷ next_block
+
+next_seat_of : (depth : ℕ) (stream : List Update) (seats rest : List QuerySeat) (queries more : List Query) (count : ℕ) (query : Query) → drop count seats ≡ rest → map (λ seat. seat.query) seats ≡ queries → All (StandsFor depth stream) rest
+    → drop count queries ≡ query ∷ more → NextSeat depth stream seats queries count query
+next_seat_of depth stream seats [] queries more count query is same all from =
+    absurd (let e : [] ≡ query ∷ more = ap (λ (l : List QuerySeat). map (λ (s : QuerySeat). s.query) l) (sym is) ∙ sym (drop-map (λ (s : QuerySeat). s.query) count seats) ∙ ap (λ (l : List Query). drop count l) same ∙ from in cc)
+next_seat_of depth stream seats (seat ∷ rest) queries more count query is same all from =
+    let e : seat.query ∷ map (λ (s : QuerySeat). s.query) rest ≡ query ∷ more = ap (λ (l : List QuerySeat). map (λ (s : QuerySeat). s.query) l) (sym is) ∙ sym (drop-map (λ (s : QuerySeat). s.query) count seats) ∙ ap (λ (l : List Query). drop count l) same ∙ from in
+    record {
+      seat = seat;
+      more = rest;
+      is = is;
+      asks = cc;
+      stands = all 0 seat (omega arith);
+      next_query = more;
+      next_block = map block_of rest;
+      queries_from = from;
+      blocks_from = drop-map block_of count seats ∙ ap (λ (l : List QuerySeat). map block_of l) is;
+    }
+
+-- a query has its seat
+pub next_seat : (depth : ℕ) (stream : List Update) (seats : List QuerySeat) (queries more : List Query) (count : ℕ) (query : Query) → map (λ seat. seat.query) seats ≡ queries → All (StandsFor depth stream) seats
+    → drop count queries ≡ query ∷ more → NextSeat depth stream seats queries count query
+next_seat depth stream seats queries more count query same all from = next_seat_of depth stream seats (drop count seats) queries more count query refl same (All-drop (StandsFor depth stream) count seats all) from
+
+-- what came of all queries of a task, whose seats the session had
+pub all_checked : (task : Task) (stream : List Update) (challenges : List ℕ) (seats : Seats) (depth : ℕ) (left : List QuerySeat) (queries : List Query) (old new blank full : Option (List TalkEvent)) (r : Result (Unit {0}) Status) → depth ≡ seats.depth
+    → left ≡ seats.seats.items → queries ≡ task.queries.items → AreSeats task.depth task.queries.items (blocks task challenges) stream seats
+    → ((stream : List Update) → map (λ seat. seat.query) left ≡ queries → All (StandsFor depth stream) left → ChecksAll depth stream queries (map block_of left) old new blank full r)
+    → ChecksAll task.depth stream task.queries.items (blocks task challenges) old new blank full r
+all_checked task stream challenges seats depth left queries old new blank full r deep its same are came =
+    let levels : depth ≡ task.depth = deep ∙ are.levels in
+    let stand = subst (λ (n : ℕ). All (StandsFor n stream) left) (sym levels) (subst (All (StandsFor task.depth stream)) (sym its) are.stand) in
+    let checks = came stream (ap (λ (seats : List QuerySeat). map (λ (s : QuerySeat). s.query) seats) its ∙ are.asked ∙ sym same) stand in
+    let at_blocks : map block_of left ≡ blocks task challenges = ap (λ (seats : List QuerySeat). map block_of seats) its ∙ are.at_blocks in
+    subst (λ (n : ℕ). ChecksAll n stream task.queries.items (blocks task challenges) old new blank full r) levels
+    (subst (λ (qs : List Query). ChecksAll depth stream qs (blocks task challenges) old new blank full r) same (subst (λ (bs : List (List ℕ)). ChecksAll depth stream queries bs old new blank full r) at_blocks checks))
+
+-- a fault of a port has its cause, since an earlier moment
+pub check_caused : (first first_now second second_now earlier peer peer_now report report_now : ℕ) (status : Status) → earlier ≤ peer → CheckFault peer peer_now report report_now (Err status)
+    → FaultClause (counts first second earlier report) (counts first_now second_now peer_now report_now) status
+check_caused first first_now second second_now earlier peer peer_now report report_now (statuses.ReadFault port) later fault = absurd fault
+check_caused first first_now second second_now earlier peer peer_now report report_now (statuses.WriteFault ports.First) later fault = absurd fault
+check_caused first first_now second second_now earlier peer peer_now report report_now (statuses.WriteFault ports.Second) later fault = absurd fault
+check_caused first first_now second second_now earlier peer peer_now report report_now (statuses.WriteFault ports.Report) later fault = fault
+check_caused first first_now second second_now earlier peer peer_now report report_now (statuses.WriteFault ports.Keep) later fault = absurd fault
+check_caused first first_now second second_now earlier peer peer_now report report_now statuses.PeerFault later fault = Rose-since earlier peer peer_now later fault
+check_caused first first_now second second_now earlier peer peer_now report report_now _ later fault = tt

@@ -1,0 +1,379 @@
+-- The promises where a run ends at its queries or behind them.
+use Rattle.std.proofs.Common.{◌≡◌, ◌≢◌, ℕ, suc, ◌≤◌, Bool, Option, Some, None, Result, Ok, Err, List, [], ◌∷◌, ◌++◌, length, drop, refl, sym, ap, subst, ◌∙◌, inl, inr, append_assoc, append-nil, take, take-append-drop, arith}
+use Rattle.std.specs.Prelude.{flat_map, ◌⊎◌, if◌then◌else◌, MatchResult}
+use Rattle.std.proofs.lemmas.Bool.Decides.{Decides-eqb}
+use Rattle.std.proofs.lemmas.List.{length-map, map-append}
+use Rattle.sip_ports.specs.declared.port.PortStop.{PortStop}
+use Rattle.sip_ports.specs.declared.port.PortStop.TheVariants as port_stops
+use Rattle.sip_ports.specs.declared.port.TalkEvent.{TalkEvent}
+use Rattle.sip_ports.specs.Ports.{GoesOn, Rose, SendsWhole, outs}
+use Rattle.sip_ports.proofs.FaultLemmas.{Rose-since}
+use Rattle.sip_ports.proofs.TalkLemmas.{GoesOn-refl, GoesOn-trans, outs-append}
+use Rattle.sip_subvec.specs.Replies.{Fault}
+use Rattle.sip_vector.specs.declared.query.Query.{Query}
+use Rattle.sip_vector.specs.declared.query.Query.TheVariants.{Sub, Range, F2, Inner, Heavy}
+use Rattle.sip_vector.specs.Answers.{Answer}
+use Rattle.sip_wire.specs.declared.message.Message.TheVariants as messages
+use Rattle.sip_wire.specs.declared.message.Reason.{Reason}
+use Rattle.sip_wire.specs.Spelling.{spelling}
+use Rattle.sip_verifier.specs.declared.status.Port.TheVariants as ports
+use Rattle.sip_verifier.specs.declared.status.Status.{Status}
+use Rattle.sip_verifier.specs.declared.status.Status.TheVariants as statuses
+use Rattle.sip_verifier.specs.declared.task.Task.{Task}
+use Rattle.sip_verifier.specs.Asking.{turn_of}
+use Rattle.sip_verifier.specs.CauseClause.{Counts, FaultClause}
+use Rattle.sip_verifier.specs.Draws.{drawn, blocks}
+use Rattle.sip_verifier.specs.Ending.{status_of_link}
+use Rattle.sip_verifier.specs.Exchanges.{Exchange, IsPrefix}
+use Rattle.sip_verifier.specs.Progress.{Fails, PassesInPart, FailsInPart, HasNone, AreFirst, Passed, PassedBy, EndsWith, Promises, status_of}
+use Rattle.sip_verifier.specs.Reports.{line, rejection}
+use Rattle.sip_verifier.specs.Talks.{stream_sent, bye_sent}
+use Rattle.sip_verifier.specs.TalkClause.{EndsAtFault, IsUnderWay}
+use Rattle.sip_verifier.specs.Turns.{Turn, Accepted, Accepts, IsFaulty, IsUnfinished, IsWaiting, said_in_turn, ending, updates, IsLegalToEnd, Done, turns_of, lines, farewell, AreTurns, Reached}
+use Rattle.sip_verifier.specs.VerdictClause.{OneFaulty, SomeWritten, PartWritten, PartRejected, CutInLine, NoneLeft}
+use Rattle.sip_verifier.proofs.QueriesChecked.{first_more, flat_map_snoc}
+use Rattle.sip_verifier.proofs.RunTalks.{Adds, said_is, written_is, front_before}
+
+-- a turn that waits is unfinished
+unfinished : (query : Query) (block : List ℕ) (replies : List (List ℕ)) → IsWaiting (turn_of query block replies) → IsUnfinished (turn_of query block replies)
+unfinished (Sub lo hi) block replies waits = waits.0
+unfinished (Range side lo hi) block replies waits = waits
+unfinished (F2 side) block replies waits = waits
+unfinished Inner block replies waits = waits
+unfinished (Heavy side at_least) block replies waits = waits
+
+-- the farewell is one message's spelling
+bye_is : outs (spelling messages.Bye) ≡ bye_sent
+bye_is = ap outs (sym (append-nil (spelling messages.Bye)))
+
+-- a front of it
+bye_front : (n : ℕ) → IsPrefix (outs (take n (spelling messages.Bye))) bye_sent
+bye_front n = (outs (drop n (spelling messages.Bye)), sym bye_is ∙ ap outs (sym (take-append-drop n (spelling messages.Bye))) ∙ outs-append _ _)
+
+-- a fault of the link has its cause
+link_caused : (before now : Counts) (stop : PortStop) → (stop ≡ port_stops.Failed → Rose before.peer now.peer) → FaultClause before now (status_of_link stop)
+link_caused before now port_stops.Failed failed = failed refl
+link_caused before now port_stops.OutOfMemory failed = tt
+
+regroup : (a b c d : List TalkEvent) → a ++ b ++ (c ++ d) ≡ a ++ (b ++ c) ++ d
+regroup a b c d = sym (append_assoc (a ++ b) c d) ∙ ap (λ (l : List TalkEvent). l ++ d) (append_assoc a b c)
+
+module _ (task : Task) (x : Exchange) where
+  abbrev streamed : List TalkEvent
+  streamed = stream_sent task.depth (updates task x)
+
+  -- a list of turns, said
+  abbrev said : List Turn → List TalkEvent
+  said turns = flat_map said_in_turn turns
+
+  -- the seed gave these challenges, and the stream was legal and sent; these queries were accepted, then this was said and this was written
+  pub record Came (challenges : List ℕ) (done : Done task x) (rest : List TalkEvent) (part : List ℕ) : Type 0 where
+    pub draws : drawn task x.seed ≡ Some challenges
+    pub legal : IsLegalToEnd task x
+    pub first : AreFirst task.queries.items (blocks task challenges) (turns_of task x done)
+    pub talk : x.talk ≡ stream_sent task.depth (updates task x) ++ flat_map said_in_turn (turns_of task x done) ++ rest
+    pub report : x.report ≡ lines task x done ++ part
+
+  pub came : (challenges : List ℕ) (done : Done task x) (rest : List TalkEvent) (part : List ℕ) (t0 t1 t2 t3 r0 r1 r2 : Option (List TalkEvent)) → drawn task x.seed ≡ Some challenges → IsLegalToEnd task x
+      → Adds t0 t3 x.talk → Adds r0 r2 (outs x.report) → GoesOn t0 t1 (stream_sent task.depth (updates task x)) → Passed task.depth (updates task x) task.queries.items (blocks task challenges) t1 t2 r0 r1 done
+      → GoesOn t2 t3 rest → GoesOn r1 r2 (outs part) → Came challenges done rest part
+  came challenges done rest part t0 t1 t2 t3 r0 r1 r2 draws legal told wrote went passed goes writes = record {
+    draws = draws;
+    legal = legal;
+    first = passed.first;
+    talk = said_is t0 t3 _ x.talk (GoesOn-trans t0 t2 t3 _ rest (GoesOn-trans t0 t1 t2 streamed (said (turns_of task x done)) went passed.talk) goes) told;
+    report = written_is r0 r2 (lines task x done ++ part) x.report
+        (subst (GoesOn r0 r2) (sym (outs-append (lines task x done) part)) (GoesOn-trans r0 r1 r2 (outs (lines task x done)) (outs part) passed.report writes)) wrote;
+  }
+
+  module _ {challenges : List ℕ} {done : Done task x} {rest : List TalkEvent} {part : List ℕ} (c : Came challenges done rest part) where
+    is_drawn : drawn task x.seed ≢ None
+    is_drawn none = let some = c.draws in cc
+
+    good : (drawn task x.seed ≢ None) × IsLegalToEnd task x
+    good = (is_drawn, c.legal)
+
+    reached : Reached task x (turns_of task x done) rest
+    reached = record { are_turns = record { challenges = challenges; drawn = c.draws; queries = c.first.asked; blocks = c.first.at_blocks }; legal = c.legal; talk = c.talk }
+
+    -- this is the query behind those that were accepted
+    pub record Next (query : Query) (block : List ℕ) : Type 0 where
+      pub more : List Query
+      pub others : List (List ℕ)
+      pub asks : drop (length done) task.queries.items ≡ query ∷ more
+      pub at : drop (length done) (blocks task challenges) ≡ block ∷ others
+
+    are_turns : {query : Query} {block : List ℕ} (replies : List (List ℕ)) → Next query block → AreTurns task x (turns_of task x done ++ turn_of query block replies ∷ [])
+    are_turns {query = query} {block = block} replies next =
+        let count : length (turns_of task x done) ≡ length done = length-map done (λ (a : Accepted task.depth (updates task x)). a.turn) in
+        let first : AreFirst task.queries.items (blocks task challenges) (turns_of task x done ++ turn_of query block replies ∷ []) =
+        first_more task.queries.items next.more (blocks task challenges) next.others (turns_of task x done) query block replies c.first (ap (λ (n : ℕ). drop n task.queries.items) count ∙ next.asks)
+        (ap (λ (n : ℕ). drop n (blocks task challenges)) count ∙ next.at) in
+        record { challenges = challenges; drawn = c.draws; queries = first.asked; blocks = first.at_blocks }
+
+    were_reached : (done ≡ []) ⊎ ((end : List TalkEvent) × Reached task x (turns_of task x done) end)
+    were_reached = inr (rest, reached)
+
+    module _ {query : Query} {block : List ℕ} (next : Next query block) (replies : List (List ℕ)) where
+      abbrev turn : Turn
+      turn = turn_of query block replies
+
+      abbrev all_turns : List Turn
+      all_turns = turns_of task x done ++ turn ∷ []
+
+      -- with that query's turn
+      reached_more : (end : List TalkEvent) → rest ≡ said_in_turn turn ++ end → Reached task x all_turns end
+      reached_more end is = record {
+        are_turns = are_turns replies next;
+        legal = c.legal;
+        talk = c.talk ∙ ap (λ (l : List TalkEvent). streamed ++ said (turns_of task x done) ++ l) is ∙ regroup streamed (said (turns_of task x done)) (said_in_turn turn) end
+            ∙ ap (λ (l : List TalkEvent). streamed ++ l ++ end) (sym (flat_map_snoc said_in_turn (turns_of task x done) turn));
+      }
+
+      -- ---- its replies have a fault
+
+      module _ (round : ℕ) (reason : Reason) (faulty : IsFaulty task.depth (updates task x) turn (record { round = round; reason = reason })) (is : rest ≡ said_in_turn turn ++ ending reason) where
+        ends_at_fault : EndsAtFault task x (record { round = round; reason = reason })
+        ends_at_fault = record { done = done; last = turn; faulty = faulty; reached = reached_more (ending reason) is }
+
+        one_faulty : part ≡ rejection (suc (length done)) round reason → OneFaulty task x (suc (length done)) round reason
+        one_faulty all = record {
+          done = done;
+          number = refl;
+          last = turn;
+          faulty = faulty;
+          reached = reached_more (ending reason) is;
+          report = c.report ∙ ap (λ (l : List ℕ). lines task x done ++ l) all;
+        }
+
+        part_rejected : IsPrefix part (rejection (suc (length done)) round reason) → PartRejected task x done part
+        part_rejected front = record { last = turn; fault = record { round = round; reason = reason }; faulty = faulty; reached = reached_more (ending reason) is; front = front }
+
+      -- ---- its replies are accepted, and nothing was said since
+
+      module _ (answer : Answer) (accepts : Accepts task.depth (updates task x) turn answer) (is : rest ≡ said_in_turn turn ++ []) where
+        abbrev one : Accepted task.depth (updates task x)
+        one = record { turn = turn; answer = answer; accepts = accepts }
+
+        part_written : IsPrefix part (line query answer) → PartWritten task x done part
+        part_written front = record { next = one; reached = reached_more [] is; front = front }
+
+        with_one : turns_of task x (done ++ one ∷ []) ≡ all_turns
+        with_one = map-append (λ (a : Accepted task.depth (updates task x)). a.turn) done (one ∷ [])
+
+        -- the talk is that of all turns
+        talk_is : streamed ++ said all_turns ≡ x.talk
+        talk_is = let r = reached_more [] is in sym (r.talk ∙ append-nil _)
+
+        way_accepted : IsUnderWay task x
+        way_accepted = record {
+          done = done ++ one ∷ [];
+          current = None;
+          unfinished = tt;
+          turns = λ _. subst (AreTurns task x) (sym (append-nil _ ∙ with_one)) (are_turns replies next);
+          order = (
+            farewell task x (done ++ one ∷ []),
+            ap (λ (ts : List Turn). streamed ++ said ts ++ farewell task x (done ++ one ∷ [])) (append-nil _ ∙ with_one) ∙ ap (λ (l : List TalkEvent). l ++ farewell task x (done ++ one ∷ [])) talk_is,
+          );
+          legal = λ not. absurd (not c.legal);
+          written = λ more. absurd (more ([], ap (λ (ts : List Turn). streamed ++ said ts) with_one ∙ talk_is ∙ sym (append-nil x.talk)));
+        }
+
+      -- ---- it waits for replies, and nothing was written
+
+      module _ (waits : IsWaiting turn) (order : IsPrefix rest (said_in_turn turn)) (blank : part ≡ []) where
+        only_lines : x.report ≡ lines task x done
+        only_lines = c.report ∙ ap (λ (l : List ℕ). lines task x done ++ l) blank ∙ append-nil _
+
+        front_of_turns : IsPrefix x.talk (streamed ++ said all_turns)
+        front_of_turns = (
+          order.0,
+          ap (λ (l : List TalkEvent). streamed ++ l) (flat_map_snoc said_in_turn (turns_of task x done) turn) ∙ ap (λ (l : List TalkEvent). streamed ++ (said (turns_of task x done) ++ l)) order.1
+              ∙ sym (append_assoc streamed (said (turns_of task x done)) (rest ++ order.0)) ∙ sym (append_assoc (streamed ++ said (turns_of task x done)) rest order.0)
+              ∙ ap (λ (l : List TalkEvent). l ++ order.0) (sym c.talk),
+        )
+
+        in_order : IsPrefix x.talk (streamed ++ said all_turns ++ farewell task x done)
+        in_order = front_before x.talk (streamed ++ said all_turns) (farewell task x done) front_of_turns
+
+        way_waiting : IsUnderWay task x
+        way_waiting = record {
+          done = done;
+          current = Some turn;
+          unfinished = unfinished query block replies waits;
+          turns = λ _. are_turns replies next;
+          order = in_order;
+          legal = λ not. absurd (not c.legal);
+          written = λ _. only_lines;
+        }
+
+        none_left : NoneLeft task x
+        none_left = record { done = done; current = Some turn; waits = waits; reached = were_reached; order = in_order; report = only_lines }
+
+        some_written : SomeWritten task x
+        some_written = record { done = done; part = []; reached = were_reached; part_of = inl refl; report = only_lines ∙ sym (append-nil _) }
+
+    -- ---- every query was accepted
+
+    farewell_is : length done ≡ length task.queries.items → farewell task x done ≡ bye_sent
+    farewell_is all = ap (λ (b : Bool). if b then bye_sent else []) ((Decides-eqb (length done) (length task.queries.items)).1 all)
+
+    module _ (all : length done ≡ length task.queries.items) (blank : part ≡ []) where
+      all_lines : x.report ≡ lines task x done
+      all_lines = c.report ∙ ap (λ (l : List ℕ). lines task x done ++ l) blank ∙ append-nil _
+
+      module _ (front : IsPrefix rest bye_sent) where
+        order_at_bye : IsPrefix x.talk (streamed ++ said (turns_of task x done ++ []) ++ farewell task x done)
+        order_at_bye = (
+          front.0,
+          ap (λ (ts : List Turn). streamed ++ said ts ++ farewell task x done) (append-nil _) ∙ ap (λ (l : List TalkEvent). streamed ++ said (turns_of task x done) ++ l) (farewell_is all ∙ front.1)
+              ∙ sym (append_assoc (streamed ++ said (turns_of task x done)) rest front.0) ∙ ap (λ (l : List TalkEvent). l ++ front.0) (sym c.talk),
+        )
+
+        way_at_bye : IsUnderWay task x
+        way_at_bye = record {
+          done = done;
+          current = None;
+          unfinished = tt;
+          turns = λ _. subst (AreTurns task x) (sym (append-nil _)) reached.are_turns;
+          order = order_at_bye;
+          legal = λ not. absurd (not c.legal);
+          written = λ _. all_lines;
+        }
+
+        -- the farewell was not sent whole
+        pub after_bye : (before now : Counts) (stop : PortStop) → FaultClause before now (status_of_link stop) → Promises task x before now (status_of_link stop)
+        after_bye before now port_stops.Failed cause = record {
+          verdict = record { done = done; current = None; waits = tt; reached = were_reached; order = order_at_bye; report = all_lines };
+          talk = way_at_bye;
+          cause = cause;
+        }
+        after_bye before now port_stops.OutOfMemory cause = record {
+          verdict = record { done = done; part = []; reached = were_reached; part_of = inl refl; report = all_lines ∙ sym (append-nil _) };
+          talk = inl way_at_bye;
+          cause = tt;
+        }
+
+      -- all went well
+      pub at_end : (before now : Counts) → rest ≡ bye_sent → x.unread ≡ [] → Promises task x before now statuses.Accepted
+      at_end before now is read =
+          let whole : Reached task x (turns_of task x done) bye_sent = subst (Reached task x (turns_of task x done)) is reached in
+          record {
+            verdict = record { done = done; all = all; reached = whole; report = all_lines; read = read };
+            talk = record { done = done; all = all; reached = whole };
+            cause = good;
+          }
+
+  -- ---- a query ended the run
+
+  module _ (challenges : List ℕ) (t0 t1 t3 r0 r2 : Option (List TalkEvent)) (draws : drawn task x.seed ≡ Some challenges) (legal : IsLegalToEnd task x)
+      (told : Adds t0 t3 x.talk) (wrote : Adds r0 r2 (outs x.report)) (went : GoesOn t0 t1 (stream_sent task.depth (updates task x))) where
+    module _ {status : Status} (e : EndsWith task.depth (updates task x) task.queries.items (blocks task challenges) t1 t3 r0 r2 status) where
+      its : {rest : List TalkEvent} {part : List ℕ} → GoesOn e.mid t3 rest → GoesOn e.half r2 (outs part) → Came challenges e.done rest part
+      its {rest = rest} {part = part} goes writes = came challenges e.done rest part t0 t1 e.mid t3 r0 e.half r2 draws legal told wrote went e.passed goes writes
+
+      its_next : {rest : List TalkEvent} {part : List ℕ} (c : Came challenges e.done rest part) → Next c e.query e.block
+      its_next c = record { more = e.next_query; others = e.next_block; asks = e.asks; at = e.at }
+
+      -- its line was not written whole
+      module _ (p : PassesInPart task.depth (updates task x) e.query e.block (suc (length e.done)) e.mid t3 e.half r2) where
+        passing : Came challenges e.done (said_in_turn (turn_of e.query e.block p.answered.replies) ++ []) p.part
+        passing = its (subst (GoesOn e.mid t3) (sym (append-nil _)) p.answered.talk) p.wrote
+
+        written_in_part : PartWritten task x e.done p.part
+        written_in_part = part_written passing (its_next passing) p.answered.replies p.answer p.answered.accepted refl p.front
+
+        way_passing : IsUnderWay task x
+        way_passing = way_accepted passing (its_next passing) p.answered.replies p.answer p.answered.accepted refl
+
+        cut_passing : CutInLine task x
+        cut_passing = record { done = e.done; part = p.part; reached = were_reached passing; verdict = inl written_in_part; report = passing.report }
+
+        some_passing : SomeWritten task x
+        some_passing = record { done = e.done; part = p.part; reached = were_reached passing; part_of = inr (inl written_in_part); report = passing.report }
+
+      -- the line of its rejection was not written whole
+      module _ (p : FailsInPart task.depth (updates task x) e.query e.block (suc (length e.done)) e.mid t3 e.half r2) where
+        failing : Came challenges e.done (said_in_turn (turn_of e.query e.block p.rejected.replies) ++ ending p.reason) p.part
+        failing = its p.rejected.talk p.wrote
+
+        rejected_in_part : PartRejected task x e.done p.part
+        rejected_in_part = part_rejected failing (its_next failing) p.rejected.replies p.round p.reason p.rejected.faulty refl p.front
+
+        ends_failing : (fault : Fault) × EndsAtFault task x fault
+        ends_failing = (record { round = p.round; reason = p.reason }, ends_at_fault failing (its_next failing) p.rejected.replies p.round p.reason p.rejected.faulty refl)
+
+        cut_failing : CutInLine task x
+        cut_failing = record { done = e.done; part = p.part; reached = were_reached failing; verdict = inr rejected_in_part; report = failing.report }
+
+        some_failing : SomeWritten task x
+        some_failing = record { done = e.done; part = p.part; reached = were_reached failing; part_of = inr (inr rejected_in_part); report = failing.report }
+
+      -- it has no verdict
+      module _ (n : HasNone task.depth (updates task x) e.query e.block (suc (length e.done)) e.mid t3 e.half r2) where
+        waiting : Came challenges e.done n.interrupted.said []
+        waiting = its n.interrupted.talk (subst (λ (o : Option (List TalkEvent)). GoesOn e.half o []) (sym n.same) (GoesOn-refl e.half))
+
+        way_of_none : IsUnderWay task x
+        way_of_none = way_waiting waiting (its_next waiting) n.interrupted.replies n.interrupted.waits n.interrupted.order refl
+
+        left_of_none : NoneLeft task x
+        left_of_none = none_left waiting (its_next waiting) n.interrupted.replies n.interrupted.waits n.interrupted.order refl
+
+        some_of_none : SomeWritten task x
+        some_of_none = some_written waiting (its_next waiting) n.interrupted.replies n.interrupted.waits n.interrupted.order refl
+
+      -- it was rejected, and the whole line was written
+      rejects : (before now : Counts) (round : ℕ) (reason : Reason) → Fails task.depth (updates task x) e.query e.block (suc (length e.done)) e.mid t3 e.half r2 round reason
+          → Promises task x before now (statuses.Rejected (suc (length e.done)) round reason)
+      rejects before now round reason f =
+          let c : Came challenges e.done (said_in_turn (turn_of e.query e.block f.rejected.replies) ++ ending reason) (rejection (suc (length e.done)) round reason) = its f.rejected.talk f.wrote in
+          record {
+            verdict = one_faulty c (its_next c) f.rejected.replies round reason f.rejected.faulty refl refl;
+            talk = ends_at_fault c (its_next c) f.rejected.replies round reason f.rejected.faulty refl;
+            cause = good c;
+          }
+
+    pub after_queries : (before now : Counts) (status : Status) → EndsWith task.depth (updates task x) task.queries.items (blocks task challenges) t1 t3 r0 r2 status → FaultClause before now status → Promises task x before now status
+    after_queries before now (statuses.Rejected number round reason) e cause =
+        let checks = e.checks in
+        subst (λ (n : ℕ). Promises task x before now (statuses.Rejected n round reason)) (sym checks.0) (rejects e before now round reason checks.1)
+    after_queries before now (statuses.WriteFault ports.First) e cause = absurd e.checks
+    after_queries before now (statuses.WriteFault ports.Second) e cause = absurd e.checks
+    after_queries before now (statuses.WriteFault ports.Report) e cause =
+        elim (e.checks) as (λ _. Promises task x before now (statuses.WriteFault ports.Report)) [
+          | inl p ↦ record { verdict = cut_passing e p; talk = inl (way_passing e p); cause = cause }
+          | inr p ↦ record { verdict = cut_failing e p; talk = inr (ends_failing e p); cause = cause }
+        ]
+    after_queries before now (statuses.WriteFault ports.Keep) e cause = absurd e.checks
+    after_queries before now statuses.PeerFault e cause = record { verdict = left_of_none e e.checks; talk = way_of_none e e.checks; cause = cause }
+    after_queries before now statuses.OutOfMemory e cause =
+        elim (e.checks) as (λ _. Promises task x before now statuses.OutOfMemory) [
+          | inl p ↦ record { verdict = some_passing e p; talk = inl (way_passing e p); cause = tt }
+          | inr (inl p) ↦ record { verdict = some_failing e p; talk = inr (ends_failing e p); cause = tt }
+          | inr (inr n) ↦ record { verdict = some_of_none e n; talk = inl (way_of_none e n); cause = tt }
+        ]
+    after_queries before now _ e cause = absurd e.checks
+
+    -- ---- all were accepted, and the farewell was sent, or a front of it
+
+    pub at_bye : (before now : Counts) (t2 : Option (List TalkEvent)) (sent : Result (Unit {0}) PortStop) (r : Result (Unit {0}) Status) → PassedBy task.depth (updates task x) task.queries.items (blocks task challenges) t1 t2 r0 r2 (length task.queries.items)
+        → SendsWhole t2 t3 sent (spelling messages.Bye) → MatchResult r (λ u. sent ≡ Ok u) (λ status. (port : PortStop) × (sent ≡ Err port) × (status ≡ status_of_link port))
+        → (sent ≡ Err port_stops.Failed → Rose before.peer now.peer) → x.unread ≡ [] → Promises task x before now (status_of r)
+    at_bye before now t2 (Ok u) (Ok v) so goes on cause read =
+        let c : Came challenges so.done (outs (spelling messages.Bye)) [] = came challenges so.done (outs (spelling messages.Bye)) [] t0 t1 t2 t3 r0 r2 r2 draws legal told wrote went so.passed goes (GoesOn-refl r2) in
+        at_end c so.counted refl before now bye_is read
+    at_bye before now t2 (Ok u) (Err status) so goes (port, is, stops) cause read = absurd cc
+    at_bye before now t2 (Err stop) (Ok v) so goes on cause read = absurd cc
+    at_bye before now t2 (Err stop) (Err status) so (n, less, goes) (port, is, stops) cause read =
+        let c : Came challenges so.done (outs (take n (spelling messages.Bye))) [] =
+        came challenges so.done (outs (take n (spelling messages.Bye))) [] t0 t1 t2 t3 r0 r2 r2 draws legal told wrote went so.passed goes (GoesOn-refl r2) in
+        subst (Promises task x before now) (sym stops) (after_bye c so.counted refl (bye_front n) before now port (link_caused before now port (λ e. cause (is ∙ ap Err e))))
+
+-- all was read
+pub all_read : {left : Option (List ℕ)} {unread : List ℕ} → left ≡ Some unread → left ≡ Some [] → unread ≡ []
+all_read e f = cc
+
+-- a count that rose in the last call rose in the run
+pub rose_since : (a b c d : ℕ) → a ≤ b → b ≤ c → Rose c d → Rose a d
+rose_since a b c d before after rose = Rose-since a c d (omega arith) rose

@@ -1,0 +1,139 @@
+-- What an exchange tells of the talk and of the report.
+use Rattle.std.proofs.Common.{◌≡◌, ℕ, Option, Some, None, Result, Ok, Err, IsSome, List, [], ◌∷◌, ◌++◌, length, refl, sym, ap, subst, ◌∙◌, inl, inr, append_assoc, take, suc}
+use Rattle.std.specs.Prelude.{flat_map, ◌⊎◌}
+use Rattle.sip_ports.specs.declared.port.PortStop.{PortStop}
+use Rattle.sip_ports.specs.declared.port.TalkEvent.{TalkEvent}
+use Rattle.sip_ports.specs.Ports.{GoesOn, SendsWhole, outs}
+use Rattle.sip_ports.proofs.TalkLemmas.{GoesOn-refl, GoesOn-trans, GoesOn-told, outs-injective, outs-append}
+use Rattle.sip_vector.specs.declared.query.Query.{Query}
+use Rattle.sip_vector.specs.declared.update.Update.{Update}
+use Rattle.sip_verifier.specs.declared.status.Port.TheVariants as ports
+use Rattle.sip_verifier.specs.declared.status.Status.{Status}
+use Rattle.sip_verifier.specs.declared.status.Status.TheVariants as statuses
+use Rattle.sip_verifier.specs.declared.task.Task.{Task}
+use Rattle.sip_verifier.specs.Exchanges.{told, IsTold, Exchange, Tells, IsPrefix}
+use Rattle.sip_verifier.specs.Gathering.{Refuses}
+use Rattle.sip_verifier.specs.Progress.{Checks, PassesInPart, FailsInPart, PassedBy, EndsWith}
+use Rattle.sip_verifier.specs.Reports.{line, rejection}
+use Rattle.sip_verifier.specs.Turns.{Accepted}
+
+-- a talk that is told before and after, with these events between
+abbrev pub Adds : Option (List TalkEvent) → Option (List TalkEvent) → List TalkEvent → Type 0
+Adds old new said = (had : List TalkEvent) × (old ≡ Some had) × (new ≡ Some (had ++ said))
+
+same_more : (had xs ys : List TalkEvent) → had ++ xs ≡ had ++ ys → xs ≡ ys
+same_more [] xs ys e = e
+same_more (h ∷ had) xs ys e = same_more had xs ys cc
+
+-- events that went on a talk are the new events of the exchange
+pub said_is : (old new : Option (List TalkEvent)) (events said : List TalkEvent) → GoesOn old new events → Adds old new said → said ≡ events
+said_is None new events said went told = absurd (let e = told.1 in cc)
+said_is (Some talk) None events said went told = absurd went
+said_is (Some talk) (Some more) events said went told =
+    let a : talk ≡ told.0 = let e = told.1 in cc in
+    let b : more ≡ told.0 ++ said = let e = told.2 in cc in
+    same_more told.0 said events (sym b ∙ went ∙ ap (λ (l : List TalkEvent). l ++ events) a)
+
+-- bytes that were written are the new bytes of the report
+pub written_is : (old new : Option (List TalkEvent)) (bytes report : List ℕ) → GoesOn old new (outs bytes) → Adds old new (outs report) → report ≡ bytes
+written_is old new bytes report went told = outs-injective report bytes (said_is old new (outs bytes) (outs report) went told)
+
+-- nothing is new where nothing moved
+pub nothing_new : (old new : Option (List TalkEvent)) (said : List TalkEvent) → new ≡ old → Adds old new said → said ≡ []
+nothing_new old new said same told = said_is old new [] said (subst (λ (o : Option (List TalkEvent)). GoesOn old o []) (sym same) (GoesOn-refl old)) told
+
+pub nothing_reported : (old : Option (List TalkEvent)) (report : List ℕ) → Adds old old (outs report) → report ≡ []
+nothing_reported old report told = written_is old old [] report (GoesOn-refl old) told
+
+-- ---- fronts
+
+-- a front of some events is one of more
+pub front_before : {X : Type 0} (xs ys zs : List X) → IsPrefix xs ys → IsPrefix xs (ys ++ zs)
+front_before xs ys zs p = (p.0 ++ zs, ap (λ l. l ++ zs) p.1 ∙ append_assoc xs p.0 zs)
+
+-- a front of a front
+pub front_of_front : {X : Type 0} (xs ys zs : List X) → IsPrefix xs ys → IsPrefix ys zs → IsPrefix xs zs
+front_of_front xs ys zs p q = (p.0 ++ q.0, q.1 ∙ ap (λ l. l ++ q.0) p.1 ∙ append_assoc xs p.0 q.0)
+
+-- ---- ports that tell go on telling
+
+pub some_value : {X : Type 0} (o : Option X) → IsSome o → (v : X) × (o ≡ Some v)
+some_value None some = absurd (let is = some in cc)
+some_value (Some v) some = (v, refl)
+
+goes_to : (old new : Option (List TalkEvent)) (said : List TalkEvent) → IsSome old → GoesOn old new said → Adds old new said
+goes_to old new said some went = let had = some_value old some in (had.0, had.1, GoesOn-told had.0 new said (subst (λ (o : Option (List TalkEvent)). GoesOn o new said) had.1 went))
+
+pub tells : (f0 f1 s0 s1 : Option (List ℕ)) (t0 t1 r0 r1 : Option (List TalkEvent)) → IsTold (told f0 s0 t0 r0) → (IsSome f0 → IsSome f1) → (said : List TalkEvent) → GoesOn t0 t1 said
+    → (bytes : List ℕ) → GoesOn r0 r1 (outs bytes) → (x : Exchange) × Tells (told f0 s0 t0 r0) (told f1 s1 t1 r1) x
+tells f0 f1 s0 s1 t0 t1 r0 r1 is still said went bytes wrote =
+    let first = some_value f0 is.first in
+    let left = some_value f1 (still is.first) in
+    let second = some_value s0 is.second in (
+      record { stream = first.0; unread = left.0; seed = second.0; talk = said; report = bytes },
+      record { stream = first.1; unread = left.1; seed = second.1; talk = goes_to t0 t1 said is.talk went; report = goes_to r0 r1 (outs bytes) is.report wrote },
+    )
+
+-- ---- what went on
+
+-- some events went on
+abbrev pub Moves : Option (List TalkEvent) → Option (List TalkEvent) → Type 0
+Moves old new = (said : List TalkEvent) × GoesOn old new said
+
+still_moves : (old new : Option (List TalkEvent)) → new ≡ old → Moves old new
+still_moves old new same = ([], subst (λ (o : Option (List TalkEvent)). GoesOn old o []) (sym same) (GoesOn-refl old))
+
+-- a call that gathers moves on the link alone
+pub refuses_moves : (task : Task) (bytes seed : List ℕ) (old new : Option (List TalkEvent)) (status : Status) → Refuses task bytes seed old new status → Moves old new
+refuses_moves task bytes seed old new statuses.BadSeed refuses = still_moves old new refuses.1
+refuses_moves task bytes seed old new statuses.SeedSpent refuses = still_moves old new refuses.2
+refuses_moves task bytes seed old new (statuses.BadStream at why) refuses = (_, refuses.3)
+refuses_moves task bytes seed old new (statuses.ReadFault ports.First) refuses = (refuses.1.said, refuses.1.talk)
+refuses_moves task bytes seed old new (statuses.ReadFault ports.Second) refuses = still_moves old new refuses
+refuses_moves task bytes seed old new (statuses.ReadFault ports.Report) refuses = absurd refuses
+refuses_moves task bytes seed old new (statuses.ReadFault ports.Keep) refuses = absurd refuses
+refuses_moves task bytes seed old new statuses.PeerFault refuses = (refuses.1.said, refuses.1.talk)
+refuses_moves task bytes seed old new statuses.OutOfMemory (inl same) = still_moves old new same
+refuses_moves task bytes seed old new statuses.OutOfMemory (inr (has, cut)) = (cut.said, cut.talk)
+refuses_moves task bytes seed old new _ refuses = absurd refuses
+
+-- some bytes were written
+abbrev pub Reports : Option (List TalkEvent) → Option (List TalkEvent) → Type 0
+Reports blank full = (bytes : List ℕ) × GoesOn blank full (outs bytes)
+
+module _ (depth : ℕ) (stream : List Update) (query : Query) (block : List ℕ) (number : ℕ) (old new blank full : Option (List TalkEvent)) where
+  part_moves : PassesInPart depth stream query block number old new blank full ⊎ FailsInPart depth stream query block number old new blank full → Moves old new × Reports blank full
+  part_moves (inl part) = ((_, part.answered.talk), (part.part, part.wrote))
+  part_moves (inr part) = ((_, part.rejected.talk), (part.part, part.wrote))
+
+  -- a query that ends a run moves on the link and on the report
+  pub check_moves : (status : Status) → Checks depth stream query block number old new blank full (Err status) → Moves old new × Reports blank full
+  check_moves (statuses.Rejected k round reason) checks = ((_, checks.1.rejected.talk), (rejection number round reason, checks.1.wrote))
+  check_moves (statuses.WriteFault ports.First) checks = absurd checks
+  check_moves (statuses.WriteFault ports.Second) checks = absurd checks
+  check_moves (statuses.WriteFault ports.Report) checks = part_moves checks
+  check_moves (statuses.WriteFault ports.Keep) checks = absurd checks
+  check_moves statuses.PeerFault checks = ((_, checks.interrupted.talk), ([], subst (λ (o : Option (List TalkEvent)). GoesOn blank o []) (sym checks.same) (GoesOn-refl blank)))
+  check_moves statuses.OutOfMemory (inl part) = part_moves (inl part)
+  check_moves statuses.OutOfMemory (inr (inl part)) = part_moves (inr part)
+  check_moves statuses.OutOfMemory (inr (inr none)) = ((_, none.interrupted.talk), ([], subst (λ (o : Option (List TalkEvent)). GoesOn blank o []) (sym none.same) (GoesOn-refl blank)))
+  check_moves _ checks = absurd checks
+
+-- accepted queries move on the link and on the report
+pub passed_moves : (depth : ℕ) (stream : List Update) (queries : List Query) (blocks : List (List ℕ)) (old new blank full : Option (List TalkEvent)) (count : ℕ) → PassedBy depth stream queries blocks old new blank full count
+    → Moves old new × Reports blank full
+passed_moves depth stream queries blocks old new blank full count so = ((_, so.passed.talk), (flat_map (λ (a : Accepted depth stream). line a.turn.query a.answer) so.done, so.passed.report))
+
+-- the queries up to the last one move on the link and on the report
+pub ends_moves : (depth : ℕ) (stream : List Update) (queries : List Query) (blocks : List (List ℕ)) (old new blank full : Option (List TalkEvent)) (status : Status) → EndsWith depth stream queries blocks old new blank full status
+    → Moves old new × Reports blank full
+ends_moves depth stream queries blocks old new blank full status e =
+    let last = check_moves depth stream e.query e.block (suc (length e.done)) e.mid new e.half full status e.checks in (
+      (_, GoesOn-trans old e.mid new _ _ e.passed.talk last.0.1),
+      (_, subst (GoesOn blank full) (sym (outs-append _ last.1.0)) (GoesOn-trans blank e.half full _ _ e.passed.report last.1.1)),
+    )
+
+-- and so does a whole write, whatever came of it
+pub sends_moves : (old new : Option (List TalkEvent)) (sent : Result (Unit {0}) PortStop) (bytes : List ℕ) → SendsWhole old new sent bytes → Moves old new
+sends_moves old new (Ok u) bytes went = (outs bytes, went)
+sends_moves old new (Err stop) bytes went = (outs (take went.0 bytes), went.2)

@@ -1,0 +1,101 @@
+-- The seats of a run before any update, one after another.
+use Rattle.std.proofs.Common.{◌≡◌, ℕ, zero, suc, ◌+◌, ◌-◌, ◌*◌, ◌/◌, ◌^◌, ◌<◌, ◌≤◌, pos, List, [], ◌∷◌, ◌++◌, length, map, All, get_or, take, drop, replicate, refl, sym, ap, ◌∙◌, subst, arith, length-take-le, length-drop, take_all}
+use Rattle.std.specs.Prelude.{IsTrue}
+use Rattle.std.specs.List.{list_all}
+use Rattle.std.proofs.Math.Nat.{suc-mul, mul_comm, mul-add-div, div-eq_of_lt, mul-le-mul_right}
+use Rattle.std.proofs.lemmas.Bool.{and_from, eq-eqb, le-leb, lt-ltb}
+use Rattle.std.proofs.lemmas.List.{map-append, length-map, take_more, drop-drop}
+use Rattle.std.proofs.lemmas.List.Elements.{All-push}
+use Rattle.std.proofs.lemmas.List.Folds.{list_all-append}
+use Rattle.sip_field.specs.Moduli.{m61_modulus}
+use Rattle.sip_tree.specs.StandsFor.{RootStandsFor}
+use Rattle.sip_vector.specs.declared.query.Query.{Query}
+use Rattle.sip_vector.specs.declared.query.Query.TheVariants.{Sub, Range, F2, Inner, Heavy}
+use Rattle.sip_vector.specs.declared.update.Side.TheVariants.{First}
+use Rattle.sip_vector.specs.Pieces.{pieces, cut}
+use Rattle.sip_vector.proofs.TreeStreams.{vector_of_nothing}
+use Rattle.sip_verifier.specs.QuerySeats.{RunsOn, StandsFor, block_of, is_seat}
+use Rattle.sip_verifier.specs.Tasks.{CanBeAsked}
+use Rattle.sip_verifier.specs.declared.seat.QuerySeat.{QuerySeat}
+use Rattle.sip_verifier.specs.declared.seat.Running.{Running}
+use Rattle.sip_verifier.specs.declared.seat.Running.TheVariants.{Root}
+use Rattle.sip_verifier.proofs.Seating.{Has}
+
+-- ---- one seat
+
+-- a query with a root of zeros, one level for each challenge
+new-running : (depth : ℕ) (query : Query) (running : Running) (seat : List ℕ) (value : ℕ) → CanBeAsked depth query → Has running seat value → length seat ≡ depth
+    → RootStandsFor m61_modulus seat value (replicate (2 ^ length seat) (pos 0)) → IsTrue (is_seat depth (record { query = query; running = running })) × RunsOn depth [] query running
+new-running depth (Sub lo hi) (Root root) seat value can has size stands =
+    let ends = and_from _ _ (le-leb lo hi can.1.0) (lt-ltb hi (2 ^ depth) can.1.1) in
+    let levels : length root.seat ≡ depth = ap length has.0 ∙ size in
+    let zeros = subst (λ n. RootStandsFor m61_modulus seat value (replicate (2 ^ n) (pos 0))) size stands in
+    (and_from _ _ ends (eq-eqb (length root.seat) depth levels), rw (has.0, has.1, vector_of_nothing depth First) zeros)
+new-running depth (Range side lo hi) running seat value can has size stands = absurd (let no = can.0 in cc)
+new-running depth (F2 side) running seat value can has size stands = absurd (let no = can.0 in cc)
+new-running depth Inner running seat value can has size stands = absurd (let no = can.0 in cc)
+new-running depth (Heavy side least) running seat value can has size stands = absurd (let no = can.0 in cc)
+
+pub new-seat : (depth : ℕ) (s : QuerySeat) (seat : List ℕ) (value : ℕ) → CanBeAsked depth s.query → Has s.running seat value → length seat ≡ depth
+    → RootStandsFor m61_modulus seat value (replicate (2 ^ length seat) (pos 0)) → IsTrue (is_seat depth s) × StandsFor depth [] s
+new-seat depth s seat value can has size stands = new-running depth s.query s.running seat value can has size stands
+
+-- ---- blocks
+
+pieces-next : {X : Type 0} (k n : ℕ) (xs : List X) → pieces k (suc n) xs ≡ pieces k n xs ++ take k (drop (n * k) xs) ∷ []
+pieces-next k zero xs = let none : 0 ≡ zero * k = omega arith in ap (λ m. take k (drop m xs) ∷ []) none
+pieces-next k (suc n) xs =
+    let more = suc-mul n k in
+    let count : k + n * k ≡ suc n * k = omega arith in
+    ap (λ l. take k xs ∷ l) (pieces-next k n (drop k xs)) ∙ ap (λ l. take k xs ∷ (pieces k n (drop k xs) ++ take k l ∷ [])) (drop-drop (n * k) k xs ∙ ap (λ m. drop m xs) count)
+
+pieces-more : {X : Type 0} (k n : ℕ) (xs : List X) → pieces k (n + 1) xs ≡ pieces k n xs ++ take k (drop (n * k) xs) ∷ []
+pieces-more k n xs = let next : n + 1 ≡ suc n = omega arith in ap (λ m. pieces k m xs) next ∙ pieces-next k n xs
+
+-- there are as many as there are queries
+cut-whole : {X : Type 0} (k n : ℕ) (xs : List X) → 1 ≤ k → length xs ≡ k * n → cut k xs ≡ pieces k n xs
+cut-whole k n xs some size =
+    let part : (k - 1) / k ≡ 0 = div-eq_of_lt (omega arith) in
+    let count : (length xs + (k - 1)) / k ≡ n = ap (λ m. (m + (k - 1)) / k) size ∙ mul-add-div (omega arith) n (k - 1) ∙ (let whole = part in omega arith) in
+    ap (λ m. pieces k m xs) count
+
+-- a block is whole
+pub block-size : {X : Type 0} (k n i : ℕ) (xs : List X) → i < n → length xs ≡ k * n → length (take k (drop (i * k) xs)) ≡ k
+block-size k n i xs lt size =
+    let room : suc i * k ≤ n * k = mul-le-mul_right k lt in
+    let more = suc-mul i k in
+    let turned = mul_comm k n in
+    length-take-le k (drop (i * k) xs) (omega (arith, length-drop (i * k) xs))
+
+-- ---- all of them
+
+-- the seats of the first so many queries, in order
+pub record AreGiven (depth levels index : ℕ) (queries : List Query) (numbers : List ℕ) (seats : List QuerySeat) : Type 0 where
+  pub asked : map (λ s. s.query) seats ≡ take index queries
+  pub at_blocks : map block_of seats ≡ pieces levels index numbers
+  pub each : IsTrue (list_all (is_seat depth) seats)
+  pub stand : All (StandsFor depth []) seats
+
+-- one more
+pub given-more : (depth levels index : ℕ) (queries : List Query) (numbers : List ℕ) (seats : List QuerySeat) (d : Query) (s : QuerySeat) → AreGiven depth levels index queries numbers seats
+    → index < length queries → s.query ≡ get_or queries index d → block_of s ≡ take levels (drop (index * levels) numbers) → IsTrue (is_seat depth s) × StandsFor depth [] s
+    → AreGiven depth levels (index + 1) queries numbers (seats ++ s ∷ [])
+given-more depth levels index queries numbers seats d s given lt query block one = record {
+  asked = map-append (λ (x : QuerySeat). x.query) seats (s ∷ []) ∙ ap (λ l. l ++ s.query ∷ []) given.asked ∙ ap (λ q. take index queries ++ q ∷ []) query ∙ sym (take_more queries index d lt);
+  at_blocks = map-append block_of seats (s ∷ []) ∙ ap (λ l. l ++ block_of s ∷ []) given.at_blocks ∙ ap (λ b. pieces levels index numbers ++ b ∷ []) block ∙ sym (pieces-more levels index numbers);
+  each = list_all-append (is_seat depth) seats (s ∷ []) ∙ and_from _ _ given.each (and_from _ _ one.0 refl);
+  stand = All-push (StandsFor depth []) seats s given.stand one.1;
+}
+
+-- how many there are
+pub given-count : (depth levels index : ℕ) (queries : List Query) (numbers : List ℕ) (seats : List QuerySeat) → AreGiven depth levels index queries numbers seats → index ≤ length queries → length seats ≡ index
+given-count depth levels index queries numbers seats given le = sym (length-map seats (λ (s : QuerySeat). s.query)) ∙ ap length given.asked ∙ length-take-le index queries le
+
+-- the last one is there
+pub given-asked : (depth levels index : ℕ) (queries : List Query) (numbers : List ℕ) (seats : List QuerySeat) → AreGiven depth levels index queries numbers seats → length queries ≤ index → map (λ s. s.query) seats ≡ queries
+given-asked depth levels index queries numbers seats given le = given.asked ∙ take_all index queries le
+
+pub given-blocks : (depth levels index : ℕ) (queries : List Query) (numbers : List ℕ) (seats : List QuerySeat) → AreGiven depth levels index queries numbers seats → index ≡ length queries → 1 ≤ depth → levels ≡ depth → length numbers ≡ depth * length queries
+    → map block_of seats ≡ cut depth numbers
+given-blocks depth levels index queries numbers seats given whole some same size =
+    given.at_blocks ∙ ap (λ k. pieces k index numbers) same ∙ ap (λ n. pieces depth n numbers) whole ∙ sym (cut-whole depth (length queries) numbers some size)

@@ -1,0 +1,127 @@
+-- The promises where a run ends before its first query.
+use Rattle.std.proofs.Common.{◌≡◌, ◌≢◌, ℕ, Err, Option, None, List, [], ◌++◌, refl, sym, ap, subst, ◌∙◌, inl, inr, append-nil}
+use Rattle.sip_ports.specs.declared.port.TalkEvent.{TalkEvent}
+use Rattle.sip_verifier.specs.declared.seats.Seats.{Seats}
+use Rattle.sip_verifier.specs.declared.session.SessionStart.{SessionStart}
+use Rattle.sip_verifier.specs.declared.session.SessionStart.TheVariants as starts
+use Rattle.sip_verifier.specs.declared.status.Port.TheVariants as ports
+use Rattle.sip_verifier.specs.declared.status.Status.{Status}
+use Rattle.sip_verifier.specs.declared.status.Status.TheVariants as statuses
+use Rattle.sip_verifier.specs.declared.task.Task.{Task}
+use Rattle.sip_verifier.specs.CauseClause.{Counts, FaultClause, counts}
+use Rattle.sip_verifier.specs.Draws.{drawn}
+use Rattle.sip_verifier.specs.Ending.{status_of_start}
+use Rattle.sip_verifier.specs.Exchanges.{Exchange, IsPrefix}
+use Rattle.sip_verifier.specs.Gathering.{Refuses, HasSeed, IsCut, GatherFault}
+use Rattle.sip_verifier.specs.Progress.{Promises}
+use Rattle.sip_verifier.specs.Sittings.{Starts}
+use Rattle.sip_verifier.specs.Talks.{stream_sent}
+use Rattle.sip_verifier.specs.TalkClause.{IsUnderWay, before_end}
+use Rattle.sip_verifier.specs.Turns.{updates, IsLegalToEnd, farewell, AreTurns}
+use Rattle.sip_verifier.specs.VerdictClause.{SomeWritten, NoneLeft}
+use Rattle.sip_verifier.proofs.RunTalks.{Adds, said_is, nothing_new, front_before, front_of_front}
+use Rattle.sip_verifier.proofs.StreamSent.{stream_sent-front}
+
+module _ (task : Task) (x : Exchange) where
+  abbrev streamed : List TalkEvent
+  streamed = stream_sent task.depth (updates task x)
+
+  -- ---- nothing written, nothing said
+
+  nothing_written : x.report ≡ [] → SomeWritten task x
+  nothing_written e = record { done = []; part = []; reached = inl refl; part_of = inl refl; report = e }
+
+  empty_front : (ys : List TalkEvent) → x.talk ≡ [] → IsPrefix x.talk ys
+  empty_front ys e = (ys, ap (λ (l : List TalkEvent). l ++ ys) (sym e))
+
+  nothing_said : x.talk ≡ [] → IsUnderWay task x
+  nothing_said e = record {
+    done = [];
+    current = None;
+    unfinished = tt;
+    turns = λ some. absurd (some e);
+    order = empty_front _ e;
+    legal = λ _. empty_front _ e;
+    written = λ more. absurd (more (empty_front _ e));
+  }
+
+  -- ---- while the stream was sent
+
+  is_drawn : HasSeed task x.stream x.seed → drawn task x.seed ≢ None
+  is_drawn seed none = let some = seed.1 in cc
+
+  no_turn : HasSeed task x.stream x.seed → AreTurns task x []
+  no_turn seed = record { challenges = seed.0; drawn = seed.1; queries = refl; blocks = refl }
+
+  -- a front of what is sent while the stream is read, and nothing after it
+  in_order : IsPrefix x.talk streamed → IsPrefix x.talk (streamed ++ [] ++ farewell task x [])
+  in_order order = front_before x.talk (streamed ++ []) (farewell task x []) (front_before x.talk streamed [] order)
+
+  in_stream : HasSeed task x.stream x.seed → IsPrefix x.talk streamed → (¬ IsLegalToEnd task x → IsPrefix x.talk (before_end task x)) → IsUnderWay task x
+  in_stream seed order illegal = record {
+    done = [];
+    current = None;
+    unfinished = tt;
+    turns = λ _. no_turn seed;
+    order = in_order order;
+    legal = illegal;
+    written = λ more. absurd (more (order.0, append-nil _ ∙ order.1));
+  }
+
+  none_in_stream : IsPrefix x.talk streamed → x.report ≡ [] → NoneLeft task x
+  none_in_stream order blank = record { done = []; current = None; waits = tt; reached = inl refl; order = in_order order; report = blank }
+
+  -- ---- the ends
+
+  cut_front : (old new : Option (List TalkEvent)) → Adds old new x.talk → (cut : IsCut task x.stream x.seed old new) → (x.talk ≡ cut.said)
+  cut_front old new told cut = said_is old new cut.said x.talk cut.talk told
+
+  fronts : {said : List TalkEvent} {whole : List TalkEvent} → x.talk ≡ said → IsPrefix said whole → IsPrefix x.talk whole
+  fronts {said = said} {whole = whole} e front = subst (λ (l : List TalkEvent). IsPrefix l whole) (sym e) front
+
+  pub after_gather : (before now : Counts) (status : Status) (old new : Option (List TalkEvent)) → Adds old new x.talk → x.report ≡ [] → Refuses task x.stream x.seed old new status → FaultClause before now status
+      → Promises task x before now status
+  after_gather before now statuses.BadSeed old new told blank (short, same) cause = record { verdict = blank; talk = nothing_new old new x.talk same told; cause = short }
+  after_gather before now statuses.SeedSpent old new told blank (enough, none, same) cause = record { verdict = blank; talk = nothing_new old new x.talk same told; cause = (enough, none) }
+  after_gather before now (statuses.BadStream at why) old new told blank (seed, at_is, fault, went) cause =
+      record { verdict = blank; talk = said_is old new _ x.talk went told; cause = (is_drawn seed, at_is, fault) }
+  after_gather before now (statuses.ReadFault ports.First) old new told blank (seed, cut) cause =
+      let front : IsPrefix x.talk (before_end task x) = fronts (said_is old new cut.said x.talk cut.talk told) cut.order in
+      record { verdict = blank; talk = (in_stream seed (front_of_front x.talk (before_end task x) streamed front (stream_sent-front task.depth (updates task x))) (λ _. front), front); cause = cause }
+  after_gather before now (statuses.ReadFault ports.Second) old new told blank same cause = record { verdict = blank; talk = nothing_new old new x.talk same told; cause = cause }
+  after_gather before now (statuses.ReadFault ports.Report) old new told blank refuses cause = absurd refuses
+  after_gather before now (statuses.ReadFault ports.Keep) old new told blank refuses cause = absurd refuses
+  after_gather before now statuses.PeerFault old new told blank (seed, cut) cause =
+      let is = cut_front old new told cut in
+      let order : IsPrefix x.talk streamed = fronts is cut.order in
+      record { verdict = none_in_stream order blank; talk = in_stream seed order (λ not. fronts is (cut.illegal not)); cause = cause }
+  after_gather before now statuses.OutOfMemory old new told blank (inl same) cause =
+      record { verdict = nothing_written blank; talk = inl (nothing_said (nothing_new old new x.talk same told)); cause = tt }
+  after_gather before now statuses.OutOfMemory old new told blank (inr (seed, cut)) cause =
+      let is = cut_front old new told cut in
+      record { verdict = nothing_written blank; talk = inl (in_stream seed (fronts is cut.order) (λ not. fronts is (cut.illegal not))); cause = tt }
+  after_gather before now _ old new told blank refuses cause = absurd refuses
+
+  -- there is no memory for the session
+  pub after_stream : (before now : Counts) → HasSeed task x.stream x.seed → IsLegalToEnd task x → x.talk ≡ streamed → x.report ≡ [] → Promises task x before now statuses.OutOfMemory
+  after_stream before now seed legal talk blank = record {
+    verdict = nothing_written blank;
+    talk = inl (in_stream seed (fronts talk ([], sym (append-nil _))) (λ not. absurd (not legal)));
+    cause = tt;
+  }
+
+-- a fault of a call that gathers has its cause
+pub gather_caused : (first first_now second second_now peer peer_now report report_now : ℕ) (status : Status) → GatherFault first first_now second second_now peer peer_now (Err status)
+    → FaultClause (counts first second peer report) (counts first_now second_now peer_now report_now) status
+gather_caused first first_now second second_now peer peer_now report report_now (statuses.ReadFault ports.First) fault = fault
+gather_caused first first_now second second_now peer peer_now report report_now (statuses.ReadFault ports.Second) fault = fault
+gather_caused first first_now second second_now peer peer_now report report_now (statuses.ReadFault ports.Report) fault = absurd fault
+gather_caused first first_now second second_now peer peer_now report report_now (statuses.ReadFault ports.Keep) fault = absurd fault
+gather_caused first first_now second second_now peer peer_now report report_now (statuses.WriteFault port) fault = absurd fault
+gather_caused first first_now second second_now peer peer_now report report_now statuses.PeerFault fault = fault
+gather_caused first first_now second second_now peer peer_now report report_now _ fault = tt
+
+-- a session is not made only where there is no memory
+pub starts_short : (seats : Seats) (start : SessionStart) → Starts seats (Err start) → status_of_start start ≡ statuses.OutOfMemory
+starts_short seats (starts.TooWide query) none = absurd none
+starts_short seats starts.OutOfMemory none = refl

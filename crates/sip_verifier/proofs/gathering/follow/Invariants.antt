@@ -1,0 +1,27 @@
+-- The records so far were legal: the seats stand for them, and they are sent but for those that wait.
+use Rattle.std.proofs.Common.{◌≡◌, ℕ, List, Some, false}
+use Rattle.std.specs.Prelude.{IsSome}
+use Rattle.sip_ports.specs.Ports.{Lasts}
+use Rattle.sip_stream.specs.Reading.{room}
+use Rattle.sip_verifier.specs.Drawing.{AreOf, HasDrawn}
+use Rattle.sip_verifier.specs.Draws.{blocks}
+use Rattle.sip_verifier.proofs.Gathered.{IsUnderway}
+use Rattle.sip_verifier.proofs.gathering.follow.Given as goal
+
+abbrev pub invariant-loop-update : goal.invariant-loop-update
+invariant-loop-update g l = record {
+  underway : (bytes seed : List ℕ) → g.A.Source.left l.fn.first ≡ Some bytes → (has : HasDrawn l.fn.task seed l.fn.seats)
+      → IsUnderway l.fn.task bytes (blocks l.fn.task has.challenges) (g.A.Source.left l.first) (g.L.Sink.talk l.fn.peer) (g.L.Sink.talk l.peer) l.reader l.seats l.feed.waiting;
+  seats : AreOf l.fn.task l.seats;
+  depth : l.reader.depth ≡ l.fn.task.depth;
+  form : l.reader.form ≡ l.fn.task.form;
+  ready : l.reader.is_spent ≡ false;
+  unspent : l.feed.is_spent ≡ false;
+  told : IsSome (g.A.Source.left l.fn.first) → IsSome (g.A.Source.left l.first);
+  first : Lasts g.A.Source.faults g.A.Source.is_sure l.fn.first l.first;
+  peer : Lasts g.L.Sink.faults g.L.Sink.is_sure l.fn.peer l.peer;
+}
+
+-- each legal record adds to the weights, which stay below their limits
+abbrev pub decreases-loop-update : goal.decreases-loop-update
+decreases-loop-update g l = room l.reader

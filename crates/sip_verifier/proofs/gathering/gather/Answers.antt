@@ -1,0 +1,11 @@
+-- The count that the fault of a part speaks of is one of the whole.
+use Rattle.std.proofs.lemmas.Result.{err_from_is_err_and}
+use Rattle.sip_verifier.proofs.gathering.gather.Goals as goal
+
+pub returns-in_err-seats-clause-fault : goal.returns-in_err-seats-clause-fault
+returns-in_err-seats-clause-fault g c =
+    let p = err_from_is_err_and c.from_residual.result c.from_residual.ensures.1 in
+    rw (p.1, p.2) (c.in_err-seats.ensures.fault _ _ _ _)
+
+pub returns-clause-fault : goal.returns-clause-fault
+returns-clause-fault g c = c.follow.ensures.fault _ _

@@ -1,0 +1,63 @@
+-- What a call that asks one query did.
+use Rattle.std.specs.Prelude.{ℕ, List, ◌++◌, Option, Result, Ok, Err}
+use Rattle.sip_ports.specs.declared.port.TalkEvent.{TalkEvent}
+use Rattle.sip_ports.specs.Ports.{GoesOn}
+use Rattle.sip_vector.specs.declared.query.Query.{Query}
+use Rattle.sip_vector.specs.declared.update.Entry.{Entry}
+use Rattle.sip_vector.specs.declared.update.Update.{Update}
+use Rattle.sip_vector.specs.Answers.{Answer, pairs, number}
+use Rattle.sip_wire.specs.declared.message.Reason.{Reason}
+use Rattle.sip_verifier.specs.declared.session.SessionFault.{SessionFault}
+use Rattle.sip_verifier.specs.declared.session.SessionFault.TheVariants as faults
+use Rattle.sip_verifier.specs.declared.session.Verdict.{Verdict}
+use Rattle.sip_verifier.specs.declared.session.Verdict.TheVariants as verdicts
+use Rattle.sip_verifier.specs.CountClause.{CountsFor}
+use Rattle.sip_verifier.specs.Exchanges.{IsPrefix}
+use Rattle.sip_verifier.specs.Turns.{Turn, Accepts, IsFaulty, IsWaiting, said_in_turn, ending}
+
+-- a turn of a query and its block
+abbrev pub turn_of : Query → List ℕ → List (List ℕ) → Turn
+turn_of query block replies = record { query = query; block = block; replies = replies }
+
+module _ (depth : ℕ) (stream : List Update) (query : Query) (block : List ℕ) (old new : Option (List TalkEvent)) where
+  -- all replies came and are accepted, and they state this answer
+  pub record IsAnswered (answer : Answer) : Type 0 where
+    pub replies : List (List ℕ)
+    pub talk : GoesOn old new (said_in_turn (turn_of query block replies))
+    pub accepted : Accepts depth stream (turn_of query block replies) answer
+
+  -- the replies that came have this first fault
+  pub record IsRejected (round : ℕ) (reason : Reason) : Type 0 where
+    pub replies : List (List ℕ)
+    pub talk : GoesOn old new (said_in_turn (turn_of query block replies) ++ ending reason)
+    pub faulty : IsFaulty depth stream (turn_of query block replies) (record { round = round; reason = reason })
+
+  -- the talk stopped, a reply is missing or not whole, and none has a fault so far
+  pub record IsInterrupted : Type 0 where
+    pub replies : List (List ℕ)
+    pub said : List TalkEvent
+    pub talk : GoesOn old new said
+    pub order : IsPrefix said (said_in_turn (turn_of query block replies))
+    pub waits : IsWaiting (turn_of query block replies)
+
+  -- What was answered, where the entries are those that the session shows then. Nothing is kept of a talk yet, so keeping it
+  -- cannot fail.
+  abbrev pub Asks : List Entry → Result Verdict SessionFault → Type 0
+  Asks entries (Ok (verdicts.Number n)) = IsAnswered (number n)
+  Asks entries (Ok verdicts.Pairs) = IsAnswered (pairs entries)
+  Asks entries (Ok (verdicts.Rejected round reason)) = IsRejected round reason
+  Asks entries (Err faults.PeerFault) = IsInterrupted
+  Asks entries (Err faults.KeepFault) = ⊥
+  Asks entries (Err faults.OutOfMemory) = IsInterrupted
+
+  -- an answer counts for the replies that came
+  pub record IsCounted (answer : Answer) : Type 0 where
+    pub replies : List (List ℕ)
+    pub talk : GoesOn old new (said_in_turn (turn_of query block replies))
+    pub counts : CountsFor depth stream (turn_of query block replies) answer
+
+  -- So does each answer that is given.
+  abbrev pub AnswersCount : List Entry → Result Verdict SessionFault → Type 0
+  AnswersCount entries (Ok (verdicts.Number n)) = IsCounted (number n)
+  AnswersCount entries (Ok verdicts.Pairs) = IsCounted (pairs entries)
+  AnswersCount entries _ = Unit {0}

@@ -1,0 +1,20 @@
+-- Which streams the seats of a run stand for.
+use Rattle.std.specs.Prelude.{◌≡◌, ℕ, ◌*◌, List, [], length, map, All, Some, None, Result, Ok, Err}
+use Rattle.sip_vector.specs.declared.query.Query.{Query}
+use Rattle.sip_vector.specs.declared.update.Update.{Update}
+use Rattle.sip_vector.specs.Pieces.{cut}
+use Rattle.sip_verifier.specs.declared.seats.Seats.{Seats}
+use Rattle.sip_verifier.specs.Draws.{challenges_of}
+use Rattle.sip_verifier.specs.QuerySeats.{block_of, StandsFor}
+
+-- the seats have these queries in order, each with its block of challenges, and stand for this stream
+pub record AreSeats (depth : ℕ) (queries : List Query) (blocks : List (List ℕ)) (stream : List Update) (s : Seats) : Type 0 where
+  pub levels : s.depth ≡ depth
+  pub asked : map (λ seat. seat.query) s.seats.items ≡ queries
+  pub at_blocks : map block_of s.seats.items ≡ blocks
+  pub stand : All (StandsFor depth stream) s.seats.items
+
+-- the seats of the challenges that a seed gives, or that it is spent
+abbrev pub AreDrawn : {E : Type 0} → ℕ → List Query → List ℕ → Result Seats E → Type 0
+AreDrawn depth queries seed (Ok seats) = (challenges : List ℕ) × (challenges_of (depth * length queries) seed ≡ Some challenges) × AreSeats depth queries (cut depth challenges) [] seats
+AreDrawn depth queries seed (Err _) = challenges_of (depth * length queries) seed ≡ None

@@ -1,0 +1,190 @@
+//! A whole run of the verifier.
+
+ghost use Rattle.std.specs.Prelude.{◌≡◌, ◌<◌, ◌≤◌, List, ◌∷◌, false, length, map, drop, All, OnOk};
+ghost use Rattle.sip_ports.specs.Ports.{Lasts};
+ghost use Rattle.sip_vector.specs.declared.update.Update.{Update as AnyUpdate};
+ghost use Rattle.sip_verifier.specs.declared.seat.QuerySeat.{QuerySeat as AnySeat};
+ghost use Rattle.sip_verifier.specs.CauseClause.{CauseClause, FaultClause, IsListed, counts};
+ghost use Rattle.sip_verifier.specs.CompletenessClause.{CompletenessClause};
+ghost use Rattle.sip_verifier.specs.CountClause.{CountClause};
+ghost use Rattle.sip_verifier.specs.Exchanges.{Exchange, Tells, IsTold, TakesAtMost, told};
+ghost use Rattle.sip_verifier.specs.Progress.{Checks, ChecksAll, CheckFault, Promises, status_of};
+ghost use Rattle.sip_verifier.specs.QuerySeats.{StandsFor, block_of};
+ghost use Rattle.sip_verifier.specs.TalkClause.{TalkClause};
+ghost use Rattle.sip_verifier.specs.Tasks.{CanBeDone};
+ghost use Rattle.sip_verifier.specs.VerdictClause.{VerdictClause};
+
+use crate::ending::{on_link, on_report, status_of_fault, status_of_start};
+use crate::report::{write_number, write_pairs, write_rejection};
+use crate::{Session, Status, Task, Verdict, gather};
+use sip_ports::{Link, Sink, Source};
+use sip_vector::Query;
+use sip_wire::{Message, encode};
+use std::alloc::Global;
+
+/// Asks the next query, which has this number, and writes the line of its verdict.
+fn check_query<L: Link, K: Sink, C: Sink>(
+    session: &mut Session,
+    number: u8,
+    query: &Query,
+    peer: &mut L,
+    report: &mut K,
+    keep: &mut C,
+) -> Result<(), Status>
+    requires left { 0 < length session.old.left }
+    requires live { session.old.spent ≡ false }
+    ensures checks { (stream : List AnyUpdate) (seat : AnySeat) (more : List AnySeat) → session.old.left ≡ seat ∷ more
+        → seat.query ≡ query.now → StandsFor session.old.depth stream seat
+        → Checks session.old.depth stream query.now (block_of seat) number (L.talk peer.old) (L.talk peer.new) (K.talk report.old) (K.talk report.new) result }
+    ensures next { session.new.left ≡ drop 1 session.old.left }
+    ensures depth { session.new.depth ≡ session.old.depth }
+    ensures goes_on { OnOk result (session.new.spent ≡ false) }
+    ensures fault { CheckFault (L.faults peer.old) (L.faults peer.new) (K.faults report.old) (K.faults report.new) result }
+    ensures peer { Lasts L.faults L.is_sure peer.old peer.new }
+    ensures report { Lasts K.faults K.is_sure report.old report.new }
+    ensures kept { keep.new ≡ keep.old }
+{
+    match session.ask(peer, keep) {
+        Ok(Verdict::Pairs) => on_report(write_pairs(report, query, session.entries())),
+        Ok(Verdict::Number(value)) => on_report(write_number(report, query, value)),
+        Ok(Verdict::Rejected { round, reason }) => {
+            on_report(write_rejection(report, number, round, reason))?;
+            Err(Status::Rejected {
+                query: number,
+                round,
+                reason,
+            })
+        }
+        Err(fault) => Err(status_of_fault(fault)),
+    }
+}
+
+/// Asks all queries in order and writes the line of each verdict, up to the first stop.
+fn check_all<L: Link, K: Sink, C: Sink>(
+    session: &mut Session,
+    queries: &[Query],
+    peer: &mut L,
+    report: &mut K,
+    keep: &mut C,
+) -> Result<(), Status>
+    requires count { length session.old.left ≡ length queries.now }
+    requires most { length queries.now ≤ 16 }
+    requires live { session.old.spent ≡ false }
+    ensures checks { (stream : List AnyUpdate) → map (λ seat. seat.query) session.old.left ≡ queries.now → All (StandsFor session.old.depth stream) session.old.left
+        → ChecksAll session.old.depth stream queries.now (map block_of session.old.left) (L.talk peer.old) (L.talk peer.new) (K.talk report.old) (K.talk report.new) result }
+    ensures fault { CheckFault (L.faults peer.old) (L.faults peer.new) (K.faults report.old) (K.faults report.new) result }
+    ensures peer { Lasts L.faults L.is_sure peer.old peer.new }
+    ensures report { Lasts K.faults K.is_sure report.old report.new }
+    ensures kept { keep.new ≡ keep.old }
+{
+    let mut number = 0;
+    for query in queries {
+        number += 1;
+        check_query(session, number, query, peer, report, keep)?;
+    }
+    Ok(())
+}
+
+/// All that a run does, up to its first stop.
+fn steps<A: Source, B: Source, L: Link, K: Sink, C: Sink>(
+    alloc: Global,
+    task: &Task,
+    first: &mut A,
+    second: &mut B,
+    peer: &mut L,
+    report: &mut K,
+    keep: &mut C,
+) -> Result<(), Status>
+    requires { CanBeDone task.now }
+    ensures promises { (x : Exchange) → Tells
+        (told (A.left first.old) (B.left second.old) (L.talk peer.old) (K.talk report.old))
+        (told (A.left first.new) (B.left second.new) (L.talk peer.new) (K.talk report.new)) x
+        → Promises task.now x
+        (counts (A.faults first.old) (B.faults second.old) (L.faults peer.old) (K.faults report.old))
+        (counts (A.faults first.new) (B.faults second.new) (L.faults peer.new) (K.faults report.new))
+        (status_of result) }
+    ensures moves { IsTold (told (A.left first.old) (B.left second.old) (L.talk peer.old) (K.talk report.old)) → (x : Exchange) × Tells
+        (told (A.left first.old) (B.left second.old) (L.talk peer.old) (K.talk report.old))
+        (told (A.left first.new) (B.left second.new) (L.talk peer.new) (K.talk report.new)) x }
+    ensures fault { FaultClause (counts (A.faults first.old) (B.faults second.old) (L.faults peer.old) (K.faults report.old))
+        (counts (A.faults first.new) (B.faults second.new) (L.faults peer.new) (K.faults report.new)) (status_of result) }
+    ensures listed { IsListed (status_of result) }
+    ensures first { Lasts A.faults A.is_sure first.old first.new }
+    ensures seed { TakesAtMost 32 (B.left second.old) (B.left second.new) }
+    ensures second { Lasts B.faults B.is_sure second.old second.new }
+    ensures peer { Lasts L.faults L.is_sure peer.old peer.new }
+    ensures report { Lasts K.faults K.is_sure report.old report.new }
+    ensures kept { keep.new ≡ keep.old }
+{
+    let seats = gather(task, first, second, peer, keep)?;
+    let mut session = match Session::new(alloc, seats) {
+        Ok(session) => session,
+        Err(start) => return Err(status_of_start(start)),
+    };
+    check_all(&mut session, &task.queries, peer, report, keep)?;
+    on_link(encode(&Message::Bye, peer))
+}
+
+/// Does a task: draws the challenges from `second`, reads the stream of `first` and sends it over `peer`, asks each query, judges
+/// the replies and writes a line for each to `report`.
+///
+/// After a rejection its line is written and nothing more is sent. The memory is that of [`crate::Session::new`], which doesn't grow with the
+/// stream; the time is linear in the stream and the replies, with at most `depth` multiplications for each record and query.
+///
+/// `keep` is left alone.
+pub fn check_stream<A: Source, B: Source, L: Link, K: Sink, C: Sink>(
+    alloc: Global,
+    task: &Task,
+    first: &mut A,
+    second: &mut B,
+    peer: &mut L,
+    report: &mut K,
+    keep: &mut C,
+) -> Status
+    requires { CanBeDone task.now }
+    ensures verdict { (x : Exchange) → Tells
+        (told (A.left first.old) (B.left second.old) (L.talk peer.old) (K.talk report.old))
+        (told (A.left first.new) (B.left second.new) (L.talk peer.new) (K.talk report.new)) x
+        → VerdictClause task.now x result }
+    ensures talk { (x : Exchange) → Tells
+        (told (A.left first.old) (B.left second.old) (L.talk peer.old) (K.talk report.old))
+        (told (A.left first.new) (B.left second.new) (L.talk peer.new) (K.talk report.new)) x
+        → TalkClause task.now x result }
+    ensures cause { (x : Exchange) → Tells
+        (told (A.left first.old) (B.left second.old) (L.talk peer.old) (K.talk report.old))
+        (told (A.left first.new) (B.left second.new) (L.talk peer.new) (K.talk report.new)) x
+        → CauseClause task.now x
+        (counts (A.faults first.old) (B.faults second.old) (L.faults peer.old) (K.faults report.old))
+        (counts (A.faults first.new) (B.faults second.new) (L.faults peer.new) (K.faults report.new))
+        result }
+    ensures count { (x : Exchange) → Tells
+        (told (A.left first.old) (B.left second.old) (L.talk peer.old) (K.talk report.old))
+        (told (A.left first.new) (B.left second.new) (L.talk peer.new) (K.talk report.new)) x
+        → CountClause task.now x }
+    ensures complete { (x : Exchange) → Tells
+        (told (A.left first.old) (B.left second.old) (L.talk peer.old) (K.talk report.old))
+        (told (A.left first.new) (B.left second.new) (L.talk peer.new) (K.talk report.new)) x
+        → CompletenessClause task.now x
+        (counts (A.faults first.old) (B.faults second.old) (L.faults peer.old) (K.faults report.old))
+        (counts (A.faults first.new) (B.faults second.new) (L.faults peer.new) (K.faults report.new))
+        result }
+    ensures moves { IsTold (told (A.left first.old) (B.left second.old) (L.talk peer.old) (K.talk report.old)) → (x : Exchange) × Tells
+        (told (A.left first.old) (B.left second.old) (L.talk peer.old) (K.talk report.old))
+        (told (A.left first.new) (B.left second.new) (L.talk peer.new) (K.talk report.new)) x }
+    ensures fault { FaultClause (counts (A.faults first.old) (B.faults second.old) (L.faults peer.old) (K.faults report.old))
+        (counts (A.faults first.new) (B.faults second.new) (L.faults peer.new) (K.faults report.new)) result }
+    ensures listed { IsListed result }
+    ensures first { Lasts A.faults A.is_sure first.old first.new }
+    ensures seed { TakesAtMost 32 (B.left second.old) (B.left second.new) }
+    ensures second { Lasts B.faults B.is_sure second.old second.new }
+    ensures peer { Lasts L.faults L.is_sure peer.old peer.new }
+    ensures report { Lasts K.faults K.is_sure report.old report.new }
+    ensures kept { keep.new ≡ keep.old }
+{
+    let levels = task.depth.get();
+    prove!(levels >= 1 && levels <= 32);
+    match steps(alloc, task, first, second, peer, report, keep) {
+        Ok(()) => Status::Accepted,
+        Err(status) => status,
+    }
+}

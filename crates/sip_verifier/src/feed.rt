@@ -1,0 +1,143 @@
+//! A stream on its way to the helper.
+
+ghost use Rattle.std.specs.Prelude.{◌≡◌, ◌≢◌, ◌<◌, ◌^◌, [], pos, false, OnOk};
+ghost use Rattle.std.specs.Result.{is_err};
+ghost use Rattle.sip_ports.specs.Ports.{HasCause, SendsWhole};
+ghost use Rattle.sip_wire.specs.Spelling.{spelling};
+ghost use Rattle.sip_wire.specs.declared.message.Message.TheVariants as messages;
+ghost use Rattle.sip_verifier.specs.Feeding.{due_with, due_at_end, waiting_with};
+
+use arrayvec::ArrayVec;
+use sip_ports::{Link, PortStop};
+use sip_vector::{Depth, Update};
+use sip_wire::{Message, encode};
+use std::marker::Model;
+use std::mem;
+
+/// How many updates a frame has at most.
+const FRAME: usize = 512;
+
+/// The version of the protocol.
+const VERSION: u8 = 1;
+
+/// Sends a stream in frames of 512 updates, the last one the rest. What waits for a frame is kept in a buffer of a fixed size.
+#[derive(Drop)]
+pub struct Feed {
+    waiting: ArrayVec<Update, FRAME>,
+    is_spent: bool,
+}
+
+impl Model for Feed {
+    ghost use Rattle.std.specs.Prelude.{IsTrue, ◌<◌};
+    ghost use Rattle.std.specs.List.{list_all};
+    ghost use Rattle.arrayvec.specs.ArrayVec.{array_vec_len};
+    ghost use Rattle.sip_verifier.specs.Feeding.{Waiting, has_spelling};
+
+    ghost Value = { Waiting };
+
+    ghost view = { λ f. record { waiting = f.waiting.items; is_spent = f.is_spent } };
+
+    ghost invariant = { λ f. (array_vec_len f.waiting < 512) × IsTrue (list_all has_spelling f.waiting.items) };
+}
+
+impl Feed {
+    /// Nothing waits.
+    pub fn new() -> Feed
+        ensures { result ≡ record { waiting = []; is_spent = false } }
+    {
+        Feed {
+            waiting: ArrayVec::new(),
+            is_spent: false,
+        }
+    }
+
+    /// Sends the opening.
+    ///
+    /// # Errors
+    ///
+    /// Those of the link, which a front of the opening has then reached that is shorter than it. The feed is then spent.
+    pub fn begin<L: Link>(&mut self, link: &mut L, depth: Depth) -> Result<(), PortStop>
+        requires { self.old.is_spent ≡ false }
+        ensures talk { SendsWhole (L.talk link.old) (L.talk link.new) result (spelling (messages.Open 1 depth)) }
+        ensures waiting { self.new.waiting ≡ self.old.waiting }
+        ensures spent { self.new.is_spent ≡ is_err result }
+        ensures cause { HasCause L.faults L.is_sure link.old link.new result }
+    {
+        let opening = Message::Open {
+            version: VERSION,
+            depth: depth.get(),
+        };
+        let sent = encode(&opening, link);
+        self.is_spent = sent.is_err();
+        sent
+    }
+
+    /// Takes one more update of the stream, and sends a frame as soon as it is full, in one write.
+    ///
+    /// # Errors
+    ///
+    /// Those of the link, which a front of the frame has then reached that is shorter than it. The feed is then spent.
+    pub fn update<L: Link>(&mut self, link: &mut L, update: &Update) -> Result<(), PortStop>
+        requires unspent { self.old.is_spent ≡ false }
+        requires item { update.now.item < 2 ^ 32 }
+        requires delta { update.now.delta ≢ pos 0 }
+        ensures talk { SendsWhole (L.talk link.old) (L.talk link.new) result (due_with self.old.waiting update.now) }
+        ensures waiting { OnOk result (self.new.waiting ≡ waiting_with self.old.waiting update.now) }
+        ensures spent { self.new.is_spent ≡ is_err result }
+        ensures cause { HasCause L.faults L.is_sure link.old link.new result }
+    {
+        // The type of a delta bounds it.
+        let _delta = update.delta;
+        self.waiting.push(*update);
+        if !self.waiting.is_full() {
+            return Ok(());
+        }
+        let sent = encode(&Message::Updates(mem::take(&mut self.waiting)), link);
+        self.is_spent = sent.is_err();
+        sent
+    }
+
+    /// Sends the updates that wait, where there are any, and the end of the stream.
+    ///
+    /// # Errors
+    ///
+    /// Those of the link, which a front of these bytes has then reached that is shorter than they are. The feed is then
+    /// spent.
+    pub fn finish<L: Link>(&mut self, link: &mut L) -> Result<(), PortStop>
+        requires { self.old.is_spent ≡ false }
+        ensures talk { SendsWhole (L.talk link.old) (L.talk link.new) result (due_at_end self.old.waiting) }
+        ensures waiting { OnOk result (self.new.waiting ≡ []) }
+        ensures spent { self.new.is_spent ≡ is_err result }
+        ensures cause { HasCause L.faults L.is_sure link.old link.new result }
+    {
+        let sent = self.send_rest(link);
+        self.is_spent = sent.is_err();
+        sent
+    }
+}
+
+impl Feed {
+    // Sends the updates that wait, where there are any, and the end of the stream.
+    fn send_rest<L: Link>(&mut self, link: &mut L) -> Result<(), PortStop>
+        ensures talk { SendsWhole (L.talk link.old) (L.talk link.new) result (due_at_end self.old.waiting) }
+        ensures waiting { OnOk result (self.new.waiting ≡ []) }
+        ensures cause { HasCause L.faults L.is_sure link.old link.new result }
+    {
+        let rest = mem::take(&mut self.waiting);
+        if !rest.is_empty() {
+            encode(&Message::Updates(rest), link)?;
+        }
+        encode(&Message::EndStream, link)
+    }
+}
+
+/// Nothing waits.
+impl Default for Feed {
+    ghost use Rattle.std.specs.Prelude.{◌≡◌, [], false};
+
+    ghost is_default = { λ feed. feed ≡ record { waiting = []; is_spent = false } };
+
+    fn default() -> Feed {
+        Feed::new()
+    }
+}

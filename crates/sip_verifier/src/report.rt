@@ -1,0 +1,353 @@
+//! The lines of a report.
+
+ghost use Rattle.std.specs.Prelude.{◌≡◌, ℕ, ◌+◌, ◌<◌, ◌≤◌, List, ◌++◌, ◌∷◌, [], length, take, codes, decimal, if◌then◌else◌, MatchResult, OnOk};
+ghost use Rattle.arrayvec.specs.ArrayVec.{array_vec_len};
+ghost use Rattle.sip_ports.specs.Ports.{GoesOn, HasCause, SendsWhole, outs};
+ghost use Rattle.sip_vector.specs.Answers.{pairs, number};
+ghost use Rattle.sip_verifier.specs.Reports.{line, pair_text, parameter, query_word, reason_name, rejection, side_parameter};
+
+use crate::text::{ROOM, put, put_number};
+use arrayvec::ArrayVec;
+use itoa::Buffer;
+use sip_ports::{PortStop, Sink, write_whole};
+use sip_vector::{Entry, Query, Side};
+use sip_wire::Reason;
+
+/// The most bytes of a pair and the space before it: two numbers of at most 20 bytes, a colon, a space.
+const MOST_PAIR: usize = 42;
+
+// Adds a space and a pair.
+fn put_pair(gathered: &mut ArrayVec<u8, ROOM>, entry: &Entry)
+    requires { array_vec_len gathered.old + MOST_PAIR ≤ ROOM }
+    ensures items { gathered.new.items ≡ gathered.old.items ++ 32 ∷ pair_text entry.now }
+    ensures len { array_vec_len gathered.new ≤ array_vec_len gathered.old + MOST_PAIR }
+{
+    let mut digits = Buffer::new();
+    put(gathered, b" ");
+    put_number(gathered, entry.index);
+    put(gathered, b":");
+    put(gathered, digits.format(entry.value).as_bytes());
+}
+
+// Adds a number behind a colon.
+fn put_parameter(gathered: &mut ArrayVec<u8, ROOM>, number: u64)
+    requires { array_vec_len gathered.old + 21 ≤ ROOM }
+    ensures items { gathered.new.items ≡ gathered.old.items ++ parameter number }
+    ensures len { array_vec_len gathered.new ≤ array_vec_len gathered.old + 21 }
+{
+    put(gathered, b":");
+    put_number(gathered, number);
+}
+
+// Adds a side's number behind a colon.
+fn put_side(gathered: &mut ArrayVec<u8, ROOM>, side: Side)
+    requires { array_vec_len gathered.old + 2 ≤ ROOM }
+    ensures items { gathered.new.items ≡ gathered.old.items ++ side_parameter side }
+    ensures len { array_vec_len gathered.new ≡ array_vec_len gathered.old + 2 }
+{
+    match side {
+        Side::First => put(gathered, b":0"),
+        Side::Second => put(gathered, b":1"),
+    }
+}
+
+// The query's word.
+fn begin(query: &Query) -> ArrayVec<u8, ROOM>
+    ensures items { result.items ≡ query_word query.now }
+    ensures len { array_vec_len result ≤ 60 }
+{
+    let mut gathered = ArrayVec::new();
+    match query {
+        Query::Sub { lo, hi } => {
+            put(&mut gathered, b"sub");
+            put_parameter(&mut gathered, *lo);
+            put_parameter(&mut gathered, *hi);
+        }
+        Query::Range { side, lo, hi } => {
+            put(&mut gathered, b"range");
+            put_side(&mut gathered, *side);
+            put_parameter(&mut gathered, *lo);
+            put_parameter(&mut gathered, *hi);
+        }
+        Query::F2 { side } => {
+            put(&mut gathered, b"f2");
+            put_side(&mut gathered, *side);
+        }
+        Query::Inner => put(&mut gathered, b"inner"),
+        Query::Heavy { side, at_least } => {
+            put(&mut gathered, b"heavy");
+            put_side(&mut gathered, *side);
+            put_parameter(&mut gathered, *at_least);
+        }
+    }
+    gathered
+}
+
+// Writes what is gathered where it leaves no room for a pair and a byte more.
+fn make_room<K: Sink>(sink: &mut K, gathered: &mut ArrayVec<u8, ROOM>) -> Result<(), PortStop>
+    ensures talk { MatchResult result
+        (λ _. (sent : List ℕ) × (gathered.old.items ≡ sent ++ gathered.new.items)
+        × GoesOn (K.talk sink.old) (K.talk sink.new) (outs sent))
+        (λ _. (n : ℕ) × (n < array_vec_len gathered.old)
+        × GoesOn (K.talk sink.old) (K.talk sink.new) (outs (take n gathered.old.items))) }
+    ensures room { OnOk result (array_vec_len gathered.new + MOST_PAIR < ROOM) }
+    ensures cause { HasCause K.faults K.is_sure sink.old sink.new result }
+{
+    if gathered.remaining_capacity() > MOST_PAIR {
+        return Ok(());
+    }
+    write_whole(sink, gathered.as_slice())?;
+    gathered.clear();
+    Ok(())
+}
+
+/// Writes the line of an accepted query that asks for a number: its word, and the number.
+///
+/// # Errors
+///
+/// Those of the sink, which a front of the line has then reached that is shorter than it.
+pub(crate) fn write_number<K: Sink>(sink: &mut K, query: &Query, value: i64) -> Result<(), PortStop>
+    ensures talk { SendsWhole (K.talk sink.old) (K.talk sink.new) result (line query.now (number value)) }
+    ensures cause { HasCause K.faults K.is_sure sink.old sink.new result }
+{
+    let mut digits = Buffer::new();
+    let mut gathered = begin(query);
+    put(&mut gathered, b" ");
+    put(&mut gathered, digits.format(value).as_bytes());
+    put(&mut gathered, b"\n");
+    write_whole(sink, gathered.as_slice())
+}
+
+/// Writes the line of an accepted query that asks for entries: its word, and the entries as pairs `INDEX:VALUE`, or `none`. A
+/// long line is written in parts, without memory beyond a fixed buffer.
+///
+/// # Errors
+///
+/// Those of the sink, which a front of the line has then reached that is shorter than it.
+pub(crate) fn write_pairs<K: Sink>(
+    sink: &mut K,
+    query: &Query,
+    entries: &[Entry],
+) -> Result<(), PortStop>
+    ensures talk { SendsWhole (K.talk sink.old) (K.talk sink.new) result (line query.now (pairs entries.now)) }
+    ensures cause { HasCause K.faults K.is_sure sink.old sink.new result }
+{
+    let mut gathered = begin(query);
+    if entries.is_empty() {
+        put(&mut gathered, b" none");
+    }
+    for entry in entries {
+        make_room(sink, &mut gathered)?;
+        put_pair(&mut gathered, entry);
+    }
+    put(&mut gathered, b"\n");
+    write_whole(sink, gathered.as_slice())
+}
+
+// Adds a reason's name, which a refusal has with its code.
+fn put_reason(gathered: &mut ArrayVec<u8, ROOM>, reason: Reason)
+    requires { array_vec_len gathered.old + 32 ≤ ROOM }
+    ensures items { gathered.new.items ≡ gathered.old.items ++ reason_name reason }
+    ensures len { array_vec_len gathered.new ≤ array_vec_len gathered.old + 32 }
+{
+    match reason {
+        Reason::Closed => put(gathered, b"Closed"),
+        Reason::BadKind => put(gathered, b"BadKind"),
+        Reason::BadLength => put(gathered, b"BadLength"),
+        Reason::BadCount => put(gathered, b"BadCount"),
+        Reason::BadNumber => put(gathered, b"BadNumber"),
+        Reason::Refused(code) => {
+            put(gathered, b"Refused(");
+            put_number(gathered, code as u64);
+            put(gathered, b")");
+        }
+        Reason::BadOrder => put(gathered, b"BadOrder"),
+        Reason::TooMany => put(gathered, b"TooMany"),
+        Reason::BadFlags => put(gathered, b"BadFlags"),
+        Reason::HeavySibling => put(gathered, b"HeavySibling"),
+        Reason::Pairs => put(gathered, b"Pairs"),
+        Reason::LightParent => put(gathered, b"LightParent"),
+        Reason::Sum => put(gathered, b"Sum"),
+        Reason::Total => put(gathered, b"Total"),
+        Reason::Root => put(gathered, b"Root"),
+    }
+}
+
+// The line of a rejection.
+fn rejection_line(query: u8, round: u8, reason: Reason) -> ArrayVec<u8, ROOM>
+    ensures { result.items ≡ rejection query round reason }
+{
+    let mut gathered = ArrayVec::new();
+    put(&mut gathered, b"rejected query ");
+    put_number(&mut gathered, query as u64);
+    put(&mut gathered, b" round ");
+    put_number(&mut gathered, round as u64);
+    put(&mut gathered, b" ");
+    put_reason(&mut gathered, reason);
+    put(&mut gathered, b"\n");
+    gathered
+}
+
+/// Writes the line of a rejection, `rejected query K round J REASON`, in one piece and without memory beyond a fixed
+/// buffer. Queries are numbered from 1.
+///
+/// # Errors
+///
+/// Those of the sink, which a front of the line has then reached that is shorter than it.
+pub(crate) fn write_rejection<K: Sink>(
+    sink: &mut K,
+    query: u8,
+    round: u8,
+    reason: Reason,
+) -> Result<(), PortStop>
+    ensures talk { SendsWhole (K.talk sink.old) (K.talk sink.new) result (rejection query round reason) }
+    ensures cause { HasCause K.faults K.is_sure sink.old sink.new result }
+{
+    write_whole(sink, rejection_line(query, round, reason).as_slice())
+}
+
+#[cfg(test)]
+mod tests {
+    use super::{write_number, write_pairs, write_rejection};
+    use sip_ports::{MemorySink, PortStop};
+    use sip_vector::{Entry, Query, Side};
+    use sip_wire::Reason;
+    use std::test::Fail;
+
+    #[test]
+    fn writes_pairs_or_none(rt: HostRuntime) -> Result<(), Fail> {
+        let alloc = rt.alloc();
+        let mut sink = MemorySink::new(alloc, 4096, Vec::new(alloc));
+        let entries = [
+            Entry {
+                index: 0,
+                value: -2,
+            },
+            Entry { index: 1, value: 5 },
+        ];
+        let one = [Entry { index: 2, value: 5 }];
+        let heavy = Query::Heavy {
+            side: Side::First,
+            at_least: 9,
+        };
+        assert_eq!(rt;
+            write_pairs(&mut sink, &Query::Sub { lo: 1, hi: 2 }, &one),
+            Ok(())
+        );
+        assert_eq!(rt;
+            write_pairs(&mut sink, &Query::Sub { lo: 0, hi: 3 }, &[]),
+            Ok(())
+        );
+        assert_eq!(rt;
+            write_pairs(&mut sink, &Query::Sub { lo: 0, hi: 1 }, &entries),
+            Ok(())
+        );
+        assert_eq!(rt; write_pairs(&mut sink, &heavy, &[]), Ok(()));
+        let want = b"sub:1:2 2:5\nsub:0:3 none\nsub:0:1 0:-2 1:5\nheavy:0:9 none\n";
+        assert_eq!(rt; sink.bytes(), want.as_slice());
+        Ok(())
+    }
+
+    // A row for each word, with numbers up to the ends of 64 bits.
+    #[test]
+    fn writes_numbers(rt: HostRuntime) -> Result<(), Fail> {
+        let sub = Query::Sub {
+            lo: 0,
+            hi: u64::MAX,
+        };
+        let range = Query::Range {
+            side: Side::Second,
+            lo: 7,
+            hi: 10,
+        };
+        let heavy = Query::Heavy {
+            side: Side::Second,
+            at_least: 9_223_372_036_854_775_807,
+        };
+        let f2 = Query::F2 { side: Side::First };
+        let other_f2 = Query::F2 { side: Side::Second };
+        let rows: [(Query, i64, &[u8]); 6] = [
+            (sub, 1, b"sub:0:18446744073709551615 1\n"),
+            (range, -12, b"range:1:7:10 -12\n"),
+            (f2, i64::MAX, b"f2:0 9223372036854775807\n"),
+            (other_f2, 0, b"f2:1 0\n"),
+            (Query::Inner, i64::MIN, b"inner -9223372036854775808\n"),
+            (heavy, 5, b"heavy:1:9223372036854775807 5\n"),
+        ];
+        let alloc = rt.alloc();
+        for (query, value, want) in &rows {
+            let mut sink = MemorySink::new(alloc, 4096, Vec::new(alloc));
+            assert_eq!(rt; write_number(&mut sink, query, *value), Ok(()));
+            assert_eq!(rt; sink.bytes(), *want);
+        }
+        Ok(())
+    }
+
+    // One byte a call, and the seventh call fails.
+    #[test]
+    fn a_failing_write_leaves_a_front_of_the_line(rt: HostRuntime) -> Result<(), Fail> {
+        let alloc = rt.alloc();
+        let mut sink = MemorySink::new(alloc, 1, vec![in alloc; 7]?);
+        let query = Query::Sub { lo: 1, hi: 2 };
+        let ended = write_pairs(&mut sink, &query, &[Entry { index: 2, value: 5 }]);
+        assert_eq!(rt; ended, Err(PortStop::Failed));
+        assert_eq!(rt; sink.bytes(), b"sub:1:".as_slice());
+        Ok(())
+    }
+
+    // Each reason by its name, in the rounds 0 to 14 of query 16; a refusal with its code.
+    #[test]
+    fn writes_rejections(rt: HostRuntime) -> Result<(), Fail> {
+        let rows: [(Reason, &[u8]); 15] = [
+            (Reason::Closed, b"rejected query 16 round 0 Closed\n"),
+            (Reason::BadKind, b"rejected query 16 round 1 BadKind\n"),
+            (Reason::BadLength, b"rejected query 16 round 2 BadLength\n"),
+            (Reason::BadCount, b"rejected query 16 round 3 BadCount\n"),
+            (Reason::BadNumber, b"rejected query 16 round 4 BadNumber\n"),
+            (
+                Reason::Refused(4),
+                b"rejected query 16 round 5 Refused(4)\n",
+            ),
+            (Reason::BadOrder, b"rejected query 16 round 6 BadOrder\n"),
+            (Reason::TooMany, b"rejected query 16 round 7 TooMany\n"),
+            (Reason::BadFlags, b"rejected query 16 round 8 BadFlags\n"),
+            (
+                Reason::HeavySibling,
+                b"rejected query 16 round 9 HeavySibling\n",
+            ),
+            (Reason::Pairs, b"rejected query 16 round 10 Pairs\n"),
+            (
+                Reason::LightParent,
+                b"rejected query 16 round 11 LightParent\n",
+            ),
+            (Reason::Sum, b"rejected query 16 round 12 Sum\n"),
+            (Reason::Total, b"rejected query 16 round 13 Total\n"),
+            (Reason::Root, b"rejected query 16 round 14 Root\n"),
+        ];
+        let alloc = rt.alloc();
+        let mut round = 0;
+        for (reason, want) in &rows {
+            let mut sink = MemorySink::new(alloc, 4096, Vec::new(alloc));
+            assert_eq!(rt; write_rejection(&mut sink, 16, round, *reason), Ok(()));
+            assert_eq!(rt; sink.bytes(), *want);
+            round = round.saturating_add(1);
+        }
+        Ok(())
+    }
+
+    // A line that is longer than what is gathered: 12 bytes, 300 pairs of 10 bytes, a line feed.
+    #[test]
+    fn a_long_line_is_written_in_parts(rt: HostRuntime) -> Result<(), Fail> {
+        let alloc = rt.alloc();
+        let mut sink = MemorySink::new(alloc, 4096, Vec::new(alloc));
+        let entries = [Entry {
+            index: 123,
+            value: -4567,
+        }; 300];
+        let query = Query::Sub { lo: 100, hi: 1000 };
+        assert_eq!(rt; write_pairs(&mut sink, &query, &entries), Ok(()));
+        assert_eq!(rt; sink.bytes().len(), 12 + 300 * 10 + 1);
+        assert_eq!(rt; sink.bytes().ends_with(b" 123:-4567 123:-4567\n"), true);
+        Ok(())
+    }
+}

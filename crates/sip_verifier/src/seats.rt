@@ -1,0 +1,114 @@
+//! What a verifier keeps of a stream: for each query its challenges and a running number.
+
+ghost use Rattle.std.specs.Prelude.{◌≡◌, ℕ, ◌*◌, ◌<◌, ◌≤◌, ◌^◌, IsTrue, List, [], ◌∷◌, ◌++◌, length, map, All};
+ghost use Rattle.std.specs.List.{list_all};
+ghost use Rattle.arrayvec.specs.ArrayVec.{array_vec_len};
+ghost use Rattle.sip_field.specs.Elements.{m61_number};
+ghost use Rattle.sip_ports.specs.Ports.{HasCause, SendsWhole};
+ghost use Rattle.sip_vector.specs.declared.query.Query.{Query as AnyQuery};
+ghost use Rattle.sip_vector.specs.declared.update.Update.{Update as AnyUpdate};
+ghost use Rattle.sip_vector.specs.Pieces.{cut};
+ghost use Rattle.sip_verifier.specs.QuerySeats.{is_seat};
+ghost use Rattle.sip_verifier.specs.Tasks.{CanBeAsked};
+
+use crate::seat::{QuerySeat, Running};
+use arrayvec::ArrayVec;
+use sip_field::{M61, Seat, SeedSpent, draw_challenges};
+use sip_ports::{PortStop, Sink};
+use sip_tree::Root;
+use sip_vector::{Depth, Query, Update};
+use sip_wire::{put_ask, put_head};
+
+/// How many queries a run has at most.
+pub const MOST_QUERIES: usize = 16;
+
+/// How many challenges a run has at most: 16 queries at depth 32.
+const MOST_CHALLENGES: usize = 512;
+
+/// The seats of a run: one for each query, in the order of the queries. Each has its own challenges and a running number,
+/// which stands for the stream so far. Beside these nothing of a stream is kept, and no call takes memory.
+#[derive(Drop)]
+pub struct Seats {
+    pub(crate) depth: Depth,
+    pub(crate) seats: ArrayVec<QuerySeat, MOST_QUERIES>,
+    pub(crate) ghost some: { 0 < array_vec_len seats },
+    pub(crate) ghost each: { IsTrue (list_all (is_seat depth) seats.items) },
+}
+
+impl Seats {
+    ghost use Rattle.sip_verifier.specs.Seats.{AreDrawn, AreSeats};
+    ghost use Rattle.sip_verifier.specs.Transcripts.{head_of};
+
+    /// The seats of the first `depth` challenges for each query that `ChaCha20Rng::from_seed(seed)` gives, before any update.
+    ///
+    /// # Errors
+    ///
+    /// `SeedSpent` exactly where eight words of the generator in turn give no challenge.
+    pub fn draw(seed: &[u8; 32], depth: Depth, queries: &[Query]) -> Result<Seats, SeedSpent>
+        requires some { 0 < length queries.now }
+        requires most { length queries.now ≤ 16 }
+        requires asked { All (CanBeAsked depth) queries.now }
+        ensures { AreDrawn depth queries.now seed.now result }
+    {
+        let count = depth.get() as usize * queries.len();
+        let challenges = draw_challenges::<MOST_CHALLENGES>(*seed, count)?;
+        Ok(Seats::given(depth, queries, &challenges))
+    }
+
+    /// The seats with these challenges, `depth` for each query in order, before any update.
+    pub fn given(depth: Depth, queries: &[Query], challenges: &[M61]) -> Seats
+        requires some { 0 < length queries.now }
+        requires most { length queries.now ≤ 16 }
+        requires asked { All (CanBeAsked depth) queries.now }
+        requires count { length challenges.now ≡ depth * length queries.now }
+        ensures { AreSeats depth queries.now (cut depth (map m61_number challenges.now)) [] result }
+    {
+        let levels = depth.get() as usize;
+        let mut seats = ArrayVec::new();
+        for (index, query) in queries.iter().enumerate() {
+            let first = index * levels;
+            let block = &challenges[first..first + levels];
+            let Some(seat) = Seat::of(block) else {
+                unreachable!()
+            };
+            seats.push(QuerySeat {
+                query: *query,
+                running: Running::Root(Root::new(seat)),
+            });
+        }
+        Seats { depth, seats }
+    }
+
+    /// Adds an update to each running number that it concerns.
+    ///
+    /// At most `depth` multiplications for each query; no memory.
+    pub fn update(&mut self, update: &Update)
+        requires { update.now.item < 2 ^ self.old.depth }
+        ensures depth { self.new.depth ≡ self.old.depth }
+        ensures stands { (depth : ℕ) (queries : List AnyQuery) (blocks : List (List ℕ)) (stream : List AnyUpdate)
+            → AreSeats depth queries blocks stream self.old
+            → AreSeats depth queries blocks (stream ++ update.now ∷ []) self.new }
+    {
+        for seat in self.seats.iter_mut() {
+            seat.update(update);
+        }
+    }
+
+    /// Writes the head of the run's transcript: the depth, and each query with its challenges.
+    ///
+    /// # Errors
+    ///
+    /// Those of the sink, which a front of the head has then reached that is shorter than it.
+    pub fn put_transcript_head<K: Sink>(&self, sink: &mut K) -> Result<(), PortStop>
+        ensures talk { (depth : ℕ) (queries : List AnyQuery) (blocks : List (List ℕ)) (stream : List AnyUpdate)
+            → AreSeats depth queries blocks stream self.now
+            → SendsWhole (K.talk sink.old) (K.talk sink.new) result (head_of depth queries blocks) }
+        ensures cause { HasCause K.faults K.is_sure sink.old sink.new result }
+    {
+        put_head(self.depth, self.seats.len() as u8, sink)?;
+        for seat in self.seats.iter() {
+            put_ask(&seat.query, seat.block(), sink)?;
+        }
+        Ok(())
+    }
+}

@@ -1,0 +1,217 @@
+//! The queries of a run, asked one after another.
+
+ghost use Rattle.std.specs.Prelude.{◌≡◌, ◌≢◌, ◌<◌, ◌≤◌, ◌^◌, ℕ, List, [], ◌∷◌, true, false, length, drop, vec_len, IsTrue};
+ghost use Rattle.std.specs.List.{list_all};
+ghost use Rattle.sip_ports.specs.Ports.{Lasts, Rose};
+ghost use Rattle.sip_vector.specs.declared.update.Update.{Update as AnyUpdate};
+ghost use Rattle.sip_vector.specs.Answers.{Fits};
+ghost use Rattle.sip_vector.specs.Streams.{IsLegal};
+ghost use Rattle.sip_verifier.specs.Asking.{AnswersCount, Asks};
+ghost use Rattle.sip_verifier.specs.Questions.{has_room};
+ghost use Rattle.sip_verifier.specs.declared.seat.QuerySeat.{QuerySeat as AnySeat};
+ghost use Rattle.sip_verifier.specs.QuerySeats.{StandsFor, block_of};
+ghost use Rattle.sip_verifier.specs.Sittings.{Starts, is_over};
+
+use crate::Seats;
+use crate::asking::{ask_seat, found_in, verdict_of};
+use crate::seat::QuerySeat;
+use sip_ports::{Link, Sink};
+use sip_vector::{Entry, Query};
+use sip_wire::{Frame, Reason};
+use std::alloc::Global;
+use std::marker::Model;
+
+/// How many entries an answer may have.
+const MOST_ENTRIES: u64 = 65536;
+
+/// Why there is no session.
+#[derive(Clone, Copy, Debug, PartialEq, Eq)]
+pub enum SessionStart {
+    /// The answer of this query, counted from 1, may have too many entries.
+    TooWide { query: u8 },
+    /// Memory ran out.
+    OutOfMemory,
+}
+
+/// What came of a query.
+#[derive(Clone, Copy, Debug, PartialEq, Eq)]
+pub enum Verdict {
+    /// Its replies were accepted, and this number is the answer.
+    Number(i64),
+    /// Its replies were accepted, and the pairs of [`Session::entries`] are the answer.
+    Pairs,
+    /// Its replies have this first fault; `round` is the number of the reply, or the depth for the tests after the last one.
+    Rejected { round: u8, reason: Reason },
+}
+
+/// Why a query has no verdict.
+#[derive(Clone, Copy, Debug, PartialEq, Eq)]
+pub enum SessionFault {
+    /// A call of the link failed.
+    PeerFault,
+    /// A call of the sink that keeps the talk failed.
+    KeepFault,
+    /// A port ran out of memory.
+    OutOfMemory,
+}
+
+/// The queries of a run after the stream was sent. All memory is taken when it is made: a frame, and room for the entries of the
+/// longest answer.
+#[derive(Drop)]
+pub struct Session {
+    seats: Seats,
+    // The number of queries that were asked.
+    asked: usize,
+    frame: Frame,
+    // Room for the entries of an answer, of which the first `found` are those of the last one.
+    entries: Vec<Entry>,
+    found: usize,
+    is_spent: bool,
+    ghost within: { asked ≤ length seats.seats.items },
+    ghost shown: { found ≤ vec_len entries },
+    ghost room: { IsTrue (list_all (λ s. has_room (vec_len entries) s.query) seats.seats.items) },
+}
+
+impl Model for Session {
+    ghost use Rattle.std.specs.Prelude.{drop, take};
+    ghost use Rattle.sip_verifier.specs.Sittings.{Sitting};
+
+    ghost Value = { Sitting };
+
+    ghost view = { λ s. record { depth = s.seats.depth; left = drop s.asked s.seats.seats.items; entries = take s.found s.entries.items; spent = s.is_spent } };
+}
+
+/// How many entries an answer to this query may have.
+fn most_entries_of(query: &Query) -> usize
+    ensures { IsTrue (has_room result query.now) }
+{
+    match query {
+        Query::Sub { lo, hi } => (hi.saturating_sub(*lo).min(MOST_ENTRIES - 1) + 1) as usize,
+        _ => 0,
+    }
+}
+
+/// The greater of two numbers.
+fn greater(one: usize, other: usize) -> usize
+    ensures one { one ≤ result }
+    ensures other { other ≤ result }
+{
+    if one < other { other } else { one }
+}
+
+/// How many entries the longest answer of these seats may have.
+fn most_entries(seats: &[QuerySeat]) -> usize
+    ensures { IsTrue (list_all (λ s. has_room result s.query) seats.now) }
+{
+    let mut most = 0;
+    for seat in seats.iter() {
+        most = greater(most, most_entries_of(&seat.query));
+    }
+    most
+}
+
+impl Session {
+    /// A session that asks the queries of these seats in order.
+    ///
+    /// Takes a frame of 6,661 bytes and 16 bytes for each entry that the longest answer may have, at most 65,536. After that no
+    /// call takes memory.
+    ///
+    /// # Errors
+    ///
+    /// `OutOfMemory`; the seats are then dropped.
+    pub fn new(alloc: Global, seats: Seats) -> Result<Session, SessionStart>
+        ensures { Starts seats result }
+    {
+        let Ok(frame) = Frame::new(alloc) else {
+            return Err(SessionStart::OutOfMemory);
+        };
+        let room = most_entries(&seats.seats);
+        let Ok(entries) = vec![in alloc; Entry { index: 0, value: 0 }; room] else {
+            return Err(SessionStart::OutOfMemory);
+        };
+        Ok(Session {
+            seats,
+            asked: 0,
+            frame,
+            entries,
+            found: 0,
+            is_spent: false,
+        })
+    }
+
+    /// How many queries were not asked yet.
+    pub fn left(&self) -> usize
+        ensures { result ≡ length self.now.left }
+    {
+        self.seats.seats.len() - self.asked
+    }
+
+    /// The pairs of the last verdict of pairs, rising.
+    pub fn entries(&self) -> &[Entry]
+        ensures { result.now ≡ self.now.entries }
+    {
+        &self.entries[..self.found]
+    }
+
+    // Asks the next query, takes the replies and judges them.
+    fn judge<L: Link>(&mut self, link: &mut L) -> Result<Verdict, SessionFault>
+        requires left { 0 < length self.old.left }
+        requires live { self.old.spent ≡ false }
+        ensures asks { (stream : List AnyUpdate) (seat : AnySeat) (more : List AnySeat) → self.old.left ≡ seat ∷ more → StandsFor self.old.depth stream seat
+            → Asks self.old.depth stream seat.query (block_of seat) (L.talk link.old) (L.talk link.new) self.new.entries result }
+        ensures fits { (seat : AnySeat) (more : List AnySeat) → self.old.left ≡ seat ∷ more → Fits self.old.depth seat.query }
+        ensures next { self.new.left ≡ drop 1 self.old.left }
+        ensures depth { self.new.depth ≡ self.old.depth }
+        ensures spent { self.new.spent ≡ is_over result }
+        ensures cleared { is_over result ≡ true → self.new.entries ≡ [] }
+        ensures cause { result ≡ Err SessionFault.PeerFault → Rose (L.faults link.old) (L.faults link.new) }
+        ensures no_keep { result ≢ Err SessionFault.KeepFault }
+        ensures link { Lasts L.faults L.is_sure link.old link.new }
+    {
+        let seats = &self.seats;
+        let seat = &seats.seats[self.asked];
+        let asked = ask_seat(seat, &mut self.entries, &mut self.frame, link);
+        self.asked += 1;
+        self.found = found_in(&asked);
+        self.is_spent = asked.is_err();
+        verdict_of(asked)
+    }
+
+    /// Asks the next query, takes the replies and judges them.
+    ///
+    /// A challenge leaves only after the reply before it was taken and passed its tests, and the last challenge never leaves. No
+    /// byte is received behind the one that shows the verdict. Takes no memory; the time is linear in the replies.
+    ///
+    /// `keep` is left alone.
+    ///
+    /// # Errors
+    ///
+    /// Those of the link. A reply is then missing or not whole, and those before it have no fault. After an error or a rejection
+    /// the session is spent.
+    pub fn ask<L: Link, C: Sink>(
+        &mut self,
+        link: &mut L,
+        keep: &mut C,
+    ) -> Result<Verdict, SessionFault>
+        requires left { 0 < length self.old.left }
+        requires live { self.old.spent ≡ false }
+        ensures asks { (stream : List AnyUpdate) (seat : AnySeat) (more : List AnySeat) → self.old.left ≡ seat ∷ more → StandsFor self.old.depth stream seat
+            → Asks self.old.depth stream seat.query (block_of seat) (L.talk link.old) (L.talk link.new) self.new.entries result }
+        ensures count { (stream : List AnyUpdate) (seat : AnySeat) (more : List AnySeat) → self.old.left ≡ seat ∷ more → StandsFor self.old.depth stream seat
+            → IsLegal self.old.depth stream
+            → AnswersCount self.old.depth stream seat.query (block_of seat) (L.talk link.old) (L.talk link.new) self.new.entries result }
+        ensures next { self.new.left ≡ drop 1 self.old.left }
+        ensures depth { self.new.depth ≡ self.old.depth }
+        ensures spent { self.new.spent ≡ is_over result }
+        ensures cleared { is_over result ≡ true → self.new.entries ≡ [] }
+        ensures cause { result ≡ Err SessionFault.PeerFault → Rose (L.faults link.old) (L.faults link.new) }
+        ensures no_keep { result ≢ Err SessionFault.KeepFault }
+        ensures link { Lasts L.faults L.is_sure link.old link.new }
+        ensures kept { keep.new ≡ keep.old }
+    {
+        self.judge(link)
+    }
+}
+
+#[cfg(test)]
+mod tests;
