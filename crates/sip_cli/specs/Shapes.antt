@@ -5,8 +5,8 @@ use Rattle.sip_stream.specs.declared.form.Form.{Form}
 use Rattle.sip_stream.specs.declared.form.Form.TheVariants as forms
 use Rattle.sip_vector.specs.declared.query.Query.{Query}
 use Rattle.sip_vector.specs.Answers.{Fits}
+use Rattle.sip_vector.specs.Built.{is_built}
 use Rattle.sip_verifier.specs.Reports.{query_word}
-use Rattle.sip_verifier.specs.Tasks.{is_built}
 use Rattle.sip_cli.specs.declared.shape.Shape.{Shape}
 use Rattle.sip_cli.specs.declared.shape.Shape.TheVariants as shape
 use Rattle.sip_cli.specs.declared.stream.Stream.{Stream}
@@ -44,6 +44,6 @@ IsOf shape.NoRecord word = word ≡ codes "-"
 IsOf (shape.Number most) word = (n : ℕ) × (n ≤ most) × (n < 2 ^ 64) × (word ≡ decimal n)
 IsOf (shape.Depth most) word = (d : ℕ) × (d ≤ most) × IsDepth d word
 
--- the word asks this query, whose check is built and which fits the depth
+-- the word asks this query, whose kind is built and which fits the depth
 abbrev pub Asks : ℕ → Query → List ℕ → Type 0
 Asks depth query word = IsTrue (is_built query) × Fits depth query × (word ≡ query_word query)

@@ -7,7 +7,8 @@ ghost use Rattle.sip_cli.specs.Shapes.{Asks};
 use crate::decimal::read_decimal;
 use sip_vector::{Depth, Query};
 
-/// The query that a word asks, where it fits the depth: `sub:LO:HI` with LO up to HI, and HI below 2^depth.
+/// The query that a word asks, where its kind is built and it fits the depth: `sub:LO:HI` with LO
+/// up to HI, and HI below 2^depth.
 pub(crate) fn read_query(word: &str, depth: Depth) -> Option<Query>
     ensures { MatchOption result
         ((query : AnyQuery) → Asks depth query word.now → ⊥)
@@ -18,5 +19,5 @@ pub(crate) fn read_query(word: &str, depth: Depth) -> Option<Query>
         lo: read_decimal(lo)?,
         hi: read_decimal(hi)?,
     };
-    query.fits(depth).then_some(query)
+    (query.is_built() && query.fits(depth)).then_some(query)
 }

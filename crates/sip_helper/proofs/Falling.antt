@@ -10,6 +10,7 @@ use Rattle.sip_vector.specs.declared.query.Query.{Query}
 use Rattle.sip_vector.specs.declared.update.Side.{Side}
 use Rattle.sip_vector.specs.declared.update.Side.TheVariants.{First, Second}
 use Rattle.sip_vector.specs.declared.update.Update.{Update}
+use Rattle.sip_vector.specs.Built.{is_built}
 use Rattle.sip_vector.specs.Streams.{same_side, weight, most_weight}
 use Rattle.sip_wire.specs.declared.message.Message.{Message}
 use Rattle.sip_wire.specs.declared.message.Message.TheVariants as messages
@@ -22,7 +23,7 @@ use Rattle.sip_helper.specs.declared.heard.Heard.TheVariants.{Nothing, Part, Who
 use Rattle.sip_helper.specs.declared.vectors.Vectors.{Vectors}
 use Rattle.sip_helper.specs.Measures.{stream_left, challenges_left, turns_left}
 use Rattle.sip_helper.specs.Serving.{IsTurn, Turn, after_turn}
-use Rattle.sip_helper.specs.Turns.{HelperState, OpenQuery, after_answer, after_reply, depth_of, is_allowed, is_below, is_built, is_light, is_refused, most_queries, step, weights_after, with_challenge}
+use Rattle.sip_helper.specs.Turns.{HelperState, OpenQuery, after_answer, after_reply, depth_of, is_allowed, is_below, is_light, is_refused, most_queries, step, weights_after, with_challenge}
 use Rattle.sip_helper.proofs.LegalUpdates.{weight-cons, weight-one, light_parts}
 
 -- ---- updates weigh something

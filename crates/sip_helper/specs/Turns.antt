@@ -10,6 +10,7 @@ use Rattle.sip_vector.specs.declared.query.Query.{Query}
 use Rattle.sip_vector.specs.declared.query.Query.TheVariants as queries
 use Rattle.sip_vector.specs.declared.update.Side.TheVariants.{First, Second}
 use Rattle.sip_vector.specs.declared.update.Update.{Update}
+use Rattle.sip_vector.specs.Built.{is_built}
 use Rattle.sip_vector.specs.Streams.{weight, most_weight}
 use Rattle.sip_vector.specs.Vectors.{zero_vector, with_update, nonzero_within}
 use Rattle.sip_wire.specs.declared.message.Message.{Message}
@@ -91,12 +92,7 @@ stays_legal depth w us = list_all (λ u. nat_lt u.item (2 ^ depth)) us && is_lig
 abbrev pub most_queries : ℕ
 most_queries = 16
 
--- the queries that a helper answers
-abbrev pub is_built : Query → Bool
-is_built (queries.Sub lo hi) = true
-is_built _ = false
-
--- the messages that a helper knows, which are all but the queries that it does not answer
+-- the messages that a helper knows, which are all but the queries of a kind that is not built
 abbrev pub is_known : Message → Bool
 is_known (messages.Query q) = is_built q
 is_known _ = true

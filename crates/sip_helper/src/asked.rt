@@ -162,7 +162,7 @@ pub(crate) fn is_known(message: &Message) -> bool
     ensures { result ≡ is_known message.now }
 {
     match message {
-        Message::Query(query) => matches!(query, Query::Sub { .. }),
+        Message::Query(query) => query.is_built(),
         _ => true,
     }
 }

@@ -1,5 +1,6 @@
 pub mod Streams
 pub mod Answers
+pub mod Built
 pub mod Trees
 pub mod Extensions
 pub mod Sparse

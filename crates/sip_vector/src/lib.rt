@@ -14,6 +14,7 @@
 //! |---|---|
 //! | `Streams`, `Vectors` | the vector of a side of a stream; what a [`Vector`] shows, and its entries that are not 0 |
 //! | `Answers` | what each query asks for |
+//! | `Built` | which kinds of query are built |
 //! | `Trees`, `Extensions`, `Levels` | the two hash trees over a vector; its multilinear extension; the level above |
 //! | `Sparse` | lists that are kept by the entries at which they are not 0 |
 //!

@@ -1,7 +1,8 @@
 //! What can be asked of the vectors.
 
-ghost use Rattle.std.specs.Prelude.{◌↔◌, IsTrue};
+ghost use Rattle.std.specs.Prelude.{◌≡◌, ◌↔◌, IsTrue};
 ghost use Rattle.sip_vector.specs.Answers.{Fits};
+ghost use Rattle.sip_vector.specs.Built.{is_built};
 
 use crate::{Depth, Side};
 
@@ -31,6 +32,19 @@ impl Query {
             Query::Sub { lo, hi } | Query::Range { lo, hi, .. } => lo <= hi && *hi < items,
             Query::F2 { .. } | Query::Inner => true,
             Query::Heavy { at_least, .. } => 1 <= *at_least && *at_least < 1 << 63,
+        }
+    }
+
+    /// Whether the query's kind is built: a verifier can check its answer, and a helper can give one.
+    ///
+    /// A query of a kind that is not built is never asked, and one that comes from outside is not
+    /// answered, whatever its numbers are.
+    pub fn is_built(&self) -> bool
+        ensures { result ≡ is_built self.now }
+    {
+        match self {
+            Query::Sub { .. } => true,
+            Query::Range { .. } | Query::F2 { .. } | Query::Inner | Query::Heavy { .. } => false,
         }
     }
 }

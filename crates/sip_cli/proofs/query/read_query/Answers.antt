@@ -1,6 +1,9 @@
-use Rattle.std.proofs.Common.{arith}
+-- Where the word is read, its query is chosen if its kind is built and it fits.
+use Rattle.std.proofs.Common.{false, refl, arith}
+use Rattle.std.proofs.lemmas.Bool.{both_ways}
 use Rattle.sip_cli.proofs.QueryWords.{stripped, cut, joined, chosen, asked_interval}
 use Rattle.sip_cli.proofs.query.read_query.Goals as goal
+use Rattle.sip_cli.proofs.query.read_query.Goals.{then-is_built, else-is_built}
 
 pub returns-in_err-lo : goal.returns-in_err-lo
 returns-in_err-lo c =
@@ -26,7 +29,10 @@ returns-in_err-read_decimal-2 c =
     c.in_err-read_decimal-2.ensures q.1 q.5 parts.1)
 
 pub returns : goal.returns
-returns c =
-    let front = stripped c.args.word.now _ c.in_ok-strip_prefix.ensures.cases in
-    let whole = joined _ _ (c.in_ok-lo.lo, c.in_ok-lo.hi) front (rw c.in_ok-lo.was at c.split_once.ensures.cases) _ _ c.in_ok-read_decimal.ensures c.in_ok-read_decimal-2.ensures in
-    rw c.then_some.ensures (chosen _ _ _ _ c.fits.result (omega arith) (omega arith) (omega arith) c.fits.ensures whole)
+returns c = elim c.if-is_built.branch [
+  | then-is_built w ↦
+      let front = stripped c.args.word.now _ c.in_ok-strip_prefix.ensures.cases in
+      let whole = joined _ _ (c.in_ok-lo.lo, c.in_ok-lo.hi) front (rw c.in_ok-lo.was at c.split_once.ensures.cases) _ _ c.in_ok-read_decimal.ensures c.in_ok-read_decimal-2.ensures in
+      rw (c.then_some.ensures, w.then_some-is) (chosen _ _ _ _ w.fits.result (omega arith) (omega arith) (omega arith) w.fits.ensures whole)
+  | else-is_built w ↦ absurd (both_ways false refl w.if-is_built.ensures)
+]
