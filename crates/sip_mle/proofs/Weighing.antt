@@ -2,14 +2,15 @@
 use Rattle.std.proofs.Common.{◌≡◌, ℕ, zero, suc, ◌+◌, ◌*◌, ◌%◌, ◌^◌, ◌<◌, ℤ, pos, ◌+ℤ◌, List, [], ◌∷◌, length, get_or, set, map, replicate, refl, sym, ◌∙◌, ap, arith}
 use Rattle.std.proofs.Math.Nat.{zero-mod, mod-add-mod}
 use Rattle.std.proofs.lemmas.Nat.{mul-mod_first}
-use Rattle.std.proofs.lemmas.List.{map-set, length-map, length-set, get_or-map}
+use Rattle.std.proofs.lemmas.List.{length-map, length-set}
 use Rattle.std.proofs.lemmas.List.Sums.{sum_by-cons}
 use Rattle.std.specs.List.{enumerate_from, sum_by}
 use Rattle.sip_field.specs.Residue.{residue}
 use Rattle.sip_vector.specs.Extensions.{chi, ext}
 use Rattle.sip_vector.specs.Weights.{raised_numbers}
 use Rattle.sip_mle.specs.StandsFor.{PointStandsFor}
-use Rattle.sip_vector.proofs.TreeResidues.{residue_of_sum, mod_plus}
+use Rattle.sip_vector.proofs.TreeResidues.{mod_plus}
+use Rattle.sip_vector.proofs.TreeUpdates.{raise, residues_raised}
 
 -- these residues, each times its factor, where the first one has the index k
 abbrev pub weigh : ℕ → List ℕ → ℕ → List ℕ → ℕ
@@ -26,10 +27,6 @@ sum_is p challenges k (x ∷ numbers) =
 pub ext_is : (p : ℕ) (numbers : List ℤ) (challenges : List ℕ) →
     ext p numbers challenges ≡ weigh p challenges 0 (map (residue p) numbers) % p
 ext_is p numbers challenges = ap (λ s. s % p) (sum_is p challenges 0 numbers)
-
--- a level with the residue e added to one of its numbers
-abbrev raise : ℕ → List ℕ → ℕ → ℕ → List ℕ
-raise p level i e = set level i ((get_or level i 0 + e) % p)
 
 weigh_raised : (p e : ℕ) (challenges level : List ℕ) (k i j : ℕ) → k + i ≡ j → i < length level →
     weigh p challenges k (raise p level i e) % p ≡ (weigh p challenges k level + e * chi p j challenges) % p
@@ -56,10 +53,7 @@ pub ext_raised : (p : ℕ) (numbers : List ℤ) (challenges : List ℕ) (i : ℕ
 ext_raised p numbers challenges i delta some h =
     let level : List ℕ = map (residue p) numbers in
     let within : i < length level = omega (arith, length-map numbers (residue p)) in
-    let at : get_or level i 0 ≡ residue p (get_or numbers i (pos 0)) = get_or-map (residue p) numbers i (pos 0) 0 h in
-    let leaves : map (residue p) (raised_numbers numbers i delta) ≡ raise p level i (residue p delta) =
-    map-set (residue p) numbers i _ ∙ ap (set level i) (residue_of_sum p _ delta some ∙ ap (λ n. (n + residue p delta) % p) (sym at)) in
-    ext_is p (raised_numbers numbers i delta) challenges ∙ ap (λ l. weigh p challenges 0 l % p) leaves
+    ext_is p (raised_numbers numbers i delta) challenges ∙ ap (λ l. weigh p challenges 0 l % p) (residues_raised p numbers i delta some h)
     ∙ weigh_raised p (residue p delta) challenges level 0 i i (omega arith) within
     ∙ sym (mod-add-mod (weigh p challenges 0 level) p (residue p delta * chi p i challenges))
     ∙ ap (λ n. (n + residue p delta * chi p i challenges) % p) (sym (ext_is p numbers challenges))

@@ -5,6 +5,7 @@ use Rattle.std.specs.BTreeMap.Range.{range_contains, entries_between}
 use Rattle.std.specs.List.{enumerate_from}
 use Rattle.std.specs.Map.{values_of}
 use Rattle.std.specs.Ordering.{nat_cmp}
+use Rattle.std.proofs.lemmas.Bool.{cases_Bool}
 use Rattle.std.proofs.lemmas.Bool.Decides.{leb_tells, nat_tests}
 use Rattle.std.proofs.lemmas.Int.{ints}
 use Rattle.std.proofs.lemmas.List.{length-set, get_or-set_same, set-set}
@@ -15,28 +16,24 @@ use Rattle.sip_vector.specs.Answers.{entries, is_within, is_zero}
 use Rattle.sip_vector.specs.Sparse.{dense, IsSparse}
 use Rattle.sip_vector.specs.Vectors.{numbers_of, IsKept, is_nonzero_within, nonzero_within}
 use Rattle.sip_vector.proofs.Dense.{set_same, length-dense, get_or-dense_below, passing-dense}
-use Rattle.sip_vector.proofs.Kept.{is_zero_tells}
+use Rattle.sip_vector.proofs.Kept.{is_zero-false}
 use Rattle.sip_vector.proofs.Sums.{sum_by-zeros}
-
-pub bool_tells : (b : Bool) → (b ≡ true) ⊎ (b ≡ false)
-bool_tells true = inl refl
-bool_tells false = inr refl
 
 pub filter-map : {X Y : Type 0} (p : Y → Bool) (f : X → Y) (xs : List X) → filter p (map f xs) ≡ map f (filter (λ x. p (f x)) xs)
 filter-map p f [] = refl
-filter-map p f (x ∷ xs) = elim (bool_tells (p (f x))) [
+filter-map p f (x ∷ xs) = elim (cases_Bool (p (f x))) [
   | inl e ↦ rw e (ap (λ ys. f x ∷ ys) (filter-map p f xs))
   | inr e ↦ rw e (filter-map p f xs)
 ]
 
 pub filter-both : {X : Type 0} (p q : X → Bool) (xs : List X) → filter (λ x. p x && q x) xs ≡ filter p (filter q xs)
 filter-both p q [] = refl
-filter-both p q (x ∷ xs) = elim (bool_tells (p x)) [
-  | inl e ↦ elim (bool_tells (q x)) [
+filter-both p q (x ∷ xs) = elim (cases_Bool (p x)) [
+  | inl e ↦ elim (cases_Bool (q x)) [
     | inl f ↦ rw (e, f, e) (ap (λ ys. x ∷ ys) (filter-both p q xs))
     | inr f ↦ rw (e, f) (filter-both p q xs)
   ]
-  | inr e ↦ elim (bool_tells (q x)) [
+  | inr e ↦ elim (cases_Bool (q x)) [
     | inl f ↦ rw (e, f, e) (filter-both p q xs)
     | inr f ↦ rw (e, f) (filter-both p q xs)
   ]
@@ -53,9 +50,6 @@ as_entry x = record { index = x.0; value = x.1 }
 range_contains-is : (lo hi k : ℕ) → is_within lo hi k ≡ range_contains nat_cmp (Included lo) (Included hi) k
 range_contains-is lo hi k = grind (arith, nat_tests)
 
-not_zero : (z : ℤ) → z ≢ pos 0 → not (is_zero z) ≡ true
-not_zero z some = elim (is_zero_tells z) [ inl t ↦ absurd (some t.1) | inr t ↦ rw t.0 refl ]
-
 -- the entries from lo to hi that are not 0 are the kept ones there
 pub nonzero_within-is : (depth lo hi : ℕ) (kept : List (ℕ × ℤ)) → IsSparse (pos 0) 0 (2 ^ depth) kept
     → nonzero_within lo hi (numbers_of depth kept) ≡ map as_entry (entries_between nat_cmp (Included lo) (Included hi) kept)
@@ -63,7 +57,7 @@ nonzero_within-is depth lo hi kept sparse =
     let all = enumerate_from 0 (numbers_of depth kept) in
     filter-map (is_nonzero_within lo hi) as_entry all
     ∙ ap (map as_entry) (filter-both (λ (x : ℕ × ℤ). is_within lo hi x.0) (λ (x : ℕ × ℤ). not (is_zero x.1)) all
-    ∙ ap (filter (λ (x : ℕ × ℤ). is_within lo hi x.0)) (passing-dense (pos 0) (λ z. not (is_zero z)) refl not_zero 0 (2 ^ depth) kept sparse)
+    ∙ ap (filter (λ (x : ℕ × ℤ). is_within lo hi x.0)) (passing-dense (pos 0) (λ z. not (is_zero z)) refl (λ z some. ap not (is_zero-false z some)) 0 (2 ^ depth) kept sparse)
     ∙ filter_agree (λ (x : ℕ × ℤ). is_within lo hi x.0) (λ (x : ℕ × ℤ). range_contains nat_cmp (Included lo) (Included hi) x.0) (λ x. range_contains-is lo hi x.0) kept)
 
 -- there are none where hi is below lo

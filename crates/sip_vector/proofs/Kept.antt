@@ -1,5 +1,5 @@
 -- What a vector keeps, as a delta is added to it.
-use Rattle.std.proofs.Common.{◌≡◌, ◌≢◌, ◌⊎◌, ℕ, zero, suc, true, false, inl, inr, negsuc, FitsSigned, w64, to_z, of_z, ◌+◌, ◌^◌, ◌<◌, ◌≤◌, List, [], length, set, ℤ, pos, ◌+ℤ◌, nat_abs, refl, sym, ap, ◌∙◌, arith}
+use Rattle.std.proofs.Common.{◌≡◌, ◌≢◌, ◌⊎◌, ℕ, zero, suc, true, false, not, inl, inr, negsuc, FitsSigned, w64, to_z, of_z, ◌+◌, ◌^◌, ◌<◌, ◌≤◌, List, [], length, set, ℤ, pos, ◌+ℤ◌, nat_abs, refl, sym, ap, ◌∙◌, arith}
 use Rattle.std.proofs.lemmas.Int.{fits_signed_from_abs, to_z-of_z}
 use Rattle.sip_vector.specs.Answers.{is_zero}
 use Rattle.std.proofs.lemmas.Bool.Decides.{eqb_tells}
@@ -36,6 +36,7 @@ fits z light = fits_signed_from_abs w64 z (omega arith)
 pub same_z : (z : ℤ) → nat_abs z ≤ most_weight → to_z w64 (of_z w64 z) ≡ z
 same_z z light = to_z-of_z w64 z (fits z light)
 
+-- the test whether a number is 0 tells it
 pub is_zero_tells : (z : ℤ) → ((is_zero z ≡ true) × (z ≡ pos 0)) ⊎ ((is_zero z ≡ false) × (z ≢ pos 0))
 is_zero_tells (pos zero) = inl (refl, refl)
 is_zero_tells (pos (suc n)) = elim (eqb_tells (suc n) 0) [
@@ -46,6 +47,14 @@ is_zero_tells (negsuc n) = elim (eqb_tells (suc n) 0) [
   | inl t ↦ absurd (omega (arith, t.1))
   | inr t ↦ inr (t.0, λ e. cc)
 ]
+
+-- it fails at a number that is not 0
+pub is_zero-false : (z : ℤ) → z ≢ pos 0 → is_zero z ≡ false
+is_zero-false z some = elim (is_zero_tells z) [ inl t ↦ absurd (some t.1) | inr t ↦ t.0 ]
+
+-- and at no other
+pub not_is_zero : (z : ℤ) → not (is_zero z) ≡ true → z ≢ pos 0
+not_is_zero z h e = absurd (let zero : not (is_zero z) ≡ false = rw e refl in cc)
 
 module _ (depth : ℕ) (kept : List (ℕ × ℤ)) (total : ℤ) (weight : ℕ) (is : IsKept depth kept total weight) where
   pub total-light : nat_abs total ≤ weight

@@ -1,6 +1,7 @@
 pub mod Dense
 pub mod Folds
 pub mod Sums
+pub mod Products
 pub mod Sides
 pub mod Kept
 pub mod Filters

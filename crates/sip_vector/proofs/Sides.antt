@@ -1,6 +1,7 @@
 -- The vector of one side of a stream, as updates are added to it.
 use Rattle.std.proofs.Common.{◌≡◌, ◌⊎◌, ℕ, zero, suc, ◌+◌, ◌^◌, ◌<◌, Bool, true, false, ◌==◌, eqb, List, [], ◌∷◌, ◌++◌, length, get_or, set, map, filter, fold, replicate, append_assoc, ℤ, pos, ◌+ℤ◌, nat_abs, refl, sym, ap, ◌∙◌, inl, inr, All, arith}
 use Rattle.std.specs.List.{range_with_len}
+use Rattle.std.proofs.lemmas.Bool.{cases_Bool}
 use Rattle.std.proofs.lemmas.Bool.Decides.{eqb_tells}
 use Rattle.std.proofs.lemmas.Int.{ints}
 use Rattle.std.proofs.lemmas.List.{append-nil, length-set, map-append, ext_get_or, get_or-set_same, get_or-set_other}
@@ -24,7 +25,8 @@ frequency-append s t side item =
     rw (filter-append (λ (u : Update). u.item == item) s t)
     (total-append (filter (λ (u : Update). u.item == item) s) (filter (λ (u : Update). u.item == item) t) side)
 
-weight-append : (s t : List Update) (side : Side) → weight (s ++ t) side ≡ weight s side + weight t side
+-- the weight of two streams, one after the other, is that of both
+pub weight-append : (s t : List Update) (side : Side) → weight (s ++ t) side ≡ weight s side + weight t side
 weight-append s t side =
     rw (filter-append (λ (u : Update). same_side u.side side) s t)
     (sum_by-append (λ (u : Update). nat_abs u.delta) (of_side s side) (of_side t side))
@@ -87,14 +89,12 @@ vector-same_side depth s u side same =
               rw (frequency-one_other_item u side i t.0) (sym (there ∙ read ∙ (let e : frequency s side i ≡ frequency s side i +ℤ pos 0 = omega (arith, ints) in e)))
         ]
 
-bool_tells : (b : Bool) → (b ≡ true) ⊎ (b ≡ false)
-bool_tells true = inl refl
-bool_tells false = inr refl
-
-weight-one_other_side : (u : Update) (side : Side) → same_side u.side side ≡ false → weight (u ∷ []) side ≡ 0
+-- an update weighs nothing on the other side
+pub weight-one_other_side : (u : Update) (side : Side) → same_side u.side side ≡ false → weight (u ∷ []) side ≡ 0
 weight-one_other_side u side other = rw other refl
 
-weight-one : (u : Update) (side : Side) → same_side u.side side ≡ true → weight (u ∷ []) side ≡ nat_abs u.delta
+-- and as much as its delta on its own
+pub weight-one : (u : Update) (side : Side) → same_side u.side side ≡ true → weight (u ∷ []) side ≡ nat_abs u.delta
 weight-one u side same = rw same (omega arith)
 
 -- ---- a stream of no updates, and one more
@@ -108,7 +108,7 @@ unfolding zeros
 side_vector-nil depth side = same_parts depth _ _ 0 0 (map-zero (frequency [] side) 0 (2 ^ depth) (λ i. refl)) refl
 
 pub side_vector-push : (depth : ℕ) (s : List Update) (u : Update) (side : Side) → side_vector depth (s ++ u ∷ []) side ≡ with_update side (side_vector depth s side) u
-side_vector-push depth s u side = elim (bool_tells (same_side u.side side)) [
+side_vector-push depth s u side = elim (cases_Bool (same_side u.side side)) [
   | inl same ↦ rw same (same_parts depth _ _ _ _ (vector-same_side depth s u side same) (weight-append s (u ∷ []) side ∙ ap (λ w. weight s side + w) (weight-one u side same)))
   | inr other ↦ rw other (same_parts depth _ _ _ _ (vector-other_side depth s u side other) (weight-append s (u ∷ []) side ∙ ap (λ w. weight s side + w) (weight-one_other_side u side other) ∙ omega arith))
 ]
@@ -134,7 +134,7 @@ total-one : (u : Update) (side : Side) → same_side u.side side ≡ true → to
 total-one u side same = rw same (omega (arith, ints))
 
 total-push : (depth : ℕ) (s : List Update) (u : Update) (side : Side) → u.item < 2 ^ depth → total s side ≡ int_sum (vector depth s side) → total (s ++ u ∷ []) side ≡ int_sum (vector depth (s ++ u ∷ []) side)
-total-push depth s u side below e = elim (bool_tells (same_side u.side side)) [
+total-push depth s u side below e = elim (cases_Bool (same_side u.side side)) [
   | inl same ↦
       let len = length-vector depth s side in
       total-append s (u ∷ []) side ∙ rw (total-one u side same, e, vector-same_side depth s u side same) (sym (int_sum-set (vector depth s side) u.item u.delta (omega arith)))

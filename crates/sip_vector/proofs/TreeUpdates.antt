@@ -17,7 +17,7 @@ abbrev pub factor : ℕ → ℕ → ℕ
 factor i r = cond (eqb (i % 2) 1) r 1
 
 -- a level with the residue e added to one of its numbers
-abbrev raise : ℕ → List ℕ → ℕ → ℕ → List ℕ
+abbrev pub raise : ℕ → List ℕ → ℕ → ℕ → List ℕ
 raise p level i e = set level i ((get_or level i 0 + e) % p)
 
 -- a level is half as long as the one below
@@ -65,6 +65,14 @@ top_raise p e (r ∷ challenges) level i l h =
     (top_raise p (e * factor i r) challenges (up p level r) (i / 2) above within
     ∙ weighted p (top p (up p level r) challenges) e (factor i r) (node_weight p (i / 2) challenges))
 
+-- the residues of numbers, one of them raised by a signed number, are the residues of the numbers with its residue added to that one
+pub residues_raised : (p : ℕ) (numbers : List ℤ) (i : ℕ) (delta : ℤ) → 0 < p → i < length numbers →
+    map (residue p) (raised_numbers numbers i delta) ≡ raise p (map (residue p) numbers) i (residue p delta)
+residues_raised p numbers i delta some h =
+    let at : get_or (map (residue p) numbers) i 0 ≡ residue p (get_or numbers i (pos 0)) = get_or-map (residue p) numbers i (pos 0) 0 h in
+    map-set (residue p) numbers i _
+    ∙ ap (set (map (residue p) numbers) i) (residue_of_sum p _ delta some ∙ ap (λ n. (n + residue p delta) % p) (sym at))
+
 -- an entry raised by a signed number raises the root by the number times the entry's weight
 pub root_raised : (p : ℕ) (numbers : List ℤ) (challenges : List ℕ) (i : ℕ) (delta : ℤ) → 0 < p → length numbers ≡ 2 ^ length challenges → i < length numbers →
     root p (raised_numbers numbers i delta) challenges ≡ (root p numbers challenges + residue p delta * node_weight p i challenges) % p
@@ -72,7 +80,4 @@ root_raised p numbers challenges i delta some l h =
     let level : List ℕ = map (residue p) numbers in
     let long : length level ≡ 2 ^ length challenges = length-map numbers (residue p) ∙ l in
     let within : i < length level = omega (arith, length-map numbers (residue p)) in
-    let at : get_or level i 0 ≡ residue p (get_or numbers i (pos 0)) = get_or-map (residue p) numbers i (pos 0) 0 h in
-    let leaves : map (residue p) (raised_numbers numbers i delta) ≡ raise p level i (residue p delta) =
-    map-set (residue p) numbers i _ ∙ ap (set level i) (residue_of_sum p _ delta some ∙ ap (λ n. (n + residue p delta) % p) (sym at)) in
-    ap (λ leaf. top p leaf challenges) leaves ∙ top_raise p (residue p delta) challenges level i long within
+    ap (λ leaf. top p leaf challenges) (residues_raised p numbers i delta some h) ∙ top_raise p (residue p delta) challenges level i long within

@@ -1,11 +1,12 @@
 -- Walking over the entries that are not 0, from each to the next.
 use Rattle.std.proofs.Common.{◌≡◌, ℕ, ◌+◌, ◌<◌, ◌≤◌, Bool, true, false, not, ◌&&◌, cond, leb, List, [], ◌∷◌, map, filter, ℤ, Some, None, slice_get, refl, sym, ap, ◌∙◌, inl, inr, arith}
 use Rattle.std.specs.List.{enumerate_from}
+use Rattle.std.proofs.lemmas.Bool.{cases_Bool}
 use Rattle.std.proofs.lemmas.Bool.Decides.{leb_tells}
 use Rattle.sip_vector.specs.declared.update.Entry.{Entry}
 use Rattle.sip_vector.specs.Answers.{is_zero}
 use Rattle.sip_vector.specs.Vectors.{is_nonzero_within, nonzero_within}
-use Rattle.sip_vector.proofs.Filters.{as_entry, bool_tells}
+use Rattle.sip_vector.proofs.Filters.{as_entry}
 
 -- those of xs, numbered from `start` on
 abbrev walk : ℕ → ℕ → ℕ → List ℤ → List Entry
@@ -39,7 +40,7 @@ walk_same lo low hi start (x ∷ xs) a b =
 -- an entry that is found is not before the start
 walk_least : (lo hi start : ℕ) (xs : List ℤ) (e : Entry) → slice_get (walk lo hi start xs) 0 ≡ Some e → start ≤ e.index
 walk_least lo hi start [] e found = cc
-walk_least lo hi start (x ∷ xs) e found = elim (bool_tells (is_nonzero_within lo hi (as_entry (start, x)))) [
+walk_least lo hi start (x ∷ xs) e found = elim (cases_Bool (is_nonzero_within lo hi (as_entry (start, x)))) [
   | inl t ↦
       let first : Some (as_entry (start, x)) ≡ Some e = sym (ap (λ es. slice_get es 0) (walk-cons lo hi start x xs true t)) ∙ found in
       let same : as_entry (start, x) ≡ e = cc in
@@ -52,7 +53,7 @@ walk_least lo hi start (x ∷ xs) e found = elim (bool_tells (is_nonzero_within 
 
 walk_next : (lo hi start : ℕ) (xs : List ℤ) (e : Entry) → slice_get (walk lo hi start xs) 0 ≡ Some e → walk lo hi start xs ≡ e ∷ walk (e.index + 1) hi start xs
 walk_next lo hi start [] e found = cc
-walk_next lo hi start (x ∷ xs) e found = elim (bool_tells (is_nonzero_within lo hi (as_entry (start, x)))) [
+walk_next lo hi start (x ∷ xs) e found = elim (cases_Bool (is_nonzero_within lo hi (as_entry (start, x)))) [
   | inl t ↦
       let first : Some (as_entry (start, x)) ≡ Some e = sym (ap (λ es. slice_get es 0) (walk-cons lo hi start x xs true t)) ∙ found in
       let same : as_entry (start, x) ≡ e = cc in

@@ -1,4 +1,4 @@
-use Rattle.std.proofs.Common.{◌≡◌, ◌+◌, ◌-◌, ◌<◌, [], length, drop, sym, ◌∙◌, ap, arith}
+use Rattle.std.proofs.Common.{◌<◌, drop, sym, ◌∙◌, ap, arith}
 use Rattle.std.proofs.Math.Nat.{mod-eq_of_lt}
 use Rattle.std.proofs.lemmas.List.{drop_all}
 use Rattle.sip_vector.specs.Weights.{hash_weight_from}
@@ -13,22 +13,15 @@ loop-below-init g c =
     ap (λ h. hash_weight_from p h c.args.index c.args.seat.now) (c.of-weight.ensures ∙ mod-eq_of_lt above)
 
 pub loop-below-preserved : goal.loop-below-preserved
-loop-below-preserved g c =
-    let seat = c.args.seat.now in
-    let k = c.loop-below.below in
-    let within : k < length seat = omega arith in
-    let back : k + 1 - 1 ≡ k = omega arith in
-    elim c.if-path-eq1.branch [
-      | then-path-eq1 w ↦
-          rw (w.weight-is, w.times-weight.ensures, w.times.ensures, c.plus-sum.ensures, c.at-r.ensures, back)
-          (hash_right _ seat k c.loop-below.path within _ w.if-path-eq1.true ∙ c.loop-below.invariant)
-      | else-path-eq1 w ↦
-          rw (w.weight-is, c.plus-sum.ensures, c.at-r.ensures, back)
-          (hash_left _ seat k c.loop-below.path within _ w.if-path-eq1.false ∙ c.loop-below.invariant)
-    ]
+loop-below-preserved g c = elim c.if-path-eq1.branch [
+  | then-path-eq1 w ↦
+      rw (w.weight-is, w.times-weight.ensures, w.times.ensures, c.plus-sum.ensures, c.at-r.ensures)
+      (hash_right _ c.args.seat.now c.loop-below.below c.loop-below.path (omega arith) _ w.if-path-eq1.true ∙ c.loop-below.invariant)
+  | else-path-eq1 w ↦
+      rw (w.weight-is, c.plus-sum.ensures, c.at-r.ensures)
+      (hash_left _ c.args.seat.now c.loop-below.below c.loop-below.path (omega arith) _ w.if-path-eq1.false ∙ c.loop-below.invariant)
+]
 
 pub returns : goal.returns
 returns g c =
-    let none : drop c.loop-below.below c.args.seat.now ≡ [] = drop_all _ c.args.seat.now (omega arith) in
-    let p = g.F.Field.MODULUS in
-    ap (λ rest. hash_weight_from p (g.F.Field.number c.loop-below.weight) c.loop-below.path rest) (sym none) ∙ c.loop-below.invariant
+    sym (ap (hash_weight_from g.F.Field.MODULUS _ c.loop-below.path) (drop_all _ c.args.seat.now (omega arith))) ∙ c.loop-below.invariant
