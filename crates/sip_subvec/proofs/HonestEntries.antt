@@ -1,7 +1,7 @@
 -- The entries of an interval that are not 0 pass each test, and state the residues of the interval.
 use Rattle.std.proofs.Common.{◌≡◌, ℕ, zero, suc, ◌+◌, ◌-◌, ◌<◌, ◌≤◌, Bool, true, false, not, ◌&&◌, nat_lt, cond, List, [], ◌∷◌, ◌++◌, length, map, filter, drop, get_or, ℤ, pos, Result, Ok, inl, inr, refl, sym, ap, ◌∙◌, arith}
 use Rattle.std.specs.List.{enumerate_from, list_all}
-use Rattle.std.proofs.lemmas.Bool.{and_from, and_parts, lt-ltb, ltb-true, eq-eqb, ne_eqb}
+use Rattle.std.proofs.lemmas.Bool.{and_from, and_parts, cases_Bool, lt-ltb, ltb-true, eq-eqb, ne_eqb}
 use Rattle.std.proofs.lemmas.Bool.Decides.{leb_tells}
 use Rattle.std.proofs.lemmas.List.{append-nil, append_assoc, ext_get_or, get_or-map, get_or-drop, get_or-take, length-map, length-drop, length-append, length-take-le}
 use Rattle.std.proofs.lemmas.List.FromFn.{length-map-range_with_len, get_or-map-range_with_len}
@@ -10,7 +10,7 @@ use Rattle.sip_vector.specs.declared.update.Entry.{Entry}
 use Rattle.sip_vector.specs.Answers.{is_within, is_zero}
 use Rattle.sip_vector.specs.Vectors.{is_nonzero_within, nonzero_within}
 use Rattle.sip_vector.specs.Steps.{◌>>=◌, needs}
-use Rattle.sip_vector.proofs.Filters.{as_entry, bool_tells}
+use Rattle.sip_vector.proofs.Filters.{as_entry}
 use Rattle.sip_wire.specs.declared.message.Reason.{Reason}
 use Rattle.sip_wire.specs.declared.message.Reason.TheVariants as reasons
 use Rattle.sip_subvec.specs.AcceptsSub.{stated_value, stated_level}
@@ -52,7 +52,7 @@ entry_passes lo hi before es e within rises few = rw (within, rises, lt-ltb (len
 pub found_pass : (lo hi k : ℕ) (xs : List ℤ) (before : List Entry) → all_below k before ≡ true → length before + length (found lo hi k xs) ≤ most_entries
     → with_entries lo hi before (found lo hi k xs) ≡ Ok (before ++ found lo hi k xs)
 found_pass lo hi k [] before rises few = ap (λ es. Ok es) (sym (append-nil before))
-found_pass lo hi k (x ∷ xs) before rises few = elim (bool_tells (is_nonzero_within lo hi (as_entry (k, x)))) [
+found_pass lo hi k (x ∷ xs) before rises few = elim (cases_Bool (is_nonzero_within lo hi (as_entry (k, x)))) [
   | inl t ↦
       let e = as_entry (k, x) in
       let rest = found lo hi (k + 1) xs in
@@ -112,7 +112,7 @@ with_entries-parts lo hi before (x ∷ xs) ys all e =
 -- where an index isn't theirs, nothing
 none_stated : (lo hi k i : ℕ) (xs : List ℤ) → i < k → stated_value (found lo hi k xs) i ≡ pos 0
 none_stated lo hi k i [] less = refl
-none_stated lo hi k i (x ∷ xs) less = elim (bool_tells (is_nonzero_within lo hi (as_entry (k, x)))) [
+none_stated lo hi k i (x ∷ xs) less = elim (cases_Bool (is_nonzero_within lo hi (as_entry (k, x)))) [
   | inl t ↦
       ap (λ es. stated_value es i) (found-cons lo hi k x xs true t)
       ∙ rw (ne_eqb k i (λ e. absurd (omega (arith, e)))) (none_stated lo hi (k + 1) i xs (omega arith))
@@ -124,7 +124,7 @@ zero_is x h = grind arith
 
 -- a value that isn't among them is 0
 left_out : (lo hi k : ℕ) (x : ℤ) → lo ≤ k → k ≤ hi → is_nonzero_within lo hi (as_entry (k, x)) ≡ false → x ≡ pos 0
-left_out lo hi k x low high out = elim (bool_tells (is_zero x)) [
+left_out lo hi k x low high out = elim (cases_Bool (is_zero x)) [
   | inl t ↦ zero_is x t
   | inr t ↦ elim (leb_tells lo k) [
     | inl a ↦ elim (leb_tells k hi) [
@@ -139,7 +139,7 @@ pub value_stated : (lo hi k : ℕ) (xs : List ℤ) (j : ℕ) → j < length xs �
 value_stated lo hi k [] j inside low high = absurd (omega arith)
 value_stated lo hi k (x ∷ xs) zero inside low high =
     let here : k + 0 ≡ k = omega arith in
-    rw here (elim (bool_tells (is_nonzero_within lo hi (as_entry (k, x)))) [
+    rw here (elim (cases_Bool (is_nonzero_within lo hi (as_entry (k, x)))) [
       | inl t ↦ ap (λ es. stated_value es k) (found-cons lo hi k x xs true t) ∙ rw (eq-eqb k k refl) refl
       | inr t ↦
           ap (λ es. stated_value es k) (found-cons lo hi k x xs false t) ∙ none_stated lo hi (k + 1) k xs (omega arith)
@@ -148,7 +148,7 @@ value_stated lo hi k (x ∷ xs) zero inside low high =
 value_stated lo hi k (x ∷ xs) (suc j) inside low high =
     let there : k + suc j ≡ k + 1 + j = omega arith in
     let later = value_stated lo hi (k + 1) xs j (omega arith) (omega arith) (omega arith) in
-    rw there (elim (bool_tells (is_nonzero_within lo hi (as_entry (k, x)))) [
+    rw there (elim (cases_Bool (is_nonzero_within lo hi (as_entry (k, x)))) [
       | inl t ↦ ap (λ es. stated_value es (k + 1 + j)) (found-cons lo hi k x xs true t) ∙ rw (ne_eqb k (k + 1 + j) (λ e. absurd (omega (arith, e)))) later
       | inr t ↦ ap (λ es. stated_value es (k + 1 + j)) (found-cons lo hi k x xs false t) ∙ later
     ])

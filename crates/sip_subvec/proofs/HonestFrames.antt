@@ -1,9 +1,9 @@
 -- The frames of an honest helper have a spelling, so each is read as what it says.
-use Rattle.std.proofs.Common.{◌≡◌, ◌≢◌, ℕ, zero, suc, ◌+◌, ◌-◌, ◌*◌, ◌^◌, ◌<◌, ◌≤◌, ◌%◌, ◌==◌, Bool, true, false, not, ◌&&◌, eqb, nat_lt, nat_le, if◌then◌else◌, List, [], ◌∷◌, length, get_or, map, ℤ, pos, negsuc, nat_abs, Some, None, Option, All, FitsSigned, inl, inr, refl, ap, ◌∙◌, arith}
+use Rattle.std.proofs.Common.{◌≡◌, ◌≢◌, ℕ, zero, suc, ◌+◌, ◌-◌, ◌*◌, ◌^◌, ◌<◌, ◌≤◌, ◌%◌, ◌==◌, Bool, true, false, not, ◌&&◌, eqb, nat_le, if◌then◌else◌, List, [], ◌∷◌, length, get_or, map, ℤ, pos, negsuc, nat_abs, Some, None, All, FitsSigned, inl, inr, refl, ap, ◌∙◌, arith}
 use Rattle.std.specs.Prelude.{IsTrue}
 use Rattle.std.specs.Int.{w64, cast_unsigned}
 use Rattle.std.specs.List.{flat_map}
-use Rattle.std.proofs.lemmas.Bool.{and_from, lt-ltb, ne_eqb}
+use Rattle.std.proofs.lemmas.Bool.{and_from, le-leb, lt-ltb, ne_eqb}
 use Rattle.std.proofs.lemmas.Bool.Decides.{nat_tests, eqb_tells}
 use Rattle.std.proofs.lemmas.Int.{ints, to_z-of_z}
 use Rattle.std.proofs.lemmas.List.Elements.{All-head, All-tail, All-weaker}
@@ -16,6 +16,7 @@ use Rattle.sip_vector.specs.declared.update.Entry.{Entry}
 use Rattle.sip_wire.specs.declared.message.Message.TheVariants as messages
 use Rattle.sip_wire.specs.Table.{is_small, most_claim, repeat, entry_fields}
 use Rattle.sip_wire.specs.Spelling.{fits, has_room, all_hold, entry_numbers}
+use Rattle.sip_wire.proofs.SiblingElements.{HasElement}
 use Rattle.sip_subvec.specs.Honest.{honest_siblings}
 use Rattle.sip_subvec.specs.Replies.{are_asked}
 
@@ -39,11 +40,8 @@ bits_some (pos zero) some le = absurd (some refl)
 bits_some (pos (suc n)) some le = ne_eqb (suc n) 0 (λ e. absurd (omega (arith, e)))
 bits_some (negsuc n) some le = ne_eqb (cast_unsigned w64 (negsuc n)) 0 (λ e. absurd (omega (arith, e, le)))
 
-tested : (n : ℕ) → n ≤ most_claim → nat_le n most_claim ≡ true
-tested n h = grind (arith, nat_tests)
-
 bits_small : (z : ℤ) → nat_abs z ≤ most_claim → is_small (cast_unsigned w64 z) ≡ true
-bits_small z le = ap (λ (x : ℤ). nat_le (nat_abs x) most_claim) (to_z-of_z w64 z (in_range z le)) ∙ tested (nat_abs z) le
+bits_small z le = ap (λ (x : ℤ). nat_le (nat_abs x) most_claim) (to_z-of_z w64 z (in_range z le)) ∙ le-leb (nat_abs z) most_claim le
 
 rows_have_room : (es : List Entry) → All IsRow es → has_room (repeat (length es) entry_fields) (flat_map entry_numbers es) ≡ true
 unfolding has_room
@@ -74,22 +72,6 @@ pub entries_in_range : (es : List Entry) → All IsRow es → All (λ (e : Entry
 entries_in_range es rows = All-weaker IsRow (λ (e : Entry). FitsSigned w64 e.value) in_range_of es rows
 
 -- ---- siblings
-
--- a sibling that is present is an element of the field
-pub HasElement : Option ℕ → Type 0
-HasElement None = Unit {0}
-HasElement (Some n) = n < m61_modulus
-
-element_room : (n : ℕ) → n < m61_modulus → nat_lt n (256 ^ 8) ≡ true
-element_room n h = lt-ltb n (256 ^ 8) (omega arith)
-
-pub siblings_fit : (left right : Option ℕ) → HasElement left → HasElement right → IsTrue (fits (messages.Siblings left right))
-unfolding fits has_room all_hold HasElement
-siblings_fit None None l r = refl
-siblings_fit (Some x) None l r = and_from _ _ (and_from _ _ (and_from _ _ (element_room x l) refl) refl) (and_from _ _ (lt-ltb x m61_modulus l) refl)
-siblings_fit None (Some y) l r = and_from _ _ (and_from _ _ (and_from _ _ (element_room y r) refl) refl) (and_from _ _ (lt-ltb y m61_modulus r) refl)
-siblings_fit (Some x) (Some y) l r =
-    and_from _ _ (and_from _ _ (and_from _ _ (element_room x l) (and_from _ _ (element_room y r) refl)) refl) (and_from _ _ (lt-ltb x m61_modulus l) (and_from _ _ (lt-ltb y m61_modulus r) refl))
 
 -- they are those that are asked for
 pub honest_are_asked : (level : List ℕ) (lo hi : ℕ) → are_asked lo hi (honest_siblings level lo hi) ≡ true

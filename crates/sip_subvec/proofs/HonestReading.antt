@@ -21,7 +21,8 @@ use Rattle.sip_subvec.specs.Replies.{with_entries, asked_siblings, at_end, later
 use Rattle.sip_subvec.proofs.FirstReply.{read_first, read_first-message}
 use Rattle.sip_subvec.proofs.LaterReply.{later_reply-message}
 use Rattle.sip_subvec.proofs.HonestEntries.{with_entries-parts}
-use Rattle.sip_subvec.proofs.HonestFrames.{IsRow, entries_fit, entries_in_range, siblings_fit, honest_are_asked, AreBelow, honest_elements, above_below}
+use Rattle.sip_wire.proofs.SiblingElements.{siblings_fit}
+use Rattle.sip_subvec.proofs.HonestFrames.{IsRow, entries_fit, entries_in_range, honest_are_asked, AreBelow, honest_elements, above_below}
 use Rattle.sip_subvec.proofs.Windows.{siblings_above}
 
 -- ---- siblings

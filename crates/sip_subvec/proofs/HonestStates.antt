@@ -1,9 +1,8 @@
 -- All honest replies: what they state, and that it gives the root.
-use Rattle.std.proofs.Common.{◌≡◌, ℕ, suc, ◌+◌, ◌*◌, ◌/◌, ◌^◌, ◌<◌, ◌≤◌, true, List, [], ◌∷◌, ◌++◌, length, take, map, fold, zip, ℤ, Ok, All, refl, sym, ap, ◌∙◌, arith}
+use Rattle.std.proofs.Common.{◌≡◌, ℕ, suc, ◌+◌, ◌/◌, ◌^◌, ◌<◌, ◌≤◌, true, List, [], ◌∷◌, ◌++◌, length, take, map, fold, zip, ℤ, Ok, All, refl, sym, ap, ◌∙◌, arith}
 use Rattle.std.specs.Prelude.{nat_eq}
 use Rattle.std.specs.Cmp.Lexicographic.{pointwise}
 use Rattle.std.specs.List.{flat_map, range_with_len}
-use Rattle.std.proofs.Math.Nat.{pow-succ', div-div-eq-div-mul}
 use Rattle.std.proofs.lemmas.List.{append_assoc, length-append, length-map, take_at}
 use Rattle.std.proofs.lemmas.List.Concat.{flat_map-cons}
 use Rattle.std.proofs.lemmas.List.Sums.{fold-append}
@@ -16,6 +15,7 @@ use Rattle.sip_wire.specs.Spelling.{spelling}
 use Rattle.sip_subvec.specs.AcceptsSub.{Siblings, Stated, next_level, folded, gives_root}
 use Rattle.sip_subvec.specs.Honest.{Proving, begun, learnt, proving, honest_siblings, its_siblings, siblings_message, entry_frames, honest_messages, honest_reply, honest_replies}
 use Rattle.sip_subvec.specs.Replies.{later_replies, stated, verdict, most_entries}
+use Rattle.sip_subvec.proofs.Halvings.{whole, halved_last}
 use Rattle.sip_subvec.proofs.FirstReply.{read_first}
 use Rattle.sip_subvec.proofs.HonestEntries.{nonzero_pass, stated_window}
 use Rattle.sip_subvec.proofs.HonestFrames.{IsRow, lowest_below, above_below}
@@ -28,12 +28,6 @@ same_proving : (a b : List ℕ) (lo low hi high : ℕ) → a ≡ b → lo ≡ lo
     → ◌≡◌ {A = Proving} (record { level = a; lo = lo; hi = hi }) (record { level = b; lo = low; hi = high })
 same_proving a b lo low hi high e f g = rw (e, f, g) refl
 
-whole : (n : ℕ) → n / 2 ^ 0 ≡ n
-whole n = omega arith
-
-halved : (n k m : ℕ) → m ≡ suc k → n / 2 ^ m ≡ n / 2 ^ k / 2
-halved n k m e = ap (λ j. n / 2 ^ j) e ∙ ap (λ w. n / w) (pow-succ' 2 k ∙ (let same : 2 * 2 ^ k ≡ 2 ^ k * 2 = omega arith in same)) ∙ sym (div-div-eq-div-mul n (2 ^ k) 2)
-
 -- before any challenge it is what it began with
 pub proving-nil : (p : ℕ) (numbers : List ℤ) (lo hi : ℕ) → proving p numbers lo hi [] ≡ begun p numbers lo hi
 proving-nil p numbers lo hi = same_proving _ _ _ _ _ _ refl (whole lo) (whole hi)
@@ -42,7 +36,8 @@ proving-nil p numbers lo hi = same_proving _ _ _ _ _ _ refl (whole lo) (whole hi
 pub proving-push : (p : ℕ) (numbers : List ℤ) (lo hi : ℕ) (prefix : List ℕ) (r : ℕ) → proving p numbers lo hi (prefix ++ r ∷ []) ≡ learnt p (proving p numbers lo hi prefix) r
 proving-push p numbers lo hi prefix r =
     let longer : length (prefix ++ r ∷ []) ≡ suc (length prefix) = omega (arith, length-append prefix (r ∷ [])) in
-    same_proving _ _ _ _ _ _ (fold-append (up p) (map (residue p) numbers) prefix (r ∷ [])) (halved lo (length prefix) _ longer) (halved hi (length prefix) _ longer)
+    let halvings : (n : ℕ) → n / 2 ^ length (prefix ++ r ∷ []) ≡ n / 2 ^ length prefix / 2 = λ n. ap (λ m. n / 2 ^ m) longer ∙ halved_last n (length prefix) in
+    same_proving _ _ _ _ _ _ (fold-append (up p) (map (residue p) numbers) prefix (r ∷ [])) (halvings lo) (halvings hi)
 
 -- ---- reply by reply
 

@@ -1,7 +1,7 @@
 -- The vectors of legal streams, and of what can be shown: their entries fit frames.
-use Rattle.std.proofs.Common.{◌≡◌, ◌≢◌, ℕ, ◌+◌, ◌^◌, ◌<◌, ◌≤◌, ◌==◌, Bool, true, false, not, List, [], ◌∷◌, length, map, filter, ℤ, pos, nat_abs, sum_by, All, inl, inr, refl, sym, subst, arith}
+use Rattle.std.proofs.Common.{ℕ, ◌+◌, ◌^◌, ◌<◌, ◌≤◌, ◌==◌, Bool, true, false, not, List, [], ◌∷◌, length, map, filter, ℤ, nat_abs, sum_by, All, inl, inr, sym, subst, arith}
 use Rattle.std.proofs.Math.Nat.{pow-le-pow_right}
-use Rattle.std.proofs.lemmas.Bool.{and_parts}
+use Rattle.std.proofs.lemmas.Bool.{and_parts, cases_Bool}
 use Rattle.std.proofs.lemmas.Int.{ints}
 use Rattle.std.proofs.lemmas.List.Elements.{All-cons, All-nil, All-head, All-tail, All-map}
 use Rattle.std.proofs.lemmas.List.Sums.{sum_by-cons}
@@ -12,7 +12,8 @@ use Rattle.sip_vector.specs.declared.update.Update.{Update}
 use Rattle.sip_vector.specs.Answers.{is_within, is_zero}
 use Rattle.sip_vector.specs.Streams.{int_sum, same_side, of_side, weight, frequency, vector, IsLegal}
 use Rattle.sip_vector.specs.Vectors.{is_nonzero_within, nonzero_within}
-use Rattle.sip_vector.proofs.Filters.{as_entry, bool_tells}
+use Rattle.sip_vector.proofs.Filters.{as_entry}
+use Rattle.sip_vector.proofs.Kept.{not_is_zero}
 use Rattle.sip_vector.proofs.Sides.{length-vector}
 use Rattle.std.specs.List.{range_with_len}
 use Rattle.sip_wire.specs.Table.{most_claim, most_depth}
@@ -26,18 +27,15 @@ use Rattle.sip_subvec.proofs.HonestFrames.{IsRow}
 abbrev IsSmall : ℤ → Type 0
 IsSmall a = nat_abs a ≤ most_claim
 
-not_zero : (x : ℤ) → not (is_zero x) ≡ true → x ≢ pos 0
-not_zero x h e = absurd (let zero : not (is_zero x) ≡ false = rw e refl in cc)
-
 found_rows : (lo hi k : ℕ) (xs : List ℤ) → k + length xs ≤ 2 ^ 32 → All IsSmall xs → All IsRow (found lo hi k xs)
 found_rows lo hi k [] room small = All-nil IsRow
 found_rows lo hi k (x ∷ xs) room small =
     let later = found_rows lo hi (k + 1) xs (omega arith) (All-tail IsSmall x xs small) in
-    elim (bool_tells (is_nonzero_within lo hi (as_entry (k, x)))) [
+    elim (cases_Bool (is_nonzero_within lo hi (as_entry (k, x)))) [
       | inl t ↦
           let row : IsRow (as_entry (k, x)) = record {
             index = omega arith;
-            some = not_zero x (and_parts (is_within lo hi k) (not (is_zero x)) t).1;
+            some = not_is_zero x (and_parts (is_within lo hi k) (not (is_zero x)) t).1;
             small = All-head IsSmall x xs small;
           } in
           subst (All IsRow) (sym (found-cons lo hi k x xs true t)) (All-cons IsRow (as_entry (k, x)) (found lo hi (k + 1) xs) row later)
@@ -66,12 +64,12 @@ part_light p (u ∷ s) side =
     let rest = part_light p s side in
     let one = sum_by-cons delta_size u (filter same s) in
     let other = sum_by-cons delta_size u (filter same (filter p s)) in
-    elim (bool_tells (p u)) [
-      | inl a ↦ elim (bool_tells (same u)) [
+    elim (cases_Bool (p u)) [
+      | inl a ↦ elim (cases_Bool (same u)) [
         | inl b ↦ rw (a, b) (omega (arith, rest, one, other))
         | inr b ↦ rw (a, b) rest
       ]
-      | inr a ↦ elim (bool_tells (same u)) [
+      | inr a ↦ elim (cases_Bool (same u)) [
         | inl b ↦ rw (a, b) (omega (arith, rest, one))
         | inr b ↦ rw (a, b) rest
       ]

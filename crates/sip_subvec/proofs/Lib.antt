@@ -4,6 +4,7 @@ pub mod Fronts
 pub mod Verdicts
 pub mod Provers
 pub mod Windows
+pub mod Halvings
 pub mod HonestEntries
 pub mod HonestFrames
 pub mod HonestReading

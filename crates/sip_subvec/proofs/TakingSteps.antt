@@ -4,7 +4,7 @@ use Rattle.std.specs.Prelude.{nat_lt, nat_le, ◌==◌, is_some, is_none}
 use Rattle.std.specs.Option.{option_map}
 use Rattle.std.specs.List.{list_all}
 use Rattle.std.proofs.Math.Bool.{and-true}
-use Rattle.std.proofs.Math.Nat.{mod-add-mod, pow-zero, pow-succ', div-one, div-div-eq-div-mul}
+use Rattle.std.proofs.Math.Nat.{mod-add-mod, pow-succ'}
 use Rattle.std.proofs.lemmas.Bool.{and_parts, leb-true, ltb-true, cases_eq, ne_eqb}
 use Rattle.std.proofs.lemmas.Bool.Decides.{nat_tests}
 use Rattle.std.proofs.lemmas.List.Folds.{list_all-append}
@@ -19,21 +19,8 @@ use Rattle.sip_wire.specs.declared.message.Reason.TheVariants as reasons
 use Rattle.sip_subvec.specs.AcceptsSub.{Siblings, Stated, gives_root}
 use Rattle.sip_subvec.specs.Replies.{most_entries, with_entries, are_asked, asked_siblings}
 use Rattle.sip_subvec.specs.Checking.{Kept, HasTaken, nothing, AreAsked, AnswersAs, entry_test, is_above, entries_sum, level_sum, siblings_sum}
+use Rattle.sip_subvec.proofs.Halvings.{whole, halved, halved_last}
 use Rattle.sip_subvec.proofs.StatedSums.{root_is_sum}
-
--- ---- intervals
-
--- an end of an interval, one level further
-halved : (n k : ℕ) → n / 2 ^ suc k ≡ n / 2 / 2 ^ k
-halved n k = ap (λ m. n / m) (pow-succ' 2 k) ∙ sym (div-div-eq-div-mul n 2 (2 ^ k))
-
-halved_last : (n k : ℕ) → n / 2 ^ suc k ≡ n / 2 ^ k / 2
-halved_last n k =
-    let power : 2 ^ suc k ≡ 2 ^ k * 2 = omega (arith, pow-succ' 2 k) in
-    ap (λ m. n / m) power ∙ sym (div-div-eq-div-mul n (2 ^ k) 2)
-
-whole : (n : ℕ) → n / 2 ^ 0 ≡ n
-whole n = ap (λ m. n / m) (pow-zero 2) ∙ div-one n
 
 length-snoc : {A : Type 0} (xs : List A) (x : A) → length (xs ++ x ∷ []) ≡ suc (length xs)
 length-snoc xs x = omega (arith, length-append xs (x ∷ []))

@@ -49,33 +49,26 @@ module _ (p : ℕ) (challenges : List ℕ) (level lo : ℕ) (nodes : List ℕ) w
   right_end (Some x) hi long =
       weighted_sum_push p challenges level lo nodes x ∙ ap (λ i. weighted_sum p challenges level lo nodes + x * weight_above p challenges level i) long
 
+-- a sibling that is present is one number, and one that is not is none
+by_some : (o : Option ℕ) → is_some o ≡ true → length (option_to_list o) ≡ 1
+by_some None e = absurd cc
+by_some (Some x) e = refl
+
+by_none : (o : Option ℕ) → is_none o ≡ true → length (option_to_list o) ≡ 0
+by_none None e = refl
+by_none (Some x) e = absurd cc
+
 left_length : (lo : ℕ) (left : Option ℕ) → cond (eqb (lo % 2) 1) (is_some left) (is_none left) ≡ true → length (option_to_list left) ≡ lo % 2
 left_length lo left asked = elim (cases_eq (lo % 2) 1) [
   | inl odd ↦ by_some left (rw (eq-eqb (lo % 2) 1 odd) at asked) ∙ sym odd
   | inr not ↦ by_none left (rw (ne_eqb (lo % 2) 1 not) at asked) ∙ omega arith
 ]
-  where
-    by_some : (o : Option ℕ) → is_some o ≡ true → length (option_to_list o) ≡ 1
-    by_some None e = absurd cc
-    by_some (Some x) e = refl
-
-    by_none : (o : Option ℕ) → is_none o ≡ true → length (option_to_list o) ≡ 0
-    by_none None e = refl
-    by_none (Some x) e = absurd cc
 
 right_length : (hi : ℕ) (right : Option ℕ) → cond (eqb (hi % 2) 0) (is_some right) (is_none right) ≡ true → length (option_to_list right) ≡ 1 - hi % 2
 right_length hi right asked = elim (cases_eq (hi % 2) 0) [
   | inl even ↦ by_some right (rw (eq-eqb (hi % 2) 0 even) at asked) ∙ omega arith
   | inr not ↦ by_none right (rw (ne_eqb (hi % 2) 0 not) at asked) ∙ omega arith
 ]
-  where
-    by_some : (o : Option ℕ) → is_some o ≡ true → length (option_to_list o) ≡ 1
-    by_some None e = absurd cc
-    by_some (Some x) e = refl
-
-    by_none : (o : Option ℕ) → is_none o ≡ true → length (option_to_list o) ≡ 0
-    by_none None e = refl
-    by_none (Some x) e = absurd cc
 
 -- ---- one level
 

@@ -1,5 +1,5 @@
 -- The entries that are kept are those of the numbers that are not 0.
-use Rattle.std.proofs.Common.{◌≡◌, ◌≢◌, ◌⊎◌, ℕ, suc, ◌^◌, ◌<◌, ◌≤◌, ◌↔◌, Bool, true, false, not, ◌&&◌, List, [], ◌∷◌, get_or, set, map, filter, sum_by, All, ℤ, pos, ◌≤ℤ◌, nat_abs, refl, ap, subst, ◌∙◌, inl, inr, arith}
+use Rattle.std.proofs.Common.{◌≡◌, ℕ, suc, ◌^◌, ◌<◌, ◌≤◌, ◌↔◌, Bool, false, not, ◌&&◌, List, [], ◌∷◌, get_or, set, map, filter, sum_by, All, ℤ, pos, ◌≤ℤ◌, nat_abs, refl, ap, subst, ◌∙◌, inl, inr, arith}
 use Rattle.std.specs.declared.ops.Bound.TheVariants.{Included}
 use Rattle.std.specs.BTreeMap.Range.{range_contains, entries_between}
 use Rattle.std.specs.List.{enumerate_from}

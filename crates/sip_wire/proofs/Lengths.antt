@@ -1,7 +1,7 @@
 -- The lengths of a kind are those that its marks give, and no other.
 use Rattle.std.proofs.Common.{◌≡◌, ℕ, ◌+◌, ◌*◌, ◌-◌, ◌%◌, ◌/◌, ◌<◌, ◌≤◌, Bool, true, ◌&&◌, nat_le, ◌==◌, List, [], ◌∷◌, refl, sym, ap, ◌∙◌, arith, inl, inr}
 use Rattle.std.specs.List.{list_any}
-use Rattle.std.proofs.lemmas.Bool.{and_parts, or_cases, or_left, or_right, eqb-true, eq-eqb}
+use Rattle.std.proofs.lemmas.Bool.{and_parts, or_cases, or_left, or_right, leb-true, eqb-true, eq-eqb}
 use Rattle.std.proofs.lemmas.Bool.Decides.{nat_tests}
 use Rattle.std.proofs.Math.Nat.{le_of_mul-le-mul_left}
 use Rattle.sip_wire.specs.declared.kind.Kind.{Kind}
@@ -48,11 +48,7 @@ marked_mark : (marks : List ℕ) (fields : ℕ → List Field) (in_order : ℕ �
 unfolding marks_with
 marked_mark marks fields in_order n h = let x = some_mark fields marks n h in record { mark = x.0; is_mark = x.1; long = x.2 }
 
--- what the test says
-le_from : (a b : ℕ) → nat_le a b ≡ true → a ≤ b
-le_from a b h = grind (arith, nat_tests)
-
--- and what makes it true
+-- the test of a range is true within it
 in_range : (n most : ℕ) → 1 ≤ n → n ≤ most → (nat_le 1 n && nat_le n most) ≡ true
 in_range n most a b = grind (arith, nat_tests)
 
@@ -71,7 +67,7 @@ counted_mark most layout n some h =
     let c = size layout in
     let a = and_parts (nat_le (2 + c) n && nat_le n (2 + most * c)) ((n - 2) % c == 0) h in
     let b = and_parts (nat_le (2 + c) n) (nat_le n (2 + most * c)) a.0 in
-    let x = count_of most c n some (le_from _ _ b.0) (le_from _ _ b.1) (eqb-true _ _ a.1) in
+    let x = count_of most c n some (leb-true _ _ b.0) (leb-true _ _ b.1) (eqb-true _ _ a.1) in
     record { mark = x.0; is_mark = in_range x.0 most x.1 x.2; long = x.3 ∙ ap (λ (m : ℕ). 2 + m) (sym (size_repeat x.0 layout)) }
 
 -- so for each kind

@@ -15,3 +15,5 @@ pub mod Made
 pub mod ReadsBack
 pub mod Lengths
 pub mod Longest
+pub mod EntryValues
+pub mod SiblingElements

@@ -1,9 +1,8 @@
 -- The longest spelling, and the claims that have one.
-use Rattle.std.proofs.Common.{◌≡◌, ℕ, ◌<◌, ◌≤◌, ◌^◌, true, ◌&&◌, nat_lt, nat_le, refl, ℤ, length, FitsSigned, ◌∙◌, ap, sym, arith}
+use Rattle.std.proofs.Common.{◌≡◌, ◌<◌, ◌≤◌, ◌^◌, true, ◌&&◌, nat_lt, nat_le, refl, ℤ, length, FitsSigned, ◌∙◌, ap, sym, arith}
 use Rattle.std.specs.Prelude.{IsTrue, nat_abs}
 use Rattle.std.specs.Int.{w64, cast_unsigned}
-use Rattle.std.proofs.lemmas.Bool.{and_parts, and_from, lt-ltb}
-use Rattle.std.proofs.lemmas.Bool.Decides.{nat_tests}
+use Rattle.std.proofs.lemmas.Bool.{and_parts, and_from, leb-true, le-leb, lt-ltb}
 use Rattle.std.proofs.lemmas.Int.{ints, to_z-of_z}
 use Rattle.sip_wire.specs.declared.message.Message.{Message}
 use Rattle.sip_wire.specs.declared.message.Message.TheVariants as messages
@@ -26,14 +25,6 @@ spelling_at_most m fit =
 small : (value : ℤ) → FitsSigned w64 value → is_small (cast_unsigned w64 value) ≡ nat_le (nat_abs value) most_claim
 small value range = ap (λ (z : ℤ). nat_le (nat_abs z) most_claim) (to_z-of_z w64 value range)
 
--- what the test says
-at_most : (n : ℕ) → nat_le n most_claim ≡ true → n ≤ most_claim
-at_most n h = grind (arith, nat_tests)
-
--- and what makes it true
-tested : (n : ℕ) → n ≤ most_claim → nat_le n most_claim ≡ true
-tested n h = grind (arith, nat_tests)
-
 -- two's complement has eight bytes
 cast_unsigned_below : (value : ℤ) → FitsSigned w64 value → cast_unsigned w64 value < 256 ^ 8
 cast_unsigned_below value range = grind (arith, ints)
@@ -44,12 +35,12 @@ unfolding fits has_room all_hold
 claim_from_fits value range fit =
     let hold : (is_small (cast_unsigned w64 value) && true) ≡ true = (and_parts (nat_lt (cast_unsigned w64 value) (256 ^ 8) && true && true) (is_small (cast_unsigned w64 value) && true) fit).1 in
     let is : is_small (cast_unsigned w64 value) ≡ true = (and_parts (is_small (cast_unsigned w64 value)) true hold).0 in
-    at_most (nat_abs value) (sym (small value range) ∙ is)
+    leb-true (nat_abs value) most_claim (sym (small value range) ∙ is)
 
 -- and a small claim has one
 pub claim_fits : (value : ℤ) → FitsSigned w64 value → nat_abs value ≤ most_claim → IsTrue (fits (messages.Claim value))
 unfolding fits has_room all_hold
 claim_fits value range le =
     let room : nat_lt (cast_unsigned w64 value) (256 ^ 8) ≡ true = lt-ltb (cast_unsigned w64 value) (256 ^ 8) (cast_unsigned_below value range) in
-    let is : is_small (cast_unsigned w64 value) ≡ true = small value range ∙ tested (nat_abs value) le in
+    let is : is_small (cast_unsigned w64 value) ≡ true = small value range ∙ le-leb (nat_abs value) most_claim le in
     and_from (nat_lt (cast_unsigned w64 value) (256 ^ 8) && true && true) (is_small (cast_unsigned w64 value) && true) (rw room refl) (rw is refl)

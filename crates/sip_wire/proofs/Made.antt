@@ -8,7 +8,6 @@ use Rattle.std.proofs.lemmas.Bool.Decides.{nat_tests}
 use Rattle.std.proofs.lemmas.List.Elements.{All-cons, All-nil}
 use Rattle.std.proofs.lemmas.List.Concat.{flat_map-cons}
 use Rattle.sip_vector.specs.declared.update.Update.{Update}
-use Rattle.sip_vector.specs.declared.update.Entry.{Entry}
 use Rattle.sip_wire.specs.declared.message.Leaf.{Leaf}
 use Rattle.sip_wire.specs.declared.message.Node.{Node}
 use Rattle.sip_wire.specs.declared.kind.Kind.{Kind}
@@ -16,6 +15,7 @@ use Rattle.sip_wire.specs.declared.kind.Kind.TheVariants as kinds
 use Rattle.sip_wire.specs.Table.{Field, side, repeat, shape, update_fields, entry_fields, leaf_fields, node_fields, query_fields, sibling_fields, query_shape, siblings_shape}
 use Rattle.sip_wire.specs.Spelling.{has_room, all_hold, fits_shape, kind_of, mark_of, numbers, side_number, update_numbers, entry_numbers, leaf_numbers, node_numbers, query_code, query_numbers}
 use Rattle.sip_wire.specs.Values.{InRange, side_at, updates_from, entries_from, leaves_from, nodes_from, query_from, message_from}
+use Rattle.sip_wire.proofs.EntryValues.{value_range}
 use Rattle.sip_wire.proofs.Shapes.{FitsAll, fit_parts}
 
 -- what is made of a kind, a mark and numbers has them, and its signed numbers are values of their type
@@ -101,10 +101,6 @@ updates_again (suc k) (s ∷ i ∷ d ∷ ns) room hold =
     let h = holds_first _ _ s (i ∷ d ∷ ns) hold in
     let later = holds_first _ rest d ns (holds_first _ _ i (d ∷ ns) h.1).1 in
     more_rows update_numbers delta_range k (s ∷ i ∷ d ∷ []) ns _ (updates_from k ns) (rw (side_again s h.0, signed_again d r.0) refl) (fits_signed d r.0) (updates_again k ns r.1 later.1)
-
--- a value is one of its type
-abbrev value_range : Entry → Type 0
-value_range e = FitsSigned w64 e.value
 
 -- entries are made again
 entries_again : (k : ℕ) (ns : List ℕ) → has_room (repeat k entry_fields) ns ≡ true → MadeRows entry_numbers value_range k ns (entries_from k ns)

@@ -1,6 +1,6 @@
 -- What holds of the shapes in the table, and the two directions of a body.
 use Rattle.std.proofs.Common.{◌≡◌, ℕ, zero, suc, ◌+◌, ◌*◌, ◌-◌, ◌%◌, ◌^◌, ◌<◌, ◌≤◌, Bool, true, false, not, ◌&&◌, cond, nat_le, ◌==◌, Some, None, List, length, take, drop, refl, sym, ap, ◌∙◌, arith, length-append, length-drop}
-use Rattle.std.proofs.lemmas.Bool.{and_from, and_parts, eqb-true, eq-eqb}
+use Rattle.std.proofs.lemmas.Bool.{and_from, and_parts, leb-true, le-leb, eqb-true, eq-eqb}
 use Rattle.std.proofs.lemmas.Bool.Decides.{nat_tests}
 use Rattle.std.proofs.lemmas.List.{drop_at, take-append-drop}
 use Rattle.std.proofs.Math.Nat.{mul-mod_left, mul-le-mul_right}
@@ -30,14 +30,6 @@ plain_shape fs le = record {
   short = λ n h. let e = eqb-true n (size fs) h in omega arith;
 }
 
--- what makes the test true
-le_true : (a b : ℕ) → a ≤ b → nat_le a b ≡ true
-le_true a b h = grind (arith, nat_tests)
-
--- and what it says
-le_from : (a b : ℕ) → nat_le a b ≡ true → a ≤ b
-le_from a b h = grind (arith, nat_tests)
-
 -- a count is in its range
 le_mark : (m most : ℕ) → (nat_le 1 m && nat_le m most) ≡ true → (1 ≤ m) × (m ≤ most)
 le_mark m most h = (grind (arith, nat_tests), grind (arith, nat_tests))
@@ -51,14 +43,14 @@ rows_length most c m total some is least le =
     let whole : (2 + total - 2) % c ≡ 0 = ap (λ (x : ℕ). x % c) behind ∙ mul-mod_left m c in
     let first : 2 + c ≤ 2 + total = omega arith in
     let second : 2 + total ≤ 2 + most * c = omega arith in
-    and_from _ _ (and_from _ _ (le_true _ _ first) (le_true _ _ second)) (eq-eqb _ _ whole)
+    and_from _ _ (and_from _ _ (le-leb _ _ first) (le-leb _ _ second)) (eq-eqb _ _ whole)
 
 -- counted rows
 counted_shape : (most : ℕ) (layout : List Field) → most ≤ 512 → 0 < size layout → most * size layout ≤ 6656 → IsShape (counted most layout)
 counted_shape most layout le some narrow = record {
   mark_room = λ m h. grind (arith, nat_tests);
   lengths = λ m h. let both = le_mark m most h in rows_length most (size layout) m (size (repeat m layout)) some (size_repeat m layout) both.0 both.1;
-  short = λ n h. let high : n ≤ 2 + most * size layout = le_from n (2 + most * size layout) (and_parts _ _ (and_parts _ _ h).0).1 in omega arith;
+  short = λ n h. let high : n ≤ 2 + most * size layout = leb-true n (2 + most * size layout) (and_parts _ _ (and_parts _ _ h).0).1 in omega arith;
 }
 
 -- each code has a length of a query

@@ -1,4 +1,4 @@
-use Rattle.std.proofs.Common.{◌<◌, drop, sym, ◌∙◌, ap, arith}
+use Rattle.std.proofs.Common.{◌<◌, sym, ◌∙◌, ap, arith}
 use Rattle.std.proofs.Math.Nat.{mod-eq_of_lt}
 use Rattle.std.proofs.lemmas.List.{drop_all}
 use Rattle.sip_vector.specs.Weights.{hash_weight_from}
