@@ -1,14 +1,14 @@
 -- Decimal numbers, digit by digit.
 use Rattle.std.proofs.Common.{◌≡◌, ℕ, ◌+◌, ◌*◌, ◌^◌, ◌<◌, ◌≤◌, Bool, true, false, cond, eqb, List, [], ◌∷◌, length, drop, get_or, refl, sym, ap, ◌∙◌, arith, eq-eqb, eqb-true, add-one, inl, inr}
-use Rattle.std.specs.Prelude.{Option, Some, None, not, ◌&&◌, ◌||◌, decimal}
+use Rattle.std.specs.Prelude.{Option, Some, None, MatchOption, option_and_then, nat_lt, if◌then◌else◌, ◌≢◌, not, ◌&&◌, ◌||◌, decimal}
 use Rattle.std.specs.Char.{digit_value, is_ascii_digit}
 use Rattle.std.specs.Str.{all_ascii_digits}
 use Rattle.std.specs.Str.Parse.{digits_value, digits_value_after}
 use Rattle.std.proofs.Math.Nat.{pow-succ', pow-le-pow_right}
-use Rattle.std.proofs.lemmas.Bool.{ne_eqb, cases_lt}
-use Rattle.std.proofs.lemmas.Fmt.{decimal_digit, decimal_nonempty, first_decimal, digits_decimal, digits_value-decimal, decimal-digits_value}
+use Rattle.std.proofs.lemmas.Bool.{ne_eqb, cases_lt, ltb-true, lt-ltb, both_ways}
+use Rattle.std.proofs.lemmas.Fmt.{decimal_digit, decimal_nonempty, first_decimal, digits_decimal, digits_value-decimal, decimal-digits_value, length-decimal-le}
 use Rattle.std.proofs.lemmas.Str.Parse.{IsNumeralModel, numerals_by_value, tells_all_ascii_digits}
-use Rattle.sip_stream.specs.Lines.{decimal_at}
+use Rattle.sip_stream.specs.Lines.{decimal_at, item_at}
 use Rattle.sip_stream.proofs.Parts.{drop_cons}
 
 -- the digits from a place on are those behind it and the one there
@@ -96,3 +96,24 @@ spelling_read n small = sym (reads_number (decimal n) n (decimal_nonempty n smal
       | inl above ↦ let begins = first_decimal n above small in absurd (omega arith)
       | inr none ↦ let same : n ≡ 0 = omega arith in rw (same, decimal_digit 0 (omega arith)) (omega arith)
     ]
+
+-- it has at most 20 digits
+pub spelling_short : (n : ℕ) → n < 2 ^ 64 → length (decimal n) ≤ 20
+spelling_short n small = length-decimal-le 20 n (omega arith) (omega arith) small
+
+-- a text that is read as a number below 2^64 is its spelling, and no such number is spelled as one that is not
+pub item_tells : (text : List ℕ) → MatchOption (item_at text) ((n : ℕ) → n < 2 ^ 64 → text ≢ decimal n) (λ n. text ≡ decimal n)
+item_tells text = by_number (decimal_at text) refl
+  where
+    by_size : (m : ℕ) (is : Bool) → nat_lt m (2 ^ 64) ≡ is → decimal_at text ≡ Some m
+        → MatchOption (if is then Some m else None) ((n : ℕ) → n < 2 ^ 64 → text ≢ decimal n) (λ n. text ≡ decimal n)
+    by_size m true small e = only_spelling text m (ltb-true m (2 ^ 64) small) e
+    by_size m false great e = λ n small same.
+        let read : Some m ≡ Some n = sym e ∙ ap decimal_at same ∙ spelling_read n small in
+        let alike : m ≡ n = cc in
+        both_ways (nat_lt m (2 ^ 64)) great (rw alike (lt-ltb n (2 ^ 64) small))
+
+    by_number : (number : Option ℕ) → decimal_at text ≡ number
+        → MatchOption (option_and_then (λ n. if nat_lt n (2 ^ 64) then Some n else None) number) ((n : ℕ) → n < 2 ^ 64 → text ≢ decimal n) (λ n. text ≡ decimal n)
+    by_number None e = λ n small same. let read : None ≡ Some n = sym e ∙ ap decimal_at same ∙ spelling_read n small in cc
+    by_number (Some m) e = by_size m (nat_lt m (2 ^ 64)) refl e

@@ -1,35 +1,29 @@
 -- The spellings of a legal stream are read as that stream.
-use Rattle.std.proofs.Common.{◌≡◌, ◌≢◌, ℕ, ◌+◌, ◌^◌, ◌<◌, ◌≤◌, false, true, zero, suc, subst, drop, drop_at, length, List, [], ◌∷◌, ◌++◌, append_assoc, append-nil, All, ℤ, pos, negsuc, nat_abs, None, refl, sym, ap, ◌∙◌, arith, w64}
+use Rattle.std.proofs.Common.{◌≡◌, ◌≢◌, ℕ, ◌^◌, ◌<◌, ◌≤◌, false, true, subst, drop, drop_at, length, List, [], ◌∷◌, ◌++◌, append_assoc, append-nil, All, pos, nat_abs, None, refl, sym, ap, ◌∙◌, arith, w64}
 use Rattle.std.specs.Prelude.{nat_le, nat_lt}
 use Rattle.std.specs.List.{flat_map}
 use Rattle.std.proofs.Math.Nat.{pow-le-pow_right}
-use Rattle.std.proofs.lemmas.Bool.{ne_eqb}
 use Rattle.std.proofs.lemmas.Bool.Decides.{nat_tests}
 use Rattle.std.proofs.lemmas.Int.{fits_signed_from_abs}
-use Rattle.std.proofs.lemmas.List.Elements.{filter-append, All-head, All-same, All-drop}
-use Rattle.std.proofs.lemmas.List.Sums.{sum_by-append, sum_by-cons}
+use Rattle.std.proofs.lemmas.List.Elements.{All-head, All-same, All-drop}
 use Rattle.sip_vector.specs.declared.update.Side.{Side}
 use Rattle.sip_vector.specs.declared.update.Side.TheVariants.{First, Second}
 use Rattle.sip_vector.specs.declared.update.Update.{Update}
-use Rattle.sip_vector.specs.Answers.{is_zero}
-use Rattle.sip_vector.specs.Streams.{same_side, of_side, weight, most_weight, IsLegal}
+use Rattle.sip_vector.specs.Streams.{same_side, weight, most_weight, IsLegal}
+use Rattle.sip_vector.proofs.Kept.{is_zero-false}
+use Rattle.sip_vector.proofs.Sides.{weight-append, weight-one}
 use Rattle.sip_stream.specs.declared.form.Form.{Form}
 use Rattle.sip_stream.specs.declared.form.Form.TheVariants.{Binary, Text}
 use Rattle.sip_stream.specs.Records.{update_fault, records_from, records}
 use Rattle.sip_stream.specs.Spellings.{spelled}
 use Rattle.sip_stream.proofs.ReadBack.{read_back}
 
-weight-append : (s t : List Update) (side : Side) → weight (s ++ t) side ≡ weight s side + weight t side
-weight-append s t side =
-    rw (filter-append (λ (u : Update). same_side u.side side) s t)
-    (sum_by-append (λ (u : Update). nat_abs u.delta) (of_side s side) (of_side t side))
-
 same_side-own : (s : Side) → same_side s s ≡ true
 same_side-own First = refl
 same_side-own Second = refl
 
 weight-own : (u : Update) → weight (u ∷ []) u.side ≡ nat_abs u.delta
-weight-own u = rw (same_side-own u.side) (omega (arith, sum_by-cons (λ (v : Update). nat_abs v.delta) u []))
+weight-own u = weight-one u u.side (same_side-own u.side)
 
 weight_fits : (depth : ℕ) (stream : List Update) (side : Side) → IsLegal depth stream → weight stream side ≤ most_weight
 weight_fits depth stream First legal = legal.first
@@ -67,16 +61,11 @@ not_le a b below = grind (arith, nat_tests)
 not_lt : (a b : ℕ) → b ≤ a → nat_lt a b ≡ false
 not_lt a b most = grind (arith, nat_tests)
 
-not_zero : (z : ℤ) → z ≢ pos 0 → is_zero z ≡ false
-not_zero (pos zero) some = absurd (some refl)
-not_zero (pos (suc n)) some = ne_eqb (suc n) 0 (λ e. absurd (omega (arith, e)))
-not_zero (negsuc n) some = ne_eqb (suc n) 0 (λ e. absurd (omega (arith, e)))
-
 -- nothing stands against it
 no_fault : (depth : ℕ) (before : List Update) (u : Update) → IsLegalAt depth before u → update_fault depth before u ≡ None
 no_fault depth before u legal =
     let item = not_le (2 ^ depth) u.item legal.item in
-    let delta = not_zero u.delta legal.delta in
+    let delta = is_zero-false u.delta legal.delta in
     let light = not_lt most_weight (weight (before ++ u ∷ []) u.side) legal.weight in
     rw (item, delta, light) refl
 

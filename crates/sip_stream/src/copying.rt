@@ -1,6 +1,6 @@
 //! A stream, copied record by record from one form to another.
 
-ghost use Rattle.std.specs.Prelude.{◌≡◌, ◌<◌, ◌≤◌, ◌+◌, ◌^◌, ◌++◌, [], ℕ, List, Some, None, IsSome, MatchResult, OnOk, Err, Ok, length, pos, ◌≢◌, take};
+ghost use Rattle.std.specs.Prelude.{◌≡◌, ◌<◌, ◌≤◌, ◌+◌, ◌^◌, ◌++◌, [], ℕ, List, Some, None, IsSome, MatchResult, OnOk, Err, Ok, take};
 ghost use Rattle.arrayvec.specs.ArrayVec.{array_vec_len};
 ghost use Rattle.sip_ports.specs.Ports.{GoesOn, HasCause, Lasts, Rose, outs};
 ghost use Rattle.sip_stream.specs.declared.fault.StreamFault.TheVariants as faults;
@@ -10,6 +10,7 @@ ghost use Rattle.sip_stream.specs.Copied.{CopiesOn};
 
 use crate::line::line_of;
 use crate::record_bytes::record_of;
+use crate::text::put;
 use crate::{Form, Reader, StreamFault, Why};
 use arrayvec::ArrayVec;
 use sip_ports::{PortStop, Sink, Source, write_whole};
@@ -65,16 +66,6 @@ impl From<StreamFault> for CopyStop {
             StreamFault::OutOfMemory => CopyStop::OutOfMemory,
         }
     }
-}
-
-// Adds bytes that there is room for.
-fn put(gathered: &mut ArrayVec<u8, BLOCK>, bytes: &[u8])
-    requires { array_vec_len gathered.old + length bytes.now ≤ BLOCK }
-    ensures items { gathered.new.items ≡ gathered.old.items ++ bytes.now }
-    ensures len { array_vec_len gathered.new ≡ array_vec_len gathered.old + length bytes.now }
-{
-    let added = gathered.try_extend_from_slice(bytes).is_ok();
-    prove!(added);
 }
 
 // Adds an update in the spelling of a form.

@@ -7,6 +7,7 @@
 //! [`put_line`] as a line of text, both at once and without memory. [`MadeSource`] is a source of the records of
 //! `specs/Made.antt`, a stream that is made from a number. [`Reader`] reads a stream one record at a time, and [`copy`]
 //! writes what it reads in one form or the other, in blocks.
+//! [`read_decimal`] reads one number, and the calls of [`text`] gather text in a buffer of a fixed size.
 #![tactic(auto)]
 
 mod copying;
@@ -21,6 +22,7 @@ mod numbers;
 mod reader;
 mod record_bytes;
 mod record_reader;
+pub mod text;
 mod why;
 
 pub use copying::{CopyStop, copy};
@@ -28,9 +30,7 @@ pub use fault::StreamFault;
 pub use form::Form;
 pub use line::put_line;
 pub use made::MadeSource;
+pub use numbers::read_decimal;
 pub use reader::Reader;
 pub use record_bytes::put_record;
 pub use why::Why;
-
-#[cfg(test)]
-mod reader_tests;

@@ -1,7 +1,10 @@
 //! The numbers of a line of text.
 
-ghost use Rattle.std.specs.Prelude.{◌≡◌, ◌≤◌, ◌+◌, length, option_map, IfSome};
+ghost use Rattle.std.specs.Prelude.{◌≡◌, ◌≢◌, ◌≤◌, ◌<◌, ◌+◌, ◌^◌, ℕ, length, option_map, IfSome, MatchOption, decimal};
 ghost use Rattle.sip_stream.specs.Lines.{decimal_at, delta_at, item_at, numbers_at, parts_at, above_zero, below_zero};
+
+/// The most digits of a number below 2^64.
+const LONGEST: usize = 20;
 
 /// The three numbers that a line says.
 #[derive(Clone, Copy, Debug, PartialEq, Eq)]
@@ -25,7 +28,7 @@ fn split_at_space(text: &[u8]) -> Option<(&[u8], &[u8])>
 }
 
 /// The number that decimal digits write, without a leading zero but for 0 itself. It has at most 38 digits, so it fits.
-fn decimal(text: &[u8]) -> Option<u128>
+fn digits(text: &[u8]) -> Option<u128>
     requires { length text.now ≤ 38 }
     ensures { result ≡ decimal_at text.now }
 {
@@ -42,11 +45,23 @@ fn decimal(text: &[u8]) -> Option<u128>
     Some(number)
 }
 
+/// The number below 2^64 that a text writes in decimal digits, without a sign and without a leading zero.
+pub fn read_decimal(text: &[u8]) -> Option<u64>
+    ensures { MatchOption result
+        ((n : ℕ) → n < 2 ^ 64 → text.now ≢ decimal n)
+        (λ n. text.now ≡ decimal n) }
+{
+    if text.len() > LONGEST {
+        return None;
+    }
+    item(text)
+}
+
 fn item(text: &[u8]) -> Option<u64>
     requires { length text.now ≤ 38 }
     ensures { result ≡ item_at text.now }
 {
-    let number = decimal(text)?;
+    let number = digits(text)?;
     if number >= 1 << 64 {
         return None;
     }
@@ -79,9 +94,9 @@ fn delta(text: &[u8]) -> Option<i64>
         return None;
     }
     if text[0] == b'-' {
-        negative(decimal(&text[1..])?)
+        negative(digits(&text[1..])?)
     } else {
-        positive(decimal(text)?)
+        positive(digits(text)?)
     }
 }
 
@@ -93,7 +108,7 @@ pub(crate) fn read_numbers(line: &[u8]) -> Option<Numbers>
     let (first, rest) = split_at_space(line)?;
     let (second, third) = split_at_space(rest)?;
     Some(Numbers {
-        side: decimal(first)?,
+        side: digits(first)?,
         item: item(second)?,
         delta: delta(third)?,
     })

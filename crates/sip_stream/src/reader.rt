@@ -104,6 +104,7 @@ impl Reader {
         ensures bounded { self.new.first + self.new.second ≤ 2147483646 }
         ensures depth { self.new.depth ≡ self.old.depth }
         ensures form { self.new.form ≡ self.old.form }
+        ensures spent { self.new.is_spent ≡ self.old.is_spent }
     {
         let size = update.delta.unsigned_abs();
         match update.side {
@@ -111,38 +112,6 @@ impl Reader {
             Side::Second => self.second += size,
         }
         self.count += 1;
-    }
-
-    fn read<S: Source>(&mut self, source: &mut S) -> Result<Option<Update>, StreamFault>
-        requires { self.old.is_spent ≡ false }
-        ensures reads { (before : List Update) (bytes : List ℕ) → IsAfter self.old before → S.left source.old ≡ Some bytes → Reads self.old.depth self.old.form before bytes (S.left source.new) result }
-        ensures after { (before : List Update) → IsAfter self.old before → GoesOnAfter self.new before result }
-        ensures legal { IfOk result (λ next. IfSome next (HasRoom self.old)) }
-        ensures nearer { IfOk result (λ next. IfSome next (λ _. room self.new < room self.old)) }
-        ensures at { (at : ℕ) (why : Why) → result ≡ Err (StreamFault.Bad at why) → at ≡ self.old.count }
-        ensures depth { self.new.depth ≡ self.old.depth }
-        ensures form { self.new.form ≡ self.old.form }
-        ensures told { IsSome (S.left source.old) → IsSome (S.left source.new) }
-        ensures cause { result ≡ Err StreamFault.ReadFault → Rose (S.faults source.old) (S.faults source.new) }
-        ensures source { Lasts S.faults S.is_sure source.old source.new }
-    {
-        let Some(said) = next_piece(self.form, source)? else {
-            return Ok(None);
-        };
-        let why = match said {
-            Err(why) => why,
-            Ok(update) => match self.fault(&update) {
-                Some(why) => why,
-                None => {
-                    self.add(&update);
-                    return Ok(Some(update));
-                }
-            },
-        };
-        Err(StreamFault::Bad {
-            at: self.count,
-            why,
-        })
     }
 
     /// The next record, or `None` where the input ends at a record's end.
@@ -166,9 +135,29 @@ impl Reader {
         ensures cause { result ≡ Err StreamFault.ReadFault → Rose (S.faults source.old) (S.faults source.new) }
         ensures source { Lasts S.faults S.is_sure source.old source.new }
     {
-        let next = self.read(source);
-        self.is_spent = next.is_err();
-        next
+        let said = match next_piece(self.form, source) {
+            Ok(Some(said)) => said,
+            Ok(None) => return Ok(None),
+            Err(stop) => {
+                self.is_spent = true;
+                return Err(StreamFault::from(stop));
+            }
+        };
+        let why = match said {
+            Err(why) => why,
+            Ok(update) => match self.fault(&update) {
+                Some(why) => why,
+                None => {
+                    self.add(&update);
+                    return Ok(Some(update));
+                }
+            },
+        };
+        self.is_spent = true;
+        Err(StreamFault::Bad {
+            at: self.count,
+            why,
+        })
     }
 }
 
@@ -186,3 +175,6 @@ fn next_piece<S: Source>(
         Form::Text => next_line(source),
     }
 }
+
+#[cfg(test)]
+mod tests;

@@ -1,7 +1,7 @@
 -- Up to 38 digits fit.
 use Rattle.std.proofs.Common.{◌<◌, slice_index_or, rules, arith}
 use Rattle.sip_stream.proofs.Digits.{small_fits}
-use Rattle.sip_stream.proofs.numbers.decimal.Goals as goal
+use Rattle.sip_stream.proofs.numbers.digits.Goals as goal
 
 pub overflow_mul-number : goal.overflow_mul-number
 overflow_mul-number c =

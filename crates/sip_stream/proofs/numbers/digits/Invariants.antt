@@ -2,7 +2,7 @@
 use Rattle.std.proofs.Common.{◌≡◌, ◌<◌, ◌^◌, drop}
 use Rattle.std.specs.Str.{all_ascii_digits}
 use Rattle.std.specs.Str.Parse.{digits_value, digits_value_after}
-use Rattle.sip_stream.proofs.numbers.decimal.Given as goal
+use Rattle.sip_stream.proofs.numbers.digits.Given as goal
 
 abbrev pub invariant-loop-index : goal.invariant-loop-index
 invariant-loop-index l = record {
