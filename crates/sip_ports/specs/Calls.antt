@@ -1,5 +1,5 @@
 -- Calls are numbered from 1, and those whose numbers stand in a list fail.
-use Rattle.std.specs.Prelude.{◌≡◌, ◌==◌, ℕ, zero, suc, ◌+◌, ◌-◌, ◌^◌, ◌<◌, ◌≤◌, Bool, true, false, ◌&&◌, nat_lt, List, [], refl}
+use Rattle.std.specs.Prelude.{◌≡◌, ◌==◌, ℕ, zero, suc, ◌+◌, ◌-◌, ◌^◌, ◌<◌, ◌≤◌, min, Bool, true, false, ◌&&◌, nat_lt, List, [], refl}
 use Rattle.std.specs.List.{list_any}
 use Rattle.std.proofs.Common.{◌∷◌, arith, add-one}
 
@@ -20,6 +20,16 @@ failed_of fails (suc n) = failed_of fails n + one_if (fails_at fails (suc n))
 -- the call after these fails: numbers end at 2^64 - 1, and a call without a number doesn't fail
 abbrev pub next_fails : List ℕ → ℕ → Bool
 next_fails fails calls = nat_lt calls (2 ^ 64 - 1) && fails_at fails (calls + 1)
+
+-- One more call was made of a port: it has the next number and is a fault where that number fails.
+-- Which calls fail, and how much a call moves, is as it was.
+pub record MakesCall {P : Type 0} (fails : P → List ℕ) (calls chunk : P → ℕ) (before now : P)
+    : Type 0 where
+  pub numbered : calls now ≡ min (calls before + 1) (2 ^ 64 - 1)
+  pub counted : failed_of (fails now) (calls now)
+      ≡ failed_of (fails before) (calls before) + one_if (next_fails (fails before) (calls before))
+  pub same_fails : fails now ≡ fails before
+  pub same_chunk : chunk now ≡ chunk before
 
 -- what the laws of the ports over memory rest on
 one_if-le : (b : Bool) → one_if b ≤ 1

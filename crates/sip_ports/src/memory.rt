@@ -1,9 +1,9 @@
 // Ports over memory: calls of chosen numbers fail, and each call moves a chunk at most.
-ghost use Rattle.std.specs.Prelude.{◌≡◌, ◌↔◌, ◌<◌, ◌≤◌, ◌^◌, ◌+◌, ◌-◌, ◌++◌, [], min, length, take, true, false, Some, IfOk, MatchResult, IsErrOf};
+ghost use Rattle.std.specs.Prelude.{◌≡◌, ◌↔◌, ◌<◌, ◌≤◌, ◌++◌, [], min, length, take, true, false, Some, IfOk, MatchResult, IsErrOf};
 ghost use Rattle.std.specs.Io.{ReadsAtMost, WritesAtMost};
 ghost use Rattle.std.specs.Io.KnownBytes.{ReadConsumes};
 ghost use Rattle.sip_ports.specs.Ports.{Sends, Hears, outs, ins};
-ghost use Rattle.sip_ports.specs.Calls.{one_if, failed_of-fits, failed_of-sure};
+ghost use Rattle.sip_ports.specs.Calls.{MakesCall, failed_of-fits, failed_of-sure};
 
 use crate::calls::Calls;
 use crate::give::give;
@@ -58,10 +58,10 @@ impl MemorySource {
 }
 
 impl Source for MemorySource {
-    ghost use Rattle.std.specs.Prelude.{◌≡◌, ◌^◌, ◌+◌, ◌-◌, min, length, true, false, Some, MatchResult};
+    ghost use Rattle.std.specs.Prelude.{◌≡◌, min, length, true, false, Some, MatchResult};
     ghost use Rattle.std.specs.Io.{ReadsAtMost};
     ghost use Rattle.std.specs.Io.KnownBytes.{ReadConsumes};
-    ghost use Rattle.sip_ports.specs.Calls.{one_if, failed_of-fits, failed_of-sure};
+    ghost use Rattle.sip_ports.specs.Calls.{MakesCall, failed_of-fits, failed_of-sure};
     ghost use Rattle.sip_ports.specs.Memory.{source_left, source_chunk, source_fails, source_calls, source_next_fails, source_faults, source_is_sure};
 
     ghost left = { λ source. Some (source_left source) };
@@ -82,11 +82,7 @@ impl Source for MemorySource {
             (λ n. (source_next_fails self.old ≡ false)
             × (n ≡ min (length buf.old) (min (source_chunk self.old) (length (source_left self.old)))))
             (λ e. (source_next_fails self.old ≡ true) × (e ≡ PortStop.Failed)) }
-        ensures faults { source_faults self.new
-            ≡ source_faults self.old + one_if (source_next_fails self.old) }
-        ensures chunk { source_chunk self.new ≡ source_chunk self.old }
-        ensures fails { source_fails self.new ≡ source_fails self.old }
-        ensures calls { source_calls self.new ≡ min (source_calls self.old + 1) (2 ^ 64 - 1) }
+        ensures call { MakesCall source_fails source_calls source_chunk self.old self.new }
     {
         if self.calls.next_fails() {
             return Err(PortStop::Failed);
@@ -157,11 +153,7 @@ impl Sink for MemorySink {
             (λ n. (n ≡ min (length buf.now) (sink_chunk self.old))
             × (sink_bytes self.new ≡ sink_bytes self.old ++ take n buf.now))
             (λ _. sink_bytes self.new ≡ sink_bytes self.old) }
-        ensures faults { sink_faults self.new
-            ≡ sink_faults self.old + one_if (sink_next_fails self.old) }
-        ensures chunk { sink_chunk self.new ≡ sink_chunk self.old }
-        ensures fails { sink_fails self.new ≡ sink_fails self.old }
-        ensures calls { sink_calls self.new ≡ min (sink_calls self.old + 1) (2 ^ 64 - 1) }
+        ensures call { MakesCall sink_fails sink_calls sink_chunk self.old self.new }
     {
         if self.calls.next_fails() {
             return Err(PortStop::Failed);
@@ -237,11 +229,7 @@ impl Sink for MemoryLink {
         ensures failed { IsErrOf result PortStop.Failed ↔ (link_next_fails self.old ≡ true) }
         ensures count { IfOk result (λ n. n ≡ min (length buf.now) (link_chunk self.old)) }
         ensures incoming { link_incoming self.new ≡ link_incoming self.old }
-        ensures faults { link_faults self.new
-            ≡ link_faults self.old + one_if (link_next_fails self.old) }
-        ensures chunk { link_chunk self.new ≡ link_chunk self.old }
-        ensures fails { link_fails self.new ≡ link_fails self.old }
-        ensures calls { link_calls self.new ≡ min (link_calls self.old + 1) (2 ^ 64 - 1) }
+        ensures call { MakesCall link_fails link_calls link_chunk self.old self.new }
     {
         if self.calls.next_fails() {
             return Err(PortStop::Failed);
@@ -265,11 +253,7 @@ impl Link for MemoryLink {
         ensures bytes { MatchResult result
             (λ n. link_incoming self.old ≡ take n buf.new ++ link_incoming self.new)
             (λ _. link_incoming self.new ≡ link_incoming self.old) }
-        ensures faults { link_faults self.new
-            ≡ link_faults self.old + one_if (link_next_fails self.old) }
-        ensures chunk { link_chunk self.new ≡ link_chunk self.old }
-        ensures fails { link_fails self.new ≡ link_fails self.old }
-        ensures calls { link_calls self.new ≡ min (link_calls self.old + 1) (2 ^ 64 - 1) }
+        ensures call { MakesCall link_fails link_calls link_chunk self.old self.new }
     {
         if self.calls.next_fails() {
             return Err(PortStop::Failed);
