@@ -1,12 +1,9 @@
 -- A buffer is filled in steps and sent in steps.
-use Rattle.std.proofs.Common.{◌≡◌, ℕ, zero, suc, ◌+◌, ◌-◌, ◌<◌, ◌≤◌, List, [], ◌∷◌, ◌++◌, refl, sym, ap, ◌∙◌, arith, length, take, drop, slice_range, le_refl, drop_at, length-take-le, map, take-append-drop}
+use Rattle.std.proofs.Common.{◌≡◌, ℕ, ◌+◌, ◌-◌, ◌≤◌, List, ◌++◌, sym, ap, ◌∙◌, arith, length, take, drop, slice_range, le_refl, drop_at, length-take-le, map, take-append-drop}
 use Rattle.std.proofs.lemmas.List.{map-append, drop-drop}
 use Rattle.std.proofs.lemmas.Slice.{take-put_mid_below}
 use borrow.Rule.Slice.PartMut.{put_mid, post_of}
 use lib.Seq.{take-add, take-append-le}
-use Rattle.std.proofs.lemmas.Bool.Decides.{nat_tests}
-use Rattle.sip_ports.specs.declared.port.TalkEvent.TheVariants.{Ended}
-use Rattle.sip_ports.specs.Ports.{ins, received, ended_if}
 
 -- a part of a list, mapped, in two steps
 pub take_steps : {B : Type 0} (f : ℕ → B) (a n : ℕ) (buf : List ℕ) → map f (take a buf) ++ map f (take n (drop a buf)) ≡ map f (take (a + n) buf)

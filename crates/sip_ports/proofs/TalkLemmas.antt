@@ -3,6 +3,8 @@
 use Rattle.std.proofs.Common.{◌≡◌, ℕ, zero, suc, ◌<◌, ◌≤◌, List, [], ◌∷◌, ◌++◌, length, take, None, Some, refl, sym, ap, ◌∙◌, arith, append_assoc, append-nil}
 use Rattle.std.specs.declared.option.Option.{Option}
 use Rattle.std.proofs.lemmas.List.{map-append}
+use Rattle.std.specs.Prelude.{option_map}
+use Rattle.std.specs.Io.KnownBytes.{Appends}
 use Rattle.sip_ports.specs.declared.port.TalkEvent.{TalkEvent}
 use Rattle.sip_ports.specs.declared.port.TalkEvent.TheVariants.{Out, In, Ended}
 use Rattle.std.proofs.lemmas.Bool.Decides.{nat_tests}
@@ -88,6 +90,21 @@ outs-injective xs ys e = sym (written-outs xs) ∙ ap written e ∙ written-outs
 pub ins-injective : (xs ys : List ℕ) → ins xs ≡ ins ys → xs ≡ ys
 ins-injective xs ys e = sym (heard-ins xs) ∙ ap heard e ∙ heard-ins ys
 
+-- bytes that are known and are told as sent grow by what the talk goes on by, and no other way
+pub Appends-of_GoesOn : (old new : Option (List ℕ)) (bytes : List ℕ)
+    → GoesOn (option_map outs old) (option_map outs new) (outs bytes) → Appends old new bytes
+Appends-of_GoesOn None new bytes p = tt
+Appends-of_GoesOn (Some xs) None bytes p = absurd p
+Appends-of_GoesOn (Some xs) (Some ys) bytes p =
+    outs-injective ys (xs ++ bytes) (p ∙ sym (outs-append xs bytes))
+
+-- and back
+pub GoesOn-of_Appends : (old new : Option (List ℕ)) (bytes : List ℕ)
+    → Appends old new bytes → GoesOn (option_map outs old) (option_map outs new) (outs bytes)
+GoesOn-of_Appends None new bytes p = tt
+GoesOn-of_Appends (Some xs) None bytes p = absurd p
+GoesOn-of_Appends (Some xs) (Some ys) bytes p = ap outs p ∙ outs-append xs bytes
+
 pub Writes-refl : (a : Option (List TalkEvent)) → Writes a a []
 Writes-refl None = tt
 Writes-refl (Some x) = sym (append-nil (written x))
@@ -106,3 +123,15 @@ Writes-of_GoesOn (Some x) (Some y) es p = ap written p ∙ written-append x es
 
 -- bytes that are only sent, or only received
 pub ruleset two_sides = (written-outs, heard-ins)
+
+-- bytes that are not on a side
+pub ruleset other_sides = (written-ins, heard-outs)
+
+-- sides, and events, of two parts
+pub ruleset parts = (written-append, heard-append, outs-append, ins-append)
+
+-- bytes that are told as sent
+pub ruleset told_as_sent = (Appends-of_GoesOn, GoesOn-of_Appends)
+
+-- events that tell their bytes
+pub ruleset told_bytes = (outs-injective, ins-injective)
