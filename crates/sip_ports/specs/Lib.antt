@@ -1,6 +1,5 @@
 pub mod Calls
-pub mod File
+pub mod Edge
 pub mod Memory
 pub mod Ports
 pub mod ReadAhead
-pub mod Writer

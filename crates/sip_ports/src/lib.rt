@@ -5,8 +5,9 @@
 //! tells its bytes, its calls say exactly which bytes were moved, whatever pieces they came in;
 //! [`read_exact_into`], [`write_whole`] and [`recv_whole`] move all that is asked for.
 //!
-//! The ports over memory tell everything and fail at chosen calls. Those over files and over the runtime's
-//! writers tell nothing: they are the edge to the machine.
+//! The ports over memory tell everything and fail at chosen calls. Those over readers and writers
+//! tell what these tell: [`ReaderSource`], [`WriterSink`] and [`TwoWayLink`]. Over files and over the
+//! runtime's writers, which tell nothing, they are the edge to the machine.
 #![tactic(auto)]
 
 mod calls;
@@ -18,16 +19,22 @@ mod memory;
 mod null;
 mod port;
 mod read_ahead;
+mod reader_source;
+mod stream;
+mod two_way;
 mod uninterrupted;
 mod whole;
-mod writer;
+mod writer_sink;
 
 pub use file::{FileLink, FileSink, FileSource};
 pub use memory::{MemoryLink, MemorySink, MemorySource};
 pub use null::NullSink;
 pub use port::{Link, PortStop, Sink, Source, TalkEvent};
+pub use reader_source::ReaderSource;
+pub use stream::{StderrSink, StdoutSink, StreamSink};
+pub use two_way::TwoWayLink;
 pub use whole::{read_exact_into, recv_whole, write_whole};
-pub use writer::{StderrSink, StdoutSink, WriterSink};
+pub use writer_sink::WriterSink;
 
 #[cfg(test)]
 mod tests;

@@ -1,7 +1,11 @@
 // What no clause says: files of the machine, devices that fail, and that calls succeed with ample memory.
-ghost use Rattle.std.specs.Prelude.{◌≡◌, ◌≤◌, ◌++◌, min, length, take, drop, IfOk, OnOk, IsErrOf};
-ghost use Rattle.sip_ports.specs.Memory.{source_left, source_is_sure, sink_bytes, sink_is_sure, link_talk, link_is_sure};
-ghost use Rattle.sip_ports.specs.Ports.{ins, ended_if};
+ghost use Rattle.std.specs.Prelude.{◌≡◌, ◌≤◌, ◌++◌, min, length, take, drop};
+ghost use Rattle.std.specs.Prelude.{IfOk, OnOk, IsErrOf, Some};
+ghost use Rattle.std.specs.Io.KnownBytes.{Appends};
+ghost use Rattle.sip_ports.specs.Edge.{source_left, sink_contents};
+ghost use Rattle.sip_ports.specs.Memory.{source_left as memory_left, source_is_sure};
+ghost use Rattle.sip_ports.specs.Memory.{sink_bytes, sink_is_sure, link_talk, link_is_sure};
+ghost use Rattle.sip_ports.specs.Ports.{ReadsWhole, ins, ended_if};
 
 use super::*;
 use crate::read_ahead::ReadAhead;
@@ -29,9 +33,9 @@ fn link(alloc: Global, incoming: &[u8], chunk: usize, fails: &[u64]) -> Result<M
 // Three callers of the loops, which see that over memory each promise has its full content: what is moved is
 // exactly the front, and a port of which no call is to fail doesn't fail.
 fn read_front(source: &mut MemorySource, buf: &mut [u8]) -> Result<usize, PortStop>
-    ensures count { IfOk result (λ n. n ≡ min (length buf.new) (length (source_left source.old))) }
-    ensures front { IfOk result (λ n. take n buf.new ≡ take n (source_left source.old)) }
-    ensures rest { IfOk result (λ n. source_left source.new ≡ drop n (source_left source.old)) }
+    ensures count { IfOk result (λ n. n ≡ min (length buf.new) (length (memory_left source.old))) }
+    ensures front { IfOk result (λ n. take n buf.new ≡ take n (memory_left source.old)) }
+    ensures rest { IfOk result (λ n. memory_left source.new ≡ drop n (memory_left source.old)) }
     ensures sure { source_is_sure source.old → ¬ IsErrOf result PortStop.Failed }
 {
     read_exact_into(source, buf)
@@ -50,6 +54,22 @@ fn hear_front(link: &mut MemoryLink, buf: &mut [u8]) -> Result<usize, PortStop>
     ensures sure { link_is_sure link.old → ¬ IsErrOf result PortStop.Failed }
 {
     recv_whole(link, buf)
+}
+
+// Two callers at a reader and a writer in memory, which see that there the promises have their full
+// content.
+fn read_slice(source: &mut ReaderSource<&[u8]>, buf: &mut [u8]) -> Result<usize, PortStop>
+    ensures came { ReadsWhole (source_left (λ slice. Some slice.now) source.old)
+        (source_left (λ slice. Some slice.now) source.new) result buf.new }
+{
+    read_exact_into(source, buf)
+}
+
+fn send_to_vec(sink: &mut WriterSink<&mut Vec<u8>>, bytes: &[u8]) -> Result<(), PortStop>
+    ensures sent { OnOk result (Appends (sink_contents (λ vec. Some vec.now.items) sink.old)
+        (sink_contents (λ vec. Some vec.now.items) sink.new) bytes.now) }
+{
+    write_whole(sink, bytes)
 }
 
 #[test]
@@ -221,6 +241,32 @@ fn a_long_file_is_read_in_records(rt: HostRuntime) {
         assert_eq!(rt; record, [(number % 251) as u8; 13], "record {number}");
     }
     assert_eq!(rt; read_exact_into(&mut source, &mut record), Ok(0));
+}
+
+// The ports over a reader and a writer in memory: the bodies that run over files, with their bytes
+// seen.
+#[test]
+fn readers_and_writers_in_memory_pass_all_bytes(rt: HostRuntime) {
+    let mut buf = [0; 3];
+    let mut source = ReaderSource::new(Some(b"abcd".as_slice()));
+    assert_eq!(rt; read_slice(&mut source, &mut buf), Ok(3));
+    assert_eq!(rt; buf, *b"abc");
+    assert_eq!(rt; read_slice(&mut source, &mut buf), Ok(1));
+    assert_eq!(rt; buf[0], b'd');
+    assert_eq!(rt; read_slice(&mut source, &mut buf), Ok(0));
+
+    let mut bytes: Vec<u8> = Vec::new(rt.alloc());
+    let mut sink = WriterSink::new(Some(&mut bytes));
+    assert_eq!(rt; send_to_vec(&mut sink, b"ab"), Ok(()));
+    let mut out = StdoutSink::new(&mut bytes);
+    assert_eq!(rt; write_whole(&mut out, b"c"), Ok(()));
+    let mut link = TwoWayLink::new(Some(b"xyz".as_slice()), Some(&mut bytes));
+    assert_eq!(rt; write_whole(&mut link, b"de"), Ok(()));
+    assert_eq!(rt; recv_whole(&mut link, &mut buf), Ok(3));
+    assert_eq!(rt; buf, *b"xyz");
+    assert_eq!(rt; recv_whole(&mut link, &mut buf), Ok(0));
+    assert_eq!(rt; write_whole(&mut link, b"f"), Ok(()));
+    assert_eq!(rt; bytes.as_slice(), b"abcdef".as_slice());
 }
 
 #[test]
