@@ -86,9 +86,9 @@ module _ (task : Task) (x : Exchange) (some : 1 ≤ task.depth) (most : task.dep
   completes before now (statuses.BadStream at why) v cause is = λ honest none. absurd (let fault = cause.2 in let legal = honest.legal in cc)
   completes before now statuses.BadSeed v cause is = λ honest none. absurd (some_drawn task x some most fits honest (none_drawn (challenge_count task) x.seed cause))
   completes before now statuses.SeedSpent v cause is = λ honest none. absurd (some_drawn task x some most fits honest cause.1)
-  completes before now (statuses.ReadFault ports.First) v cause is = λ honest none. absurd (none.first cause)
+  completes before now (statuses.ReadFault ports.First) v cause is = λ honest none. absurd (none.first cause.1)
   completes before now (statuses.ReadFault ports.Second) v cause is = λ honest none. absurd (none.second cause)
-  completes before now (statuses.WriteFault ports.Report) v cause is = λ honest none. absurd (none.report cause)
-  completes before now statuses.PeerFault v cause is = λ honest none. absurd (none.peer cause)
+  completes before now (statuses.WriteFault ports.Report) v cause is = λ honest none. absurd (none.report cause.1)
+  completes before now statuses.PeerFault v cause is = λ honest none. absurd (none.peer cause.1)
   completes before now statuses.OutOfMemory v cause is = λ honest none. inr refl
   completes before now _ v cause is = absurd is

@@ -19,7 +19,7 @@ use Rattle.sip_verifier.specs.Exchanges.{Exchange, IsPrefix}
 use Rattle.sip_verifier.specs.Reports.{line, rejection}
 use Rattle.sip_verifier.specs.Talks.{bye_sent}
 use Rattle.sip_verifier.specs.Turns.{Turn, ending, updates, Done, turns_of, lines, Reached}
-use Rattle.sip_verifier.specs.VerdictClause.{OneFaulty, WereReached, PartWritten, PartRejected, SomeWritten, CutInLine, VerdictClause}
+use Rattle.sip_verifier.specs.VerdictClause.{OneFaulty, WereReached, PartWritten, PartRejected, CutInLine, VerdictClause}
 use Rattle.sip_verifier.proofs.CountedTurns.{few_wrong, turn_counts}
 use Rattle.sip_verifier.proofs.LegalRecords.{records_legal}
 
@@ -114,11 +114,6 @@ module _ (task : Task) (x : Exchange) (fits : All (Fits task.depth) task.queries
   rejected query round reason w =
       clause_of w.done (inr (Some w.last, ending reason, w.reached)) (rejection query round reason) (inr (query, round, reason, refl)) ([], sym w.report ∙ sym (append-nil x.report))
 
-  some_written : (w : SomeWritten task x) → (part : (w.part ≡ []) ⊎ PartWritten task x w.done w.part ⊎ PartRejected task x w.done w.part) → CountClause task x
-  some_written w (inl none) = whole w.done (were_in_talk w.done w.reached) (w.report ∙ ap (λ (l : List ℕ). lines task x w.done ++ l) none ∙ append-nil (lines task x w.done))
-  some_written w (inr (inl written)) = part_written w.done w.part written w.report
-  some_written w (inr (inr other)) = part_rejected w.done w.part other w.report
-
   cut_in_line : (w : CutInLine task x) → (verdict : PartWritten task x w.done w.part ⊎ PartRejected task x w.done w.part) → CountClause task x
   cut_in_line w (inl written) = part_written w.done w.part written w.report
   cut_in_line w (inr other) = part_rejected w.done w.part other w.report
@@ -136,5 +131,6 @@ module _ (task : Task) (x : Exchange) (fits : All (Fits task.depth) task.queries
   report_counts (statuses.WriteFault ports.Second) v is = absurd is
   report_counts (statuses.WriteFault ports.Keep) v is = absurd is
   report_counts statuses.PeerFault v is = whole v.done (were_in_talk v.done v.reached) v.report
-  report_counts statuses.OutOfMemory v is = some_written v v.part_of
+  report_counts statuses.OutOfMemory (inl v) is = whole v.done (were_in_talk v.done v.reached) v.report
+  report_counts statuses.OutOfMemory (inr v) is = cut_in_line v v.verdict
   report_counts _ v is = absurd is

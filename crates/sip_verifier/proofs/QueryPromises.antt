@@ -30,7 +30,7 @@ use Rattle.sip_verifier.specs.Reports.{line, rejection}
 use Rattle.sip_verifier.specs.Talks.{stream_sent, bye_sent}
 use Rattle.sip_verifier.specs.TalkClause.{EndsAtFault, IsUnderWay}
 use Rattle.sip_verifier.specs.Turns.{Turn, Accepted, Accepts, IsFaulty, IsUnfinished, IsWaiting, said_in_turn, ending, updates, IsLegalToEnd, Done, turns_of, lines, farewell, AreTurns, Reached}
-use Rattle.sip_verifier.specs.VerdictClause.{OneFaulty, SomeWritten, PartWritten, PartRejected, CutInLine, NoneLeft}
+use Rattle.sip_verifier.specs.VerdictClause.{OneFaulty, PartWritten, PartRejected, CutInLine, NoneLeft}
 use Rattle.sip_verifier.proofs.QueriesChecked.{first_more, flat_map_snoc}
 use Rattle.sip_verifier.proofs.RunTalks.{Adds, said_is, written_is, front_before}
 
@@ -168,6 +168,7 @@ module _ (task : Task) (x : Exchange) where
         way_accepted : IsUnderWay task x
         way_accepted = record {
           done = done ++ one ∷ [];
+          reached = inr ([], subst (λ (ts : List Turn). Reached task x ts []) (sym with_one) (reached_more [] is));
           current = None;
           unfinished = tt;
           turns = λ _. subst (AreTurns task x) (sym (append-nil _ ∙ with_one)) (are_turns replies next);
@@ -199,6 +200,7 @@ module _ (task : Task) (x : Exchange) where
         way_waiting : IsUnderWay task x
         way_waiting = record {
           done = done;
+          reached = were_reached;
           current = Some turn;
           unfinished = unfinished query block replies waits;
           turns = λ _. are_turns replies next;
@@ -209,9 +211,6 @@ module _ (task : Task) (x : Exchange) where
 
         none_left : NoneLeft task x
         none_left = record { done = done; current = Some turn; waits = waits; reached = were_reached; order = in_order; report = only_lines }
-
-        some_written : SomeWritten task x
-        some_written = record { done = done; part = []; reached = were_reached; part_of = inl refl; report = only_lines ∙ sym (append-nil _) }
 
     -- ---- every query was accepted
 
@@ -233,6 +232,7 @@ module _ (task : Task) (x : Exchange) where
         way_at_bye : IsUnderWay task x
         way_at_bye = record {
           done = done;
+          reached = were_reached;
           current = None;
           unfinished = tt;
           turns = λ _. subst (AreTurns task x) (sym (append-nil _)) reached.are_turns;
@@ -246,10 +246,10 @@ module _ (task : Task) (x : Exchange) where
         after_bye before now port_stops.Failed cause = record {
           verdict = record { done = done; current = None; waits = tt; reached = were_reached; order = order_at_bye; report = all_lines };
           talk = way_at_bye;
-          cause = cause;
+          cause = (is_drawn, cause);
         }
         after_bye before now port_stops.OutOfMemory cause = record {
-          verdict = record { done = done; part = []; reached = were_reached; part_of = inl refl; report = all_lines ∙ sym (append-nil _) };
+          verdict = inl (record { done = done; current = None; waits = tt; reached = were_reached; order = order_at_bye; report = all_lines });
           talk = inl way_at_bye;
           cause = tt;
         }
@@ -289,9 +289,6 @@ module _ (task : Task) (x : Exchange) where
         cut_passing : CutInLine task x
         cut_passing = record { done = e.done; part = p.part; reached = were_reached passing; verdict = inl written_in_part; report = passing.report }
 
-        some_passing : SomeWritten task x
-        some_passing = record { done = e.done; part = p.part; reached = were_reached passing; part_of = inr (inl written_in_part); report = passing.report }
-
       -- the line of its rejection was not written whole
       module _ (p : FailsInPart task.depth (updates task x) e.query e.block (suc (length e.done)) e.mid t3 e.half r2) where
         failing : Came challenges e.done (said_in_turn (turn_of e.query e.block p.rejected.replies) ++ ending p.reason) p.part
@@ -306,9 +303,6 @@ module _ (task : Task) (x : Exchange) where
         cut_failing : CutInLine task x
         cut_failing = record { done = e.done; part = p.part; reached = were_reached failing; verdict = inr rejected_in_part; report = failing.report }
 
-        some_failing : SomeWritten task x
-        some_failing = record { done = e.done; part = p.part; reached = were_reached failing; part_of = inr (inr rejected_in_part); report = failing.report }
-
       -- it has no verdict
       module _ (n : HasNone task.depth (updates task x) e.query e.block (suc (length e.done)) e.mid t3 e.half r2) where
         waiting : Came challenges e.done n.interrupted.said []
@@ -319,9 +313,6 @@ module _ (task : Task) (x : Exchange) where
 
         left_of_none : NoneLeft task x
         left_of_none = none_left waiting (its_next waiting) n.interrupted.replies n.interrupted.waits n.interrupted.order refl
-
-        some_of_none : SomeWritten task x
-        some_of_none = some_written waiting (its_next waiting) n.interrupted.replies n.interrupted.waits n.interrupted.order refl
 
       -- it was rejected, and the whole line was written
       rejects : (before now : Counts) (round : ℕ) (reason : Reason) → Fails task.depth (updates task x) e.query e.block (suc (length e.done)) e.mid t3 e.half r2 round reason
@@ -342,16 +333,16 @@ module _ (task : Task) (x : Exchange) where
     after_queries before now (statuses.WriteFault ports.Second) e cause = absurd e.checks
     after_queries before now (statuses.WriteFault ports.Report) e cause =
         elim (e.checks) as (λ _. Promises task x before now (statuses.WriteFault ports.Report)) [
-          | inl p ↦ record { verdict = cut_passing e p; talk = inl (way_passing e p); cause = cause }
-          | inr p ↦ record { verdict = cut_failing e p; talk = inr (ends_failing e p); cause = cause }
+          | inl p ↦ record { verdict = cut_passing e p; talk = inl (way_passing e p); cause = (good (passing e p), cause) }
+          | inr p ↦ record { verdict = cut_failing e p; talk = inr (ends_failing e p); cause = (good (failing e p), cause) }
         ]
     after_queries before now (statuses.WriteFault ports.Keep) e cause = absurd e.checks
-    after_queries before now statuses.PeerFault e cause = record { verdict = left_of_none e e.checks; talk = way_of_none e e.checks; cause = cause }
+    after_queries before now statuses.PeerFault e cause = record { verdict = left_of_none e e.checks; talk = way_of_none e e.checks; cause = (is_drawn (waiting e e.checks), cause) }
     after_queries before now statuses.OutOfMemory e cause =
         elim (e.checks) as (λ _. Promises task x before now statuses.OutOfMemory) [
-          | inl p ↦ record { verdict = some_passing e p; talk = inl (way_passing e p); cause = tt }
-          | inr (inl p) ↦ record { verdict = some_failing e p; talk = inr (ends_failing e p); cause = tt }
-          | inr (inr n) ↦ record { verdict = some_of_none e n; talk = inl (way_of_none e n); cause = tt }
+          | inl p ↦ record { verdict = inr (cut_passing e p); talk = inl (way_passing e p); cause = tt }
+          | inr (inl p) ↦ record { verdict = inr (cut_failing e p); talk = inr (ends_failing e p); cause = tt }
+          | inr (inr n) ↦ record { verdict = inl (left_of_none e n); talk = inl (way_of_none e n); cause = tt }
         ]
     after_queries before now _ e cause = absurd e.checks
 

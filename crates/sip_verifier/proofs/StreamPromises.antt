@@ -18,7 +18,7 @@ use Rattle.sip_verifier.specs.Sittings.{Starts}
 use Rattle.sip_verifier.specs.Talks.{stream_sent}
 use Rattle.sip_verifier.specs.TalkClause.{IsUnderWay, before_end}
 use Rattle.sip_verifier.specs.Turns.{updates, IsLegalToEnd, farewell, AreTurns}
-use Rattle.sip_verifier.specs.VerdictClause.{SomeWritten, NoneLeft}
+use Rattle.sip_verifier.specs.VerdictClause.{NoneLeft}
 use Rattle.sip_verifier.proofs.RunTalks.{Adds, said_is, nothing_new, front_before, front_of_front}
 use Rattle.sip_verifier.proofs.StreamSent.{stream_sent-front}
 
@@ -28,15 +28,13 @@ module _ (task : Task) (x : Exchange) where
 
   -- ---- nothing written, nothing said
 
-  nothing_written : x.report ≡ [] → SomeWritten task x
-  nothing_written e = record { done = []; part = []; reached = inl refl; part_of = inl refl; report = e }
-
   empty_front : (ys : List TalkEvent) → x.talk ≡ [] → IsPrefix x.talk ys
   empty_front ys e = (ys, ap (λ (l : List TalkEvent). l ++ ys) (sym e))
 
   nothing_said : x.talk ≡ [] → IsUnderWay task x
   nothing_said e = record {
     done = [];
+    reached = inl refl;
     current = None;
     unfinished = tt;
     turns = λ some. absurd (some e);
@@ -60,6 +58,7 @@ module _ (task : Task) (x : Exchange) where
   in_stream : HasSeed task x.stream x.seed → IsPrefix x.talk streamed → (¬ IsLegalToEnd task x → IsPrefix x.talk (before_end task x)) → IsUnderWay task x
   in_stream seed order illegal = record {
     done = [];
+    reached = inl refl;
     current = None;
     unfinished = tt;
     turns = λ _. no_turn seed;
@@ -87,25 +86,25 @@ module _ (task : Task) (x : Exchange) where
       record { verdict = blank; talk = said_is old new _ x.talk went told; cause = (is_drawn seed, at_is, fault) }
   after_gather before now (statuses.ReadFault ports.First) old new told blank (seed, cut) cause =
       let front : IsPrefix x.talk (before_end task x) = fronts (said_is old new cut.said x.talk cut.talk told) cut.order in
-      record { verdict = blank; talk = (in_stream seed (front_of_front x.talk (before_end task x) streamed front (stream_sent-front task.depth (updates task x))) (λ _. front), front); cause = cause }
+      record { verdict = blank; talk = (in_stream seed (front_of_front x.talk (before_end task x) streamed front (stream_sent-front task.depth (updates task x))) (λ _. front), front); cause = (is_drawn seed, cause) }
   after_gather before now (statuses.ReadFault ports.Second) old new told blank same cause = record { verdict = blank; talk = nothing_new old new x.talk same told; cause = cause }
   after_gather before now (statuses.ReadFault ports.Report) old new told blank refuses cause = absurd refuses
   after_gather before now (statuses.ReadFault ports.Keep) old new told blank refuses cause = absurd refuses
   after_gather before now statuses.PeerFault old new told blank (seed, cut) cause =
       let is = cut_front old new told cut in
       let order : IsPrefix x.talk streamed = fronts is cut.order in
-      record { verdict = none_in_stream order blank; talk = in_stream seed order (λ not. fronts is (cut.illegal not)); cause = cause }
+      record { verdict = none_in_stream order blank; talk = in_stream seed order (λ not. fronts is (cut.illegal not)); cause = (is_drawn seed, cause) }
   after_gather before now statuses.OutOfMemory old new told blank (inl same) cause =
-      record { verdict = nothing_written blank; talk = inl (nothing_said (nothing_new old new x.talk same told)); cause = tt }
+      record { verdict = inl (none_in_stream (empty_front _ (nothing_new old new x.talk same told)) blank); talk = inl (nothing_said (nothing_new old new x.talk same told)); cause = tt }
   after_gather before now statuses.OutOfMemory old new told blank (inr (seed, cut)) cause =
       let is = cut_front old new told cut in
-      record { verdict = nothing_written blank; talk = inl (in_stream seed (fronts is cut.order) (λ not. fronts is (cut.illegal not))); cause = tt }
+      record { verdict = inl (none_in_stream (fronts is cut.order) blank); talk = inl (in_stream seed (fronts is cut.order) (λ not. fronts is (cut.illegal not))); cause = tt }
   after_gather before now _ old new told blank refuses cause = absurd refuses
 
   -- there is no memory for the session
   pub after_stream : (before now : Counts) → HasSeed task x.stream x.seed → IsLegalToEnd task x → x.talk ≡ streamed → x.report ≡ [] → Promises task x before now statuses.OutOfMemory
   after_stream before now seed legal talk blank = record {
-    verdict = nothing_written blank;
+    verdict = inl (none_in_stream (fronts talk ([], sym (append-nil _))) blank);
     talk = inl (in_stream seed (fronts talk ([], sym (append-nil _))) (λ not. absurd (not legal)));
     cause = tt;
   }

@@ -4,10 +4,10 @@
 -- the talk up to the last byte that the fault needed, followed by the end of the link exactly where that is the fault.
 -- With an illegal stream it ends before the end of the stream is sent: the opening, and a frame for each 512 legal
 -- records. Where reading the stream failed, it ends before that too. With bad words or a bad seed, or where reading the
--- seed failed, nothing is said. With any other answer it is a front of that same talk: so each
--- reply was taken and passed its tests before the next challenge leaves, and the last challenge never leaves; and a
--- query's line was written before anything is said after its last reply. Where the line of a rejection could not be
--- written whole, the talk is that of the rejection.
+-- seed failed, nothing is said. With any other answer it is a front of that same talk: so each reply was taken and passed
+-- its tests before the next challenge leaves, and the last challenge never leaves; and the line of an accepted query was
+-- written before anything is said after its last reply. Where the line of a rejection could not be written whole, the
+-- talk is that of the rejection.
 use Rattle.std.specs.Prelude.{◌≡◌, ◌≢◌, ◌⊎◌, List, [], ◌∷◌, ◌++◌, length, flat_map, option_to_list, Option, IfSome}
 use Rattle.sip_ports.specs.declared.port.TalkEvent.{TalkEvent}
 use Rattle.sip_subvec.specs.Replies.{Fault}
@@ -18,6 +18,7 @@ use Rattle.sip_verifier.specs.declared.task.Task.{Task}
 use Rattle.sip_verifier.specs.Exchanges.{Exchange, IsPrefix}
 use Rattle.sip_verifier.specs.Talks.{whole_frames, opening_sent, stream_sent, bye_sent}
 use Rattle.sip_verifier.specs.Turns.{Turn, IsFaulty, IsUnfinished, ending, said_in_turn, updates, IsLegalToEnd, Done, turns_of, lines, farewell, AreTurns, Reached}
+use Rattle.sip_verifier.specs.VerdictClause.{WereReached}
 
 module _ (task : Task) (x : Exchange) where
   -- the whole talk
@@ -37,9 +38,11 @@ module _ (task : Task) (x : Exchange) where
   abbrev pub before_end : List TalkEvent
   before_end = opening_sent task.depth (whole_frames (updates task x))
 
-  -- The talk stopped somewhere: it is a front of the talk of some accepted turns and perhaps one that is under way.
+  -- The talk stopped somewhere: it has some accepted turns, each of them whole, and then a front of one that is under way
+  -- or of the farewell.
   pub record IsUnderWay : Type 0 where
     pub done : Done task x
+    pub reached : WereReached task x done
     pub current : Option Turn
     pub unfinished : IfSome current IsUnfinished
     pub turns : x.talk ≢ [] → AreTurns task x (turns_of task x done ++ option_to_list current)

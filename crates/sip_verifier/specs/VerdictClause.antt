@@ -4,8 +4,10 @@
 -- of all queries before were written; and then it is written, unless writing the report failed or memory ran out. A run
 -- is rejected as query k exactly where the replies to k - 1 queries were accepted and those to query k have that first
 -- fault; the line of the rejection is then the last one. Where every query was accepted, the report is all their lines,
--- and the stream was read to its end. A part of a line stands at the report's end only where writing the report failed
--- or memory ran out, and it is the front of the line of a verdict that was reached.
+-- and the stream was read to its end. Where the link failed, the report is the lines of all queries that were accepted.
+-- Where writing the report failed, it is the lines of the queries before the last verdict and a front of the line of that
+-- verdict, and nothing was said after it. Where memory ran out, it is the one or the other. Which queries were accepted
+-- is read off the talk, so none can be left out.
 use Rattle.std.specs.Prelude.{◌≡◌, ◌⊎◌, ℕ, suc, List, [], ◌∷◌, ◌++◌, length, flat_map, option_to_list, Option, IfSome}
 use Rattle.sip_ports.specs.declared.port.TalkEvent.{TalkEvent}
 use Rattle.sip_subvec.specs.Replies.{Fault}
@@ -56,16 +58,8 @@ module _ (task : Task) (x : Exchange) where
     pub reached : Reached task x (turns_of task x done ++ last ∷ []) (ending fault.reason)
     pub front : IsPrefix part (rejection (suc (length done)) fault.round fault.reason)
 
-  -- the lines of some queries that were accepted, and perhaps a part of the line of the next verdict
-  pub record SomeWritten : Type 0 where
-    pub done : Done task x
-    pub part : List ℕ
-    pub reached : WereReached done
-    pub part_of : (part ≡ []) ⊎ PartWritten done part ⊎ PartRejected done part
-    pub report : x.report ≡ lines task x done ++ part
-
-  -- Writing the report failed in the line of a verdict that was reached: the lines of the queries before stand, and a
-  -- front of that one.
+  -- The lines of the queries before a verdict that was reached, and a front of the line of that verdict: none of it, a
+  -- part, or all. Nothing was said after that verdict.
   pub record CutInLine : Type 0 where
     pub done : Done task x
     pub part : List ℕ
@@ -74,7 +68,7 @@ module _ (task : Task) (x : Exchange) where
     pub report : x.report ≡ lines task x done ++ part
 
   -- The lines of all queries that were accepted. What was said after them is a front of the farewell, or of a query
-  -- that waits for replies, so that no other verdict was reached.
+  -- that waits for replies: so no other verdict was reached, and no front of the talk can hide an accepted query.
   pub record NoneLeft : Type 0 where
     pub done : Done task x
     pub current : Option Turn
@@ -93,5 +87,5 @@ module _ (task : Task) (x : Exchange) where
   VerdictClause (statuses.ReadFault port) = x.report ≡ []
   VerdictClause (statuses.WriteFault ports.Report) = CutInLine
   VerdictClause statuses.PeerFault = NoneLeft
-  VerdictClause statuses.OutOfMemory = SomeWritten
+  VerdictClause statuses.OutOfMemory = NoneLeft ⊎ CutInLine
   VerdictClause _ = ⊥
