@@ -1,4 +1,3 @@
-pub mod Talks
 pub mod Decimals
 pub mod QueryWords
 pub mod Beginning

@@ -1,7 +1,10 @@
--- A run's words and its task.
-use Rattle.std.proofs.Common.{◌≡◌, ℕ, ◌+◌, List, get_or, sym, ap, subst, arith}
+-- A run's words and its task, and what each command keeps.
+use Rattle.std.proofs.Common.{◌≡◌, ℕ, ◌+◌, List, [], Some, get_or, true≢false, sym, ap, subst, arith}
 use Rattle.std.proofs.lemmas.List.Elements.{All-from_get_or}
 use Rattle.std.specs.Prelude.{◌↔◌}
+use Rattle.sip_ports.proofs.TalkLemmas.{GoesOn-refl}
+use Rattle.sip_stream.specs.declared.form.Form.{Form}
+use Rattle.sip_stream.specs.declared.form.Form.TheVariants.{Binary, Text}
 use Rattle.sip_vector.specs.declared.query.Query.{Query}
 use Rattle.sip_vector.specs.declared.query.Query.TheVariants.{Inner}
 use Rattle.sip_cli.specs.declared.command.Command.{Command}
@@ -9,12 +12,18 @@ use Rattle.sip_cli.specs.declared.command.Command.TheVariants.{Verify, Help, Gen
 use Rattle.sip_verifier.specs.declared.status.Status.{Status}
 use Rattle.sip_verifier.specs.declared.status.Status.TheVariants as statuses
 use Rattle.sip_verifier.specs.declared.task.Task.{Task}
-use Rattle.sip_verifier.specs.CauseClause.{Counts}
-use Rattle.sip_verifier.specs.Exchanges.{Exchange}
+use Rattle.sip_verifier.specs.Exchanges.{Exchange, Tells}
+use Rattle.sip_verifier.specs.Moments.{Counts, Moment, IsTold}
+use Rattle.sip_verifier.specs.Promises.{Promises}
+use Rattle.sip_verifier.specs.RunClause.{RunClause}
+use Rattle.sip_verifier.specs.Statuses.{FaultClause}
 use Rattle.sip_verifier.specs.Tasks.{CanBeAsked, CanBeDone}
-use Rattle.sip_cli.specs.Promises.{Promises}
+use Rattle.sip_verifier.proofs.RunTalks.{tells}
+use Rattle.sip_cli.specs.CommandClause.{CommandClause}
+use Rattle.sip_cli.specs.CopyClause.{CopyClause}
+use Rattle.sip_cli.specs.HelpClause.{HelpClause}
 use Rattle.sip_cli.specs.Shapes.{Asks}
-use Rattle.sip_cli.specs.Statuses.{Ends}
+use Rattle.sip_cli.specs.Statuses.{Ends, EndsCopy, EndsHelp}
 use Rattle.sip_cli.specs.Verbs.{built}
 use Rattle.sip_cli.specs.Words.{word, Spells, IsRefusedAt}
 use Rattle.sip_cli.proofs.Refusals.{refused_once, spelled_not_refused}
@@ -39,14 +48,17 @@ served_task words c s task e = served words task (subst (Spells words) e s)
 
 -- no command ends with Usage
 ends_otherwise : (c : Command) (word : ℕ) → Ends c (statuses.Usage word) → ⊥
-ends_otherwise (Verify task) word listed = listed
+ends_otherwise (Verify task) word listed = absurd (true≢false (sym listed))
 ends_otherwise Help word listed = listed
 ends_otherwise (Gen depth) word listed = listed
 ends_otherwise (Lines form depth) word listed = listed
 
+pub never_usage : (c : Command) (status : Status) (word : ℕ) → Ends c status → status ≡ statuses.Usage word → ⊥
+never_usage c status word listed e = ends_otherwise c word (subst (Ends c) e listed)
+
 -- words that spell a command are refused nowhere, and it does not end with Usage
 pub usage_never : (words : List (List ℕ)) (c : Command) (status : Status) (word : ℕ) → Spells words c → Ends c status → (status ≡ statuses.Usage word) ↔ IsRefusedAt words word
-usage_never words c status word s listed = (λ e. absurd (ends_otherwise c word (subst (Ends c) e listed)), λ refused. absurd (spelled_not_refused built words c word s refused))
+usage_never words c status word s listed = (λ e. absurd (never_usage c status word listed e), λ refused. absurd (spelled_not_refused built words c word s refused))
 
 -- refused words are refused at the number that is answered, and there alone
 pub usage_at : (words : List (List ℕ)) (word other : ℕ) → IsRefusedAt words word → (statuses.Usage word ≡ statuses.Usage other) ↔ IsRefusedAt words other
@@ -54,5 +66,82 @@ usage_at words word other refused =
     (λ e. let same : word ≡ other = cc in subst (IsRefusedAt words) same refused, λ also. ap statuses.Usage (refused_once built words word other refused also))
 
 -- the promises on equal tasks
-pub same_task : {a b : Task} {x : Exchange} {before now : Counts} {status : Status} → a ≡ b → Promises b x before now status → Promises a x before now status
+same_task : {a b : Task} {x : Exchange} {before now : Counts} {status : Status} → a ≡ b → Promises b x before now status → Promises a x before now status
 same_task {x = x} {before = before} {now = now} {status = status} e p = subst (λ (k : Task). Promises k x before now status) (sym e) p
+
+-- ---- what each command keeps
+
+module _ {before now : Moment} {status : Status} where
+  pub verify_keeps : {c : Command} (task : Task) → c ≡ Verify task → RunClause task before now status → CommandClause (λ is. c ≡ is) before now status
+  verify_keeps task e k = subst (λ (c : Command). CommandClause (λ is. c ≡ is) before now status) (sym e) (record {
+    verify = λ other is x t. same_task (let same = is in cc) (k.promises x t);
+    made = λ depth is. absurd (let same = is in cc);
+    lines = λ form depth is. absurd (let same = is in cc);
+    help = λ is. absurd (let same = is in cc);
+    moves = k.moves;
+    fault = k.fault;
+    listed = λ command is. subst (λ (c : Command). Ends c status) is k.listed;
+  })
+
+  pub help_keeps : {c : Command} → c ≡ Help → HelpClause before.talk now.talk status → (IsTold before → (x : Exchange) × Tells before now x) → FaultClause before.faults now.faults status → EndsHelp status
+      → CommandClause (λ is. c ≡ is) before now status
+  help_keeps e served moves fault listed = subst (λ (c : Command). CommandClause (λ is. c ≡ is) before now status) (sym e) (record {
+    verify = λ other is. absurd (let same = is in cc);
+    made = λ depth is. absurd (let same = is in cc);
+    lines = λ form depth is. absurd (let same = is in cc);
+    help = λ is. served;
+    moves = moves;
+    fault = fault;
+    listed = λ command is. subst (λ (c : Command). Ends c status) is listed;
+  })
+
+  pub gen_keeps : {c : Command} (depth : ℕ) → c ≡ Gen depth → ((bytes : List ℕ) → before.first ≡ Some bytes → CopyClause depth Binary Binary bytes now.first before.report now.report status) → (IsTold before → (x : Exchange) × Tells before now x)
+      → FaultClause before.faults now.faults status → EndsCopy status → CommandClause (λ is. c ≡ is) before now status
+  gen_keeps depth e copied moves fault listed = subst (λ (c : Command). CommandClause (λ is. c ≡ is) before now status) (sym e) (record {
+    verify = λ other is. absurd (let same = is in cc);
+    made = λ other is bytes told. (let same : depth ≡ other = cc in subst (λ (d : ℕ). CopyClause d Binary Binary bytes now.first before.report now.report status) same (copied bytes told));
+    lines = λ form depth is. absurd (let same = is in cc);
+    help = λ is. absurd (let same = is in cc);
+    moves = moves;
+    fault = fault;
+    listed = λ command is. subst (λ (c : Command). Ends c status) is listed;
+  })
+
+  pub lines_keeps : {c : Command} (form : Form) (depth : ℕ) → c ≡ Lines form depth → ((bytes : List ℕ) → before.first ≡ Some bytes → CopyClause depth form Text bytes now.first before.report now.report status)
+      → (IsTold before → (x : Exchange) × Tells before now x) → FaultClause before.faults now.faults status → EndsCopy status → CommandClause (λ is. c ≡ is) before now status
+  lines_keeps form depth e copied moves fault listed = subst (λ (c : Command). CommandClause (λ is. c ≡ is) before now status) (sym e) (record {
+    verify = λ other is. absurd (let same = is in cc);
+    made = λ other is. absurd (let same = is in cc);
+    lines = λ other_form other is bytes told. (
+        let same : depth ≡ other = cc in
+        let like : form ≡ other_form = cc in
+        subst (λ (f : Form). CopyClause other f Text bytes now.first before.report now.report status) like (subst (λ (d : ℕ). CopyClause d form Text bytes now.first before.report now.report status) same (copied bytes told)));
+    help = λ is. absurd (let same = is in cc);
+    moves = moves;
+    fault = fault;
+    listed = λ command is. subst (λ (c : Command). Ends c status) is listed;
+  })
+
+  -- what a command keeps, it keeps for all who know it by another sign
+  pub known_by : {Is Other : Command → Type 0} → ((command : Command) → Other command → Is command) → CommandClause Is before now status → CommandClause Other before now status
+  known_by tells k = record {
+    verify = λ task is. k.verify task (tells (Verify task) is);
+    made = λ depth is. k.made depth (tells (Gen depth) is);
+    lines = λ form depth is. k.lines form depth (tells (Lines form depth) is);
+    help = λ is. k.help (tells Help is);
+    moves = k.moves;
+    fault = k.fault;
+    listed = λ command is. k.listed command (tells command is);
+  }
+
+-- where nothing is a command and nothing moved
+pub none_keeps : {Is : Command → Type 0} {m : Moment} (word : ℕ) → ((command : Command) → Is command → ⊥) → CommandClause Is m m (statuses.Usage word)
+none_keeps {m = m} word none = record {
+  verify = λ task is. absurd (none (Verify task) is);
+  made = λ depth is. absurd (none (Gen depth) is);
+  lines = λ form depth is. absurd (none (Lines form depth) is);
+  help = λ is. absurd (none Help is);
+  moves = λ is. tells m m is (λ some. some) [] (GoesOn-refl _) [] (GoesOn-refl _);
+  fault = tt;
+  listed = λ command is. absurd (none command is);
+}

@@ -2,10 +2,10 @@ pub mod Words
 pub mod Shapes
 pub mod Verbs
 pub mod Progress
-pub mod Promises
 pub mod Plan
 pub mod Exit
 pub mod StatusLine
 pub mod CopyClause
 pub mod HelpClause
 pub mod Statuses
+pub mod CommandClause

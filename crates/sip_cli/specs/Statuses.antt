@@ -1,10 +1,10 @@
 -- The statuses that each command may answer.
 use Rattle.sip_cli.specs.declared.command.Command.{Command}
 use Rattle.sip_cli.specs.declared.command.Command.TheVariants as command
-use Rattle.sip_verifier.specs.CauseClause.{IsListed}
 use Rattle.sip_verifier.specs.declared.status.Port.TheVariants as ports
 use Rattle.sip_verifier.specs.declared.status.Status.{Status}
 use Rattle.sip_verifier.specs.declared.status.Status.TheVariants as statuses
+use Rattle.sip_verifier.specs.Statuses.{IsListed}
 
 -- of `gen` and `lines`
 abbrev pub EndsCopy : Status → Type 0

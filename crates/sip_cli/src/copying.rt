@@ -2,7 +2,8 @@
 
 ghost use Rattle.std.specs.Prelude.{◌≡◌, ℕ, List, Some, IsSome};
 ghost use Rattle.sip_ports.specs.Ports.{GoesOn, Lasts, outs};
-ghost use Rattle.sip_verifier.specs.CauseClause.{FaultClause, counts};
+ghost use Rattle.sip_verifier.specs.Moments.{counts};
+ghost use Rattle.sip_verifier.specs.Statuses.{FaultClause};
 ghost use Rattle.sip_cli.specs.CopyClause.{CopyClause};
 ghost use Rattle.sip_cli.specs.Statuses.{EndsCopy};
 

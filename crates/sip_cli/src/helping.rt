@@ -3,7 +3,8 @@
 ghost use Rattle.std.specs.Prelude.{ℕ, List};
 ghost use Rattle.sip_ports.specs.declared.port.TalkEvent.{TalkEvent as AnyTalkEvent};
 ghost use Rattle.sip_ports.specs.Ports.{GoesOn, Lasts};
-ghost use Rattle.sip_verifier.specs.CauseClause.{FaultClause, counts};
+ghost use Rattle.sip_verifier.specs.Moments.{counts};
+ghost use Rattle.sip_verifier.specs.Statuses.{FaultClause};
 ghost use Rattle.sip_cli.specs.HelpClause.{HelpClause};
 ghost use Rattle.sip_cli.specs.Statuses.{EndsHelp};
 

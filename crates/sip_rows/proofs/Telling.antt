@@ -5,28 +5,35 @@ use Rattle.sip_ports.specs.declared.port.TalkEvent.TheVariants.{Out}
 use Rattle.sip_ports.specs.Ports.{outs}
 use Rattle.sip_ports.proofs.FaultLemmas.{Rose-positive}
 use Rattle.sip_ports.proofs.TalkLemmas.{outs-injective}
-use Rattle.sip_verifier.specs.CauseClause.{Counts, FaultClause}
 use Rattle.sip_verifier.specs.declared.status.Port.TheVariants as ports
 use Rattle.sip_verifier.specs.declared.status.Status.{Status}
 use Rattle.sip_verifier.specs.declared.status.Status.TheVariants as statuses
-use Rattle.sip_verifier.specs.Exchanges.{Told, told, IsTold, Exchange, Tells}
-use Rattle.sip_rows.specs.Moves.{Moment, Moves}
+use Rattle.sip_verifier.specs.Exchanges.{Exchange, Tells}
+use Rattle.sip_verifier.specs.Moments.{Counts, Moment, IsTold}
+use Rattle.sip_verifier.specs.Statuses.{FaultClause}
+use Rattle.sip_rows.specs.Moves.{Held, Moves}
 
--- what the ports tell at a moment
-abbrev pub told_at : Moment → Told
-told_at m = told (Some m.first) (Some m.second) (Some m.talk) (Some (outs m.report))
+-- the moment of ports that hold this, and have failed so often
+abbrev pub moment_of : Held → Counts → Moment
+moment_of h faults = record {
+  first = Some h.first;
+  second = Some h.second;
+  talk = Some h.talk;
+  report = Some (outs h.report);
+  faults = faults;
+}
 
 -- every port tells
-pub all_told : (m : Moment) → IsTold (told_at m)
-all_told m = record { first = cc; second = cc; talk = cc; report = cc }
+pub all_told : (h : Held) (faults : Counts) → IsTold (moment_of h faults)
+all_told h faults = record { first = cc; second = cc; talk = cc; report = cc }
 
 -- bytes that went out behind others are the new ones
 new_bytes : (old new more : List ℕ) → outs new ≡ outs old ++ outs more → new ≡ old ++ more
 new_bytes old new more e = outs-injective new (old ++ more) (e ∙ sym (map-append Out old more))
 
 -- an exchange that is told between two moments is what moved
-pub Moves-told : (old new : Moment) (x : Exchange) → Tells (told_at old) (told_at new) x → Moves old new x
-Moves-told old new x t =
+pub Moves-told : (old new : Held) (before now : Counts) (x : Exchange) → Tells (moment_of old before) (moment_of new now) x → Moves old new x
+Moves-told old new before now x t =
     let had : t.talk.0 ≡ old.talk = let e = t.talk.1 in cc in
     let wrote : t.report.0 ≡ outs old.report = let e = t.report.1 in cc in
     record {

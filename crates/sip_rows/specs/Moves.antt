@@ -5,21 +5,21 @@ use Rattle.sip_ports.specs.declared.memory.MemorySink.{MemorySink}
 use Rattle.sip_ports.specs.declared.memory.MemoryLink.{MemoryLink}
 use Rattle.sip_ports.specs.declared.port.TalkEvent.{TalkEvent}
 use Rattle.sip_ports.specs.Memory.{source_left, source_faults, sink_bytes, sink_faults, link_talk, link_faults}
-use Rattle.sip_verifier.specs.CauseClause.{Counts, counts}
 use Rattle.sip_verifier.specs.Exchanges.{Exchange}
+use Rattle.sip_verifier.specs.Moments.{Counts, counts}
 
--- what the ports have at one moment: the bytes to come, the events so far, and the bytes that were written
-pub record Moment : Type 0 where
+-- what ports in memory hold: the bytes to come, the events so far, and the bytes that were written
+pub record Held : Type 0 where
   pub first : List ℕ
   pub second : List ℕ
   pub talk : List TalkEvent
   pub report : List ℕ
 
-abbrev pub moment : List ℕ → List ℕ → List TalkEvent → List ℕ → Moment
-moment first second talk report = record { first = first; second = second; talk = talk; report = report }
+abbrev pub held : List ℕ → List ℕ → List TalkEvent → List ℕ → Held
+held first second talk report = record { first = first; second = second; talk = talk; report = report }
 
--- this is the exchange between two moments
-pub record Moves (old new : Moment) (x : Exchange) : Type 0 where
+-- this exchange is what moved where ports held the one before and hold the other now
+pub record Moves (old new : Held) (x : Exchange) : Type 0 where
   pub stream : x.stream ≡ old.first
   pub unread : x.unread ≡ new.first
   pub seed : x.seed ≡ old.second
@@ -27,9 +27,9 @@ pub record Moves (old new : Moment) (x : Exchange) : Type 0 where
   pub report : new.report ≡ old.report ++ x.report
 
 module _ (first second : MemorySource) (peer : MemoryLink) (report : MemorySink) where
-  -- what these ports have
-  abbrev pub moment_of : Moment
-  moment_of = moment (source_left first) (source_left second) (link_talk peer) (sink_bytes report)
+  -- what these ports hold
+  abbrev pub held_by : Held
+  held_by = held (source_left first) (source_left second) (link_talk peer) (sink_bytes report)
 
   -- how often these ports failed
   abbrev pub faults_of : Counts

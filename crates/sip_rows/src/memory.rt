@@ -8,14 +8,14 @@ ghost use Rattle.sip_stream.specs.declared.form.Form.TheVariants.{Binary, Text};
 ghost use Rattle.sip_verifier.specs.declared.task.Task.{Task};
 ghost use Rattle.sip_verifier.specs.declared.status.Port.TheVariants as ports;
 ghost use Rattle.sip_verifier.specs.Exchanges.{Exchange};
+ghost use Rattle.sip_verifier.specs.Promises.{Promises};
 ghost use Rattle.sip_cli.specs.declared.command.Command.{Command};
 ghost use Rattle.sip_cli.specs.declared.command.Command.TheVariants.{Verify, Gen, Lines, Help};
 ghost use Rattle.sip_cli.specs.CopyClause.{CopyClause};
 ghost use Rattle.sip_cli.specs.HelpClause.{HelpClause};
 ghost use Rattle.sip_cli.specs.Statuses.{Ends};
-ghost use Rattle.sip_cli.specs.Promises.{Promises};
 ghost use Rattle.sip_cli.specs.Words.{Spells, IsRefusedAt};
-ghost use Rattle.sip_rows.specs.Moves.{Moves, moment_of, faults_of};
+ghost use Rattle.sip_rows.specs.Moves.{Moves, held_by, faults_of};
 
 use sip_cli::{Words, run};
 use sip_ports::{MemoryLink, MemorySink, MemorySource, NullSink};
@@ -36,8 +36,9 @@ pub fn run_in_memory(
 ) -> Status
     // What moved between the ports before and the ports after keeps the five promises of `verify`.
     ensures promises { (task : Task) → Spells words.now (Verify task) → (x : Exchange)
-        × Moves (moment_of first.old second.old peer.old report.old) (moment_of first.new second.new peer.new report.new) x
-        × Promises task x (faults_of first.old second.old peer.old report.old) (faults_of first.new second.new peer.new report.new) result }
+        × Moves (held_by first.old second.old peer.old report.old) (held_by first.new second.new peer.new report.new) x
+        × Promises task x (faults_of first.old second.old peer.old report.old)
+        (faults_of first.new second.new peer.new report.new) result }
 
     // A copy is written to the report, and a talk is served on the link.
     ensures made { (depth : ℕ) → Spells words.now (Gen depth) → CopyClause depth Binary Binary (source_left first.old)

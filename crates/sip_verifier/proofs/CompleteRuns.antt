@@ -14,11 +14,13 @@ use Rattle.sip_verifier.specs.declared.status.Port.TheVariants as ports
 use Rattle.sip_verifier.specs.declared.status.Status.{Status}
 use Rattle.sip_verifier.specs.declared.status.Status.TheVariants as statuses
 use Rattle.sip_verifier.specs.declared.task.Task.{Task}
-use Rattle.sip_verifier.specs.CauseClause.{Counts, IsListed, CauseClause}
+use Rattle.sip_verifier.specs.CauseClause.{CauseClause}
 use Rattle.sip_verifier.specs.CompletenessClause.{IsHonest, CompletenessClause}
 use Rattle.sip_verifier.specs.Draws.{challenge_count, drawn, blocks}
 use Rattle.sip_verifier.specs.Exchanges.{Exchange}
+use Rattle.sip_verifier.specs.Moments.{Counts}
 use Rattle.sip_verifier.specs.Reports.{report_of}
+use Rattle.sip_verifier.specs.Statuses.{IsListed}
 use Rattle.sip_verifier.specs.Talks.{bye_sent, stream_sent}
 use Rattle.sip_verifier.specs.Turns.{Turn, said_in_turn, ending, updates, turns_of, AreTurns, Reached}
 use Rattle.sip_verifier.specs.VerdictClause.{AllWritten, OneFaulty, VerdictClause}
@@ -91,4 +93,5 @@ module _ (task : Task) (x : Exchange) (some : 1 ≤ task.depth) (most : task.dep
   completes before now (statuses.WriteFault ports.Report) v cause is = λ honest none. absurd (none.report cause.1)
   completes before now statuses.PeerFault v cause is = λ honest none. absurd (none.peer cause.1)
   completes before now statuses.OutOfMemory v cause is = λ honest none. inr refl
-  completes before now _ v cause is = absurd is
+  completes before now (statuses.WriteFault _) v cause is = absurd cause.1
+  completes before now _ v cause is = absurd cause

@@ -13,10 +13,10 @@ use Rattle.sip_verifier.specs.declared.status.Port.TheVariants as ports
 use Rattle.sip_verifier.specs.declared.status.Status.{Status}
 use Rattle.sip_verifier.specs.declared.status.Status.TheVariants as statuses
 use Rattle.sip_verifier.specs.declared.task.Task.{Task}
-use Rattle.sip_verifier.specs.CauseClause.{IsListed}
 use Rattle.sip_verifier.specs.CountClause.{FewFor, CountsFor, Written, turns_written, lines_written, IsRejection, AreInTalk, CountClause}
 use Rattle.sip_verifier.specs.Exchanges.{Exchange, IsPrefix}
 use Rattle.sip_verifier.specs.Reports.{line, rejection}
+use Rattle.sip_verifier.specs.Statuses.{IsListed}
 use Rattle.sip_verifier.specs.Talks.{bye_sent}
 use Rattle.sip_verifier.specs.Turns.{Turn, ending, updates, Done, turns_of, lines, Reached}
 use Rattle.sip_verifier.specs.VerdictClause.{OneFaulty, WereReached, PartWritten, PartRejected, CutInLine, VerdictClause}
@@ -127,10 +127,7 @@ module _ (task : Task) (x : Exchange) (fits : All (Fits task.depth) task.queries
   report_counts statuses.SeedSpent v is = nothing v
   report_counts (statuses.ReadFault port) v is = nothing v
   report_counts (statuses.WriteFault ports.Report) v is = cut_in_line v v.verdict
-  report_counts (statuses.WriteFault ports.First) v is = absurd is
-  report_counts (statuses.WriteFault ports.Second) v is = absurd is
-  report_counts (statuses.WriteFault ports.Keep) v is = absurd is
   report_counts statuses.PeerFault v is = whole v.done (were_in_talk v.done v.reached) v.report
   report_counts statuses.OutOfMemory (inl v) is = whole v.done (were_in_talk v.done v.reached) v.report
   report_counts statuses.OutOfMemory (inr v) is = cut_in_line v v.verdict
-  report_counts _ v is = absurd is
+  report_counts _ v is = absurd v

@@ -25,13 +25,14 @@ use Rattle.sip_verifier.specs.declared.status.Status.{Status}
 use Rattle.sip_verifier.specs.declared.status.Status.TheVariants as statuses
 use Rattle.sip_verifier.specs.declared.task.Task.{Task}
 use Rattle.sip_verifier.specs.Asking.{Asks, IsAnswered, IsRejected, turn_of}
-use Rattle.sip_verifier.specs.CauseClause.{FaultClause, counts}
 use Rattle.sip_verifier.specs.Draws.{blocks}
 use Rattle.sip_verifier.specs.Ending.{status_of_fault, status_of_report}
-use Rattle.sip_verifier.specs.Progress.{Checks, ChecksAll, CheckFault, Passes, PassesInPart, FailsInPart, AreFirst, PassedBy, EndsWith}
+use Rattle.sip_verifier.specs.Moments.{counts}
+use Rattle.sip_verifier.specs.Progress.{Checks, ChecksAll, Passes, PassesInPart, FailsInPart, AreFirst, PassedBy, EndsWith}
 use Rattle.sip_verifier.specs.QuerySeats.{StandsFor, block_of}
 use Rattle.sip_verifier.specs.Reports.{line, rejection}
 use Rattle.sip_verifier.specs.Seats.{AreSeats}
+use Rattle.sip_verifier.specs.Statuses.{FaultClause}
 use Rattle.sip_verifier.specs.Turns.{Turn, Accepted, said_in_turn}
 
 -- what a write to the report becomes
@@ -179,25 +180,29 @@ pub next_seat : (depth : ℕ) (stream : List Update) (seats : List QuerySeat) (q
 next_seat depth stream seats queries more count query same all from = next_seat_of depth stream seats (drop count seats) queries more count query refl same (All-drop (StandsFor depth stream) count seats all) from
 
 -- what came of all queries of a task, whose seats the session had
-pub all_checked : (task : Task) (stream : List Update) (challenges : List ℕ) (seats : Seats) (depth : ℕ) (left : List QuerySeat) (queries : List Query) (old new blank full : Option (List TalkEvent)) (r : Result (Unit {0}) Status) → depth ≡ seats.depth
+pub all_checked : (task : Task) (stream : List Update) (challenges : List ℕ) (seats : Seats) (depth : ℕ) (left : List QuerySeat) (queries : List Query) (old new blank full : Option (List TalkEvent)) {r s : Result (Unit {0}) Status} → r ≡ s → depth ≡ seats.depth
     → left ≡ seats.seats.items → queries ≡ task.queries.items → AreSeats task.depth task.queries.items (blocks task challenges) stream seats
     → ((stream : List Update) → map (λ seat. seat.query) left ≡ queries → All (StandsFor depth stream) left → ChecksAll depth stream queries (map block_of left) old new blank full r)
-    → ChecksAll task.depth stream task.queries.items (blocks task challenges) old new blank full r
-all_checked task stream challenges seats depth left queries old new blank full r deep its same are came =
+    → ChecksAll task.depth stream task.queries.items (blocks task challenges) old new blank full s
+all_checked task stream challenges seats depth left queries old new blank full {r = r} {s = s} ends deep its same are came =
     let levels : depth ≡ task.depth = deep ∙ are.levels in
     let stand = subst (λ (n : ℕ). All (StandsFor n stream) left) (sym levels) (subst (All (StandsFor task.depth stream)) (sym its) are.stand) in
     let checks = came stream (ap (λ (seats : List QuerySeat). map (λ (s : QuerySeat). s.query) seats) its ∙ are.asked ∙ sym same) stand in
     let at_blocks : map block_of left ≡ blocks task challenges = ap (λ (seats : List QuerySeat). map block_of seats) its ∙ are.at_blocks in
-    subst (λ (n : ℕ). ChecksAll n stream task.queries.items (blocks task challenges) old new blank full r) levels
-    (subst (λ (qs : List Query). ChecksAll depth stream qs (blocks task challenges) old new blank full r) same (subst (λ (bs : List (List ℕ)). ChecksAll depth stream queries bs old new blank full r) at_blocks checks))
+    subst (ChecksAll task.depth stream task.queries.items (blocks task challenges) old new blank full) ends
+    (subst (λ (n : ℕ). ChecksAll n stream task.queries.items (blocks task challenges) old new blank full r) levels
+    (subst (λ (qs : List Query). ChecksAll depth stream qs (blocks task challenges) old new blank full r) same (subst (λ (bs : List (List ℕ)). ChecksAll depth stream queries bs old new blank full r) at_blocks checks)))
 
--- a fault of a port has its cause, since an earlier moment
-pub check_caused : (first first_now second second_now earlier peer peer_now report report_now : ℕ) (status : Status) → earlier ≤ peer → CheckFault peer peer_now report report_now (Err status)
-    → FaultClause (counts first second earlier report) (counts first_now second_now peer_now report_now) status
-check_caused first first_now second second_now earlier peer peer_now report report_now (statuses.ReadFault port) later fault = absurd fault
-check_caused first first_now second second_now earlier peer peer_now report report_now (statuses.WriteFault ports.First) later fault = absurd fault
-check_caused first first_now second second_now earlier peer peer_now report report_now (statuses.WriteFault ports.Second) later fault = absurd fault
-check_caused first first_now second second_now earlier peer peer_now report report_now (statuses.WriteFault ports.Report) later fault = fault
-check_caused first first_now second second_now earlier peer peer_now report report_now (statuses.WriteFault ports.Keep) later fault = absurd fault
-check_caused first first_now second second_now earlier peer peer_now report report_now statuses.PeerFault later fault = Rose-since earlier peer peer_now later fault
-check_caused first first_now second second_now earlier peer peer_now report report_now _ later fault = tt
+-- a fault of a port has its cause, since an earlier moment of the link
+pub since_before : (first firsts second seconds earlier peer peers report reports : ℕ) (status : Status) → earlier ≤ peer → FaultClause (counts first second peer report) (counts firsts seconds peers reports) status
+    → FaultClause (counts first second earlier report) (counts firsts seconds peers reports) status
+since_before first firsts second seconds earlier peer peers report reports (statuses.ReadFault ports.First) later fault = fault
+since_before first firsts second seconds earlier peer peers report reports (statuses.ReadFault ports.Second) later fault = fault
+since_before first firsts second seconds earlier peer peers report reports (statuses.ReadFault ports.Report) later fault = fault
+since_before first firsts second seconds earlier peer peers report reports (statuses.ReadFault ports.Keep) later fault = fault
+since_before first firsts second seconds earlier peer peers report reports (statuses.WriteFault ports.First) later fault = fault
+since_before first firsts second seconds earlier peer peers report reports (statuses.WriteFault ports.Second) later fault = fault
+since_before first firsts second seconds earlier peer peers report reports (statuses.WriteFault ports.Report) later fault = fault
+since_before first firsts second seconds earlier peer peers report reports (statuses.WriteFault ports.Keep) later fault = fault
+since_before first firsts second seconds earlier peer peers report reports statuses.PeerFault later fault = Rose-since earlier peer peers later fault
+since_before first firsts second seconds earlier peer peers report reports _ later fault = tt

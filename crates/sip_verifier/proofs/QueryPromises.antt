@@ -21,12 +21,13 @@ use Rattle.sip_verifier.specs.declared.status.Status.{Status}
 use Rattle.sip_verifier.specs.declared.status.Status.TheVariants as statuses
 use Rattle.sip_verifier.specs.declared.task.Task.{Task}
 use Rattle.sip_verifier.specs.Asking.{turn_of}
-use Rattle.sip_verifier.specs.CauseClause.{Counts, FaultClause}
 use Rattle.sip_verifier.specs.Draws.{drawn, blocks}
 use Rattle.sip_verifier.specs.Ending.{status_of_link}
 use Rattle.sip_verifier.specs.Exchanges.{Exchange, IsPrefix}
-use Rattle.sip_verifier.specs.Progress.{Fails, PassesInPart, FailsInPart, HasNone, AreFirst, Passed, PassedBy, EndsWith, Promises, status_of}
+use Rattle.sip_verifier.specs.Moments.{Counts}
+use Rattle.sip_verifier.specs.Progress.{Fails, PassesInPart, FailsInPart, HasNone, AreFirst, Passed, PassedBy, EndsWith, Ended, status_of}
 use Rattle.sip_verifier.specs.Reports.{line, rejection}
+use Rattle.sip_verifier.specs.Statuses.{FaultClause, IsListed}
 use Rattle.sip_verifier.specs.Talks.{stream_sent, bye_sent}
 use Rattle.sip_verifier.specs.TalkClause.{EndsAtFault, IsUnderWay}
 use Rattle.sip_verifier.specs.Turns.{Turn, Accepted, Accepts, IsFaulty, IsUnfinished, IsWaiting, said_in_turn, ending, updates, IsLegalToEnd, Done, turns_of, lines, farewell, AreTurns, Reached}
@@ -242,7 +243,7 @@ module _ (task : Task) (x : Exchange) where
         }
 
         -- the farewell was not sent whole
-        pub after_bye : (before now : Counts) (stop : PortStop) → FaultClause before now (status_of_link stop) → Promises task x before now (status_of_link stop)
+        pub after_bye : (before now : Counts) (stop : PortStop) → FaultClause before now (status_of_link stop) → Ended task x before now (status_of_link stop)
         after_bye before now port_stops.Failed cause = record {
           verdict = record { done = done; current = None; waits = tt; reached = were_reached; order = order_at_bye; report = all_lines };
           talk = way_at_bye;
@@ -255,7 +256,7 @@ module _ (task : Task) (x : Exchange) where
         }
 
       -- all went well
-      pub at_end : (before now : Counts) → rest ≡ bye_sent → x.unread ≡ [] → Promises task x before now statuses.Accepted
+      pub at_end : (before now : Counts) → rest ≡ bye_sent → x.unread ≡ [] → Ended task x before now statuses.Accepted
       at_end before now is read =
           let whole : Reached task x (turns_of task x done) bye_sent = subst (Reached task x (turns_of task x done)) is reached in
           record {
@@ -316,7 +317,7 @@ module _ (task : Task) (x : Exchange) where
 
       -- it was rejected, and the whole line was written
       rejects : (before now : Counts) (round : ℕ) (reason : Reason) → Fails task.depth (updates task x) e.query e.block (suc (length e.done)) e.mid t3 e.half r2 round reason
-          → Promises task x before now (statuses.Rejected (suc (length e.done)) round reason)
+          → Ended task x before now (statuses.Rejected (suc (length e.done)) round reason)
       rejects before now round reason f =
           let c : Came challenges e.done (said_in_turn (turn_of e.query e.block f.rejected.replies) ++ ending reason) (rejection (suc (length e.done)) round reason) = its f.rejected.talk f.wrote in
           record {
@@ -325,21 +326,21 @@ module _ (task : Task) (x : Exchange) where
             cause = good c;
           }
 
-    pub after_queries : (before now : Counts) (status : Status) → EndsWith task.depth (updates task x) task.queries.items (blocks task challenges) t1 t3 r0 r2 status → FaultClause before now status → Promises task x before now status
+    pub after_queries : (before now : Counts) (status : Status) → EndsWith task.depth (updates task x) task.queries.items (blocks task challenges) t1 t3 r0 r2 status → FaultClause before now status → Ended task x before now status
     after_queries before now (statuses.Rejected number round reason) e cause =
         let checks = e.checks in
-        subst (λ (n : ℕ). Promises task x before now (statuses.Rejected n round reason)) (sym checks.0) (rejects e before now round reason checks.1)
+        subst (λ (n : ℕ). Ended task x before now (statuses.Rejected n round reason)) (sym checks.0) (rejects e before now round reason checks.1)
     after_queries before now (statuses.WriteFault ports.First) e cause = absurd e.checks
     after_queries before now (statuses.WriteFault ports.Second) e cause = absurd e.checks
     after_queries before now (statuses.WriteFault ports.Report) e cause =
-        elim (e.checks) as (λ _. Promises task x before now (statuses.WriteFault ports.Report)) [
+        elim (e.checks) as (λ _. Ended task x before now (statuses.WriteFault ports.Report)) [
           | inl p ↦ record { verdict = cut_passing e p; talk = inl (way_passing e p); cause = (good (passing e p), cause) }
           | inr p ↦ record { verdict = cut_failing e p; talk = inr (ends_failing e p); cause = (good (failing e p), cause) }
         ]
     after_queries before now (statuses.WriteFault ports.Keep) e cause = absurd e.checks
     after_queries before now statuses.PeerFault e cause = record { verdict = left_of_none e e.checks; talk = way_of_none e e.checks; cause = (is_drawn (waiting e e.checks), cause) }
     after_queries before now statuses.OutOfMemory e cause =
-        elim (e.checks) as (λ _. Promises task x before now statuses.OutOfMemory) [
+        elim (e.checks) as (λ _. Ended task x before now statuses.OutOfMemory) [
           | inl p ↦ record { verdict = inr (cut_passing e p); talk = inl (way_passing e p); cause = tt }
           | inr (inl p) ↦ record { verdict = inr (cut_failing e p); talk = inr (ends_failing e p); cause = tt }
           | inr (inr n) ↦ record { verdict = inl (left_of_none e n); talk = inl (way_of_none e n); cause = tt }
@@ -350,7 +351,7 @@ module _ (task : Task) (x : Exchange) where
 
     pub at_bye : (before now : Counts) (t2 : Option (List TalkEvent)) (sent : Result (Unit {0}) PortStop) (r : Result (Unit {0}) Status) → PassedBy task.depth (updates task x) task.queries.items (blocks task challenges) t1 t2 r0 r2 (length task.queries.items)
         → SendsWhole t2 t3 sent (spelling messages.Bye) → MatchResult r (λ u. sent ≡ Ok u) (λ status. (port : PortStop) × (sent ≡ Err port) × (status ≡ status_of_link port))
-        → (sent ≡ Err port_stops.Failed → Rose before.peer now.peer) → x.unread ≡ [] → Promises task x before now (status_of r)
+        → (sent ≡ Err port_stops.Failed → Rose before.peer now.peer) → x.unread ≡ [] → Ended task x before now (status_of r)
     at_bye before now t2 (Ok u) (Ok v) so goes on cause read =
         let c : Came challenges so.done (outs (spelling messages.Bye)) [] = came challenges so.done (outs (spelling messages.Bye)) [] t0 t1 t2 t3 r0 r2 r2 draws legal told wrote went so.passed goes (GoesOn-refl r2) in
         at_end c so.counted refl before now bye_is read
@@ -359,7 +360,14 @@ module _ (task : Task) (x : Exchange) where
     at_bye before now t2 (Err stop) (Err status) so (n, less, goes) (port, is, stops) cause read =
         let c : Came challenges so.done (outs (take n (spelling messages.Bye))) [] =
         came challenges so.done (outs (take n (spelling messages.Bye))) [] t0 t1 t2 t3 r0 r2 r2 draws legal told wrote went so.passed goes (GoesOn-refl r2) in
-        subst (Promises task x before now) (sym stops) (after_bye c so.counted refl (bye_front n) before now port (link_caused before now port (λ e. cause (is ∙ ap Err e))))
+        subst (Ended task x before now) (sym stops) (after_bye c so.counted refl (bye_front n) before now port (link_caused before now port (λ e. cause (is ∙ ap Err e))))
+
+-- the farewell's stop has its cause, and is listed
+pub bye_stops : (before now : Counts) (sent : Result (Unit {0}) PortStop) (r : Result (Unit {0}) Status) → MatchResult r (λ u. sent ≡ Ok u) (λ status. (port : PortStop) × (sent ≡ Err port) × (status ≡ status_of_link port))
+    → (sent ≡ Err port_stops.Failed → Rose before.peer now.peer) → FaultClause before now (status_of r) × IsListed (status_of r)
+bye_stops before now sent (Ok u) on cause = (tt, refl)
+bye_stops before now sent (Err status) (port_stops.Failed, is, stops) cause = subst (λ (s : Status). FaultClause before now s × IsListed s) (sym stops) (cause is, refl)
+bye_stops before now sent (Err status) (port_stops.OutOfMemory, is, stops) cause = subst (λ (s : Status). FaultClause before now s × IsListed s) (sym stops) (tt, refl)
 
 -- all was read
 pub all_read : {left : Option (List ℕ)} {unread : List ℕ} → left ≡ Some unread → left ≡ Some [] → unread ≡ []

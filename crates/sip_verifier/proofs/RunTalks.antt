@@ -11,8 +11,9 @@ use Rattle.sip_verifier.specs.declared.status.Port.TheVariants as ports
 use Rattle.sip_verifier.specs.declared.status.Status.{Status}
 use Rattle.sip_verifier.specs.declared.status.Status.TheVariants as statuses
 use Rattle.sip_verifier.specs.declared.task.Task.{Task}
-use Rattle.sip_verifier.specs.Exchanges.{told, IsTold, Exchange, Tells, IsPrefix}
+use Rattle.sip_verifier.specs.Exchanges.{Exchange, Tells, IsPrefix}
 use Rattle.sip_verifier.specs.Gathering.{Refuses}
+use Rattle.sip_verifier.specs.Moments.{Moment, IsTold}
 use Rattle.sip_verifier.specs.Progress.{Checks, PassesInPart, FailsInPart, PassedBy, EndsWith}
 use Rattle.sip_verifier.specs.Reports.{line, rejection}
 use Rattle.sip_verifier.specs.Turns.{Accepted}
@@ -64,14 +65,15 @@ some_value (Some v) some = (v, refl)
 goes_to : (old new : Option (List TalkEvent)) (said : List TalkEvent) → IsSome old → GoesOn old new said → Adds old new said
 goes_to old new said some went = let had = some_value old some in (had.0, had.1, GoesOn-told had.0 new said (subst (λ (o : Option (List TalkEvent)). GoesOn o new said) had.1 went))
 
-pub tells : (f0 f1 s0 s1 : Option (List ℕ)) (t0 t1 r0 r1 : Option (List TalkEvent)) → IsTold (told f0 s0 t0 r0) → (IsSome f0 → IsSome f1) → (said : List TalkEvent) → GoesOn t0 t1 said
-    → (bytes : List ℕ) → GoesOn r0 r1 (outs bytes) → (x : Exchange) × Tells (told f0 s0 t0 r0) (told f1 s1 t1 r1) x
-tells f0 f1 s0 s1 t0 t1 r0 r1 is still said went bytes wrote =
-    let first = some_value f0 is.first in
-    let left = some_value f1 (still is.first) in
-    let second = some_value s0 is.second in (
+-- where the stream goes on being told, and what is new on the link and in the report is known, there is an exchange
+pub tells : (old new : Moment) → IsTold old → (IsSome old.first → IsSome new.first) → (said : List TalkEvent) → GoesOn old.talk new.talk said
+    → (bytes : List ℕ) → GoesOn old.report new.report (outs bytes) → (x : Exchange) × Tells old new x
+tells old new is still said went bytes wrote =
+    let first = some_value old.first is.first in
+    let left = some_value new.first (still is.first) in
+    let second = some_value old.second is.second in (
       record { stream = first.0; unread = left.0; seed = second.0; talk = said; report = bytes },
-      record { stream = first.1; unread = left.1; seed = second.1; talk = goes_to t0 t1 said is.talk went; report = goes_to r0 r1 (outs bytes) is.report wrote },
+      record { stream = first.1; unread = left.1; seed = second.1; talk = goes_to old.talk new.talk said is.talk went; report = goes_to old.report new.report (outs bytes) is.report wrote },
     )
 
 -- ---- what went on

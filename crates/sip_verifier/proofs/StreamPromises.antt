@@ -1,5 +1,5 @@
 -- The promises where a run ends before its first query.
-use Rattle.std.proofs.Common.{◌≡◌, ◌≢◌, ℕ, Err, Option, None, List, [], ◌++◌, refl, sym, ap, subst, ◌∙◌, inl, inr, append-nil}
+use Rattle.std.proofs.Common.{◌≡◌, ◌≢◌, Err, Option, None, List, [], ◌++◌, refl, sym, ap, subst, ◌∙◌, inl, inr, append-nil}
 use Rattle.sip_ports.specs.declared.port.TalkEvent.{TalkEvent}
 use Rattle.sip_verifier.specs.declared.seats.Seats.{Seats}
 use Rattle.sip_verifier.specs.declared.session.SessionStart.{SessionStart}
@@ -8,13 +8,14 @@ use Rattle.sip_verifier.specs.declared.status.Port.TheVariants as ports
 use Rattle.sip_verifier.specs.declared.status.Status.{Status}
 use Rattle.sip_verifier.specs.declared.status.Status.TheVariants as statuses
 use Rattle.sip_verifier.specs.declared.task.Task.{Task}
-use Rattle.sip_verifier.specs.CauseClause.{Counts, FaultClause, counts}
 use Rattle.sip_verifier.specs.Draws.{drawn}
 use Rattle.sip_verifier.specs.Ending.{status_of_start}
 use Rattle.sip_verifier.specs.Exchanges.{Exchange, IsPrefix}
-use Rattle.sip_verifier.specs.Gathering.{Refuses, HasSeed, IsCut, GatherFault}
-use Rattle.sip_verifier.specs.Progress.{Promises}
+use Rattle.sip_verifier.specs.Gathering.{Refuses, HasSeed, IsCut}
+use Rattle.sip_verifier.specs.Moments.{Counts}
+use Rattle.sip_verifier.specs.Progress.{Ended}
 use Rattle.sip_verifier.specs.Sittings.{Starts}
+use Rattle.sip_verifier.specs.Statuses.{FaultClause}
 use Rattle.sip_verifier.specs.Talks.{stream_sent}
 use Rattle.sip_verifier.specs.TalkClause.{IsUnderWay, before_end}
 use Rattle.sip_verifier.specs.Turns.{updates, IsLegalToEnd, farewell, AreTurns}
@@ -79,7 +80,7 @@ module _ (task : Task) (x : Exchange) where
   fronts {said = said} {whole = whole} e front = subst (λ (l : List TalkEvent). IsPrefix l whole) (sym e) front
 
   pub after_gather : (before now : Counts) (status : Status) (old new : Option (List TalkEvent)) → Adds old new x.talk → x.report ≡ [] → Refuses task x.stream x.seed old new status → FaultClause before now status
-      → Promises task x before now status
+      → Ended task x before now status
   after_gather before now statuses.BadSeed old new told blank (short, same) cause = record { verdict = blank; talk = nothing_new old new x.talk same told; cause = short }
   after_gather before now statuses.SeedSpent old new told blank (enough, none, same) cause = record { verdict = blank; talk = nothing_new old new x.talk same told; cause = (enough, none) }
   after_gather before now (statuses.BadStream at why) old new told blank (seed, at_is, fault, went) cause =
@@ -102,23 +103,12 @@ module _ (task : Task) (x : Exchange) where
   after_gather before now _ old new told blank refuses cause = absurd refuses
 
   -- there is no memory for the session
-  pub after_stream : (before now : Counts) → HasSeed task x.stream x.seed → IsLegalToEnd task x → x.talk ≡ streamed → x.report ≡ [] → Promises task x before now statuses.OutOfMemory
+  pub after_stream : (before now : Counts) → HasSeed task x.stream x.seed → IsLegalToEnd task x → x.talk ≡ streamed → x.report ≡ [] → Ended task x before now statuses.OutOfMemory
   after_stream before now seed legal talk blank = record {
     verdict = inl (none_in_stream (fronts talk ([], sym (append-nil _))) blank);
     talk = inl (in_stream seed (fronts talk ([], sym (append-nil _))) (λ not. absurd (not legal)));
     cause = tt;
   }
-
--- a fault of a call that gathers has its cause
-pub gather_caused : (first first_now second second_now peer peer_now report report_now : ℕ) (status : Status) → GatherFault first first_now second second_now peer peer_now (Err status)
-    → FaultClause (counts first second peer report) (counts first_now second_now peer_now report_now) status
-gather_caused first first_now second second_now peer peer_now report report_now (statuses.ReadFault ports.First) fault = fault
-gather_caused first first_now second second_now peer peer_now report report_now (statuses.ReadFault ports.Second) fault = fault
-gather_caused first first_now second second_now peer peer_now report report_now (statuses.ReadFault ports.Report) fault = absurd fault
-gather_caused first first_now second second_now peer peer_now report report_now (statuses.ReadFault ports.Keep) fault = absurd fault
-gather_caused first first_now second second_now peer peer_now report report_now (statuses.WriteFault port) fault = absurd fault
-gather_caused first first_now second second_now peer peer_now report report_now statuses.PeerFault fault = fault
-gather_caused first first_now second second_now peer peer_now report report_now _ fault = tt
 
 -- a session is not made only where there is no memory
 pub starts_short : (seats : Seats) (start : SessionStart) → Starts seats (Err start) → status_of_start start ≡ statuses.OutOfMemory

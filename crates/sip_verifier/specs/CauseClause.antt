@@ -7,8 +7,7 @@
 -- only where the count of faults of that very port rose in this call, and where the steps before it had passed: faults of
 -- the link and of the stream only where the seed gives challenges, faults of the report only where the stream is legal to
 -- its end too. Want of memory is free. No other answer comes.
-use Rattle.std.specs.Prelude.{◌≡◌, ◌≢◌, ◌<◌, ◌≤◌, ℕ, length, Some, None}
-use Rattle.sip_ports.specs.Ports.{Rose}
+use Rattle.std.specs.Prelude.{◌≡◌, ◌≢◌, ◌<◌, ◌≤◌, length, Some, None}
 use Rattle.sip_stream.specs.Records.{records}
 use Rattle.sip_verifier.specs.declared.status.Port.TheVariants as ports
 use Rattle.sip_verifier.specs.declared.status.Status.{Status}
@@ -16,41 +15,9 @@ use Rattle.sip_verifier.specs.declared.status.Status.TheVariants as statuses
 use Rattle.sip_verifier.specs.declared.task.Task.{Task}
 use Rattle.sip_verifier.specs.Draws.{drawn}
 use Rattle.sip_verifier.specs.Exchanges.{Exchange}
+use Rattle.sip_verifier.specs.Moments.{Counts}
+use Rattle.sip_verifier.specs.Statuses.{FaultClause}
 use Rattle.sip_verifier.specs.Turns.{IsLegalToEnd, updates}
-
--- the counts of faults of the stream, the seed, the link and the report at one moment
-pub record Counts : Type 0 where
-  pub first : ℕ
-  pub second : ℕ
-  pub peer : ℕ
-  pub report : ℕ
-
-abbrev pub counts : ℕ → ℕ → ℕ → ℕ → Counts
-counts first second peer report = record { first = first; second = second; peer = peer; report = report }
-
--- the statuses that a verifying command may answer
-abbrev pub IsListed : Status → Type 0
-IsListed statuses.Accepted = Unit {0}
-IsListed (statuses.Rejected query round reason) = Unit {0}
-IsListed (statuses.BadStream at why) = Unit {0}
-IsListed statuses.BadSeed = Unit {0}
-IsListed statuses.SeedSpent = Unit {0}
-IsListed (statuses.ReadFault ports.First) = Unit {0}
-IsListed (statuses.ReadFault ports.Second) = Unit {0}
-IsListed (statuses.WriteFault ports.Report) = Unit {0}
-IsListed statuses.PeerFault = Unit {0}
-IsListed statuses.OutOfMemory = Unit {0}
-IsListed _ = ⊥
-
--- a fault of a port comes only where its own count rose, whatever the ports tell
-abbrev pub FaultClause : Counts → Counts → Status → Type 0
-FaultClause before now (statuses.ReadFault ports.First) = Rose before.first now.first
-FaultClause before now (statuses.ReadFault ports.Second) = Rose before.second now.second
-FaultClause before now (statuses.ReadFault _) = ⊥
-FaultClause before now (statuses.WriteFault ports.Report) = Rose before.report now.report
-FaultClause before now (statuses.WriteFault _) = ⊥
-FaultClause before now statuses.PeerFault = Rose before.peer now.peer
-FaultClause before now _ = Unit {0}
 
 module _ (task : Task) (x : Exchange) where
   -- the seed gives challenges, and the stream is legal to its end

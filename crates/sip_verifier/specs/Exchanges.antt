@@ -1,25 +1,9 @@
 -- What one call moved through its ports.
-use Rattle.std.specs.Prelude.{◌≡◌, ℕ, List, ◌++◌, Option, Some, IsSome, ◌≤◌, length}
+use Rattle.std.specs.Prelude.{◌≡◌, ℕ, List, ◌++◌, Option, Some, ◌≤◌, length}
 use Rattle.std.specs.Io.KnownBytes.{Consumes}
 use Rattle.sip_ports.specs.declared.port.TalkEvent.{TalkEvent}
 use Rattle.sip_ports.specs.Ports.{outs}
-
--- what the ports tell at one moment: the bytes to come, and the events so far
-pub record Told : Type 0 where
-  pub first : Option (List ℕ)
-  pub second : Option (List ℕ)
-  pub talk : Option (List TalkEvent)
-  pub report : Option (List TalkEvent)
-
-abbrev pub told : Option (List ℕ) → Option (List ℕ) → Option (List TalkEvent) → Option (List TalkEvent) → Told
-told first second talk report = record { first = first; second = second; talk = talk; report = report }
-
--- each port tells
-pub record IsTold (t : Told) : Type 0 where
-  pub first : IsSome t.first
-  pub second : IsSome t.second
-  pub talk : IsSome t.talk
-  pub report : IsSome t.report
+use Rattle.sip_verifier.specs.Moments.{Moment}
 
 -- What there was to read, and what was said and written.
 pub record Exchange : Type 0 where
@@ -33,7 +17,7 @@ pub record Exchange : Type 0 where
   pub report : List ℕ
 
 -- the ports tell this exchange by what they told before and what they tell after
-pub record Tells (old new : Told) (x : Exchange) : Type 0 where
+pub record Tells (old new : Moment) (x : Exchange) : Type 0 where
   pub stream : old.first ≡ Some x.stream
   pub unread : new.first ≡ Some x.unread
   pub seed : old.second ≡ Some x.seed

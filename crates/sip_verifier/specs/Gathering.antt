@@ -1,7 +1,7 @@
 -- What a call did that draws the challenges, reads the stream and sends it, by the bytes that its ports had.
 use Rattle.std.specs.Prelude.{◌≡◌, ◌⊎◌, ◌<◌, ◌≤◌, ℕ, List, [], length, Option, Some, None, Result, Ok, Err}
 use Rattle.sip_ports.specs.declared.port.TalkEvent.{TalkEvent}
-use Rattle.sip_ports.specs.Ports.{GoesOn, Rose}
+use Rattle.sip_ports.specs.Ports.{GoesOn}
 use Rattle.sip_vector.specs.declared.update.Update.{Update}
 use Rattle.sip_stream.specs.Records.{records}
 use Rattle.sip_verifier.specs.declared.seats.Seats.{Seats}
@@ -66,15 +66,3 @@ module _ (task : Task) (bytes seed : List ℕ) where
   abbrev pub Gathers : Option (List ℕ) → Option (List TalkEvent) → Option (List TalkEvent) → Result Seats Status → Type 0
   Gathers left old new (Ok seats) = IsGathered left old new seats
   Gathers left old new (Err status) = Refuses old new status
-
--- a fault of a port comes only where its own count rose, and no other refusal comes than these, whatever the ports tell
-abbrev pub GatherFault : ℕ → ℕ → ℕ → ℕ → ℕ → ℕ → Result Seats Status → Type 0
-GatherFault first first_now second second_now peer peer_now (Ok seats) = Unit {0}
-GatherFault first first_now second second_now peer peer_now (Err statuses.BadSeed) = Unit {0}
-GatherFault first first_now second second_now peer peer_now (Err statuses.SeedSpent) = Unit {0}
-GatherFault first first_now second second_now peer peer_now (Err (statuses.BadStream at why)) = Unit {0}
-GatherFault first first_now second second_now peer peer_now (Err (statuses.ReadFault ports.First)) = Rose first first_now
-GatherFault first first_now second second_now peer peer_now (Err (statuses.ReadFault ports.Second)) = Rose second second_now
-GatherFault first first_now second second_now peer peer_now (Err statuses.PeerFault) = Rose peer peer_now
-GatherFault first first_now second second_now peer peer_now (Err statuses.OutOfMemory) = Unit {0}
-GatherFault first first_now second second_now peer peer_now (Err _) = ⊥

@@ -1,6 +1,8 @@
 pub mod Draws
 pub mod Talks
 pub mod Reports
+pub mod Moments
+pub mod Statuses
 pub mod Exchanges
 pub mod Turns
 pub mod VerdictClause
@@ -23,3 +25,6 @@ pub mod Sending
 pub mod Progress
 pub mod CountClause
 pub mod CompletenessClause
+pub mod Promises
+pub mod RunClause
+pub mod NextSeat

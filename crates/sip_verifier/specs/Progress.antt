@@ -1,7 +1,7 @@
 -- How far a run got with its queries once the stream was sent. (For the proof of a whole run alone.)
 use Rattle.std.specs.Prelude.{◌≡◌, ◌⊎◌, ℕ, suc, List, ◌∷◌, length, map, take, drop, flat_map, Option, Result, Ok, Err}
 use Rattle.sip_ports.specs.declared.port.TalkEvent.{TalkEvent}
-use Rattle.sip_ports.specs.Ports.{GoesOn, Rose, outs}
+use Rattle.sip_ports.specs.Ports.{GoesOn, outs}
 use Rattle.sip_vector.specs.declared.query.Query.{Query}
 use Rattle.sip_vector.specs.declared.update.Update.{Update}
 use Rattle.sip_vector.specs.Answers.{Answer}
@@ -11,8 +11,9 @@ use Rattle.sip_verifier.specs.declared.status.Status.{Status}
 use Rattle.sip_verifier.specs.declared.status.Status.TheVariants as statuses
 use Rattle.sip_verifier.specs.declared.task.Task.{Task}
 use Rattle.sip_verifier.specs.Asking.{IsAnswered, IsRejected, IsInterrupted}
-use Rattle.sip_verifier.specs.CauseClause.{CauseClause, Counts}
+use Rattle.sip_verifier.specs.CauseClause.{CauseClause}
 use Rattle.sip_verifier.specs.Exchanges.{Exchange, IsPrefix}
+use Rattle.sip_verifier.specs.Moments.{Counts}
 use Rattle.sip_verifier.specs.Reports.{line, rejection}
 use Rattle.sip_verifier.specs.TalkClause.{TalkClause}
 use Rattle.sip_verifier.specs.Turns.{Turn, Accepted, said_in_turn}
@@ -63,15 +64,6 @@ module _ (depth : ℕ) (stream : List Update) (query : Query) (block : List ℕ)
   Checks (Err statuses.OutOfMemory) = PassesInPart ⊎ FailsInPart ⊎ HasNone
   Checks (Err _) = ⊥
 
--- a fault of a port comes only where its own count rose, and no other stop comes than these, whatever the ports tell
-abbrev pub CheckFault : ℕ → ℕ → ℕ → ℕ → Result (Unit {0}) Status → Type 0
-CheckFault peer peer_now report report_now (Ok _) = Unit {0}
-CheckFault peer peer_now report report_now (Err (statuses.Rejected query round reason)) = Unit {0}
-CheckFault peer peer_now report report_now (Err (statuses.WriteFault ports.Report)) = Rose report report_now
-CheckFault peer peer_now report report_now (Err statuses.PeerFault) = Rose peer peer_now
-CheckFault peer peer_now report report_now (Err statuses.OutOfMemory) = Unit {0}
-CheckFault peer peer_now report report_now (Err _) = ⊥
-
 -- ---- all queries
 
 -- these turns are those of the first queries, each with its own block
@@ -112,8 +104,8 @@ ChecksAll depth stream queries blocks old new blank full (Err status) = EndsWith
 
 -- ---- the run
 
--- verdicts, talk and causes on one call, together
-pub record Promises (task : Task) (x : Exchange) (before now : Counts) (status : Status) : Type 0 where
+-- the first three promises, from which the other two follow
+pub record Ended (task : Task) (x : Exchange) (before now : Counts) (status : Status) : Type 0 where
   pub verdict : VerdictClause task x status
   pub talk : TalkClause task x status
   pub cause : CauseClause task x before now status

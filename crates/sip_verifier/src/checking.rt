@@ -1,18 +1,17 @@
 //! A whole run of the verifier.
 
-ghost use Rattle.std.specs.Prelude.{◌≡◌, ◌<◌, ◌≤◌, List, ◌∷◌, false, length, map, drop, All, OnOk};
+ghost use Rattle.std.specs.Prelude.{◌≡◌, ◌<◌, ◌≤◌, ℕ, List, false, length, map, drop, All, OnOk};
 ghost use Rattle.sip_ports.specs.Ports.{Lasts};
 ghost use Rattle.sip_vector.specs.declared.update.Update.{Update as AnyUpdate};
 ghost use Rattle.sip_verifier.specs.declared.seat.QuerySeat.{QuerySeat as AnySeat};
-ghost use Rattle.sip_verifier.specs.CauseClause.{CauseClause, FaultClause, IsListed, counts};
-ghost use Rattle.sip_verifier.specs.CompletenessClause.{CompletenessClause};
-ghost use Rattle.sip_verifier.specs.CountClause.{CountClause};
-ghost use Rattle.sip_verifier.specs.Exchanges.{Exchange, Tells, IsTold, TakesAtMost, told};
-ghost use Rattle.sip_verifier.specs.Progress.{Checks, ChecksAll, CheckFault, Promises, status_of};
+ghost use Rattle.sip_verifier.specs.Exchanges.{TakesAtMost};
+ghost use Rattle.sip_verifier.specs.Moments.{counts, moment};
+ghost use Rattle.sip_verifier.specs.NextSeat.{IsNext};
+ghost use Rattle.sip_verifier.specs.Progress.{Checks, ChecksAll, status_of};
 ghost use Rattle.sip_verifier.specs.QuerySeats.{StandsFor, block_of};
-ghost use Rattle.sip_verifier.specs.TalkClause.{TalkClause};
+ghost use Rattle.sip_verifier.specs.RunClause.{RunClause};
+ghost use Rattle.sip_verifier.specs.Statuses.{Stops, stops_asking};
 ghost use Rattle.sip_verifier.specs.Tasks.{CanBeDone};
-ghost use Rattle.sip_verifier.specs.VerdictClause.{VerdictClause};
 
 use crate::ending::{on_link, on_report, status_of_fault, status_of_start};
 use crate::report::{write_number, write_pairs, write_rejection};
@@ -33,13 +32,16 @@ fn check_query<L: Link, K: Sink, C: Sink>(
 ) -> Result<(), Status>
     requires left { 0 < length session.old.left }
     requires live { session.old.spent ≡ false }
-    ensures checks { (stream : List AnyUpdate) (seat : AnySeat) (more : List AnySeat) → session.old.left ≡ seat ∷ more
-        → seat.query ≡ query.now → StandsFor session.old.depth stream seat
-        → Checks session.old.depth stream query.now (block_of seat) number (L.talk peer.old) (L.talk peer.new) (K.talk report.old) (K.talk report.new) result }
+    ensures checks { (stream : List AnyUpdate) (seat : AnySeat)
+        → IsNext session.old.depth stream session.old.left query.now seat
+        → Checks session.old.depth stream query.now (block_of seat) number
+        (L.talk peer.old) (L.talk peer.new) (K.talk report.old) (K.talk report.new) result }
     ensures next { session.new.left ≡ drop 1 session.old.left }
     ensures depth { session.new.depth ≡ session.old.depth }
     ensures goes_on { OnOk result (session.new.spent ≡ false) }
-    ensures fault { CheckFault (L.faults peer.old) (L.faults peer.new) (K.faults report.old) (K.faults report.new) result }
+    ensures fault { (first firsts second seconds : ℕ) → Stops stops_asking
+        (counts first second (L.faults peer.old) (K.faults report.old))
+        (counts firsts seconds (L.faults peer.new) (K.faults report.new)) result }
     ensures peer { Lasts L.faults L.is_sure peer.old peer.new }
     ensures report { Lasts K.faults K.is_sure report.old report.new }
     ensures kept { keep.new ≡ keep.old }
@@ -70,9 +72,13 @@ fn check_all<L: Link, K: Sink, C: Sink>(
     requires count { length session.old.left ≡ length queries.now }
     requires most { length queries.now ≤ 16 }
     requires live { session.old.spent ≡ false }
-    ensures checks { (stream : List AnyUpdate) → map (λ seat. seat.query) session.old.left ≡ queries.now → All (StandsFor session.old.depth stream) session.old.left
-        → ChecksAll session.old.depth stream queries.now (map block_of session.old.left) (L.talk peer.old) (L.talk peer.new) (K.talk report.old) (K.talk report.new) result }
-    ensures fault { CheckFault (L.faults peer.old) (L.faults peer.new) (K.faults report.old) (K.faults report.new) result }
+    ensures checks { (stream : List AnyUpdate) → map (λ seat. seat.query) session.old.left ≡ queries.now
+        → All (StandsFor session.old.depth stream) session.old.left
+        → ChecksAll session.old.depth stream queries.now (map block_of session.old.left)
+        (L.talk peer.old) (L.talk peer.new) (K.talk report.old) (K.talk report.new) result }
+    ensures fault { (first firsts second seconds : ℕ) → Stops stops_asking
+        (counts first second (L.faults peer.old) (K.faults report.old))
+        (counts firsts seconds (L.faults peer.new) (K.faults report.new)) result }
     ensures peer { Lasts L.faults L.is_sure peer.old peer.new }
     ensures report { Lasts K.faults K.is_sure report.old report.new }
     ensures kept { keep.new ≡ keep.old }
@@ -96,19 +102,12 @@ fn steps<A: Source, B: Source, L: Link, K: Sink, C: Sink>(
     keep: &mut C,
 ) -> Result<(), Status>
     requires { CanBeDone task.now }
-    ensures promises { (x : Exchange) → Tells
-        (told (A.left first.old) (B.left second.old) (L.talk peer.old) (K.talk report.old))
-        (told (A.left first.new) (B.left second.new) (L.talk peer.new) (K.talk report.new)) x
-        → Promises task.now x
-        (counts (A.faults first.old) (B.faults second.old) (L.faults peer.old) (K.faults report.old))
-        (counts (A.faults first.new) (B.faults second.new) (L.faults peer.new) (K.faults report.new))
+    ensures keeps { RunClause task.now
+        (moment (A.left first.old) (A.faults first.old) (B.left second.old) (B.faults second.old)
+        (L.talk peer.old) (L.faults peer.old) (K.talk report.old) (K.faults report.old))
+        (moment (A.left first.new) (A.faults first.new) (B.left second.new) (B.faults second.new)
+        (L.talk peer.new) (L.faults peer.new) (K.talk report.new) (K.faults report.new))
         (status_of result) }
-    ensures moves { IsTold (told (A.left first.old) (B.left second.old) (L.talk peer.old) (K.talk report.old)) → (x : Exchange) × Tells
-        (told (A.left first.old) (B.left second.old) (L.talk peer.old) (K.talk report.old))
-        (told (A.left first.new) (B.left second.new) (L.talk peer.new) (K.talk report.new)) x }
-    ensures fault { FaultClause (counts (A.faults first.old) (B.faults second.old) (L.faults peer.old) (K.faults report.old))
-        (counts (A.faults first.new) (B.faults second.new) (L.faults peer.new) (K.faults report.new)) (status_of result) }
-    ensures listed { IsListed (status_of result) }
     ensures first { Lasts A.faults A.is_sure first.old first.new }
     ensures seed { TakesAtMost 32 (B.left second.old) (B.left second.new) }
     ensures second { Lasts B.faults B.is_sure second.old second.new }
@@ -116,6 +115,8 @@ fn steps<A: Source, B: Source, L: Link, K: Sink, C: Sink>(
     ensures report { Lasts K.faults K.is_sure report.old report.new }
     ensures kept { keep.new ≡ keep.old }
 {
+    let levels = task.depth.get();
+    prove!(levels >= 1 && levels <= 32);
     let seats = gather(task, first, second, peer, keep)?;
     let mut session = match Session::new(alloc, seats) {
         Ok(session) => session,
@@ -142,38 +143,12 @@ pub fn check_stream<A: Source, B: Source, L: Link, K: Sink, C: Sink>(
     keep: &mut C,
 ) -> Status
     requires { CanBeDone task.now }
-    ensures verdict { (x : Exchange) → Tells
-        (told (A.left first.old) (B.left second.old) (L.talk peer.old) (K.talk report.old))
-        (told (A.left first.new) (B.left second.new) (L.talk peer.new) (K.talk report.new)) x
-        → VerdictClause task.now x result }
-    ensures talk { (x : Exchange) → Tells
-        (told (A.left first.old) (B.left second.old) (L.talk peer.old) (K.talk report.old))
-        (told (A.left first.new) (B.left second.new) (L.talk peer.new) (K.talk report.new)) x
-        → TalkClause task.now x result }
-    ensures cause { (x : Exchange) → Tells
-        (told (A.left first.old) (B.left second.old) (L.talk peer.old) (K.talk report.old))
-        (told (A.left first.new) (B.left second.new) (L.talk peer.new) (K.talk report.new)) x
-        → CauseClause task.now x
-        (counts (A.faults first.old) (B.faults second.old) (L.faults peer.old) (K.faults report.old))
-        (counts (A.faults first.new) (B.faults second.new) (L.faults peer.new) (K.faults report.new))
+    ensures keeps { RunClause task.now
+        (moment (A.left first.old) (A.faults first.old) (B.left second.old) (B.faults second.old)
+        (L.talk peer.old) (L.faults peer.old) (K.talk report.old) (K.faults report.old))
+        (moment (A.left first.new) (A.faults first.new) (B.left second.new) (B.faults second.new)
+        (L.talk peer.new) (L.faults peer.new) (K.talk report.new) (K.faults report.new))
         result }
-    ensures count { (x : Exchange) → Tells
-        (told (A.left first.old) (B.left second.old) (L.talk peer.old) (K.talk report.old))
-        (told (A.left first.new) (B.left second.new) (L.talk peer.new) (K.talk report.new)) x
-        → CountClause task.now x }
-    ensures complete { (x : Exchange) → Tells
-        (told (A.left first.old) (B.left second.old) (L.talk peer.old) (K.talk report.old))
-        (told (A.left first.new) (B.left second.new) (L.talk peer.new) (K.talk report.new)) x
-        → CompletenessClause task.now x
-        (counts (A.faults first.old) (B.faults second.old) (L.faults peer.old) (K.faults report.old))
-        (counts (A.faults first.new) (B.faults second.new) (L.faults peer.new) (K.faults report.new))
-        result }
-    ensures moves { IsTold (told (A.left first.old) (B.left second.old) (L.talk peer.old) (K.talk report.old)) → (x : Exchange) × Tells
-        (told (A.left first.old) (B.left second.old) (L.talk peer.old) (K.talk report.old))
-        (told (A.left first.new) (B.left second.new) (L.talk peer.new) (K.talk report.new)) x }
-    ensures fault { FaultClause (counts (A.faults first.old) (B.faults second.old) (L.faults peer.old) (K.faults report.old))
-        (counts (A.faults first.new) (B.faults second.new) (L.faults peer.new) (K.faults report.new)) result }
-    ensures listed { IsListed result }
     ensures first { Lasts A.faults A.is_sure first.old first.new }
     ensures seed { TakesAtMost 32 (B.left second.old) (B.left second.new) }
     ensures second { Lasts B.faults B.is_sure second.old second.new }
@@ -181,8 +156,6 @@ pub fn check_stream<A: Source, B: Source, L: Link, K: Sink, C: Sink>(
     ensures report { Lasts K.faults K.is_sure report.old report.new }
     ensures kept { keep.new ≡ keep.old }
 {
-    let levels = task.depth.get();
-    prove!(levels >= 1 && levels <= 32);
     match steps(alloc, task, first, second, peer, report, keep) {
         Ok(()) => Status::Accepted,
         Err(status) => status,

@@ -9,10 +9,12 @@ ghost use Rattle.sip_subvec.specs.Examples.{reply_0, reply_1};
 ghost use Rattle.sip_vector.specs.Answers.{Fits};
 ghost use Rattle.sip_verifier.specs.declared.status.Status.{Status};
 ghost use Rattle.sip_verifier.specs.declared.task.Task.{Task};
-ghost use Rattle.sip_verifier.specs.CauseClause.{Counts, CauseClause, IsListed};
+ghost use Rattle.sip_verifier.specs.CauseClause.{CauseClause};
 ghost use Rattle.sip_verifier.specs.CompletenessClause.{honest_bytes, CompletenessClause};
 ghost use Rattle.sip_verifier.specs.Exchanges.{Exchange};
+ghost use Rattle.sip_verifier.specs.Moments.{Counts};
 ghost use Rattle.sip_verifier.specs.Reports.{report_of};
+ghost use Rattle.sip_verifier.specs.Statuses.{IsListed};
 ghost use Rattle.sip_verifier.specs.VerdictClause.{VerdictClause};
 
 /// Each call that keeps to the clauses of verdicts and of causes keeps to that of completeness, where its queries fit the depth.

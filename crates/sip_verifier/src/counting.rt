@@ -7,9 +7,9 @@ ghost use Rattle.sip_vector.specs.Answers.{Answer, Fits};
 ghost use Rattle.sip_vector.specs.Streams.{IsLegal};
 ghost use Rattle.sip_verifier.specs.declared.status.Status.{Status};
 ghost use Rattle.sip_verifier.specs.declared.task.Task.{Task};
-ghost use Rattle.sip_verifier.specs.CauseClause.{IsListed};
 ghost use Rattle.sip_verifier.specs.CountClause.{CountsFor, CountClause};
 ghost use Rattle.sip_verifier.specs.Exchanges.{Exchange};
+ghost use Rattle.sip_verifier.specs.Statuses.{IsListed};
 ghost use Rattle.sip_verifier.specs.Turns.{Turn, Accepts, updates};
 ghost use Rattle.sip_verifier.specs.VerdictClause.{VerdictClause};
 

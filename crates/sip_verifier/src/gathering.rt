@@ -6,7 +6,9 @@ ghost use Rattle.sip_stream.specs.declared.fault.StreamFault.{StreamFault as Any
 ghost use Rattle.sip_verifier.specs.Drawing.{AreOf, Draws, HasDrawn};
 ghost use Rattle.sip_verifier.specs.Ending.{status_of_stream};
 ghost use Rattle.sip_verifier.specs.Exchanges.{TakesAtMost};
-ghost use Rattle.sip_verifier.specs.Gathering.{Gathers, GatherFault};
+ghost use Rattle.sip_verifier.specs.Gathering.{Gathers};
+ghost use Rattle.sip_verifier.specs.Moments.{counts};
+ghost use Rattle.sip_verifier.specs.Statuses.{Stops, stops_gathering};
 ghost use Rattle.sip_verifier.specs.Tasks.{CanBeDone};
 
 #[cfg(test)]
@@ -35,7 +37,9 @@ fn draw<B: Source>(task: &Task, second: &mut B) -> Result<Seats, Status>
     requires { CanBeDone task.now }
     ensures draws { (seed : List ℕ) → B.left second.old ≡ Some seed → Draws task.now seed result }
     ensures seats { IfOk result (AreOf task.now) }
-    ensures fault { (first first_now peer peer_now : ℕ) → GatherFault first first_now (B.faults second.old) (B.faults second.new) peer peer_now result }
+    ensures fault { (first firsts peer peers report reports : ℕ) → Stops stops_gathering
+        (counts first (B.faults second.old) peer report)
+        (counts firsts (B.faults second.new) peers reports) result }
     ensures told { IsSome (B.left second.old) → IsSome (B.left second.new) }
     ensures seed { TakesAtMost 32 (B.left second.old) (B.left second.new) }
     ensures second { Lasts B.faults B.is_sure second.old second.new }
@@ -66,7 +70,9 @@ fn follow<A: Source, L: Link>(
     ensures gathers { (bytes seed : List ℕ) → A.left first.old ≡ Some bytes → HasDrawn task.now seed seats
         → Gathers task.now bytes seed (A.left first.new) (L.talk peer.old) (L.talk peer.new) result }
     ensures seats { IfOk result (AreOf task.now) }
-    ensures fault { (second second_now : ℕ) → GatherFault (A.faults first.old) (A.faults first.new) second second_now (L.faults peer.old) (L.faults peer.new) result }
+    ensures fault { (second seconds report reports : ℕ) → Stops stops_gathering
+        (counts (A.faults first.old) second (L.faults peer.old) report)
+        (counts (A.faults first.new) seconds (L.faults peer.new) reports) result }
     ensures told { IsSome (A.left first.old) → IsSome (A.left first.new) }
     ensures first { Lasts A.faults A.is_sure first.old first.new }
     ensures peer { Lasts L.faults L.is_sure peer.old peer.new }
@@ -104,7 +110,9 @@ pub fn gather<A: Source, B: Source, L: Link, C: Sink>(
     requires { CanBeDone task.now }
     ensures gathers { (bytes seed : List ℕ) → A.left first.old ≡ Some bytes → B.left second.old ≡ Some seed
         → Gathers task.now bytes seed (A.left first.new) (L.talk peer.old) (L.talk peer.new) result }
-    ensures fault { GatherFault (A.faults first.old) (A.faults first.new) (B.faults second.old) (B.faults second.new) (L.faults peer.old) (L.faults peer.new) result }
+    ensures fault { (report reports : ℕ) → Stops stops_gathering
+        (counts (A.faults first.old) (B.faults second.old) (L.faults peer.old) report)
+        (counts (A.faults first.new) (B.faults second.new) (L.faults peer.new) reports) result }
     ensures seated { IfOk result (λ seats. length seats.seats.items ≡ length task.now.queries.items) }
     ensures told { IsSome (A.left first.old) → IsSome (A.left first.new) }
     ensures also_told { IsSome (B.left second.old) → IsSome (B.left second.new) }

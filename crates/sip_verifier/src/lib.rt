@@ -6,6 +6,7 @@
 //! | `Draws` | the challenges of a run, and the block of each query |
 //! | `Talks` | the order of bytes in a talk |
 //! | `Reports` | the lines of a report |
+//! | `Moments` | what the ports tell at one moment, and how often they have failed |
 //! | `Exchanges` | what one call moved through its ports |
 //! | `Turns` | a query with its block and its reply bytes; when its replies are accepted, and their fault |
 //! | `VerdictClause` | which lines are written, and when |
@@ -13,7 +14,9 @@
 //! | `CauseClause` | when each other answer comes |
 //! | `CountClause` | how many challenges a helper can win by, and that no line has a wrong answer but at those |
 //! | `CompletenessClause` | what an honest helper comes to |
-//! | `QuerySeats`, `Seats` | which streams the running numbers stand for |
+//! | `Statuses` | which statuses a run may answer, and which count of faults each needs to have risen |
+//! | `Promises`, `RunClause` | the five clauses together, and all that a run keeps |
+//! | `QuerySeats`, `Seats`, `NextSeat` | which streams the running numbers stand for, and whose turn is next |
 //! | `Feeding` | what is still to send of a stream |
 //! | `Transcripts` | the head of a transcript |
 //! | `Gathering` | what a call did that reads the stream |
@@ -21,7 +24,7 @@
 //!
 //! The other files there say what one private part of a run did: `Drawing`, `Sending`, `Questions`, `Taking`, `Ending`, `Progress`.
 //!
-//! [`check_stream`] is a whole run: [`gather`], then a [`Session`] that asks the queries. It carries the five clauses.
+//! [`check_stream`] is a whole run: [`gather`], then a [`Session`] that asks the queries. It carries the five clauses, as one `RunClause`.
 #![tactic(auto)]
 
 mod asking;

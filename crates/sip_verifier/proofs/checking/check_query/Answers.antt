@@ -5,18 +5,18 @@ use Rattle.sip_verifier.proofs.checking.check_query.Goals as goal
 
 pub returns-in_err-on_report-in-Ok-Rejected-clause-checks :
     goal.returns-in_err-on_report-in-Ok-Rejected-clause-checks
-returns-in_err-on_report-in-Ok-Rejected-clause-checks g c = λ stream seat more is same stands.
-    let asks = rw (same, c.in-Ok-Rejected.is, c.in-Ok-Rejected.field-0-is) at (c.ask.ensures.asks stream seat more is stands) in
+returns-in_err-on_report-in-Ok-Rejected-clause-checks g c = λ stream seat next.
+    let asks = rw (next.asks, c.in-Ok-Rejected.is, c.in-Ok-Rejected.field-0-is) at (c.ask.ensures.asks stream seat next.more next.first next.stands) in
     let p = err_from_is_err_and c.from_residual.result c.from_residual.ensures.1 in
     let on = rw c.in_err-on_report-in-Ok-Rejected.was at c.on_report-in-Ok-Rejected.ensures in
     rw (p.1, p.2) (rejection_cut _ _ _ _ _ _ _ _ _ c.in-Ok-Rejected.round c.in-Ok-Rejected.reason c.write_rejection.result c.in_err-on_report-in-Ok-Rejected.field-0.0 asks c.write_rejection.ensures.talk on)
 
 pub returns-in-Ok-Pairs-clause-checks : goal.returns-in-Ok-Pairs-clause-checks
-returns-in-Ok-Pairs-clause-checks g c = λ stream seat more is same stands.
-    let asks = rw (same, c.in-Ok-Pairs.is, c.in-Ok-Pairs.field-0-is, ← c.entries.ensures) at (c.ask.ensures.asks stream seat more is stands) in
+returns-in-Ok-Pairs-clause-checks g c = λ stream seat next.
+    let asks = rw (next.asks, c.in-Ok-Pairs.is, c.in-Ok-Pairs.field-0-is, ← c.entries.ensures) at (c.ask.ensures.asks stream seat next.more next.first next.stands) in
     line_checked _ _ _ _ _ _ _ _ _ _ c.write_pairs.result c.on_report.result asks c.write_pairs.ensures.talk c.on_report.ensures
 
 pub returns-in-Err-clause-checks : goal.returns-in-Err-clause-checks
-returns-in-Err-clause-checks g c = λ stream seat more is same stands.
-    let asks = rw (same, c.in-Err.is) at (c.ask.ensures.asks stream seat more is stands) in
+returns-in-Err-clause-checks g c = λ stream seat next.
+    let asks = rw (next.asks, c.in-Err.is) at (c.ask.ensures.asks stream seat next.more next.first next.stands) in
     rw c.status_of_fault.ensures (fault_checked _ _ _ _ _ _ _ _ c.ask.new.self.entries c.in-Err.fault asks)

@@ -1,16 +1,23 @@
--- The promises of `verify` on one call, together.
+-- The five promises of a run of `verify`, on what it moved and the status that it answers.
 use Rattle.sip_verifier.specs.declared.status.Status.{Status}
 use Rattle.sip_verifier.specs.declared.task.Task.{Task}
-use Rattle.sip_verifier.specs.CauseClause.{CauseClause, Counts}
+use Rattle.sip_verifier.specs.CauseClause.{CauseClause}
 use Rattle.sip_verifier.specs.CompletenessClause.{CompletenessClause}
 use Rattle.sip_verifier.specs.CountClause.{CountClause}
 use Rattle.sip_verifier.specs.Exchanges.{Exchange}
+use Rattle.sip_verifier.specs.Moments.{Counts}
 use Rattle.sip_verifier.specs.TalkClause.{TalkClause}
 use Rattle.sip_verifier.specs.VerdictClause.{VerdictClause}
 
+-- the ports had failed so often `before`, and so often `now`
 pub record Promises (task : Task) (x : Exchange) (before now : Counts) (status : Status) : Type 0 where
+  -- which lines are written, and when
   pub verdict : VerdictClause task x status
+  -- in which order the bytes go
   pub talk : TalkClause task x status
+  -- when each other answer comes
   pub cause : CauseClause task x before now status
+  -- how many challenges a helper can win by, and that no line has a wrong answer but at those
   pub count : CountClause task x
+  -- what an honest helper comes to
   pub complete : CompletenessClause task x before now status

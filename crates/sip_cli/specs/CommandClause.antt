@@ -1,0 +1,35 @@
+-- All that a command keeps, from the moment before it to the moment after, with the status that it answers.
+use Rattle.std.specs.Prelude.{◌≡◌, ℕ, List, Some}
+use Rattle.sip_cli.specs.CopyClause.{CopyClause}
+use Rattle.sip_cli.specs.declared.command.Command.{Command}
+use Rattle.sip_cli.specs.declared.command.Command.TheVariants.{Verify, Help, Gen, Lines}
+use Rattle.sip_cli.specs.HelpClause.{HelpClause}
+use Rattle.sip_cli.specs.Statuses.{Ends}
+use Rattle.sip_stream.specs.declared.form.Form.{Form}
+use Rattle.sip_stream.specs.declared.form.Form.TheVariants.{Binary, Text}
+use Rattle.sip_verifier.specs.declared.status.Status.{Status}
+use Rattle.sip_verifier.specs.declared.task.Task.{Task}
+use Rattle.sip_verifier.specs.Exchanges.{Exchange, Tells}
+use Rattle.sip_verifier.specs.Moments.{Moment, IsTold}
+use Rattle.sip_verifier.specs.Promises.{Promises}
+use Rattle.sip_verifier.specs.Statuses.{FaultClause}
+
+-- `Is command` says which command it is
+pub record CommandClause (Is : Command → Type 0) (before now : Moment) (status : Status) : Type 0 where
+  -- `verify`: the five promises, on the exchange that the ports tell
+  pub verify : (task : Task) → Is (Verify task) → (x : Exchange) → Tells before now x
+      → Promises task x before.faults now.faults status
+  -- `gen`: the stream's records are copied to the report as records
+  pub made : (depth : ℕ) → Is (Gen depth) → (bytes : List ℕ) → before.first ≡ Some bytes
+      → CopyClause depth Binary Binary bytes now.first before.report now.report status
+  -- `lines`: they are copied as lines of text
+  pub lines : (form : Form) (depth : ℕ) → Is (Lines form depth) → (bytes : List ℕ) → before.first ≡ Some bytes
+      → CopyClause depth form Text bytes now.first before.report now.report status
+  -- `help`: a talk is served
+  pub help : Is Help → HelpClause before.talk now.talk status
+  -- ports that tell go on telling, so there is an exchange that they tell
+  pub moves : IsTold before → (x : Exchange) × Tells before now x
+  -- whatever the ports tell, a fault of a port comes only where its own count rose
+  pub fault : FaultClause before.faults now.faults status
+  -- no status comes but those of the command
+  pub listed : (command : Command) → Is command → Ends command status
