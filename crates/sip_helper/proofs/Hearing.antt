@@ -1,15 +1,17 @@
 -- What messages that fit have, and which may never come.
-use Rattle.std.proofs.Common.{◌≡◌, ℕ, ◌^◌, ◌<◌, ◌≤◌, Bool, true, false, cond, nat_lt, if◌then◌else◌, List, Option, Some, None, inl, inr, refl, sym, ap, subst, ◌∙◌, arith}
-use Rattle.std.specs.Prelude.{IfSome, IsTrue}
+use Rattle.std.proofs.Common.{◌≡◌, ℕ, ◌^◌, ◌<◌, ◌≤◌, Bool, true, false, cond, nat_lt, ◌&&◌, if◌then◌else◌, List, Option, Some, None, inl, inr, refl, sym, ap, subst, ◌∙◌, arith}
+use Rattle.std.specs.Prelude.{IfSome, IsTrue, is_none, ◌↔◌}
 use Rattle.std.specs.List.{list_all}
 use Rattle.std.specs.Option.{option_map}
-use Rattle.std.proofs.lemmas.Bool.{and_parts}
+use Rattle.std.proofs.lemmas.Bool.{and_parts, and_right, both_ways, ltb-true}
 use Rattle.std.proofs.lemmas.Bool.Decides.{nat_tests}
 use Rattle.arrayvec.specs.ArrayVec.{ArrayVec}
 use Rattle.sip_field.specs.Moduli.{m61_modulus}
 use Rattle.sip_vector.specs.declared.query.Query.{Query}
 use Rattle.sip_vector.specs.declared.query.Query.TheVariants as queries
 use Rattle.sip_vector.specs.declared.update.Update.{Update}
+use Rattle.sip_vector.specs.Answers.{Fits}
+use Rattle.sip_vector.specs.Built.{is_built}
 use Rattle.sip_wire.specs.declared.message.Message.{Message}
 use Rattle.sip_wire.specs.declared.message.Message.TheVariants as messages
 use Rattle.sip_wire.specs.Spelling.{fits, has_room, all_hold}
@@ -21,7 +23,7 @@ use Rattle.sip_helper.specs.Answering.{Stands}
 use Rattle.sip_helper.specs.Keeping.{IsKept}
 use Rattle.sip_helper.specs.declared.heard.Heard.TheVariants.{Nothing, Part, Whole}
 use Rattle.sip_helper.specs.Legal.{AreOf, legal_weights}
-use Rattle.sip_helper.specs.Turns.{HelperState, depth_of, is_allowed, is_light, part_of, stays_legal, weights_after, with_updates}
+use Rattle.sip_helper.specs.Turns.{HelperState, depth_of, is_allowed, is_below, is_light, most_queries, part_of, stays_legal, weights_after, whole_of, with_updates}
 use Rattle.sip_helper.proofs.LegalUpdates.{are_after, bool_tells, none_or_some, same_some}
 
 pub open_some : (version depth : ℕ) → IsTrue (fits (messages.Open version depth)) → 1 ≤ depth
@@ -36,9 +38,28 @@ pub element_fits : (challenge : ℕ) → IsTrue (fits (messages.Reveal challenge
 unfolding fits has_room all_hold
 element_fits challenge h = grind (arith, nat_tests)
 
-pub interval_fits : (lo hi : ℕ) → IsTrue (fits (messages.Query (queries.Sub lo hi))) → lo ≤ hi
+-- a query with a spelling, whose items are below 2 ^ depth, fits the depth
+fits_below : (depth : ℕ) (q : Query) → IsTrue (fits (messages.Query q)) → is_below depth q ≡ true → Fits depth q
 unfolding fits has_room all_hold
-interval_fits lo hi h = grind (arith, nat_tests)
+fits_below depth (queries.Sub lo hi) h below = (grind (arith, nat_tests), ltb-true hi (2 ^ depth) below)
+fits_below depth (queries.Range side lo hi) h below = (grind (arith, nat_tests), ltb-true hi (2 ^ depth) below)
+fits_below depth (queries.F2 side) h below = tt
+fits_below depth queries.Inner h below = tt
+fits_below depth (queries.Heavy side at_least) h below = (grind (arith, nat_tests), grind (arith, nat_tests))
+
+-- one that does not fit may not come
+pub unfit_out : (s : HelperState) (depth : ℕ) (q : Query) (fit : Bool) → whole_of s.heard ≡ Some depth → IsTrue (fits (messages.Query q)) → IsTrue fit ↔ Fits depth q → fit ≡ false → is_allowed s (messages.Query q) ≡ false
+unfit_out s depth q fit whole h tells no_fit = by_heard s.heard whole
+  where
+    too_high : is_below depth q ≡ false
+    too_high = elim (bool_tells (is_below depth q)) [ inl below ↦ absurd (both_ways fit no_fit (tells.1 (fits_below depth q h below))) | inr high ↦ high ]
+
+    by_heard : (heard : Heard) → whole_of heard ≡ Some depth → is_allowed (record s { heard = heard }) (messages.Query q) ≡ false
+    by_heard Nothing is = absurd cc
+    by_heard (Part d) is = absurd cc
+    by_heard (Whole d) is =
+        let same : d ≡ depth = cc in
+        and_right (is_none s.open_query && nat_lt s.queries most_queries && is_built q) (is_below d q) (ap (λ k. is_below k q) same ∙ too_high)
 
 -- a message of another kind may never come
 pub others_out : (s : HelperState) (m : Message)

@@ -2,8 +2,10 @@ pub mod EntryFrames
 pub mod Falling
 pub mod Hearing
 pub mod LegalUpdates
-pub mod Proving
+pub mod Refusals
 pub mod Rows
 pub mod Sending
+pub mod Standing
+pub mod SubVectors
 pub mod Talks
 pub mod Turning

@@ -13,6 +13,11 @@ legal_weights depth w us = if stays_legal depth w us then Some (weights_after w 
 abbrev pub weights_of : Vectors → Weights
 weights_of v = record { first = v.first.weight; second = v.second.weight }
 
+-- both vectors have this depth
+pub record HaveDepth (depth : ℕ) (v : Vectors) : Type 0 where
+  pub first : v.first.depth ≡ depth
+  pub second : v.second.depth ≡ depth
+
 -- the vectors have this depth and these weights
 pub record AreOf (depth : ℕ) (w : Weights) (v : Vectors) : Type 0 where
   pub first : v.first.depth ≡ depth

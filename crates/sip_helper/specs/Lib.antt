@@ -1,8 +1,12 @@
 pub mod Answering
 pub mod Keeping
+pub mod Kinds
 pub mod Legal
 pub mod Measures
 pub mod OneTurn
+pub mod Rows
 pub mod Serving
+pub mod Starting
 pub mod Statuses
+pub mod SubVectors
 pub mod Turns

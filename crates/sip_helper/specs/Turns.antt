@@ -2,26 +2,25 @@
 --
 -- Whether memory is refused is open: at an opening, at updates and at a query each of the two may happen. Where it is refused
 -- at an opening or at updates, the helper has the weights from then on and no longer the vectors.
-use Rattle.std.specs.Prelude.{ℕ, ◌+◌, ◌^◌, Bool, true, false, not, ◌&&◌, ◌||◌, nat_le, nat_lt, is_none, List, [], ◌∷◌, ◌++◌, length, fold, Option, Some, None, if◌then◌else◌}
+use Rattle.std.specs.Prelude.{ℕ, ◌+◌, ◌^◌, Bool, true, false, not, ◌&&◌, ◌||◌, nat_le, nat_lt, is_none, is_some, List, [], ◌∷◌, ◌++◌, length, fold, Option, Some, None, if◌then◌else◌}
 use Rattle.std.specs.List.{list_all, flat_map}
 use Rattle.std.specs.Option.{option_map, option_and_then}
-use Rattle.sip_field.specs.Moduli.{m61_modulus}
 use Rattle.sip_vector.specs.declared.query.Query.{Query}
 use Rattle.sip_vector.specs.declared.query.Query.TheVariants as queries
 use Rattle.sip_vector.specs.declared.update.Side.TheVariants.{First, Second}
 use Rattle.sip_vector.specs.declared.update.Update.{Update}
 use Rattle.sip_vector.specs.Built.{is_built}
 use Rattle.sip_vector.specs.Streams.{weight, most_weight}
-use Rattle.sip_vector.specs.Vectors.{zero_vector, with_update, nonzero_within}
+use Rattle.sip_vector.specs.Vectors.{zero_vector, with_update}
 use Rattle.sip_wire.specs.declared.message.Message.{Message}
 use Rattle.sip_wire.specs.declared.message.Message.TheVariants as messages
 use Rattle.sip_wire.specs.Spelling.{spelling}
-use Rattle.sip_subvec.specs.Honest.{honest_messages}
-use Rattle.sip_subvec.specs.Replies.{most_entries}
 use Rattle.sip_helper.specs.declared.heard.Heard.{Heard}
 use Rattle.sip_helper.specs.declared.heard.Heard.TheVariants.{Nothing, Part, Whole}
 use Rattle.sip_helper.specs.declared.vectors.Vectors.{Vectors}
 use Rattle.sip_helper.specs.declared.vectors.Weights.{Weights}
+use Rattle.sip_helper.specs.Kinds.{row_of}
+use Rattle.sip_helper.specs.Rows.{refusal, reply_by, want_of_memory}
 
 -- ---- the state
 
@@ -101,7 +100,9 @@ is_known _ = true
 abbrev pub is_below : ℕ → Query → Bool
 is_below depth (queries.Sub lo hi) = nat_lt hi (2 ^ depth)
 is_below depth (queries.Range side lo hi) = nat_lt hi (2 ^ depth)
-is_below depth _ = true
+is_below depth (queries.F2 side) = true
+is_below depth queries.Inner = true
+is_below depth (queries.Heavy side at_least) = true
 
 -- a query may be asked of a stream of this depth
 abbrev pub may_ask : ℕ → HelperState → Query → Bool
@@ -116,10 +117,7 @@ abbrev pub is_allowed : HelperState → Message → Bool
 is_allowed s (messages.Open version depth) = elim s.heard [ Nothing ↦ true | _ ↦ false ]
 is_allowed s (messages.Updates us) = elim s.heard [ Part depth ↦ stays_legal depth s.weights us.items | _ ↦ false ]
 is_allowed s messages.EndStream = elim s.heard [ Part depth ↦ true | _ ↦ false ]
-is_allowed s (messages.Query q) = elim s.heard [
-  | Whole depth ↦ is_none s.open_query && nat_lt s.queries most_queries && is_built q && is_below depth q
-  | _ ↦ false
-]
+is_allowed s (messages.Query q) = elim s.heard [ Whole depth ↦ may_ask depth s q | _ ↦ false ]
 is_allowed s (messages.Reveal r) = elim s.open_query [ Some o ↦ may_reveal (depth_of s.heard) o | None ↦ false ]
 is_allowed s messages.Bye = true
 is_allowed s _ = false
@@ -144,41 +142,15 @@ step s refused _ = s
 
 -- ---- the reply that is owed
 
--- the codes of refusals: for want of memory, of an answer with too many entries, and of a message out of turn
-abbrev pub want_of_memory : ℕ
-want_of_memory = 1
-
-abbrev pub too_many : ℕ
-too_many = 2
-
-abbrev pub out_of_turn : ℕ
-out_of_turn = 4
-
-abbrev pub refusal : ℕ → List Message
-refusal code = messages.Refuse code ∷ []
-
--- the answer has more entries than one may have
-abbrev pub is_too_long : Vectors → Query → Bool
-is_too_long v (queries.Sub lo hi) = nat_lt most_entries (length (nonzero_within lo hi v.first.numbers))
-is_too_long v _ = false
-
--- the messages of an honest reply
-abbrev pub honest_to : Vectors → Query → List ℕ → List Message
-honest_to v (queries.Sub lo hi) revealed = honest_messages m61_modulus v.first.numbers lo hi revealed
-honest_to v _ revealed = []
-
--- the messages of a reply to a query
+-- the messages of a reply to a query: the refusal for want of memory, or else that of its row, or else the honest ones
 abbrev pub reply_to : Option Vectors → OpenQuery → List Message
 reply_to None o = refusal want_of_memory
-reply_to (Some v) o =
-    if o.refused then refusal want_of_memory
-    else if is_too_long v o.query then refusal too_many
-    else honest_to v o.query o.revealed
+reply_to (Some v) o = if o.refused then refusal want_of_memory else reply_by (row_of o.query) v o.revealed
 
 -- that reply is a refusal
 abbrev pub is_refused : Option Vectors → OpenQuery → Bool
 is_refused None o = true
-is_refused (Some v) o = o.refused || is_too_long v o.query
+is_refused (Some v) o = o.refused || is_some ((row_of o.query).refused_by v)
 
 -- a reply is owed
 abbrev pub owes : HelperState → Bool

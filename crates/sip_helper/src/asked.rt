@@ -1,75 +1,57 @@
 //! A query that is open, and what its replies are made from.
 
-ghost use Rattle.std.specs.Prelude.{◌≡◌, ◌<◌, ◌≤◌, ◌^◌, ℕ, [], IfSome, OnOk, OnErr, IsTrue, IsOk, Option, false, true, length, ◌↔◌};
+ghost use Rattle.std.specs.Prelude.{◌≡◌, ◌<◌, ◌≤◌, ℕ, [], IfSome, OnOk, OnErr, IsTrue, IsOk, Option, false, true, length, ◌↔◌};
 ghost use Rattle.std.specs.List.{flat_map};
 ghost use Rattle.std.specs.Option.{option_map};
 ghost use Rattle.sip_field.specs.Moduli.{m61_modulus};
 ghost use Rattle.sip_ports.specs.Ports.{HasCause, SendsWhole};
-ghost use Rattle.sip_vector.specs.declared.query.Query.TheVariants as queries;
-ghost use Rattle.sip_wire.specs.declared.message.Message.TheVariants as messages;
-ghost use Rattle.sip_wire.specs.Spelling.{fits, spelling};
-ghost use Rattle.sip_subvec.specs.Honest.{honest_reply, its_siblings, proving, siblings_message};
+ghost use Rattle.sip_vector.specs.Answers.{Fits};
+ghost use Rattle.sip_wire.specs.Spelling.{spelling};
 ghost use Rattle.sip_helper.specs.declared.vectors.Vectors.{Vectors as AnyVectors};
 ghost use Rattle.sip_helper.specs.Turns.{after_reply, is_known, may_reveal, reply_to, with_challenge};
 ghost use Rattle.sip_helper.specs.Answering.{query_of, open_of, IsReady, Stands};
+ghost use Rattle.sip_helper.specs.Legal.{HaveDepth};
 
 use crate::OutOfTurn;
-use crate::entries::put_entries;
+use crate::kinds::KindProver;
+use crate::prover::{NotStarted, Prover};
+use crate::refusal::{WANT_OF_MEMORY, put_refusal};
 use crate::vectors::Vectors;
 use arrayvec::ArrayVec;
-use sip_field::{Field, M61};
 use sip_ports::{PortStop, Sink};
-use sip_subvec::SubProver;
-use sip_vector::{Query, Vector};
-use sip_wire::{Message, encode};
+use sip_vector::Query;
+use sip_wire::Message;
 use std::alloc::Global;
-
-/// How many entries an answer may have.
-const MOST_ENTRIES: u64 = 65536;
 
 /// How many challenges are revealed at most.
 const MOST_REVEALED: usize = 32;
-
-/// The codes of refusals.
-const WANT_OF_MEMORY: u8 = 1;
-
-const TOO_MANY: u8 = 2;
 
 /// What the replies to a query are made from.
 #[derive(Drop)]
 pub(crate) enum Answerer {
     /// Memory was refused.
     NoMemory(Query),
-    /// A sub-vector has more entries than an answer may have.
-    TooMany {
-        lo: u64,
-        hi: u64,
-    },
-    /// The entries of a sub-vector, and the levels above them.
-    Entries {
-        lo: u64,
-        hi: u64,
-        prover: SubProver<M61>,
-    },
+    /// The query is refused over the vectors, by this code.
+    Refused { query: Query, code: u8 },
+    /// The honest replies are given.
+    Honest(KindProver),
 }
 
 impl Answerer {
     /// Takes the memory that the replies want, the only that they ever take.
-    pub(crate) fn start(alloc: Global, vectors: &Option<Vectors>, lo: u64, hi: u64) -> Answerer
-        requires order { lo ≤ hi }
-        requires within { IfSome vectors.now (λ v. hi < 2 ^ v.first.depth) }
-        ensures query { query_of result ≡ queries.Sub lo hi }
-        ensures ready { (depth : ℕ) → IfSome vectors.now (λ v. v.first.depth ≡ depth) → hi < 2 ^ depth → IsReady depth vectors.now [] false result }
+    pub(crate) fn start(alloc: Global, vectors: &Option<Vectors>, query: Query) -> Answerer
+        requires fits { IfSome vectors.now (λ v. Fits v.first.depth query) }
+        ensures query { query_of result ≡ query }
+        ensures ready { (depth : ℕ) → IfSome vectors.now (HaveDepth depth)
+            → IsReady depth vectors.now [] false result }
     {
         let Some(vectors) = vectors else {
-            return Answerer::NoMemory(Query::Sub { lo, hi });
+            return Answerer::NoMemory(query);
         };
-        if vectors.first.count_in(lo, hi) > MOST_ENTRIES {
-            return Answerer::TooMany { lo, hi };
-        }
-        match SubProver::start(alloc, &vectors.first, lo, hi) {
-            Ok(prover) => Answerer::Entries { lo, hi, prover },
-            Err(_) => Answerer::NoMemory(Query::Sub { lo, hi }),
+        match KindProver::start(alloc, vectors, query) {
+            Ok(prover) => Answerer::Honest(prover),
+            Err(NotStarted::Refused(code)) => Answerer::Refused { query, code },
+            Err(NotStarted::NoMemory) => Answerer::NoMemory(query),
         }
     }
 }
@@ -113,8 +95,8 @@ impl Asked {
         }
         self.revealed.push(challenge);
         self.given = false;
-        if let Answerer::Entries { prover, .. } = &mut self.answerer {
-            prover.learn(M61::of(challenge));
+        if let Answerer::Honest(prover) = &mut self.answerer {
+            prover.learn(challenge);
         }
         Ok(())
     }
@@ -125,15 +107,16 @@ impl Asked {
         vectors: &Option<Vectors>,
         out: &mut K,
     ) -> Result<(), PortStop>
-        requires stands { (depth : ℕ) × (depth ≤ 32) × IfSome vectors.now (λ v. v.first.depth ≡ depth) × Stands depth vectors.now self.now }
+        requires stands { (depth : ℕ) × (depth ≤ 32) × IfSome vectors.now (HaveDepth depth)
+            × Stands depth vectors.now self.now }
         ensures talk { SendsWhole (K.talk out.old) (K.talk out.new) result (flat_map spelling (reply_to vectors.now (open_of self.now))) }
         ensures cause { HasCause K.faults K.is_sure out.old out.new result }
     {
         match &self.answerer {
             Answerer::NoMemory(_) => put_refusal(WANT_OF_MEMORY, out),
-            Answerer::TooMany { .. } => put_refusal(TOO_MANY, out),
-            Answerer::Entries { lo, hi, prover } => match vectors {
-                Some(vectors) => put_honest(&vectors.first, *lo, *hi, prover, &self.revealed, out),
+            Answerer::Refused { code, .. } => put_refusal(*code, out),
+            Answerer::Honest(prover) => match vectors {
+                Some(vectors) => prover.put_reply(vectors, &self.revealed, out),
                 None => put_refusal(WANT_OF_MEMORY, out),
             },
         }
@@ -145,7 +128,7 @@ impl Asked {
         ensures after { (vectors : Option AnyVectors) → Stands depth vectors self → option_map open_of result ≡ after_reply depth vectors (open_of self) }
         ensures stands { (vectors : Option AnyVectors) → Stands depth vectors self → IfSome result (Stands depth vectors) }
     {
-        let Answerer::Entries { .. } = &self.answerer else {
+        let Answerer::Honest(_) = &self.answerer else {
             return None;
         };
         if self.revealed.len() + 1 >= depth as usize {
@@ -157,7 +140,7 @@ impl Asked {
     }
 }
 
-/// Whether a helper knows the message: it knows none of the queries that it does not answer.
+/// Whether a helper knows the message: it knows no query of a kind that is not built.
 pub(crate) fn is_known(message: &Message) -> bool
     ensures { result ≡ is_known message.now }
 {
@@ -165,49 +148,4 @@ pub(crate) fn is_known(message: &Message) -> bool
         Message::Query(query) => query.is_built(),
         _ => true,
     }
-}
-
-/// Sends a refusal.
-pub(crate) fn put_refusal<K: Sink>(code: u8, out: &mut K) -> Result<(), PortStop>
-    requires some { 1 ≤ code }
-    requires most { code ≤ 4 }
-    ensures talk { SendsWhole (K.talk out.old) (K.talk out.new) result (spelling (messages.Refuse code)) }
-    ensures cause { HasCause K.faults K.is_sure out.old out.new result }
-{
-    encode(&Message::Refuse { code }, out)
-}
-
-/// The siblings of the level that is reached.
-fn siblings_of(prover: &SubProver<M61>) -> Message
-    requires { 2 ≤ length prover.now.level }
-    ensures message { result ≡ siblings_message (its_siblings prover.now) }
-    ensures fits { IsTrue (fits result) }
-{
-    let siblings = prover.siblings();
-    Message::Siblings {
-        left: siblings.left.map(|x| x.number()),
-        right: siblings.right.map(|x| x.number()),
-    }
-}
-
-/// Sends an honest reply: the entries before any challenge was revealed, and the siblings.
-fn put_honest<K: Sink>(
-    vector: &Vector,
-    lo: u64,
-    hi: u64,
-    prover: &SubProver<M61>,
-    revealed: &[u64],
-    out: &mut K,
-) -> Result<(), PortStop>
-    requires within { hi < 2 ^ vector.now.depth }
-    requires small { hi < 2 ^ 32 }
-    requires level { 2 ≤ length prover.now.level }
-    requires proving { prover.now ≡ proving m61_modulus vector.now.numbers lo hi revealed.now }
-    ensures talk { SendsWhole (K.talk out.old) (K.talk out.new) result (honest_reply m61_modulus vector.now.numbers lo hi revealed.now) }
-    ensures cause { HasCause K.faults K.is_sure out.old out.new result }
-{
-    if revealed.is_empty() {
-        put_entries(vector, lo, hi, out)?;
-    }
-    encode(&siblings_of(prover), out)
 }

@@ -125,13 +125,14 @@ impl HelperCore {
         let Some(depth) = self.heard.whole() else {
             return Err(OutOfTurn);
         };
-        let Query::Sub { lo, hi } = query else {
-            return Err(OutOfTurn);
-        };
-        if self.asked.is_some() || self.queries >= MOST_QUERIES || hi >= 1 << depth.get() {
+        if self.asked.is_some() || self.queries >= MOST_QUERIES || !query.is_built() {
             return Err(OutOfTurn);
         }
-        self.asked = Some(Asked::new(Answerer::start(self.alloc, &self.vectors, lo, hi)));
+        if !query.fits(depth) {
+            return Err(OutOfTurn);
+        }
+        let answerer = Answerer::start(self.alloc, &self.vectors, query);
+        self.asked = Some(Asked::new(answerer));
         self.queries += 1;
         Ok(())
     }

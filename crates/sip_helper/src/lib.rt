@@ -8,7 +8,7 @@
 //! - A message is refused exactly where the turns do not allow it (`is_allowed`), and then nothing changes.
 //! - A message that is allowed leads to the next state (`step`), whether memory was refused or not.
 //! - `answer` sends the reply that is owed (`owed`), or after a fault of the sink a shorter front of it. A reply is the honest one,
-//!   or a refusal: for want of memory, or exactly where an answer has more entries than one may have.
+//!   or a refusal: for want of memory, or exactly where the query's row refuses it over the vectors.
 //!
 //! - `serve` takes turns, each of them a message that may come and then its reply, and stops at a Bye, a frame that has no spelling,
 //!   a query of a kind that is not answered, a message out of turn, the end of the link, or a fault of it; its status says at
@@ -19,14 +19,28 @@
 //! `specs/Turns.antt` has the state, which message may come next, what it does, and the reply that is owed. The queries that are
 //! answered are those of `is_built`; `hear` refuses another one as out of turn, and `serve` does not come to it: it ends there as
 //! at bytes without a spelling (`is_known`, `IsUnknown`). `specs/Serving.antt` says what a talk on a link is, by its status.
+//!
+//! What a kind of query means to a helper is a row (`specs/Rows.antt`): which refusal applies to it over the two vectors, and the
+//! honest reply behind the challenges so far. `specs/Kinds.antt` has the row of each kind.
+//!
+//! # How a kind is added
+//!
+//! A file of `specs/` with its row and with what its prover stands for; a file of `src/` with the prover, an `impl` of the trait
+//! `Prover` and a `start` that `Starts` describes; and a line for it in each definition of `specs/Kinds.antt` and each `match` of
+//! `src/kinds.rt`. The rest of the crate names no kind.
 #![tactic(auto)]
 
 mod asked;
 mod entries;
 mod heard;
 mod helper;
+mod kinds;
+pub mod laws;
+mod prover;
+mod refusal;
 mod serving;
 mod status;
+mod sub_vector;
 mod turn;
 mod vectors;
 

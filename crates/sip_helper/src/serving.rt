@@ -7,13 +7,11 @@ ghost use Rattle.sip_helper.specs.OneTurn.{TakesTurn};
 ghost use Rattle.sip_helper.specs.Serving.{Serves};
 
 use crate::asked::is_known;
+use crate::refusal::OUT_OF_TURN;
 use crate::{HelpStatus, HelperCore};
 use sip_ports::Link;
 use sip_wire::{Frame, Message, Place, decode, encode};
 use std::alloc::Global;
-
-/// The code of the refusal of a message out of turn.
-const OUT_OF_TURN: u8 = 4;
 
 /// Receives one frame, hears its message and sends the reply that is owed. The status says why the talk is over.
 fn take_turn<L: Link>(

@@ -1,5 +1,5 @@
-use Rattle.sip_helper.proofs.Proving.{refusal_fits}
-use Rattle.sip_helper.proofs.asked.put_refusal.Goals as goal
+use Rattle.sip_helper.proofs.Refusals.{refusal_fits}
+use Rattle.sip_helper.proofs.refusal.put_refusal.Goals as goal
 
 pub encode-requires : goal.encode-requires
 encode-requires g c = refusal_fits c.args.code c.requires.some c.requires.most

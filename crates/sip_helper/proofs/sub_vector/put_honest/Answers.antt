@@ -10,11 +10,11 @@ use Rattle.sip_vector.specs.Vectors.{nonzero_within}
 use Rattle.sip_wire.specs.declared.message.Message.{Message}
 use Rattle.sip_wire.specs.Spelling.{spelling}
 use Rattle.sip_subvec.specs.Honest.{Proving, honest_reply, its_siblings, proving, siblings_message}
-use Rattle.sip_helper.proofs.Proving.{reply_first, reply_behind}
+use Rattle.sip_helper.proofs.SubVectors.{reply_first, reply_behind}
 use Rattle.sip_helper.proofs.Rows.{framed}
 use Rattle.sip_helper.proofs.Sending.{sends_after, stopped_in}
-use Rattle.sip_helper.proofs.asked.put_honest.Goals as goal
-use Rattle.sip_helper.proofs.asked.put_honest.Goals.{then-is_empty+in_ok-put_entries, else-is_empty}
+use Rattle.sip_helper.proofs.sub_vector.put_honest.Goals as goal
+use Rattle.sip_helper.proofs.sub_vector.put_honest.Goals.{then-is_empty+in_ok-put_entries, else-is_empty}
 
 pub returns-in_err-put_entries-clause-talk : goal.returns-in_err-put_entries-clause-talk
 returns-in_err-put_entries-clause-talk g c =

@@ -1,8 +1,8 @@
 use Rattle.std.proofs.Common.{◌≡◌, rules, sym, subst}
 use Rattle.std.specs.Option.{option_map}
 use Rattle.sip_field.specs.Elements.{m61_number}
-use Rattle.sip_helper.proofs.Proving.{IsElement, element_is, siblings_fit}
-use Rattle.sip_helper.proofs.asked.siblings_of.Goals as goal
+use Rattle.sip_helper.proofs.SubVectors.{IsElement, element_is, siblings_fit}
+use Rattle.sip_helper.proofs.sub_vector.siblings_of.Goals as goal
 
 pub returns-clause-fits : goal.returns-clause-fits
 returns-clause-fits c =

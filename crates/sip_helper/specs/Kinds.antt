@@ -1,0 +1,25 @@
+-- The kinds of query, a line for each: its row, and its prover.
+use Rattle.std.specs.Prelude.{ℕ, List}
+use Rattle.sip_vector.specs.declared.query.Query.{Query}
+use Rattle.sip_vector.specs.declared.query.Query.TheVariants.{Sub, Range, F2, Inner, Heavy}
+use Rattle.sip_helper.specs.declared.kinds.KindProver.{KindProver}
+use Rattle.sip_helper.specs.declared.kinds.KindProver.TheVariants as provers
+use Rattle.sip_helper.specs.declared.vectors.Vectors.{Vectors}
+use Rattle.sip_helper.specs.Rows.{Row, unbuilt}
+use Rattle.sip_helper.specs.SubVectors.{HasLevel, sub_query, sub_row}
+
+-- the row of a query
+abbrev pub row_of : Query → Row
+row_of (Sub lo hi) = sub_row lo hi
+row_of (Range _ _ _) = unbuilt
+row_of (F2 _) = unbuilt
+row_of Inner = unbuilt
+row_of (Heavy _ _) = unbuilt
+
+-- the query of a prover
+abbrev pub query_proved : KindProver → Query
+query_proved (provers.Sub s) = sub_query s
+
+-- it stands for the vectors of this depth, behind these challenges
+abbrev pub HasLearnt : ℕ → Vectors → List ℕ → KindProver → Type 0
+HasLearnt depth v revealed (provers.Sub s) = HasLevel depth v revealed s

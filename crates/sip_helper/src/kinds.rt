@@ -1,0 +1,65 @@
+//! The kinds of query, a variant for each: how its prover starts, and that it proves.
+
+ghost use Rattle.sip_vector.specs.Answers.{Fits};
+ghost use Rattle.sip_helper.specs.Kinds.{HasLearnt, query_proved};
+ghost use Rattle.sip_helper.specs.Starting.{Starts};
+
+use crate::prover::{NotStarted, Prover};
+use crate::refusal::OUT_OF_TURN;
+use crate::sub_vector::SubVectorProver;
+use crate::vectors::Vectors;
+use sip_ports::{PortStop, Sink};
+use sip_vector::Query;
+use std::alloc::Global;
+
+/// The prover of a query, by its kind.
+#[derive(Drop)]
+pub(crate) enum KindProver {
+    Sub(SubVectorProver),
+}
+
+impl KindProver {
+    /// The prover of a query that fits the vectors' depth. It takes the memory that the replies want.
+    /// A kind that is not built has none: its query is out of turn.
+    pub(crate) fn start(
+        alloc: Global,
+        vectors: &Vectors,
+        query: Query,
+    ) -> Result<KindProver, NotStarted>
+        requires fits { Fits vectors.now.first.depth query }
+        ensures { Starts query_proved HasLearnt vectors.now query result }
+    {
+        match query {
+            Query::Sub { lo, hi } => {
+                let prover = SubVectorProver::start(alloc, vectors, lo, hi)?;
+                Ok(KindProver::Sub(prover))
+            }
+            Query::Range { .. } | Query::F2 { .. } | Query::Inner | Query::Heavy { .. } => {
+                Err(NotStarted::Refused(OUT_OF_TURN))
+            }
+        }
+    }
+}
+
+impl Prover for KindProver {
+    ghost query = { query_proved };
+
+    ghost has_learnt = { HasLearnt };
+
+    fn learn(&mut self, challenge: u64) {
+        match self {
+            KindProver::Sub(prover) => prover.learn(challenge),
+        }
+    }
+
+    fn put_reply<K: Sink>(
+        &self,
+        vectors: &Vectors,
+        revealed: &[u64],
+        out: &mut K,
+    ) -> Result<(), PortStop> {
+        match self {
+            KindProver::Sub(prover) => prover.put_reply(vectors, revealed, out),
+        }
+    }
+}

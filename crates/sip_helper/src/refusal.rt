@@ -1,0 +1,28 @@
+//! Replies that refuse.
+
+ghost use Rattle.std.specs.Prelude.{◌≡◌, ◌≤◌};
+ghost use Rattle.sip_ports.specs.Ports.{HasCause, SendsWhole};
+ghost use Rattle.sip_wire.specs.Spelling.{spelling};
+ghost use Rattle.sip_wire.specs.declared.message.Message.TheVariants as messages;
+
+use sip_ports::{PortStop, Sink};
+use sip_wire::{Message, encode};
+
+/// The code of a refusal for want of memory.
+pub(crate) const WANT_OF_MEMORY: u8 = 1;
+
+/// The code of a refusal where the answer has more entries than one may have.
+pub(crate) const TOO_MANY: u8 = 2;
+
+/// The code of the refusal of a message out of turn.
+pub(crate) const OUT_OF_TURN: u8 = 4;
+
+/// Sends a refusal.
+pub(crate) fn put_refusal<K: Sink>(code: u8, out: &mut K) -> Result<(), PortStop>
+    requires some { 1 ≤ code }
+    requires most { code ≤ 4 }
+    ensures talk { SendsWhole (K.talk out.old) (K.talk out.new) result (spelling (messages.Refuse code)) }
+    ensures cause { HasCause K.faults K.is_sure out.old out.new result }
+{
+    encode(&Message::Refuse { code }, out)
+}

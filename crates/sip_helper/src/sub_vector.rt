@@ -1,0 +1,113 @@
+//! The replies about a sub-vector: its entries, and siblings level by level.
+
+ghost use Rattle.std.specs.Prelude.{◌≡◌, ◌<◌, ◌≤◌, ◌^◌, IsTrue, length};
+ghost use Rattle.sip_field.specs.Moduli.{m61_modulus};
+ghost use Rattle.sip_ports.specs.Ports.{HasCause, SendsWhole};
+ghost use Rattle.sip_vector.specs.declared.query.Query.TheVariants as queries;
+ghost use Rattle.sip_wire.specs.Spelling.{fits};
+ghost use Rattle.sip_subvec.specs.Honest.{honest_reply, its_siblings, proving, siblings_message};
+ghost use Rattle.sip_helper.specs.Starting.{Starts};
+ghost use Rattle.sip_helper.specs.SubVectors.{HasLevel, sub_query};
+
+use crate::entries::put_entries;
+use crate::prover::{NotStarted, Prover};
+use crate::refusal::TOO_MANY;
+use crate::vectors::Vectors;
+use sip_field::{Field, M61};
+use sip_ports::{PortStop, Sink};
+use sip_subvec::SubProver;
+use sip_vector::Vector;
+use sip_wire::{Message, encode};
+use std::alloc::Global;
+
+/// How many entries an answer may have.
+const MOST_ENTRIES: u64 = 65536;
+
+/// What the replies about the entries from `lo` to `hi` of the first side are made from.
+#[derive(Drop)]
+pub(crate) struct SubVectorProver {
+    lo: u64,
+    hi: u64,
+    prover: SubProver<M61>,
+}
+
+impl SubVectorProver {
+    /// Takes the memory that the replies want, unless the answer has too many entries.
+    pub(crate) fn start(
+        alloc: Global,
+        vectors: &Vectors,
+        lo: u64,
+        hi: u64,
+    ) -> Result<SubVectorProver, NotStarted>
+        requires order { lo ≤ hi }
+        requires within { hi < 2 ^ vectors.now.first.depth }
+        ensures { Starts sub_query HasLevel vectors.now (queries.Sub lo hi) result }
+    {
+        if vectors.first.count_in(lo, hi) > MOST_ENTRIES {
+            return Err(NotStarted::Refused(TOO_MANY));
+        }
+        let prover = SubProver::start(alloc, &vectors.first, lo, hi)?;
+        Ok(SubVectorProver { lo, hi, prover })
+    }
+}
+
+impl Prover for SubVectorProver {
+    ghost query = { sub_query };
+
+    ghost has_learnt = { HasLevel };
+
+    fn learn(&mut self, challenge: u64) {
+        self.prover.learn(M61::of(challenge));
+    }
+
+    fn put_reply<K: Sink>(
+        &self,
+        vectors: &Vectors,
+        revealed: &[u64],
+        out: &mut K,
+    ) -> Result<(), PortStop> {
+        put_honest(
+            &vectors.first,
+            self.lo,
+            self.hi,
+            &self.prover,
+            revealed,
+            out,
+        )
+    }
+}
+
+/// The siblings of the level that is reached.
+fn siblings_of(prover: &SubProver<M61>) -> Message
+    requires { 2 ≤ length prover.now.level }
+    ensures message { result ≡ siblings_message (its_siblings prover.now) }
+    ensures fits { IsTrue (fits result) }
+{
+    let siblings = prover.siblings();
+    Message::Siblings {
+        left: siblings.left.map(|x| x.number()),
+        right: siblings.right.map(|x| x.number()),
+    }
+}
+
+/// Sends an honest reply: the entries before any challenge was revealed, and the siblings.
+fn put_honest<K: Sink>(
+    vector: &Vector,
+    lo: u64,
+    hi: u64,
+    prover: &SubProver<M61>,
+    revealed: &[u64],
+    out: &mut K,
+) -> Result<(), PortStop>
+    requires within { hi < 2 ^ vector.now.depth }
+    requires small { hi < 2 ^ 32 }
+    requires level { 2 ≤ length prover.now.level }
+    requires proving { prover.now ≡ proving m61_modulus vector.now.numbers lo hi revealed.now }
+    ensures talk { SendsWhole (K.talk out.old) (K.talk out.new) result (honest_reply m61_modulus vector.now.numbers lo hi revealed.now) }
+    ensures cause { HasCause K.faults K.is_sure out.old out.new result }
+{
+    if revealed.is_empty() {
+        put_entries(vector, lo, hi, out)?;
+    }
+    encode(&siblings_of(prover), out)
+}
