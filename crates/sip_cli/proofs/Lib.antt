@@ -7,3 +7,4 @@ pub mod MadePorts
 pub mod Refusals
 pub mod Getting
 pub mod RunLemmas
+pub mod Alone

@@ -3,6 +3,7 @@ pub mod Shapes
 pub mod Verbs
 pub mod Progress
 pub mod Plan
+pub mod Pages
 pub mod Exit
 pub mod StatusLine
 pub mod CopyClause

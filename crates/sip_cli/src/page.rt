@@ -1,6 +1,14 @@
 //! What the program says about itself.
 
+ghost use Rattle.std.specs.Prelude.{◌≡◌, ◌⊎◌, [], ◌∷◌, Some, IsSome};
+ghost use Rattle.std.specs.Option.{option_copied};
+ghost use Rattle.sip_ports.specs.Ports.{Lasts, Rose};
+ghost use Rattle.sip_cli.specs.Pages.{PageClause, help_word, version_word};
+ghost use Rattle.sip_cli.specs.Words.{IsRefusedAt};
+
 use crate::Words;
+use sip_ports::{PortStop, Sink, write_whole};
+use sip_verifier::{Port, Status};
 
 /// The page that `sip --help` prints.
 pub const HELP: &str = "\
@@ -78,15 +86,30 @@ STATUS
 pub const VERSION: &str = "sip 0.1.0\n";
 
 /// The text that the words ask for in place of a command: the page for `--help` alone, the version for `--version`
-/// alone.
-pub fn page_of(words: &Words) -> Option<&'static str> {
-    if words.get(1).is_some() {
-        return None;
-    }
-    match words.get(0)? {
+/// alone. These words are no command, so that a page hides none.
+pub fn page_of(words: &Words) -> Option<&'static str>
+    ensures help { words.now ≡ help_word ∷ [] → option_copied result ≡ Some HELP.now }
+    ensures version { words.now ≡ version_word ∷ [] → option_copied result ≡ Some VERSION.now }
+    ensures only { IsSome result → (words.now ≡ help_word ∷ []) ⊎ (words.now ≡ version_word ∷ []) }
+    ensures refused { IsSome result → IsRefusedAt words.now 0 }
+{
+    match words.only()? {
         "--help" => Some(HELP),
         "--version" => Some(VERSION),
         _ => None,
+    }
+}
+
+/// Writes a page to the report. It is accepted exactly where all of it was written.
+pub fn write_page<K: Sink>(text: &str, report: &mut K) -> Status
+    ensures page { PageClause (K.talk report.old) (K.talk report.new) text.now result }
+    ensures fault { result ≡ Status.WriteFault Port.Report → Rose (K.faults report.old) (K.faults report.new) }
+    ensures report { Lasts K.faults K.is_sure report.old report.new }
+{
+    match write_whole(report, text.as_bytes()) {
+        Ok(()) => Status::Accepted,
+        Err(PortStop::Failed) => Status::WriteFault { port: Port::Report },
+        Err(PortStop::OutOfMemory) => Status::OutOfMemory,
     }
 }
 

@@ -1,6 +1,6 @@
 //! The words of a command.
 
-ghost use Rattle.std.specs.Prelude.{◌≡◌, map, string_bytes};
+ghost use Rattle.std.specs.Prelude.{◌≡◌, ◌≢◌, ℕ, List, [], ◌∷◌, map, string_bytes, MatchOption};
 ghost use Rattle.std.specs.List.{slice_get};
 ghost use Rattle.std.specs.Option.{option_copied};
 
@@ -33,6 +33,18 @@ impl Words {
         ensures { option_copied result ≡ slice_get self.now word }
     {
         Some(self.list.get(word)?.as_str())
+    }
+
+    /// The word that stands alone; `None` where there is none, or more than one.
+    pub(crate) fn only(&self) -> Option<&str>
+        ensures { MatchOption result
+            ((word : List ℕ) → self.now ≢ word ∷ [])
+            (λ word. self.now ≡ word.now ∷ []) }
+    {
+        if self.get(1).is_some() {
+            return None;
+        }
+        self.get(0)
     }
 }
 

@@ -1,0 +1,30 @@
+-- Words that are one word alone, and that those which ask for a page are no command.
+use Rattle.std.proofs.Common.{◌≡◌, ◌≢◌, ℕ, List, [], ◌∷◌, get_or, Option, None, Some, Bor, MatchOption, false, ap, sym, ◌∙◌, arith}
+use Rattle.std.specs.Prelude.{is_some}
+use Rattle.std.specs.List.{slice_get}
+use Rattle.std.specs.Option.{option_copied}
+use Rattle.sip_cli.specs.declared.verb.Verb.{Verb}
+use Rattle.sip_cli.specs.declared.verb.Verb.TheVariants.{Verify, Help, Gen, Lines}
+use Rattle.sip_cli.specs.Verbs.{built, verb_word}
+use Rattle.sip_cli.specs.Words.{word, IsRefusedOf}
+use Rattle.sip_cli.proofs.Beginning.{refused_verb}
+
+-- the word that the first get gives is the only one, where the second gives none
+pub alone : (words : List (List ℕ)) (first second : Option (Bor (List ℕ))) → option_copied first ≡ slice_get words 0 → option_copied second ≡ slice_get words 1 → is_some second ≡ false → MatchOption first ((w : List ℕ) → words ≢ w ∷ []) (λ w. words ≡ w.now ∷ [])
+alone [] None second is also none = λ w same. cc
+alone [] (Some w) second is also none = absurd (let h : Some w.now ≡ None = is in cc)
+alone (x ∷ []) None second is also none = absurd (let h : None ≡ Some x = is in cc)
+alone (x ∷ []) (Some w) second is also none = let h : Some w.now ≡ Some x = is in cc
+alone (x ∷ (y ∷ rest)) first None is also none = absurd (let h : None ≡ Some y = also in cc)
+alone (x ∷ (y ∷ rest)) first (Some z) is also none = absurd (let h = none in cc)
+
+-- no verb begins with a dash
+pub no_verb : (w : List ℕ) (verb : Verb) → get_or w 0 0 ≡ 45 → w ≢ verb_word verb
+no_verb w Verify dash = λ e. let h : get_or w 0 0 ≡ 118 = ap (λ v. get_or v 0 0) e in omega arith
+no_verb w Help dash = λ e. let h : get_or w 0 0 ≡ 104 = ap (λ v. get_or v 0 0) e in omega arith
+no_verb w Gen dash = λ e. let h : get_or w 0 0 ≡ 103 = ap (λ v. get_or v 0 0) e in omega arith
+no_verb w Lines dash = λ e. let h : get_or w 0 0 ≡ 108 = ap (λ v. get_or v 0 0) e in omega arith
+
+-- one word that begins with a dash is refused at once
+pub refused_alone : (words : List (List ℕ)) (w : List ℕ) → words ≡ w ∷ [] → get_or w 0 0 ≡ 45 → IsRefusedOf built words 0
+refused_alone words w is dash = refused_verb built words (λ verb some has same. no_verb w verb dash (sym (ap (λ ws. word ws 0) is) ∙ same))
