@@ -8,3 +8,4 @@ pub mod Refusals
 pub mod Getting
 pub mod RunLemmas
 pub mod Alone
+pub mod NamedPorts

@@ -1,5 +1,7 @@
 -- The files and made streams that a command opens.
-use Rattle.std.specs.Prelude.{◌≡◌, ℕ, ◌^◌, ◌<◌, ◌≤◌, List, decimal}
+use Rattle.std.specs.Prelude.{◌≡◌, ℕ, ◌^◌, ◌<◌, ◌≤◌, ◌⊎◌, Option, None, List, ◌++◌, codes, decimal, drop, length}
+use Rattle.std.specs.List.{slice_get}
+use Rattle.std.specs.Option.{option_map}
 use Rattle.sip_cli.specs.declared.command.Command.{Command}
 use Rattle.sip_cli.specs.declared.command.Command.TheVariants as command
 use Rattle.sip_cli.specs.declared.plan.Opening.{Opening}
@@ -38,3 +40,23 @@ Opens words (command.Verify task) plan = (s : Stream) × IsStreamWord s (word wo
 Opens words command.Help plan = plan ≡ help_ports
 Opens words (command.Gen depth) plan = (number : ℕ) × (count : ℕ) × (number < 2 ^ 64) × (count ≤ 10000000) × (word words 1 ≡ decimal number) × (word words 2 ≡ decimal count) × (plan ≡ source_ports (Made number count depth))
 Opens words (command.Lines form depth) plan = (s : Stream) × IsStreamWord s (word words 1) × (plan ≡ source_ports (opening_of s depth))
+
+-- the name of the file that an opening is on: a word without its first bytes, if there is such a word
+abbrev pub file_name : Opening → List (List ℕ) → Option (List ℕ)
+file_name Nothing words = None
+file_name (Made number count depth) words = None
+file_name (Path n skip) words = option_map (drop skip) (slice_get words n)
+
+-- the name, if the opening is on a file, stands in a word: it is all of it, or what is behind `text:`
+abbrev pub HasName : List (List ℕ) → Opening → Type 0
+HasName words Nothing = Unit {0}
+HasName words (Made number count depth) = Unit {0}
+HasName words (Path n skip) = (n < length words) × ((skip ≡ 0) ⊎ ((skip ≡ 5) × ((path : List ℕ) × (word words n ≡ codes "text:" ++ path))))
+
+-- the same of all openings of a plan
+pub record HaveNames (words : List (List ℕ)) (plan : PortPlan) : Type 0 where
+  pub first : HasName words plan.first
+  pub second : HasName words plan.second
+  pub from : HasName words plan.from
+  pub to : HasName words plan.to
+  pub keep : HasName words plan.keep

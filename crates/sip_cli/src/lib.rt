@@ -19,7 +19,7 @@ mod words;
 pub use command::{Command, read_words};
 pub use exit::exit_code;
 pub use page::{HELP, VERSION, page_of, write_page};
-pub use plan::{Opening, PortPlan, ports};
+pub use plan::{LinkOrder, Opening, PortPlan, ports};
 pub use status_text::status_line;
 pub use top::run;
 pub use words::{Usage, Words};

@@ -1,10 +1,12 @@
 //! What the ports of a command are opened on.
 
-ghost use Rattle.std.specs.Prelude.{◌≡◌, ℕ, ◌≤◌, ◌<◌, ◌^◌, Some, decimal, length};
+ghost use Rattle.std.specs.Prelude.{◌≡◌, ℕ, ◌≤◌, ◌<◌, ◌^◌, Some, IsSome, IfSome, List, ◌++◌, codes, decimal, drop, length};
+ghost use Rattle.std.specs.Option.{option_copied};
+ghost use Rattle.sip_verifier.specs.declared.task.Task.{Task as AnyTask};
 ghost use Rattle.sip_cli.specs.declared.command.Command.{Command as AnyCommand};
 ghost use Rattle.sip_cli.specs.declared.stream.Stream.{Stream as AnyStream};
 ghost use Rattle.sip_cli.specs.declared.verb.Built.{Built as AnyBuilt};
-ghost use Rattle.sip_cli.specs.Plan.{Opens, help_ports, no_ports, opening_of, source_ports, verify_ports};
+ghost use Rattle.sip_cli.specs.Plan.{HasName, HaveNames, Opens, file_name, help_ports, no_ports, opening_of, source_ports, verify_ports};
 ghost use Rattle.sip_cli.specs.Shapes.{IsStreamWord};
 ghost use Rattle.sip_cli.specs.Words.{Spells, SpellsOf, IsRefusedAt, IsRefusedOf, word};
 
@@ -33,7 +35,28 @@ pub enum Opening {
     },
 }
 
+// The text without its first bytes, where they are whole characters.
+fn without(text: &str, skip: usize) -> Option<&str>
+    ensures rest { IfSome result (λ rest. rest.now ≡ drop skip text.now) }
+    ensures whole { skip ≡ 0 → IsSome result }
+    ensures marked { (path : List ℕ) → skip ≡ 5 → text.now ≡ codes "text:" ++ path → IsSome result }
+{
+    Some(text.split_at_checked(skip)?.1)
+}
+
 impl Opening {
+    /// The name of the file; `None` where the port is opened on none. All openings that [`ports`] gives for the words
+    /// have their name there.
+    pub fn name(self, words: &Words) -> Option<&str>
+        ensures name { HasName words.now self → option_copied result ≡ file_name self words.now }
+        ensures only { IfSome result (λ name. file_name self words.now ≡ Some name.now) }
+    {
+        match self {
+            Opening::Nothing | Opening::Made { .. } => None,
+            Opening::Path { word, skip } => without(words.get(word)?, skip),
+        }
+    }
+
     // On the file that a whole word names.
     fn file(word: usize) -> Opening
         ensures { result ≡ Opening.Path word 0 }
@@ -92,7 +115,30 @@ pub struct PortPlan {
     pub keep: Opening,
 }
 
+/// Which end of a link is opened first. To open a FIFO waits for its other end, so that the two sides of a talk open
+/// theirs in turned orders.
+#[derive(Clone, Copy, Debug, PartialEq, Eq)]
+pub enum LinkOrder {
+    /// The end that takes our bytes: a verifier's.
+    ToFirst,
+    /// The end that brings the other side's: a helper's.
+    FromFirst,
+}
+
 impl PortPlan {
+    /// Which end of the link is opened first.
+    pub fn link_order(&self) -> LinkOrder
+        ensures verify { (words : List (List ℕ)) (task : AnyTask) → Opens words (Command.Verify task) self.now
+            → result ≡ LinkOrder.ToFirst }
+        ensures help { (words : List (List ℕ)) → Opens words Command.Help self.now → result ≡ LinkOrder.FromFirst }
+    {
+        // A helper has no stream.
+        match self.first {
+            Opening::Nothing => LinkOrder::FromFirst,
+            Opening::Path { .. } | Opening::Made { .. } => LinkOrder::ToFirst,
+        }
+    }
+
     // No port, but for the first source.
     fn source(first: Opening) -> PortPlan
         ensures { result ≡ source_ports first }
@@ -155,6 +201,7 @@ pub(crate) fn ports_of(words: &Words, built: Built) -> PortPlan
     ensures spelled { (command : AnyCommand) → SpellsOf built words.now command → Opens words.now command result }
     ensures refused { (n : ℕ) → IsRefusedOf built words.now n → result ≡ no_ports }
     ensures counted { (number count depth : ℕ) → result.first ≡ Opening.Made number count depth → count ≤ 10000000 }
+    ensures named { HaveNames words.now result }
 {
     match read_words_of(words, built) {
         Ok(command) => PortPlan::of(words, &command),
@@ -168,6 +215,7 @@ pub fn ports(words: &Words) -> PortPlan
     ensures spelled { (command : AnyCommand) → Spells words.now command → Opens words.now command result }
     ensures refused { (n : ℕ) → IsRefusedAt words.now n → result ≡ no_ports }
     ensures counted { (number count depth : ℕ) → result.first ≡ Opening.Made number count depth → count ≤ 10000000 }
+    ensures named { HaveNames words.now result }
 {
     ports_of(words, BUILT)
 }

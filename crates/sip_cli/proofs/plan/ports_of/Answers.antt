@@ -2,6 +2,7 @@ use Rattle.std.proofs.Common.{subst}
 use Rattle.sip_cli.specs.Plan.{Opens}
 use Rattle.sip_cli.proofs.Refusals.{spelled_not_refused, command_once}
 use Rattle.sip_cli.proofs.MadePorts.{opens_counted, made_never}
+use Rattle.sip_cli.proofs.NamedPorts.{opens_named}
 use Rattle.sip_cli.proofs.plan.ports_of.Goals as goal
 
 pub returns-in-Ok-clause-spelled : goal.returns-in-Ok-clause-spelled
@@ -19,3 +20,8 @@ returns-in-Ok-clause-counted c = λ number count depth is. opens_counted c.args.
 
 pub returns-in-Err-clause-counted : goal.returns-in-Err-clause-counted
 returns-in-Err-clause-counted c = λ number count depth is. made_never count (rw c.source.ensures at is)
+
+pub returns-in-Ok-clause-named : goal.returns-in-Ok-clause-named
+returns-in-Ok-clause-named c =
+    let spells = c.in-Ok.ensures.command in
+    opens_named c.args.built c.args.words.now c.in-Ok.command c.of.result spells (c.of.ensures c.args.built spells)

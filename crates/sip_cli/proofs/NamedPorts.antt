@@ -1,0 +1,69 @@
+-- Each file that a command opens has its name among the words, and what stands behind a mark can be cut off.
+use Rattle.std.proofs.Common.{◌≡◌, ℕ, ◌<◌, List, ◌++◌, length, get_or, Option, None, IsSome, sym, subst, refl, ap, inl, inr, arith}
+use Rattle.std.specs.Prelude.{codes}
+use Rattle.std.specs.Str.{IsUtf8, IsCharBoundary}
+use Rattle.std.proofs.lemmas.Bool.{false≢true}
+use Rattle.std.proofs.lemmas.Str.{IsCharBoundary-after_ascii}
+use Rattle.sip_cli.specs.declared.command.Command.{Command}
+use Rattle.sip_cli.specs.declared.command.Command.TheVariants as command
+use Rattle.sip_cli.specs.declared.plan.Opening.TheVariants.{Path}
+use Rattle.sip_cli.specs.declared.plan.PortPlan.{PortPlan}
+use Rattle.sip_cli.specs.declared.stream.Stream.{Stream}
+use Rattle.sip_cli.specs.declared.stream.Stream.TheVariants as stream
+use Rattle.sip_cli.specs.declared.verb.Built.{Built}
+use Rattle.sip_cli.specs.Plan.{HasName, HaveNames, Opens, opening_of}
+use Rattle.sip_cli.specs.Shapes.{IsStreamWord}
+use Rattle.sip_cli.specs.Words.{word, SpellsOf}
+
+-- a word that is there is a name
+pub file_named : (words : List (List ℕ)) (n : ℕ) → n < length words → HasName words (Path n 0)
+file_named words n more = (more, inl refl)
+
+-- the name of a stream's file stands in word 1
+pub stream_named : (words : List (List ℕ)) (s : Stream) (depth : ℕ) → 1 < length words → IsStreamWord s (word words 1) → HasName words (opening_of s depth)
+stream_named words (stream.Made number count) depth more names = tt
+stream_named words stream.Text depth more (path, some, is) = (more, inr (refl, (path, is)))
+stream_named words stream.File depth more names = (more, inl refl)
+
+-- all files of a command have their names
+pub opens_named : (some : Built) (words : List (List ℕ)) (c : Command) (plan : PortPlan) → SpellsOf some words c → Opens words c plan → HaveNames words plan
+opens_named some words (command.Verify task) plan spells (s, names, is) =
+    let least = spells.0.least in
+    subst (HaveNames words) (sym is) (record {
+      first = stream_named words s task.depth (omega arith) names;
+      second = file_named words 2 (omega arith);
+      from = file_named words 3 (omega arith);
+      to = file_named words 4 (omega arith);
+      keep = tt;
+    })
+opens_named some words command.Help plan spells is =
+    let least = spells.least in
+    subst (HaveNames words) (sym is) (record {
+      first = tt;
+      second = tt;
+      from = file_named words 1 (omega arith);
+      to = file_named words 2 (omega arith);
+      keep = tt;
+    })
+opens_named some words (command.Gen depth) plan spells (number, count, low, few, one, two, is) =
+    subst (HaveNames words) (sym is) (record { first = tt; second = tt; from = tt; to = tt; keep = tt })
+opens_named some words (command.Lines form depth) plan spells (s, names, is) =
+    let least = spells.0.least in
+    subst (HaveNames words) (sym is) (record {
+      first = stream_named words s depth (omega arith) names;
+      second = tt;
+      from = tt;
+      to = tt;
+      keep = tt;
+    })
+
+-- a text can be cut behind `text:`
+pub cut_behind_mark : (text path : List ℕ) → IsUtf8 text → text ≡ codes "text:" ++ path → IsCharBoundary text 5
+cut_behind_mark text path utf8 is =
+    let long : length text ≡ length (codes "text:" ++ path) = ap length is in
+    let colon : get_or text 4 0 ≡ 58 = ap (λ t. get_or t 4 0) is in
+    IsCharBoundary-after_ascii text 4 utf8 (omega arith) (omega arith)
+
+-- what is there is not missing
+pub some_not_none : {T : Type 0} (o : Option T) → o ≡ None → IsSome o → ⊥
+some_not_none o none some = false≢true (subst (λ x. IsSome x) none some)
