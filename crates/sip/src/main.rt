@@ -1,15 +1,28 @@
 //! `sip`: checks the answer of a helper that keeps a stream for you.
 #![tactic(auto)]
 
-use sip_cli::{Opening, PortPlan, Words, exit_code, page_of, ports, run, status_line};
-use sip_ports::{
-    FileLink, FileSource, NullSink, PortStop, Source, StderrSink, StdoutSink, write_whole,
+use sip_cli::{
+    LinkOrder, Opening, PortPlan, Words, finish, page_of, ports, run, status_without_words,
+    write_page,
 };
+use sip_ports::{FileLink, FileSource, NullSink, Source, StderrSink, StdoutSink};
 use sip_stream::MadeSource;
-use sip_verifier::{Port, Status};
+use sip_verifier::Status;
 use std::fs::File;
 use std::process::ExitCode;
 use std::{env, io};
+
+/// Files that stand at the lowest descriptors that were closed at the start, if any of 0 to 2 was. The system gives the
+/// lowest free descriptor, so that no file of the run can become standard output or standard error; and since these are
+/// a folder that is opened to be read, reads and writes of such a stream fail. Where all three were open they take three
+/// others, and change nothing.
+fn stand_ins(rt: &HostRuntime) -> [Option<File>; 3] {
+    [
+        File::open(rt, "/").ok(),
+        File::open(rt, "/").ok(),
+        File::open(rt, "/").ok(),
+    ]
+}
 
 /// The words after the program's name; an error where one is not UTF-8, or where memory ran out.
 fn words(rt: &HostRuntime) -> io::Result<Words> {
@@ -20,33 +33,30 @@ fn words(rt: &HostRuntime) -> io::Result<Words> {
     Ok(Words::of(list))
 }
 
-/// The name of the file that a port is opened on, if it is one.
-fn name(words: &Words, opening: Opening) -> Option<&str> {
-    match opening {
-        Opening::Nothing | Opening::Made { .. } => None,
-        Opening::Path { word, skip } => words.get(word)?.get(skip..),
-    }
-}
-
+/// A file to read.
 fn opened(rt: &HostRuntime, words: &Words, opening: Opening) -> Option<File> {
-    File::open(rt, name(words, opening)?).ok()
+    File::open(rt, opening.name(words)?).ok()
 }
 
+/// A file to write, which is made or emptied.
 fn emptied(rt: &HostRuntime, words: &Words, opening: Opening) -> Option<File> {
-    File::create(rt, name(words, opening)?).ok()
+    File::create(rt, opening.name(words)?).ok()
 }
 
-/// Opens the two ends of the link. A verifier opens `TO` before `FROM` and a helper, who has no stream, `FROM` before `TO`:
-/// so two FIFOs can stand between them.
+/// Opens the two ends of the link, in the order of the plan: so two FIFOs can stand between the two sides.
 fn link(rt: &HostRuntime, words: &Words, plan: &PortPlan) -> FileLink {
-    if plan.first == Opening::Nothing {
-        let from = opened(rt, words, plan.from);
-        let to = emptied(rt, words, plan.to);
-        return FileLink::new(from, to);
+    match plan.link_order() {
+        LinkOrder::ToFirst => {
+            let to = emptied(rt, words, plan.to);
+            let from = opened(rt, words, plan.from);
+            FileLink::new(from, to)
+        }
+        LinkOrder::FromFirst => {
+            let from = opened(rt, words, plan.from);
+            let to = emptied(rt, words, plan.to);
+            FileLink::new(from, to)
+        }
     }
-    let to = emptied(rt, words, plan.to);
-    let from = opened(rt, words, plan.from);
-    FileLink::new(from, to)
 }
 
 /// Opens the files that the words name, but for the first source, and does what the words say. A file that does not open
@@ -85,26 +95,14 @@ fn obey(rt: &HostRuntime, words: &Words) -> Status {
     }
 }
 
-/// Prints a text.
-fn tell(rt: &HostRuntime, text: &str) -> Status {
-    let mut out = StdoutSink::new(io::writer(rt));
-    match write_whole(&mut out, text.as_bytes()) {
-        Ok(()) => Status::Accepted,
-        Err(PortStop::Failed) => Status::WriteFault { port: Port::Report },
-        Err(PortStop::OutOfMemory) => Status::OutOfMemory,
-    }
-}
-
 fn main(rt: HostRuntime) -> ExitCode {
+    let _stand_ins = stand_ins(&rt);
     let status = match words(&rt) {
         Ok(words) => match page_of(&words) {
-            Some(text) => tell(&rt, text),
+            Some(text) => write_page(text, &mut StdoutSink::new(io::writer(&rt))),
             None => obey(&rt, &words),
         },
-        Err(error) if error.kind() == io::ErrorKind::OutOfMemory => Status::OutOfMemory,
-        Err(_) => Status::Usage { word: 0 },
+        Err(error) => status_without_words(&error),
     };
-    // Where the line cannot be written, the exit code still tells the status.
-    let _ = status_line(&status, &mut StderrSink::new(rt.stderr()));
-    ExitCode::from(exit_code(&status))
+    ExitCode::from(finish(&status, &mut StderrSink::new(rt.stderr())))
 }
