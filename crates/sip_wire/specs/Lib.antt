@@ -3,6 +3,7 @@ pub mod Values
 pub mod Spelling
 pub mod Rows
 pub mod Reading
+pub mod Versions
 pub mod Faults
 pub mod Decoding
 pub mod Frames

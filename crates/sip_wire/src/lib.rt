@@ -41,6 +41,7 @@ mod reading;
 mod row;
 mod rows;
 mod transcript;
+mod version;
 mod writing;
 
 pub use decoding::decode;
@@ -49,6 +50,7 @@ pub use frame::{Frame, LONGEST_FRAME};
 pub use kind::Place;
 pub use message::{Leaf, MOST_NODES, MOST_ROWS, Message, Node, Reason, WireFault};
 pub use transcript::{put_ask, put_head};
+pub use version::Version;
 
 #[cfg(test)]
 mod tests;

@@ -1,0 +1,11 @@
+pub mod Ends
+pub mod Reading
+pub mod Fronts
+pub mod Agreeing
+pub mod Begun
+pub mod Receiving
+pub mod Entering
+pub mod Running
+pub mod Saying
+pub mod Turns
+pub mod Ending

@@ -1,0 +1,56 @@
+-- Receiving one frame and keeping its bytes.
+use Rattle.std.proofs.Common.{◌≡◌, ◌≢◌, ℕ, inl, inr, Option, Result, Ok, Err, List, [], ◌∷◌, ◌++◌, ◌<◌, length, take, drop, refl, sym, ap}
+use Rattle.std.specs.Prelude.{IsErrAnd}
+use Rattle.std.proofs.lemmas.List.{take-append-drop}
+use Rattle.sip_ports.specs.declared.port.PortStop.{PortStop}
+use Rattle.sip_ports.specs.declared.port.PortStop.TheVariants as ports
+use Rattle.sip_ports.specs.declared.port.TalkEvent.{TalkEvent}
+use Rattle.sip_ports.specs.Ports.{GoesOn, outs}
+use Rattle.sip_wire.specs.declared.kind.Place.{Place}
+use Rattle.sip_wire.specs.declared.message.Message.{Message}
+use Rattle.sip_wire.specs.declared.message.Reason.TheVariants as reasons
+use Rattle.sip_wire.specs.declared.message.WireFault.{WireFault}
+use Rattle.sip_wire.specs.declared.message.WireFault.TheVariants as faults
+use Rattle.sip_wire.specs.declared.version.Version.{Version}
+use Rattle.sip_wire.specs.Faults.{ended_by}
+use Rattle.sip_wire.specs.Decoding.{Decodes}
+use Rattle.sip_replies.specs.declared.taking.ReplyStop.{ReplyStop}
+use Rattle.sip_replies.specs.Replies.{reasoned, read_one}
+use Rattle.sip_replies.specs.Asking.{stop_of_keeper, KeepsPart, MayEnd, IsUnkept, Shows, Takes}
+
+module _ (version : Version) (place : Place) (old new before now : Option (List TalkEvent)) (rose risen : ℕ) (got : List ℕ) where
+  -- where the end of the link was found the frame is not whole
+  may_end : (r : Result Message WireFault) → Decodes place old new rose risen got r → MayEnd (read_one version place got ≡ Err reasons.Closed) (ended_by r)
+  may_end (Ok m) did = inl refl
+  may_end (Err faults.Closed) did = inr (refl, ap reasoned did.answer)
+  may_end (Err faults.BadKind) did = inl refl
+  may_end (Err faults.BadLength) did = inl refl
+  may_end (Err faults.BadCount) did = inl refl
+  may_end (Err faults.BadNumber) did = inl refl
+  may_end (Err faults.PeerFault) did = inl refl
+  may_end (Err faults.OutOfMemory) did = inl refl
+
+  some_byte : (byte : ℕ) → byte ∷ [] ≢ []
+  some_byte byte e = cc
+
+  module _ (r : Result Message WireFault) (did : Decodes place old new rose risen got r) where
+    -- no byte less shows what the frame is
+    pub shortest : (front : List ℕ) (byte : ℕ) → got ≡ front ++ byte ∷ [] → read_one version place front ≡ Err reasons.Closed
+    shortest front byte e = ap reasoned (did.short front (byte ∷ []) e (some_byte byte))
+
+    -- the frame came, and was not kept whole
+    pub IsUnkept-received : KeepsPart before now got → IsUnkept (read_one version place) old new before now
+    IsUnkept-received kept = record {
+      bytes = got;
+      ended = ended_by r;
+      heard = did.heard;
+      may_end = may_end r did;
+      kept = kept;
+      shortest = shortest;
+    }
+
+    -- the keeper stopped
+    pub Takes-unkept : (port : PortStop) → ((n : ℕ) × (n < length got) × GoesOn before now (outs (take n got))) → (result : Result Message ReplyStop) → IsErrAnd result (λ stop. stop ≡ stop_of_keeper port) → Takes (read_one version place) old new before now (Shows version) result
+    Takes-unkept port (n, less, part) (Ok m) is = absurd is
+    Takes-unkept ports.Failed (n, less, part) (Err stop) is = rw is (IsUnkept-received (take n got, (drop n got, sym (take-append-drop n got)), part))
+    Takes-unkept ports.OutOfMemory (n, less, part) (Err stop) is = rw is (inr (IsUnkept-received (take n got, (drop n got, sym (take-append-drop n got)), part)))

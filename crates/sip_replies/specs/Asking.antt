@@ -1,0 +1,159 @@
+-- What the calls did that ask: what was said on the link, and what was written to the keeper of what is received.
+use Rattle.std.specs.Prelude.{◌≡◌, ◌≢◌, ◌<◌, ◌⊎◌, ℕ, List, [], ◌∷◌, ◌++◌, length, Option, None, Result, Ok, Err, is_ok, IsTrue}
+use Rattle.sip_ports.specs.declared.port.PortStop.{PortStop}
+use Rattle.sip_ports.specs.declared.port.PortStop.TheVariants as ports
+use Rattle.sip_ports.specs.declared.port.TalkEvent.{TalkEvent}
+use Rattle.sip_ports.specs.declared.port.TalkEvent.TheVariants.{Ended}
+use Rattle.sip_ports.specs.Ports.{GoesOn, ins, outs}
+use Rattle.sip_vector.specs.declared.query.Query.{Query}
+use Rattle.sip_vector.specs.declared.update.Entry.{Entry}
+use Rattle.sip_vector.specs.Answers.{Answer}
+use Rattle.sip_wire.specs.declared.message.Reason.{Reason}
+use Rattle.sip_wire.specs.declared.message.Reason.TheVariants as reasons
+use Rattle.sip_wire.specs.declared.message.WireFault.{WireFault}
+use Rattle.sip_wire.specs.declared.message.WireFault.TheVariants as faults
+use Rattle.sip_wire.specs.declared.message.Message.{Message}
+use Rattle.sip_wire.specs.declared.version.Version.{Version}
+use Rattle.sip_wire.specs.Values.{InRange}
+use Rattle.sip_wire.specs.Versions.{fits_in}
+use Rattle.sip_replies.specs.declared.check.Said.{Said}
+use Rattle.sip_replies.specs.declared.asking.AskStop.{AskStop}
+use Rattle.sip_replies.specs.declared.asking.AskStop.TheVariants as stops
+use Rattle.sip_replies.specs.declared.taking.ReplyStop.{ReplyStop}
+use Rattle.sip_replies.specs.declared.taking.ReplyStop.TheVariants as reply_stops
+use Rattle.sip_replies.specs.Checks.{answer_of}
+use Rattle.sip_replies.specs.Protocols.{Protocol}
+use Rattle.sip_replies.specs.Replies.{reason_of, joined, run, IsUnfinished, IsMissing, IsFaulty, IsAccepted}
+use Rattle.sip_replies.specs.Talks.{IsPrefix, asked, asked_unless, ending}
+
+-- ---- why a call stopped
+
+-- why a query has no answer, where the link stopped
+abbrev pub stop_of_port : PortStop → AskStop
+stop_of_port ports.Failed = stops.PeerFault
+stop_of_port ports.OutOfMemory = stops.OutOfMemory
+
+-- why a reply was not taken, where a frame has this fault
+abbrev pub stop_of_fault : WireFault → ReplyStop
+stop_of_fault faults.PeerFault = reply_stops.PeerFault
+stop_of_fault faults.OutOfMemory = reply_stops.OutOfMemory
+stop_of_fault fault = reply_stops.Faulty (reason_of fault)
+
+-- why a query has no answer, where the reply of this round was not taken
+abbrev pub stop_in_round : ℕ → ReplyStop → AskStop
+stop_in_round round (reply_stops.Faulty reason) = stops.Rejected round reason
+stop_in_round round reply_stops.PeerFault = stops.PeerFault
+stop_in_round round reply_stops.KeepFault = stops.KeepFault
+stop_in_round round reply_stops.OutOfMemory = stops.OutOfMemory
+
+-- why a reply was not taken, where the keeper stopped
+abbrev pub stop_of_keeper : PortStop → ReplyStop
+stop_of_keeper ports.Failed = reply_stops.KeepFault
+stop_of_keeper ports.OutOfMemory = reply_stops.OutOfMemory
+
+-- a front of these bytes was kept
+abbrev pub KeepsPart : Option (List TalkEvent) → Option (List TalkEvent) → List ℕ → Type 0
+KeepsPart before now bytes = (part : List ℕ) × IsPrefix part bytes × GoesOn before now (outs part)
+
+-- the link's end may have been found behind bytes that are read so: then they are not whole
+abbrev pub MayEnd : Type 0 → List TalkEvent → Type 0
+MayEnd IsOpen ended = (ended ≡ []) ⊎ ((ended ≡ Ended ∷ []) × IsOpen)
+
+-- ---- one reply, or one frame of it, of which `read` is what its bytes say
+
+module _ {X : Type 0} (read : List ℕ → Result X Reason) (old new before now : Option (List TalkEvent)) where
+  -- a whole reply came, no byte too many was taken, all were kept, and it says this
+  pub record Came (said : X) : Type 0 where
+    pub bytes : List ℕ
+    pub heard : GoesOn old new (ins bytes)
+    pub kept : GoesOn before now (outs bytes)
+    pub says : read bytes ≡ Ok said
+    pub shortest : (front : List ℕ) (byte : ℕ) → bytes ≡ front ++ byte ∷ [] → read front ≡ Err reasons.Closed
+
+  -- the reply has this fault, no byte less shows it, and all that came was kept
+  pub record HasFault (reason : Reason) : Type 0 where
+    pub bytes : List ℕ
+    pub heard : GoesOn old new (ins bytes ++ ending reason)
+    pub kept : GoesOn before now (outs bytes)
+    pub says : read bytes ≡ Err reason
+    pub shortest : (front : List ℕ) (byte : ℕ) → bytes ≡ front ++ byte ∷ [] → reason ≢ reasons.Closed → read front ≡ Err reasons.Closed
+
+  -- the link stopped, and what came has no fault but that it is not whole
+  pub record IsPart : Type 0 where
+    pub bytes : List ℕ
+    pub heard : GoesOn old new (ins bytes)
+    pub kept : KeepsPart before now bytes
+    pub says : read bytes ≡ Err reasons.Closed
+
+  -- what came could not be kept, and no byte less ends the reply or shows a fault
+  pub record IsUnkept : Type 0 where
+    pub bytes : List ℕ
+    pub ended : List TalkEvent
+    pub heard : GoesOn old new (ins bytes ++ ended)
+    pub may_end : MayEnd (read bytes ≡ Err reasons.Closed) ended
+    pub kept : KeepsPart before now bytes
+    pub shortest : (front : List ℕ) (byte : ℕ) → bytes ≡ front ++ byte ∷ [] → read front ≡ Err reasons.Closed
+
+  -- what taking a reply did, where `Stands` holds of what the call gives and of what the whole reply says
+  abbrev pub Takes : {T : Type 0} → (T → X → Type 0) → Result T ReplyStop → Type 0
+  Takes Stands (Ok x) = (said : X) × Came said × Stands x said
+  Takes Stands (Err (reply_stops.Faulty reason)) = HasFault reason
+  Takes Stands (Err reply_stops.PeerFault) = IsPart
+  Takes Stands (Err reply_stops.KeepFault) = IsUnkept
+  Takes Stands (Err reply_stops.OutOfMemory) = IsPart ⊎ IsUnkept
+
+-- a message was received: it is all that was read, it has a spelling, and its numbers fit their types
+pub record Shows (version : Version) (m : Message) (said : Message × List ℕ) : Type 0 where
+  pub is : said ≡ (m, [])
+  pub has_spelling : IsTrue (fits_in version m)
+  pub in_range : InRange m
+
+-- ---- all replies to a query
+
+module _ {S : Type 0} (P : Protocol S) (query : Query) (block : List ℕ) (old new before now : Option (List TalkEvent)) where
+  -- all replies came and are accepted; where the answer was known nothing was said
+  pub record IsAnswered (answer : Answer) : Type 0 where
+    pub replies : List (List ℕ)
+    pub talk : GoesOn old new (asked_unless P.unasked P.rules.version query block replies)
+    pub kept : GoesOn before now (outs (joined replies))
+    pub accepted : IsAccepted P block replies answer
+
+  -- the replies that came have this first fault
+  pub record IsRejected (round : ℕ) (reason : Reason) : Type 0 where
+    pub replies : List (List ℕ)
+    pub talk : GoesOn old new (asked P.rules.version query block replies ++ ending reason)
+    pub kept : GoesOn before now (outs (joined replies))
+    pub faulty : IsFaulty P block replies (record { round = round; reason = reason })
+
+  -- the talk stopped, a reply is missing or not whole, and none has a fault so far
+  pub record IsInterrupted : Type 0 where
+    pub due : P.unasked ≡ None
+    pub replies : List (List ℕ)
+    pub said : List TalkEvent
+    pub talk : GoesOn old new said
+    pub order : IsPrefix said (asked P.rules.version query block replies)
+    pub kept : KeepsPart before now (joined replies)
+    pub unfinished : IsUnfinished P.rules block replies
+    pub missing : IsMissing P.rules block replies
+
+  -- What came of the last reply could not be kept. The replies before it are whole and have no fault, and no byte less ends
+  -- the last one or shows a fault.
+  pub record IsUnrecorded : Type 0 where
+    pub due : P.unasked ≡ None
+    pub earlier : List (List ℕ)
+    pub last : List ℕ
+    pub ended : List TalkEvent
+    pub talk : GoesOn old new (asked P.rules.version query block (earlier ++ last ∷ []) ++ ended)
+    pub may_end : MayEnd (run P.rules block (earlier ++ last ∷ []) ≡ Err (record { round = length earlier; reason = reasons.Closed })) ended
+    pub kept : KeepsPart before now (joined (earlier ++ last ∷ []))
+    pub few : length earlier < length block
+    pub passed : IsTrue (is_ok (run P.rules block earlier))
+    pub shortest : (front : List ℕ) (byte : ℕ) → last ≡ front ++ byte ∷ [] → run P.rules block (earlier ++ front ∷ []) ≡ Err (record { round = length earlier; reason = reasons.Closed })
+
+  -- what was answered, where these are the places of the pairs
+  abbrev pub Answers : List Entry → Result Said AskStop → Type 0
+  Answers places (Ok said) = IsAnswered (answer_of places said)
+  Answers places (Err (stops.Rejected round reason)) = IsRejected round reason
+  Answers places (Err stops.PeerFault) = IsInterrupted
+  Answers places (Err stops.KeepFault) = IsUnrecorded
+  Answers places (Err stops.OutOfMemory) = IsInterrupted ⊎ IsUnrecorded

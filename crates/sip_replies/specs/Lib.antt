@@ -1,0 +1,5 @@
+pub mod Protocols
+pub mod Replies
+pub mod Checks
+pub mod Talks
+pub mod Asking

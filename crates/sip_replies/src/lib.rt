@@ -1,0 +1,17 @@
+//! The talk of one query: a check of its replies, whatever its kind, and one loop that asks.
+//!
+//! | file of `specs/` | what it defines |
+//! |---|---|
+//! | `Protocols` | a protocol of replies: its rules frame by frame, and what they come to |
+//! | `Replies` | what replies state as bytes, their first fault, when they are accepted |
+//! | `Talks` | the order of bytes in the talk of a query |
+//! | `Checks`, `Asking` | what the calls of a check did, and those that ask |
+#![tactic(auto)]
+
+mod asking;
+mod check;
+pub mod laws;
+mod taking;
+
+pub use asking::{AskStop, ask};
+pub use check::{Check, More, Said};

@@ -1,0 +1,129 @@
+// One reply, taken off a link frame by frame, with all that comes kept.
+ghost use Rattle.std.specs.Prelude.{◌≡◌, ℕ, List, length, Ok, Err, IfOk, MatchResult};
+ghost use Rattle.sip_ports.specs.Ports.{Lasts, Rose};
+ghost use Rattle.sip_replies.specs.Protocols.{Awaits, after};
+ghost use Rattle.sip_replies.specs.Replies.{read_one, read_reply};
+ghost use Rattle.sip_replies.specs.Asking.{Shows, Takes};
+ghost use Rattle.sip_replies.specs.declared.check.More.TheVariants.{Complete};
+
+use crate::check::{Check, More};
+use sip_ports::{Link, PortStop, Sink, write_whole};
+use sip_vector::Entry;
+use sip_wire::{Frame, Message, Place, Reason, Version, WireFault, decode};
+
+/// Why a reply was not taken.
+#[derive(Clone, Copy, Debug, PartialEq, Eq)]
+pub(crate) enum ReplyStop {
+    /// The reply has a fault.
+    Faulty(Reason),
+    /// A call of the link failed.
+    PeerFault,
+    /// What was received could not be kept: a call of the keeper failed.
+    KeepFault,
+    /// The link or the keeper ran out of memory.
+    OutOfMemory,
+}
+
+impl From<WireFault> for ReplyStop {
+    ghost use Rattle.std.specs.Prelude.{◌≡◌};
+    ghost use Rattle.sip_replies.specs.Asking.{stop_of_fault};
+
+    ghost from_gives = { λ fault stop. stop ≡ stop_of_fault fault };
+
+    fn from(fault: WireFault) -> Self {
+        match fault {
+            WireFault::Closed => ReplyStop::Faulty(Reason::Closed),
+            WireFault::BadKind => ReplyStop::Faulty(Reason::BadKind),
+            WireFault::BadLength => ReplyStop::Faulty(Reason::BadLength),
+            WireFault::BadCount => ReplyStop::Faulty(Reason::BadCount),
+            WireFault::BadNumber => ReplyStop::Faulty(Reason::BadNumber),
+            WireFault::PeerFault => ReplyStop::PeerFault,
+            WireFault::OutOfMemory => ReplyStop::OutOfMemory,
+        }
+    }
+}
+
+// the stop of a keeper
+impl From<PortStop> for ReplyStop {
+    ghost use Rattle.std.specs.Prelude.{◌≡◌};
+    ghost use Rattle.sip_replies.specs.Asking.{stop_of_keeper};
+
+    ghost from_gives = { λ port stop. stop ≡ stop_of_keeper port };
+
+    fn from(port: PortStop) -> Self {
+        match port {
+            PortStop::Failed => ReplyStop::KeepFault,
+            PortStop::OutOfMemory => ReplyStop::OutOfMemory,
+        }
+    }
+}
+
+impl From<Reason> for ReplyStop {
+    ghost use Rattle.std.specs.Prelude.{◌≡◌};
+    ghost use Rattle.sip_replies.specs.declared.taking.ReplyStop.TheVariants as stops;
+
+    ghost from_gives = { λ reason stop. stop ≡ stops.Faulty reason };
+
+    fn from(reason: Reason) -> Self {
+        ReplyStop::Faulty(reason)
+    }
+}
+
+/// Receives one frame, writes its bytes to `keep`, and then judges it. Where the link stopped inside the frame nothing is kept.
+pub(crate) fn receive<L: Link, K: Sink>(
+    version: Version,
+    place: Place,
+    frame: &mut Frame,
+    link: &mut L,
+    keep: &mut K,
+) -> Result<Message, ReplyStop>
+    ensures took { Takes (read_one version place) (L.talk link.old) (L.talk link.new) (K.talk keep.old) (K.talk keep.new) (Shows version) result }
+    ensures link { Lasts L.faults L.is_sure link.old link.new }
+    ensures keep { Lasts K.faults K.is_sure keep.old keep.new }
+    ensures peer { result ≡ Err ReplyStop.PeerFault → Rose (L.faults link.old) (L.faults link.new) }
+    ensures keeper { result ≡ Err ReplyStop.KeepFault → Rose (K.faults keep.old) (K.faults keep.new) }
+{
+    let received = match version {
+        Version::One => decode(link, place, frame),
+    };
+    match received {
+        Err(WireFault::PeerFault) => Err(ReplyStop::PeerFault),
+        Err(WireFault::OutOfMemory) => Err(ReplyStop::OutOfMemory),
+        judged => {
+            write_whole(keep, frame.bytes())?;
+            Ok(judged?)
+        }
+    }
+}
+
+/// Takes one reply, frame by frame. The bytes of each frame are written to `keep` before they are judged.
+pub(crate) fn take_reply<C: Check, L: Link, K: Sink>(
+    check: &mut C,
+    version: Version,
+    places: &mut [Entry],
+    frame: &mut Frame,
+    link: &mut L,
+    keep: &mut K,
+) -> Result<(), ReplyStop>
+    requires phase { Awaits (C.phase check.old) }
+    requires stood { (asked : C.Asked) × (s : C.State) × C.stands asked s check.old places.old }
+    ensures took { (asked : C.Asked) (s : C.State) → (C.protocol asked).rules.version ≡ version → C.stands asked s check.old places.old
+        → Takes (read_reply (C.protocol asked).rules s) (L.talk link.old) (L.talk link.new) (K.talk keep.old) (K.talk keep.new)
+        (λ _ t. C.stands asked t check.new places.new) result }
+    ensures stands { (asked : C.Asked) (s : C.State) → C.stands asked s check.old places.old
+        → IfOk result (λ _. (t : C.State) × C.stands asked t check.new places.new) }
+    ensures phase { IfOk result (λ _. C.phase check.new ≡ after Complete (C.phase check.old)) }
+    ensures places { length places.new ≡ length places.old }
+    ensures link { Lasts L.faults L.is_sure link.old link.new }
+    ensures keep { Lasts K.faults K.is_sure keep.old keep.new }
+    ensures peer { result ≡ Err ReplyStop.PeerFault → Rose (L.faults link.old) (L.faults link.new) }
+    ensures keeper { result ≡ Err ReplyStop.KeepFault → Rose (K.faults keep.old) (K.faults keep.new) }
+{
+    loop {
+        let message = receive(version, check.place(), frame, link, keep)?;
+        match check.take(&message, places)? {
+            More::Due => {}
+            More::Complete => return Ok(()),
+        }
+    }
+}
