@@ -1,4 +1,4 @@
--- What a buffer in front of a file gives.
+-- What a buffer in front of a reader gives.
 use Rattle.std.specs.Prelude.{◌≡◌, ℕ, ◌<◌, min, List, ◌++◌, length, take, Result, IsOkAnd}
 
 -- Bytes that are held are given first and in order, as many as were asked for, and the others stay.

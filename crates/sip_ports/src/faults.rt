@@ -1,4 +1,4 @@
-// The count of failures that each port over a file or a writer keeps.
+// The count of failures that each port over a reader or a writer keeps.
 ghost use Rattle.std.specs.Prelude.{◌≡◌, ◌+◌, ◌-◌, ◌^◌, ◌<◌, min};
 
 use crate::PortStop;
