@@ -12,6 +12,7 @@ use Rattle.sip_vector.specs.declared.update.Side.TheVariants.{First, Second}
 use Rattle.sip_vector.specs.declared.update.Update.{Update}
 use Rattle.sip_vector.specs.Built.{is_built}
 use Rattle.sip_vector.specs.Streams.{same_side, weight, most_weight}
+use Rattle.sip_vector.proofs.Sides.{weight-append, weight-one}
 use Rattle.sip_wire.specs.declared.message.Message.{Message}
 use Rattle.sip_wire.specs.declared.message.Message.TheVariants as messages
 use Rattle.arrayvec.specs.ArrayVec.{ArrayVec}
@@ -24,7 +25,7 @@ use Rattle.sip_helper.specs.declared.vectors.Vectors.{Vectors}
 use Rattle.sip_helper.specs.Measures.{stream_left, challenges_left, turns_left}
 use Rattle.sip_helper.specs.Serving.{IsTurn, Turn, after_turn}
 use Rattle.sip_helper.specs.Turns.{HelperState, OpenQuery, after_answer, after_reply, depth_of, is_allowed, is_below, is_light, is_refused, most_queries, step, weights_after, with_challenge}
-use Rattle.sip_helper.proofs.LegalUpdates.{weight-cons, weight-one, light_parts}
+use Rattle.sip_helper.proofs.LegalUpdates.{light_parts}
 
 -- ---- updates weigh something
 
@@ -50,8 +51,8 @@ heavier : (u : Update) (us : List Update) → 1 ≤ nat_abs u.delta → 1 ≤ we
 heavier u us some = by_side u.side refl
   where
     by_side : (s : Side) → u.side ≡ s → 1 ≤ weight (u ∷ us) First + weight (u ∷ us) Second
-    by_side First is = omega (arith, some, weight-cons u us First, weight-one u First (ap (λ (s : Side). same_side s First) is))
-    by_side Second is = omega (arith, some, weight-cons u us Second, weight-one u Second (ap (λ (s : Side). same_side s Second) is))
+    by_side First is = omega (arith, some, weight-append (u ∷ []) us First, weight-one u First (ap (λ (s : Side). same_side s First) is))
+    by_side Second is = omega (arith, some, weight-append (u ∷ []) us Second, weight-one u Second (ap (λ (s : Side). same_side s Second) is))
 
 updates_weigh : (us : List Update) → IsTrue (fits (messages.Updates (record { items = us }))) → 1 ≤ weight us First + weight us Second
 unfolding fits

@@ -12,6 +12,7 @@ use Rattle.sip_vector.specs.declared.query.Query.TheVariants as queries
 use Rattle.sip_vector.specs.declared.update.Update.{Update}
 use Rattle.sip_vector.specs.Answers.{Fits}
 use Rattle.sip_vector.specs.Built.{is_built}
+use Rattle.std.proofs.lemmas.Bool.{cases_Bool}
 use Rattle.sip_wire.specs.declared.message.Message.{Message}
 use Rattle.sip_wire.specs.declared.message.Message.TheVariants as messages
 use Rattle.sip_wire.specs.Spelling.{fits, has_room, all_hold}
@@ -24,7 +25,7 @@ use Rattle.sip_helper.specs.Keeping.{IsKept}
 use Rattle.sip_helper.specs.declared.heard.Heard.TheVariants.{Nothing, Part, Whole}
 use Rattle.sip_helper.specs.Legal.{AreOf, legal_weights}
 use Rattle.sip_helper.specs.Turns.{HelperState, depth_of, is_allowed, is_below, is_light, most_queries, part_of, stays_legal, weights_after, whole_of, with_updates}
-use Rattle.sip_helper.proofs.LegalUpdates.{are_after, bool_tells, none_or_some, same_some}
+use Rattle.sip_helper.proofs.LegalUpdates.{are_after, none_or_some, same_some}
 
 pub open_some : (version depth : ℕ) → IsTrue (fits (messages.Open version depth)) → 1 ≤ depth
 unfolding fits has_room all_hold
@@ -52,7 +53,7 @@ pub unfit_out : (s : HelperState) (depth : ℕ) (q : Query) (fit : Bool) → who
 unfit_out s depth q fit whole h tells no_fit = by_heard s.heard whole
   where
     too_high : is_below depth q ≡ false
-    too_high = elim (bool_tells (is_below depth q)) [ inl below ↦ absurd (both_ways fit no_fit (tells.1 (fits_below depth q h below))) | inr high ↦ high ]
+    too_high = elim (cases_Bool (is_below depth q)) [ inl below ↦ absurd (both_ways fit no_fit (tells.1 (fits_below depth q h below))) | inr high ↦ high ]
 
     by_heard : (heard : Heard) → whole_of heard ≡ Some depth → is_allowed (record s { heard = heard }) (messages.Query q) ≡ false
     by_heard Nothing is = absurd cc
@@ -95,7 +96,7 @@ kept_with heard weights vectors queries asked old new kept is still =
 -- ---- updates
 
 legal_tells : (depth : ℕ) (w next : Weights) (us : List Update) → legal_weights depth w us ≡ Some next → (next ≡ weights_after w us) × IsTrue (is_light next)
-legal_tells depth w next us e = elim (bool_tells (stays_legal depth w us)) [
+legal_tells depth w next us e = elim (cases_Bool (stays_legal depth w us)) [
   | inl t ↦
       let same : next ≡ weights_after w us = same_some next (weights_after w us) (sym e ∙ ap (λ (b : Bool). cond b (Some (weights_after w us)) None) t) in
       let light = and_parts (list_all (λ (u : Update). nat_lt u.item (2 ^ depth)) us) (is_light (weights_after w us)) t in

@@ -1,16 +1,16 @@
 -- Updates are legal and are added one after another.
-use Rattle.std.proofs.Common.{◌≡◌, ◌⊎◌, ℕ, ◌+◌, ◌^◌, ◌<◌, ◌≤◌, Bool, true, false, ◌&&◌, cond, nat_lt, nat_le, List, [], ◌∷◌, Option, Some, None, ℤ, nat_abs, to_z, of_z, w64, refl, sym, ap, subst, ◌∙◌, inl, inr, arith}
+use Rattle.std.proofs.Common.{◌≡◌, ℕ, ◌+◌, ◌^◌, ◌<◌, ◌≤◌, Bool, true, false, ◌&&◌, cond, nat_lt, nat_le, List, [], ◌∷◌, Option, Some, None, ℤ, nat_abs, to_z, of_z, w64, refl, sym, ap, subst, ◌∙◌, inl, inr, arith}
 use Rattle.std.specs.Prelude.{IsTrue}
-use Rattle.std.specs.List.{fold, list_all, sum_by}
+use Rattle.std.specs.List.{fold, list_all}
 use Rattle.std.proofs.lemmas.Bool.{and_from, and_parts, both_ways, ltb-true, leb-true, le-leb}
 use Rattle.std.proofs.lemmas.Int.{fits_signed_from_abs, to_z-of_z}
-use Rattle.std.proofs.lemmas.List.Elements.{filter-append}
-use Rattle.std.proofs.lemmas.List.Sums.{sum_by-append}
 use Rattle.sip_vector.specs.declared.update.Side.{Side}
 use Rattle.sip_vector.specs.declared.update.Side.TheVariants.{First, Second}
 use Rattle.sip_vector.specs.declared.update.Update.{Update}
-use Rattle.sip_vector.specs.Streams.{same_side, of_side, weight, most_weight}
+use Rattle.sip_vector.specs.Streams.{same_side, weight, most_weight}
 use Rattle.sip_vector.specs.Vectors.{SideVector, with_added, with_update}
+use Rattle.std.proofs.lemmas.Bool.{cases_Bool}
+use Rattle.sip_vector.proofs.Sides.{weight-append, weight-one, weight-one_other_side}
 use Rattle.sip_helper.specs.declared.vectors.Vectors.{Vectors}
 use Rattle.sip_helper.specs.declared.vectors.Weights.{Weights}
 use Rattle.sip_helper.specs.Turns.{with_updates, weights_after, is_light, stays_legal}
@@ -22,24 +22,13 @@ as_given z light = to_z-of_z w64 z (fits_signed_from_abs w64 z (omega arith))
 
 -- ---- weights
 
-pub weight-cons : (u : Update) (us : List Update) (side : Side) → weight (u ∷ us) side ≡ weight (u ∷ []) side + weight us side
-weight-cons u us side =
-    ap (sum_by (λ (x : Update). nat_abs x.delta)) (filter-append (λ (x : Update). same_side x.side side) (u ∷ []) us)
-    ∙ sum_by-append (λ (x : Update). nat_abs x.delta) (of_side (u ∷ []) side) (of_side us side)
-
-weight-one_other_side : (u : Update) (side : Side) → same_side u.side side ≡ false → weight (u ∷ []) side ≡ 0
-weight-one_other_side u side other = rw other refl
-
-pub weight-one : (u : Update) (side : Side) → same_side u.side side ≡ true → weight (u ∷ []) side ≡ nat_abs u.delta
-weight-one u side same = rw same (omega arith)
-
 same_weights : (a b c d : ℕ) → a ≡ b → c ≡ d → ◌≡◌ {A = Weights} (record { first = a; second = c }) (record { first = b; second = d })
 same_weights a b c d e f = cc
 
 weights-more : (w : Weights) (u : Update) (us : List Update) → weights_after w (u ∷ us) ≡ weights_after (weights_after w (u ∷ [])) us
 weights-more w u us =
-    let first = weight-cons u us First in
-    let second = weight-cons u us Second in
+    let first = weight-append (u ∷ []) us First in
+    let second = weight-append (u ∷ []) us Second in
     same_weights _ _ _ _ (omega (arith, first)) (omega (arith, second))
 
 pub light_parts : (w : Weights) → is_light w ≡ true → (w.first ≤ most_weight) × (w.second ≤ most_weight)
@@ -54,13 +43,9 @@ light_from w first second = and_from _ _ (le-leb w.first most_weight first) (le-
 light-before : (w : Weights) (u : Update) (us : List Update) → is_light (weights_after w (u ∷ us)) ≡ true → is_light (weights_after w (u ∷ [])) ≡ true
 light-before w u us h =
     let parts = light_parts (weights_after w (u ∷ us)) h in
-    let first = weight-cons u us First in
-    let second = weight-cons u us Second in
+    let first = weight-append (u ∷ []) us First in
+    let second = weight-append (u ∷ []) us Second in
     light_from (weights_after w (u ∷ [])) (omega (arith, first, parts.0)) (omega (arith, second, parts.1))
-
-pub bool_tells : (b : Bool) → (b ≡ true) ⊎ (b ≡ false)
-bool_tells true = inl refl
-bool_tells false = inr refl
 
 -- ---- one update, and those behind it
 
@@ -80,9 +65,9 @@ same_some v w e = cc
 
 illegal_by : (below others : Bool) (next all : Weights) → (is_light all ≡ true → is_light next ≡ true) → settled (below && true) next ≡ None → settled (below && others) all ≡ None
 illegal_by false others next all before h = refl
-illegal_by true others next all before h = elim (bool_tells (is_light next)) [
+illegal_by true others next all before h = elim (cases_Bool (is_light next)) [
   | inl light ↦ absurd (none_or_some next (ap (λ (b : Bool). cond b (Some next) None) (sym light) ∙ h))
-  | inr dark ↦ elim (bool_tells (is_light all)) [
+  | inr dark ↦ elim (cases_Bool (is_light all)) [
     | inl light ↦ absurd (both_ways (is_light next) dark (before light))
     | inr dark ↦ heavy others all dark
   ]
@@ -90,7 +75,7 @@ illegal_by true others next all before h = elim (bool_tells (is_light next)) [
 
 legal_by : (below : Bool) (next n : Weights) → settled (below && true) next ≡ Some n → (below ≡ true) × (n ≡ next) × (is_light next ≡ true)
 legal_by false next n h = absurd (none_or_some n (sym h))
-legal_by true next n h = elim (bool_tells (is_light next)) [
+legal_by true next n h = elim (cases_Bool (is_light next)) [
   | inl light ↦ (refl, same_some n next (sym h ∙ ap (λ (b : Bool). cond b (Some next) None) light), light)
   | inr dark ↦ absurd (none_or_some n (sym h ∙ ap (λ (b : Bool). cond b (Some next) None) dark))
 ]
@@ -153,7 +138,7 @@ follows_first v u us side h =
     let other = weight-one_other_side u Second (ap (λ (s : Side). same_side s Second) side) in
     let both = and_parts (list_all (is_item v.first.depth) (u ∷ us)) (is_light (weights_after (weights_of v) (u ∷ us))) h in
     let light = light_parts (weights_after (weights_of v) (u ∷ us)) both.1 in
-    let more = weight-cons u us First in
+    let more = weight-append (u ∷ []) us First in
     (follows v (with_first v u) u us (same_weights _ _ _ _ (omega (arith, mine)) (omega (arith, other))) (rw side refl) h, omega (arith, mine, more, light.0))
 
 pub follows_second : (v : Vectors) (u : Update) (us : List Update) → u.side ≡ Second → IsTrue (stays_legal v.first.depth (weights_of v) (u ∷ us))
@@ -163,7 +148,7 @@ follows_second v u us side h =
     let other = weight-one_other_side u First (ap (λ (s : Side). same_side s First) side) in
     let both = and_parts (list_all (is_item v.first.depth) (u ∷ us)) (is_light (weights_after (weights_of v) (u ∷ us))) h in
     let light = light_parts (weights_after (weights_of v) (u ∷ us)) both.1 in
-    let more = weight-cons u us Second in
+    let more = weight-append (u ∷ []) us Second in
     (follows v (with_second v u) u us (same_weights _ _ _ _ (omega (arith, other)) (omega (arith, mine))) (rw side refl) h, omega (arith, mine, more, light.1))
 
 -- ---- depths and weights
@@ -172,8 +157,8 @@ kept_by : (side : Side) (v : SideVector) (us : List Update) → ((fold (with_upd
 kept_by side v [] = (refl, omega arith)
 kept_by side v (u ∷ us) =
     let rest = kept_by side (with_update side v u) us in
-    let more = weight-cons u us side in
-    elim (bool_tells (same_side u.side side)) [
+    let more = weight-append (u ∷ []) us side in
+    elim (cases_Bool (same_side u.side side)) [
       | inl same ↦
           let mine = weight-one u side same in
           let here : with_update side v u ≡ with_added v u.item u.delta = ap (λ (b : Bool). cond b (with_added v u.item u.delta) v) same in

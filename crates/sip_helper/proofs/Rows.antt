@@ -1,5 +1,5 @@
 -- The entries of a vector are such that frames have room for them, and stand in frames one after another.
-use Rattle.std.proofs.Common.{◌≡◌, ◌≢◌, ◌⊎◌, ℕ, suc, ◌+◌, ◌-◌, ◌/◌, ◌^◌, ◌<◌, ◌≤◌, Bool, true, false, not, cond, nat_le, List, [], ◌∷◌, ◌++◌, length, drop, map, filter, ℤ, pos, nat_abs, sum_by, All, Some, refl, sym, ap, subst, ◌∙◌, inl, inr, arith, append-nil, length-append}
+use Rattle.std.proofs.Common.{◌≡◌, ◌⊎◌, ℕ, suc, ◌+◌, ◌-◌, ◌/◌, ◌^◌, ◌<◌, ◌≤◌, Bool, true, not, cond, nat_le, List, [], ◌∷◌, ◌++◌, length, drop, map, filter, ℤ, nat_abs, sum_by, All, Some, sym, ap, subst, ◌∙◌, inl, inr, arith, append-nil, length-append}
 use Rattle.std.specs.Prelude.{slice_get}
 use Rattle.std.specs.List.{enumerate_from, flat_map}
 use Rattle.std.proofs.lemmas.Bool.{and_parts, leb-true}
@@ -12,20 +12,18 @@ use Rattle.sip_vector.specs.Answers.{entries, is_within, is_zero}
 use Rattle.sip_vector.specs.Pieces.{cut, pieces}
 use Rattle.sip_vector.specs.Streams.{most_weight}
 use Rattle.sip_vector.specs.Vectors.{is_nonzero_within, nonzero_within}
+use Rattle.std.proofs.lemmas.Bool.{cases_Bool}
 use Rattle.sip_vector.proofs.Walks.{nonzero_within-next}
 use Rattle.sip_wire.specs.declared.message.Message.TheVariants as messages
 use Rattle.sip_wire.specs.Spelling.{spelling}
 use Rattle.sip_subvec.specs.Honest.{entry_frames}
 use Rattle.sip_subvec.proofs.HonestFrames.{IsRow}
-
-bool_tells : (b : Bool) → (b ≡ true) ⊎ (b ≡ false)
-bool_tells true = inl refl
-bool_tells false = inr refl
+use Rattle.sip_vector.proofs.Kept.{not_is_zero}
 
 -- what passes a test has what the test and the list give
 filtered : {X : Type 0} (p : X → Bool) (P Q : X → Type 0) (xs : List X) → ((x : X) → p x ≡ true → P x → Q x) → ((x : X) → P x) → All Q (filter p xs)
 filtered p P Q [] gives has = All-nil Q
-filtered p P Q (x ∷ xs) gives has = elim (bool_tells (p x)) [
+filtered p P Q (x ∷ xs) gives has = elim (cases_Bool (p x)) [
   | inl t ↦ subst (λ (b : Bool). All Q (cond b (x ∷ filter p xs) (filter p xs))) (sym t) (All-cons Q x (filter p xs) (gives x t (has x)) (filtered p P Q xs gives has))
   | inr t ↦ subst (λ (b : Bool). All Q (cond b (x ∷ filter p xs) (filter p xs))) (sym t) (filtered p P Q xs gives has)
 ]
@@ -44,9 +42,6 @@ first_within lo hi numbers e first =
 
 -- ---- each has room in a frame
 
-not_zero : (x : ℤ) → not (is_zero x) ≡ true → x ≢ pos 0
-not_zero x h e = absurd (let zero : not (is_zero x) ≡ false = rw e refl in cc)
-
 -- an entry of the numbers from an index on, which are no heavier than this
 abbrev IsLight : ℕ → Entry → Type 0
 IsLight bound e = nat_abs e.value ≤ bound
@@ -64,12 +59,12 @@ passed_rows : (lo hi : ℕ) (es : List Entry) → hi < 2 ^ 32 → All (IsLight m
 passed_rows lo hi [] small light = All-nil IsRow
 passed_rows lo hi (e ∷ es) small light =
     let later = passed_rows lo hi es small (All-tail (IsLight most_weight) e es light) in
-    elim (bool_tells (is_nonzero_within lo hi e)) [
+    elim (cases_Bool (is_nonzero_within lo hi e)) [
       | inl t ↦
           let both = and_parts (is_within lo hi e.index) (not (is_zero e.value)) t in
           let below : e.index ≤ hi = leb-true e.index hi (and_parts (nat_le lo e.index) (nat_le e.index hi) both.0).1 in
           let size = All-head (IsLight most_weight) e es light in
-          let row : IsRow e = record { index = omega (arith, below); some = not_zero e.value both.1; small = omega (arith, size) } in
+          let row : IsRow e = record { index = omega (arith, below); some = not_is_zero e.value both.1; small = omega (arith, size) } in
           subst (λ (b : Bool). All IsRow (cond b (e ∷ filter (is_nonzero_within lo hi) es) (filter (is_nonzero_within lo hi) es))) (sym t) (All-cons IsRow e (filter (is_nonzero_within lo hi) es) row later)
       | inr t ↦ subst (λ (b : Bool). All IsRow (cond b (e ∷ filter (is_nonzero_within lo hi) es) (filter (is_nonzero_within lo hi) es))) (sym t) later
     ]

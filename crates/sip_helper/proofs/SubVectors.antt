@@ -1,9 +1,8 @@
 -- The levels of a sub-vector's prover, and the bytes of an honest reply.
-use Rattle.std.proofs.Common.{◌≡◌, ℕ, zero, suc, ◌+◌, ◌-◌, ◌*◌, ◌^◌, ◌<◌, ◌≤◌, ◌%◌, true, nat_lt, Option, Some, None, List, [], ◌∷◌, ◌++◌, length, refl, sym, ap, ◌∙◌, arith, append-nil}
-use Rattle.std.specs.Prelude.{IsTrue, ℤ}
+use Rattle.std.proofs.Common.{◌≡◌, ℕ, zero, suc, ◌+◌, ◌-◌, ◌*◌, ◌^◌, ◌<◌, ◌≤◌, ◌%◌, Option, Some, None, List, [], ◌∷◌, ◌++◌, length, sym, ap, ◌∙◌, arith, append-nil}
+use Rattle.std.specs.Prelude.{ℤ}
 use Rattle.std.specs.Option.{option_map}
 use Rattle.std.proofs.Math.Nat.{pow-succ', mod-eq_of_lt}
-use Rattle.std.proofs.lemmas.Bool.{and_from, lt-ltb}
 use Rattle.std.proofs.lemmas.Nat.{pow_pos}
 use Rattle.std.proofs.lemmas.List.{length_push}
 use Rattle.std.proofs.lemmas.List.Concat.{flat_map-append}
@@ -11,9 +10,9 @@ use Rattle.sip_field.specs.Moduli.{m61_modulus}
 use Rattle.sip_field.specs.Elements.{m61_number}
 use Rattle.sip_field.specs.declared.mersenne.M61.{M61}
 use Rattle.sip_vector.specs.Vectors.{nonzero_within}
-use Rattle.sip_wire.specs.declared.message.Message.TheVariants as messages
-use Rattle.sip_wire.specs.Spelling.{fits, has_room, all_hold, spelling}
+use Rattle.sip_wire.specs.Spelling.{spelling}
 use Rattle.sip_subvec.specs.Honest.{Proving, proving, learnt, its_siblings, siblings_message, honest_messages, honest_reply}
+use Rattle.sip_wire.proofs.SiblingElements.{HasElement}
 use Rattle.sip_subvec.proofs.HonestStates.{proving-push}
 use Rattle.sip_helper.specs.declared.sub_vector.SubVectorProver.{SubVectorProver}
 use Rattle.sip_helper.specs.declared.vectors.Vectors.{Vectors}
@@ -50,26 +49,10 @@ one_higher depth v revealed old next r s h element is above half less =
 
 -- ---- messages that fit
 
--- a sibling that is present is an element of the field
-pub IsElement : Option ℕ → Type 0
-IsElement None = Unit {0}
-IsElement (Some n) = n < m61_modulus
-
-pub element_is : (o : Option M61) → IsElement (option_map m61_number o)
-unfolding IsElement
+-- the number of an element of the field, where there is one, has room in a message
+pub element_is : (o : Option M61) → HasElement (option_map m61_number o)
 element_is None = tt
 element_is (Some x) = x.below
-
-element_room : (n : ℕ) → n < m61_modulus → nat_lt n (256 ^ 8) ≡ true
-element_room n h = lt-ltb n (256 ^ 8) (omega arith)
-
-pub siblings_fit : (left right : Option ℕ) → IsElement left → IsElement right → IsTrue (fits (messages.Siblings left right))
-unfolding fits has_room all_hold IsElement
-siblings_fit None None l r = refl
-siblings_fit (Some x) None l r = and_from _ _ (and_from _ _ (and_from _ _ (element_room x l) refl) refl) (and_from _ _ (lt-ltb x m61_modulus l) refl)
-siblings_fit None (Some y) l r = and_from _ _ (and_from _ _ (and_from _ _ (element_room y r) refl) refl) (and_from _ _ (lt-ltb y m61_modulus r) refl)
-siblings_fit (Some x) (Some y) l r =
-    and_from _ _ (and_from _ _ (and_from _ _ (element_room x l) (and_from _ _ (element_room y r) refl)) refl) (and_from _ _ (lt-ltb x m61_modulus l) (and_from _ _ (lt-ltb y m61_modulus r) refl))
 
 -- ---- replies
 

@@ -91,7 +91,7 @@ pub AreBelow : ℕ → List ℕ → Type 0
 AreBelow p level = (i : ℕ) → get_or level i 0 < p
 
 pub honest_elements : (p : ℕ) (level : List ℕ) (lo hi : ℕ) → p ≤ m61_modulus → AreBelow p level → HasElement (honest_siblings level lo hi).left × HasElement (honest_siblings level lo hi).right
-unfolding HasElement AreBelow
+unfolding AreBelow
 honest_elements p level lo hi small below = (left (lo % 2 == 1), right (hi % 2 == 0))
   where
     node : (i : ℕ) → get_or level i 0 < m61_modulus

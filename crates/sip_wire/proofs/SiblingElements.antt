@@ -7,7 +7,7 @@ use Rattle.sip_wire.specs.declared.message.Message.TheVariants as messages
 use Rattle.sip_wire.specs.Spelling.{fits, has_room, all_hold}
 
 -- a sibling that is present is an element of the field
-unfoldable pub HasElement : Option ℕ → Type 0
+abbrev pub HasElement : Option ℕ → Type 0
 HasElement None = Unit {0}
 HasElement (Some n) = n < m61_modulus
 
@@ -17,7 +17,7 @@ element_room n h = lt-ltb n (256 ^ 8) (omega arith)
 
 -- such siblings have a spelling
 pub siblings_fit : (left right : Option ℕ) → HasElement left → HasElement right → IsTrue (fits (messages.Siblings left right))
-unfolding fits has_room all_hold HasElement
+unfolding fits has_room all_hold
 siblings_fit None None l r = refl
 siblings_fit (Some x) None l r = and_from _ _ (and_from _ _ (and_from _ _ (element_room x l) refl) refl) (and_from _ _ (lt-ltb x m61_modulus l) refl)
 siblings_fit None (Some y) l r = and_from _ _ (and_from _ _ (and_from _ _ (element_room y r) refl) refl) (and_from _ _ (lt-ltb y m61_modulus r) refl)
