@@ -3,12 +3,11 @@ use Rattle.std.proofs.Common.{◌≡◌, ℕ, ◌^◌, ◌<◌, ◌≤◌, Bool,
 use Rattle.std.specs.Prelude.{IfSome, IsTrue, is_none, ◌↔◌}
 use Rattle.std.specs.List.{list_all}
 use Rattle.std.specs.Option.{option_map}
-use Rattle.std.proofs.lemmas.Bool.{and_parts, and_right, both_ways, ltb-true}
+use Rattle.std.proofs.lemmas.Bool.{and_parts, and_right, both_ways}
 use Rattle.std.proofs.lemmas.Bool.Decides.{nat_tests}
 use Rattle.arrayvec.specs.ArrayVec.{ArrayVec}
 use Rattle.sip_field.specs.Moduli.{m61_modulus}
 use Rattle.sip_vector.specs.declared.query.Query.{Query}
-use Rattle.sip_vector.specs.declared.query.Query.TheVariants as queries
 use Rattle.sip_vector.specs.declared.update.Update.{Update}
 use Rattle.sip_vector.specs.Answers.{Fits}
 use Rattle.sip_vector.specs.Built.{is_built}
@@ -23,8 +22,10 @@ use Rattle.sip_helper.specs.declared.vectors.Weights.{Weights}
 use Rattle.sip_helper.specs.Answering.{Stands}
 use Rattle.sip_helper.specs.Keeping.{IsKept}
 use Rattle.sip_helper.specs.declared.heard.Heard.TheVariants.{Nothing, Part, Whole}
+use Rattle.sip_helper.specs.Kinds.{is_below}
 use Rattle.sip_helper.specs.Legal.{AreOf, legal_weights}
-use Rattle.sip_helper.specs.Turns.{HelperState, depth_of, is_allowed, is_below, is_light, most_queries, part_of, stays_legal, weights_after, whole_of, with_updates}
+use Rattle.sip_helper.specs.Turns.{HelperState, depth_of, is_allowed, is_light, most_queries, part_of, stays_legal, weights_after, whole_of, with_updates}
+use Rattle.sip_helper.proofs.EachKind.{fits_below}
 use Rattle.sip_helper.proofs.LegalUpdates.{are_after, none_or_some, same_some}
 
 pub open_some : (version depth : ℕ) → IsTrue (fits (messages.Open version depth)) → 1 ≤ depth
@@ -39,16 +40,12 @@ pub element_fits : (challenge : ℕ) → IsTrue (fits (messages.Reveal challenge
 unfolding fits has_room all_hold
 element_fits challenge h = grind (arith, nat_tests)
 
--- a query with a spelling, whose items are below 2 ^ depth, fits the depth
-fits_below : (depth : ℕ) (q : Query) → IsTrue (fits (messages.Query q)) → is_below depth q ≡ true → Fits depth q
+-- a refusal has a spelling
+pub refusal_fits : (code : ℕ) → 1 ≤ code → code ≤ 4 → IsTrue (fits (messages.Refuse code))
 unfolding fits has_room all_hold
-fits_below depth (queries.Sub lo hi) h below = (grind (arith, nat_tests), ltb-true hi (2 ^ depth) below)
-fits_below depth (queries.Range side lo hi) h below = (grind (arith, nat_tests), ltb-true hi (2 ^ depth) below)
-fits_below depth (queries.F2 side) h below = tt
-fits_below depth queries.Inner h below = tt
-fits_below depth (queries.Heavy side at_least) h below = (grind (arith, nat_tests), grind (arith, nat_tests))
+refusal_fits code some most = grind (arith, nat_tests)
 
--- one that does not fit may not come
+-- a query that does not fit the depth may not come
 pub unfit_out : (s : HelperState) (depth : ℕ) (q : Query) (fit : Bool) → whole_of s.heard ≡ Some depth → IsTrue (fits (messages.Query q)) → IsTrue fit ↔ Fits depth q → fit ≡ false → is_allowed s (messages.Query q) ≡ false
 unfit_out s depth q fit whole h tells no_fit = by_heard s.heard whole
   where

@@ -1,8 +1,8 @@
+pub mod EachKind
 pub mod EntryFrames
 pub mod Falling
 pub mod Hearing
 pub mod LegalUpdates
-pub mod Refusals
 pub mod Rows
 pub mod Sending
 pub mod Standing

@@ -20,7 +20,7 @@ use Rattle.sip_wire.specs.Reading.{read_frame}
 use Rattle.sip_wire.specs.Spelling.{spelling}
 use Rattle.sip_helper.specs.declared.status.HelpStatus.TheVariants.{Served, BadFrame, PeerFault}
 use Rattle.sip_helper.specs.OneTurn.{Stopped, Taken}
-use Rattle.sip_helper.specs.Rows.{out_of_turn}
+use Rattle.sip_helper.specs.KindRows.{out_of_turn}
 use Rattle.sip_helper.specs.Serving.{IsMessage, IsTurn, Turn, heard_in}
 use Rattle.sip_helper.specs.Statuses.{status_of_fault, status_of_stop}
 use Rattle.sip_helper.specs.Turns.{HelperState, OpenQuery, after_answer, after_reply, depth_of, is_allowed, is_known, is_refused, owed, owes, reply_to, step}

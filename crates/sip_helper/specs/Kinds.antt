@@ -1,12 +1,20 @@
--- The kinds of query, a line for each: its row, and its prover.
-use Rattle.std.specs.Prelude.{ℕ, List}
+-- The kinds of query, a line for each: its items, its row, and its prover.
+use Rattle.std.specs.Prelude.{ℕ, ◌^◌, Bool, true, nat_lt, List}
 use Rattle.sip_vector.specs.declared.query.Query.{Query}
 use Rattle.sip_vector.specs.declared.query.Query.TheVariants.{Sub, Range, F2, Inner, Heavy}
 use Rattle.sip_helper.specs.declared.kinds.KindProver.{KindProver}
 use Rattle.sip_helper.specs.declared.kinds.KindProver.TheVariants as provers
 use Rattle.sip_helper.specs.declared.vectors.Vectors.{Vectors}
-use Rattle.sip_helper.specs.Rows.{Row, unbuilt}
+use Rattle.sip_helper.specs.KindRows.{Row, unbuilt}
 use Rattle.sip_helper.specs.SubVectors.{HasLevel, sub_query, sub_row}
+
+-- the query's items are below 2 ^ depth
+abbrev pub is_below : ℕ → Query → Bool
+is_below depth (Sub lo hi) = nat_lt hi (2 ^ depth)
+is_below depth (Range _ lo hi) = nat_lt hi (2 ^ depth)
+is_below depth (F2 _) = true
+is_below depth Inner = true
+is_below depth (Heavy _ _) = true
 
 -- the row of a query
 abbrev pub row_of : Query → Row

@@ -1,10 +1,10 @@
 pub mod Answering
 pub mod Keeping
+pub mod KindRows
 pub mod Kinds
 pub mod Legal
 pub mod Measures
 pub mod OneTurn
-pub mod Rows
 pub mod Serving
 pub mod Starting
 pub mod Statuses

@@ -19,7 +19,7 @@ use Rattle.sip_wire.specs.Table.{allows}
 use Rattle.sip_wire.specs.Values.{InRange}
 use Rattle.sip_helper.specs.declared.status.HelpStatus.{HelpStatus}
 use Rattle.sip_helper.specs.declared.status.HelpStatus.TheVariants.{Served, BadFrame, PeerClosed, PeerFault, OutOfMemory}
-use Rattle.sip_helper.specs.Rows.{out_of_turn}
+use Rattle.sip_helper.specs.KindRows.{out_of_turn}
 use Rattle.sip_helper.specs.Turns.{HelperState, after_answer, fresh, is_allowed, is_known, owed, step}
 
 -- ---- turns

@@ -6,7 +6,6 @@ use Rattle.std.specs.Prelude.{ℕ, ◌+◌, ◌^◌, Bool, true, false, not, ◌
 use Rattle.std.specs.List.{list_all, flat_map}
 use Rattle.std.specs.Option.{option_map, option_and_then}
 use Rattle.sip_vector.specs.declared.query.Query.{Query}
-use Rattle.sip_vector.specs.declared.query.Query.TheVariants as queries
 use Rattle.sip_vector.specs.declared.update.Side.TheVariants.{First, Second}
 use Rattle.sip_vector.specs.declared.update.Update.{Update}
 use Rattle.sip_vector.specs.Built.{is_built}
@@ -19,8 +18,8 @@ use Rattle.sip_helper.specs.declared.heard.Heard.{Heard}
 use Rattle.sip_helper.specs.declared.heard.Heard.TheVariants.{Nothing, Part, Whole}
 use Rattle.sip_helper.specs.declared.vectors.Vectors.{Vectors}
 use Rattle.sip_helper.specs.declared.vectors.Weights.{Weights}
-use Rattle.sip_helper.specs.Kinds.{row_of}
-use Rattle.sip_helper.specs.Rows.{refusal, reply_by, want_of_memory}
+use Rattle.sip_helper.specs.Kinds.{is_below, row_of}
+use Rattle.sip_helper.specs.KindRows.{refusal, reply_by, want_of_memory}
 
 -- ---- the state
 
@@ -95,14 +94,6 @@ most_queries = 16
 abbrev pub is_known : Message → Bool
 is_known (messages.Query q) = is_built q
 is_known _ = true
-
--- the query's items are below 2 ^ depth
-abbrev pub is_below : ℕ → Query → Bool
-is_below depth (queries.Sub lo hi) = nat_lt hi (2 ^ depth)
-is_below depth (queries.Range side lo hi) = nat_lt hi (2 ^ depth)
-is_below depth (queries.F2 side) = true
-is_below depth queries.Inner = true
-is_below depth (queries.Heavy side at_least) = true
 
 -- a query may be asked of a stream of this depth
 abbrev pub may_ask : ℕ → HelperState → Query → Bool

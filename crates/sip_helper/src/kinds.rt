@@ -19,8 +19,8 @@ pub(crate) enum KindProver {
 }
 
 impl KindProver {
-    /// The prover of a query that fits the vectors' depth. It takes the memory that the replies want.
-    /// A kind that is not built has none: its query is out of turn.
+    /// The prover of a query that fits the vectors' depth. It takes the memory that the replies
+    /// want. A kind that is not built has none: its query is out of turn.
     pub(crate) fn start(
         alloc: Global,
         vectors: &Vectors,

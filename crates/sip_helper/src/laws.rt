@@ -4,7 +4,7 @@ ghost use Rattle.std.specs.Prelude.{◌≡◌, ◌<◌, Bool, IfSome, IsTrue, So
 ghost use Rattle.sip_vector.specs.Built.{is_built};
 ghost use Rattle.sip_vector.specs.declared.query.Query.{Query as AnyQuery};
 ghost use Rattle.sip_helper.specs.Kinds.{row_of};
-ghost use Rattle.sip_helper.specs.Rows.{out_of_turn, want_of_memory};
+ghost use Rattle.sip_helper.specs.KindRows.{out_of_turn, want_of_memory};
 ghost use Rattle.sip_helper.specs.declared.vectors.Vectors.{Vectors as AnyVectors};
 
 /// The row of a kind that is built refuses neither as out of turn nor for want of memory, and that of

@@ -32,8 +32,7 @@ impl From<OutOfMemory> for NotStarted {
     }
 }
 
-/// What the honest replies to a query of one kind are made from, once a call of the kind started it.
-/// No reply takes memory.
+/// What the honest replies to a query of one kind are made from. No reply takes memory.
 pub(crate) trait Prover {
     /// The query.
     ghost query: { Self → AnyQuery };
@@ -48,7 +47,8 @@ pub(crate) trait Prover {
             × (length revealed + 1 < depth) × has_learnt depth v revealed self.old }
         ensures query { query self.new ≡ query self.old }
         ensures learnt { (depth : ℕ) (v : AnyVectors) (revealed : List ℕ) → length revealed + 1 < depth
-            → has_learnt depth v revealed self.old → has_learnt depth v (revealed ++ challenge ∷ []) self.new };
+            → has_learnt depth v revealed self.old
+            → has_learnt depth v (revealed ++ challenge ∷ []) self.new };
 
     /// Sends the honest reply that is due once these challenges are revealed, one write a frame.
     fn put_reply<K: Sink>(

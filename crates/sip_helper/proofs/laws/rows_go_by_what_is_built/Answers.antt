@@ -1,4 +1,4 @@
-use Rattle.sip_helper.proofs.Refusals.{built_row, other_row}
+use Rattle.sip_helper.proofs.EachKind.{built_row, other_row}
 use Rattle.sip_helper.proofs.laws.rows_go_by_what_is_built.Goals as goal
 
 pub returns : goal.returns

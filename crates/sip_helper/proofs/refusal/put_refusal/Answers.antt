@@ -1,4 +1,4 @@
-use Rattle.sip_helper.proofs.Refusals.{refusal_fits}
+use Rattle.sip_helper.proofs.Hearing.{refusal_fits}
 use Rattle.sip_helper.proofs.refusal.put_refusal.Goals as goal
 
 pub encode-requires : goal.encode-requires

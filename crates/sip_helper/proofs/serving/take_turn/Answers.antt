@@ -5,7 +5,7 @@ use Rattle.std.proofs.lemmas.Result.{err_from_is_err_and}
 use Rattle.sip_ports.specs.Ports.{GoesOn, SendsWhole, outs}
 use Rattle.sip_ports.proofs.TalkLemmas.{GoesOn-refl}
 use Rattle.sip_helper.specs.Turns.{HelperState, after_answer, is_allowed, is_known, owed, step}
-use Rattle.sip_helper.proofs.Refusals.{refusal_fits}
+use Rattle.sip_helper.proofs.Hearing.{refusal_fits}
 use Rattle.sip_helper.proofs.Turning.{refused, refusal_cut, reply_cut, given, owes_nothing, not_allowed, is_allowed_by, on_ok_holds}
 use Rattle.sip_helper.proofs.serving.take_turn.Goals as goal
 

@@ -4,7 +4,8 @@ use Rattle.sip_wire.specs.declared.message.Message.{Message}
 use Rattle.sip_wire.specs.declared.message.Message.TheVariants as messages
 use Rattle.sip_helper.specs.declared.vectors.Vectors.{Vectors}
 
--- the codes of refusals: for want of memory, of an answer with too many entries, and of a message out of turn
+-- the codes of refusals: for want of memory, of an answer with too many entries, and of a message
+-- out of turn
 abbrev pub want_of_memory : ℕ
 want_of_memory = 1
 
@@ -18,8 +19,8 @@ out_of_turn = 4
 abbrev pub refusal : ℕ → List Message
 refusal code = messages.Refuse code ∷ []
 
--- A row: the code by which the query is refused over the two vectors, if it is, and the messages of the honest reply to it over
--- them, once these challenges are revealed.
+-- A row: the code by which the query is refused over the two vectors, if it is, and the messages of
+-- the honest reply over them, once these challenges are revealed.
 pub record Row : Type 0 where
   pub refused_by : Vectors → Option ℕ
   pub honest : Vectors → List ℕ → List Message

@@ -1,20 +1,27 @@
--- The codes of refusals, and that they have a spelling.
-use Rattle.std.proofs.Common.{◌≡◌, ℕ, ◌<◌, ◌≤◌, Bool, true, false, Some, None, refl, if◌then◌else◌, arith}
+-- The kinds of query, a line for each: what fits, and which refusals the rows have.
+use Rattle.std.proofs.Common.{◌≡◌, ℕ, ◌^◌, ◌<◌, Bool, true, false, Some, None, refl, if◌then◌else◌, arith}
 use Rattle.std.specs.Prelude.{IsTrue, IfSome}
+use Rattle.std.proofs.lemmas.Bool.{ltb-true}
 use Rattle.std.proofs.lemmas.Bool.Decides.{nat_tests}
 use Rattle.sip_vector.specs.declared.query.Query.{Query}
 use Rattle.sip_vector.specs.declared.query.Query.TheVariants.{Sub, Range, F2, Inner, Heavy}
+use Rattle.sip_vector.specs.Answers.{Fits}
 use Rattle.sip_vector.specs.Built.{is_built}
 use Rattle.sip_wire.specs.declared.message.Message.TheVariants as messages
 use Rattle.sip_wire.specs.Spelling.{fits, has_room, all_hold}
 use Rattle.sip_helper.specs.declared.vectors.Vectors.{Vectors}
-use Rattle.sip_helper.specs.Kinds.{row_of}
-use Rattle.sip_helper.specs.Rows.{out_of_turn, too_many, want_of_memory}
+use Rattle.sip_helper.specs.Kinds.{is_below, row_of}
+use Rattle.sip_helper.specs.KindRows.{out_of_turn, too_many, want_of_memory}
 use Rattle.sip_helper.specs.SubVectors.{is_too_long}
 
-pub refusal_fits : (code : ℕ) → 1 ≤ code → code ≤ 4 → IsTrue (fits (messages.Refuse code))
+-- a query with a spelling, whose items are below 2 ^ depth, fits the depth
+pub fits_below : (depth : ℕ) (q : Query) → IsTrue (fits (messages.Query q)) → is_below depth q ≡ true → Fits depth q
 unfolding fits has_room all_hold
-refusal_fits code some most = grind (arith, nat_tests)
+fits_below depth (Sub lo hi) h below = (grind (arith, nat_tests), ltb-true hi (2 ^ depth) below)
+fits_below depth (Range side lo hi) h below = (grind (arith, nat_tests), ltb-true hi (2 ^ depth) below)
+fits_below depth (F2 side) h below = tt
+fits_below depth Inner h below = tt
+fits_below depth (Heavy side at_least) h below = (grind (arith, nat_tests), grind (arith, nat_tests))
 
 -- ---- rows
 
