@@ -1,7 +1,7 @@
 use super::{Command, read_words};
-use crate::{Opening, PortPlan, Usage, Words, ports};
+use crate::{Opening, Usage, Words, ports};
 use sip_stream::Form;
-use sip_vector::{Depth, Query};
+use sip_vector::Query;
 use std::alloc::Global;
 use std::test::Fail;
 
@@ -21,89 +21,129 @@ fn refused_at(words: &Words) -> Option<u32> {
     }
 }
 
-// The numbers were found by hand: the first word that no command has behind the words before it.
+// Words, and the number of the first of them that no command has behind the words before it, found by hand; none where
+// they are a command.
+const REFUSALS: [(&str, Option<u32>); 107] = [
+    ("", Some(0)),
+    ("audit|s|t", Some(0)),
+    ("show|t", Some(0)),
+    ("play|s|k|honest|-|3|sub:1:2", Some(0)),
+    ("Verify|s|k|f|t|-|3|sub:1:2", Some(0)),
+    ("verify ", Some(0)),
+    ("verify", Some(1)),
+    ("verify||k|f|t|-|3|sub:1:2", Some(1)),
+    ("verify|text:|k|f|t|-|3|sub:1:2", Some(1)),
+    ("verify|made:|k|f|t|-|3|sub:1:2", Some(1)),
+    ("verify|made:7|k|f|t|-|3|sub:1:2", Some(1)),
+    ("verify|made:07:20|k|f|t|-|3|sub:1:2", Some(1)),
+    ("verify|made:7:|k|f|t|-|3|sub:1:2", Some(1)),
+    ("verify|made:7:20:1|k|f|t|-|3|sub:1:2", Some(1)),
+    ("verify|made:7:10000001|k|f|t|-|3|sub:1:2", Some(1)),
+    (
+        "verify|made:18446744073709551616:20|k|f|t|-|3|sub:1:2",
+        Some(1),
+    ),
+    ("verify|s", Some(2)),
+    ("verify|s||f|t|-|3|sub:1:2", Some(2)),
+    ("verify|s|k", Some(3)),
+    ("verify|s|k||t|-|3|sub:1:2", Some(3)),
+    ("verify|s|k|f", Some(4)),
+    ("verify|s|k|f||+|3|sub:1:2", Some(4)),
+    ("verify|s|k|f|t", Some(5)),
+    ("verify|s|k|f|t|r|3|sub:1:2", Some(5)),
+    ("verify|s|k|f|t|--|3|sub:1:2", Some(5)),
+    ("verify|s|k|f|t||3|sub:1:2", Some(5)),
+    ("verify|s|k|f|t|-", Some(6)),
+    ("verify|s|k|f|t|-|0|sub:0:0", Some(6)),
+    ("verify|s|k|f|t|-|33|sub:1:2", Some(6)),
+    ("verify|s|k|f|t|-|03|sub:1:2", Some(6)),
+    ("verify|s|k|f|t|-|+3|sub:1:2", Some(6)),
+    ("verify|s|k|f|t|-|3x|sub:1:2", Some(6)),
+    ("verify|s|k|f|t|-||sub:1:2", Some(6)),
+    ("verify|s|k|f|t|-|18446744073709551619|sub:1:2", Some(6)),
+    ("verify|s|k|f|t|-|3", Some(7)),
+    ("verify|s|k|f|t|-|3|", Some(7)),
+    ("verify|s|k|f|t|-|3|sub:2:1", Some(7)),
+    ("verify|s|k|f|t|-|3|sub:0:8", Some(7)),
+    ("verify|s|k|f|t|-|2|sub:1:4", Some(7)),
+    ("verify|s|k|f|t|-|3|sub:01:2", Some(7)),
+    ("verify|s|k|f|t|-|3|sub:-1:2", Some(7)),
+    ("verify|s|k|f|t|-|3|sub:1:2:3", Some(7)),
+    ("verify|s|k|f|t|-|3|sub:1", Some(7)),
+    ("verify|s|k|f|t|-|3|sub::2", Some(7)),
+    ("verify|s|k|f|t|-|3|Sub:1:2", Some(7)),
+    ("verify|s|k|f|t|-|3|f2:0", Some(7)),
+    ("verify|s|k|f|t|-|3|f2:2", Some(7)),
+    ("verify|s|k|f|t|-|3|inner", Some(7)),
+    ("verify|s|k|f|t|-|3|heavy:0:4", Some(7)),
+    ("verify|s|k|f|t|-|3|range:0:1:2", Some(7)),
+    ("verify|s|k|f|t|-|20|sub:0:1048576", Some(7)),
+    ("verify|s|k|f|t|-|32|sub:0:4294967296", Some(7)),
+    ("verify|s|k|f|t|-|32|sub:0:18446744073709551616", Some(7)),
+    ("verify|s|k|f|t|-|2|f2:2", Some(7)),
+    ("verify|s|k|f|t|-|2|sub:01:2", Some(7)),
+    ("verify|s|k|f|t|-|3|sub:1:2|", Some(8)),
+    ("verify|s|k|f|t|-|3|sub:1:2|f2:0", Some(8)),
+    ("verify|s|k|f|t|-|3|sub:1:2|sub:0:8|sub:2:1", Some(8)),
+    ("verify|s|k|f|t|-|3|sub:1:2|sub:0:7|sub:0:8", Some(9)),
+    ("verify|s|k|f|t|-|3|sub:1:2", None),
+    ("verify|s|k|f|t|-|3|sub:1:2|sub:1:2", None),
+    ("verify|s|k|f|t|-|3|sub:0:7|sub:7:7|sub:0:0", None),
+    ("verify|s|k|f|t|-|21|sub:1:2", None),
+    ("verify|s|k|f|t|-|32|sub:0:4294967295", None),
+    ("verify|text:s|k|f|t|-|3|sub:1:2", None),
+    ("verify|text:made:7:20|k|f|t|-|3|sub:1:2", None),
+    ("verify|made:0:0|k|f|t|-|3|sub:1:2", None),
+    (
+        "verify|made:18446744073709551615:10000000|k|f|t|-|20|sub:1:2",
+        None,
+    ),
+    ("verify|-|made:|text:|-|-|1|sub:0:0", None),
+    ("verify|made|k|f|t|-|20|sub:0:1048575", None),
+    ("help", Some(1)),
+    ("help|", Some(1)),
+    ("help|f", Some(2)),
+    ("help|f|", Some(2)),
+    ("help|f|t", None),
+    ("help|made:|-", None),
+    ("help|f|t|x", Some(3)),
+    ("help|f|t|", Some(3)),
+    ("gen", Some(1)),
+    ("gen|07|1|20", Some(1)),
+    ("gen|-7|1|20", Some(1)),
+    ("gen||1|20", Some(1)),
+    ("gen|18446744073709551616|1|20", Some(1)),
+    ("gen|7", Some(2)),
+    ("gen|7|10000001|20", Some(2)),
+    ("gen|7|1e3|20", Some(2)),
+    ("gen|7|1", Some(3)),
+    ("gen|7|1|0", Some(3)),
+    ("gen|7|1|33", Some(3)),
+    ("gen|7|1|020", Some(3)),
+    ("gen|7|1|20|", Some(4)),
+    ("gen|7|1|20|20", Some(4)),
+    ("gen|18446744073709551615|10000000|32", None),
+    ("gen|0|0|1", None),
+    ("lines", Some(1)),
+    ("lines||20", Some(1)),
+    ("lines|text:|20", Some(1)),
+    ("lines|made:7:1x|20", Some(1)),
+    ("lines|made:7|20", Some(1)),
+    ("lines|s", Some(2)),
+    ("lines|made:7:1|33", Some(2)),
+    ("lines|made:7:1|0", Some(2)),
+    ("lines|s|", Some(2)),
+    ("lines|s|20|20", Some(3)),
+    ("lines|text:made:7|32", None),
+    ("lines|made:7:1|20", None),
+    ("lines|lines|1", None),
+];
+
 #[test]
 fn refuses_the_first_word_that_begins_no_command(rt: HostRuntime) -> Result<(), Fail> {
     let alloc = rt.alloc();
-    for (text, want) in [
-        ("", Some(0)),
-        ("audit|s|t", Some(0)),
-        ("show|t", Some(0)),
-        ("play|s|k|honest|-|3|sub:1:2", Some(0)),
-        ("Verify|s|k|f|t|-|3|sub:1:2", Some(0)),
-        ("verify ", Some(0)),
-        ("verify", Some(1)),
-        ("verify||k|f|t|-|3|sub:1:2", Some(1)),
-        ("verify|text:|k|f|t|-|3|sub:1:2", Some(1)),
-        ("verify|made:|k|f|t|-|3|sub:1:2", Some(1)),
-        ("verify|made:7|k|f|t|-|3|sub:1:2", Some(1)),
-        ("verify|made:07:20|k|f|t|-|3|sub:1:2", Some(1)),
-        ("verify|made:7:|k|f|t|-|3|sub:1:2", Some(1)),
-        ("verify|made:7:20:1|k|f|t|-|3|sub:1:2", Some(1)),
-        ("verify|made:7:10000001|k|f|t|-|3|sub:1:2", Some(1)),
-        (
-            "verify|made:18446744073709551616:20|k|f|t|-|3|sub:1:2",
-            Some(1),
-        ),
-        ("verify|s", Some(2)),
-        ("verify|s||f|t|-|3|sub:1:2", Some(2)),
-        ("verify|s|k", Some(3)),
-        ("verify|s|k||t|-|3|sub:1:2", Some(3)),
-        ("verify|s|k|f", Some(4)),
-        ("verify|s|k|f||+|3|sub:1:2", Some(4)),
-        ("verify|s|k|f|t", Some(5)),
-        ("verify|s|k|f|t|r|3|sub:1:2", Some(5)),
-        ("verify|s|k|f|t|--|3|sub:1:2", Some(5)),
-        ("verify|s|k|f|t||3|sub:1:2", Some(5)),
-        ("verify|s|k|f|t|-", Some(6)),
-        ("verify|s|k|f|t|-|0|sub:0:0", Some(6)),
-        ("verify|s|k|f|t|-|33|sub:1:2", Some(6)),
-        ("verify|s|k|f|t|-|03|sub:1:2", Some(6)),
-        ("verify|s|k|f|t|-|+3|sub:1:2", Some(6)),
-        ("verify|s|k|f|t|-|3x|sub:1:2", Some(6)),
-        ("verify|s|k|f|t|-||sub:1:2", Some(6)),
-        ("verify|s|k|f|t|-|18446744073709551619|sub:1:2", Some(6)),
-        ("verify|s|k|f|t|-|3", Some(7)),
-        ("verify|s|k|f|t|-|3|", Some(7)),
-        ("verify|s|k|f|t|-|3|sub:2:1", Some(7)),
-        ("verify|s|k|f|t|-|3|sub:0:8", Some(7)),
-        ("verify|s|k|f|t|-|2|sub:1:4", Some(7)),
-        ("verify|s|k|f|t|-|3|sub:01:2", Some(7)),
-        ("verify|s|k|f|t|-|3|sub:-1:2", Some(7)),
-        ("verify|s|k|f|t|-|3|sub:1:2:3", Some(7)),
-        ("verify|s|k|f|t|-|3|sub:1", Some(7)),
-        ("verify|s|k|f|t|-|3|sub::2", Some(7)),
-        ("verify|s|k|f|t|-|3|Sub:1:2", Some(7)),
-        ("verify|s|k|f|t|-|3|f2:0", Some(7)),
-        ("verify|s|k|f|t|-|3|f2:2", Some(7)),
-        ("verify|s|k|f|t|-|3|inner", Some(7)),
-        ("verify|s|k|f|t|-|3|heavy:0:4", Some(7)),
-        ("verify|s|k|f|t|-|3|range:0:1:2", Some(7)),
-        ("verify|s|k|f|t|-|20|sub:0:1048576", Some(7)),
-        ("verify|s|k|f|t|-|32|sub:0:4294967296", Some(7)),
-        ("verify|s|k|f|t|-|32|sub:0:18446744073709551616", Some(7)),
-        ("verify|s|k|f|t|-|2|f2:2", Some(7)),
-        ("verify|s|k|f|t|-|2|sub:01:2", Some(7)),
-        ("verify|s|k|f|t|-|3|sub:1:2|", Some(8)),
-        ("verify|s|k|f|t|-|3|sub:1:2|f2:0", Some(8)),
-        ("verify|s|k|f|t|-|3|sub:1:2|sub:0:8|sub:2:1", Some(8)),
-        ("verify|s|k|f|t|-|3|sub:1:2|sub:0:7|sub:0:8", Some(9)),
-        ("verify|s|k|f|t|-|3|sub:1:2", None),
-        ("verify|s|k|f|t|-|3|sub:1:2|sub:1:2", None),
-        ("verify|s|k|f|t|-|3|sub:0:7|sub:7:7|sub:0:0", None),
-        ("verify|s|k|f|t|-|21|sub:1:2", None),
-        ("verify|s|k|f|t|-|32|sub:0:4294967295", None),
-        ("verify|text:s|k|f|t|-|3|sub:1:2", None),
-        ("verify|text:made:7:20|k|f|t|-|3|sub:1:2", None),
-        ("verify|made:0:0|k|f|t|-|3|sub:1:2", None),
-        (
-            "verify|made:18446744073709551615:10000000|k|f|t|-|20|sub:1:2",
-            None,
-        ),
-        ("verify|-|made:|text:|-|-|1|sub:0:0", None),
-        ("verify|made|k|f|t|-|20|sub:0:1048575", None),
-    ] {
-        assert_eq!(rt; refused_at(&words(alloc, text)?), want, "at {text}");
+    for (text, want) in &REFUSALS {
+        assert_eq!(rt; refused_at(&words(alloc, text)?), *want, "at {text}");
     }
     assert_eq!(rt; refused_at(&Words::of(Vec::new(alloc))), Some(0));
     Ok(())
@@ -126,54 +166,6 @@ fn reads_16_queries(rt: HostRuntime) -> Result<(), Fail> {
             text.push_str("|sub:1:2")?;
         }
         assert_eq!(rt; refused_at(&words(alloc, &text)?), want, "{count} queries");
-    }
-    Ok(())
-}
-
-// The same of the other commands.
-#[test]
-fn refuses_the_first_word_that_no_other_command_has(rt: HostRuntime) -> Result<(), Fail> {
-    let alloc = rt.alloc();
-    for (text, want) in [
-        ("help", Some(1)),
-        ("help|", Some(1)),
-        ("help|f", Some(2)),
-        ("help|f|", Some(2)),
-        ("help|f|t", None),
-        ("help|made:|-", None),
-        ("help|f|t|x", Some(3)),
-        ("help|f|t|", Some(3)),
-        ("gen", Some(1)),
-        ("gen|07|1|20", Some(1)),
-        ("gen|-7|1|20", Some(1)),
-        ("gen||1|20", Some(1)),
-        ("gen|18446744073709551616|1|20", Some(1)),
-        ("gen|7", Some(2)),
-        ("gen|7|10000001|20", Some(2)),
-        ("gen|7|1e3|20", Some(2)),
-        ("gen|7|1", Some(3)),
-        ("gen|7|1|0", Some(3)),
-        ("gen|7|1|33", Some(3)),
-        ("gen|7|1|020", Some(3)),
-        ("gen|7|1|20|", Some(4)),
-        ("gen|7|1|20|20", Some(4)),
-        ("gen|18446744073709551615|10000000|32", None),
-        ("gen|0|0|1", None),
-        ("lines", Some(1)),
-        ("lines||20", Some(1)),
-        ("lines|text:|20", Some(1)),
-        ("lines|made:7:1x|20", Some(1)),
-        ("lines|made:7|20", Some(1)),
-        ("lines|s", Some(2)),
-        ("lines|made:7:1|33", Some(2)),
-        ("lines|made:7:1|0", Some(2)),
-        ("lines|s|", Some(2)),
-        ("lines|s|20|20", Some(3)),
-        ("lines|text:made:7|32", None),
-        ("lines|made:7:1|20", None),
-        ("lines|lines|1", None),
-    ] {
-        assert_eq!(rt; refused_at(&words(alloc, text)?), want, "at {text}");
     }
     Ok(())
 }
@@ -221,79 +213,77 @@ fn reads_a_depth_and_a_form(rt: HostRuntime) -> Result<(), Fail> {
     Ok(())
 }
 
+// The files of commands: of the stream and the seed, and the two ends of the link.
+const FILES: [(&str, [Option<&str>; 4]); 9] = [
+    (
+        "verify|s|k|f|t|-|3|sub:1:2",
+        [Some("s"), Some("k"), Some("f"), Some("t")],
+    ),
+    (
+        "verify|text:s|k|f|t|-|32|sub:1:2|sub:3:4",
+        [Some("s"), Some("k"), Some("f"), Some("t")],
+    ),
+    (
+        "verify|made:7:20|made:|text:t|-|-|3|sub:1:2",
+        [None, Some("made:"), Some("text:t"), Some("-")],
+    ),
+    ("verify|s|k|f|t|-|3", [None; 4]),
+    ("help|f|t", [None, None, Some("f"), Some("t")]),
+    ("gen|7|100|20", [None; 4]),
+    (
+        "lines|text:\u{e9}t\u{e9}|32",
+        [Some("\u{e9}t\u{e9}"), None, None, None],
+    ),
+    ("lines|s|32", [Some("s"), None, None, None]),
+    ("lines|s|33", [None; 4]),
+];
+
 #[test]
-fn opens_the_ports_of_a_command(rt: HostRuntime) -> Result<(), Fail> {
+fn opens_the_files_of_a_command(rt: HostRuntime) -> Result<(), Fail> {
     let alloc = rt.alloc();
-    let file = |word| Opening::Path { word, skip: 0 };
-    let none = PortPlan {
-        first: Opening::Nothing,
-        second: Opening::Nothing,
-        from: Opening::Nothing,
-        to: Opening::Nothing,
-        keep: Opening::Nothing,
-    };
-    let made = |number, count, levels| match Depth::new(levels) {
-        Some(depth) => Opening::Made {
+    for (text, want) in &FILES {
+        let words = words(alloc, text)?;
+        let plan = ports(&words);
+        for (opening, name) in [plan.first, plan.second, plan.from, plan.to]
+            .iter()
+            .zip(want)
+        {
+            assert_eq!(rt; opening.name(&words), *name, "at {text}");
+        }
+        assert_eq!(rt; plan.keep, Opening::Nothing, "at {text}");
+    }
+    Ok(())
+}
+
+// The made streams of commands: their numbers, how many records, and their depths.
+const MADE: [(&str, (u64, u64, u8)); 4] = [
+    ("verify|made:7:20|k|f|t|-|3|sub:1:2", (7, 20, 3)),
+    ("gen|7|100|20", (7, 100, 20)),
+    (
+        "gen|18446744073709551615|10000000|32",
+        (u64::MAX, 10_000_000, 32),
+    ),
+    ("lines|made:0:1|32", (0, 1, 32)),
+];
+
+// What a made stream is made of.
+fn made(opening: &Opening) -> Option<(u64, u64, u8)> {
+    match opening {
+        Opening::Made {
             number,
             count,
             depth,
-        },
-        None => Opening::Nothing,
-    };
-    let verify = |first| PortPlan {
-        first,
-        second: file(2),
-        from: file(3),
-        to: file(4),
-        keep: Opening::Nothing,
-    };
-    for (text, want) in [
-        ("verify|s|k|f|t|-|3|sub:1:2", verify(file(1))),
-        ("verify|made:7:20|k|f|t|-|3|sub:1:2", verify(made(7, 20, 3))),
-        (
-            "verify|text:s|k|f|t|-|32|sub:1:2|sub:3:4",
-            verify(Opening::Path { word: 1, skip: 5 }),
-        ),
-        ("verify|s|k|f|t|-|3", none),
-        (
-            "help|f|t",
-            PortPlan {
-                from: file(1),
-                to: file(2),
-                ..none
-            },
-        ),
-        (
-            "gen|7|100|20",
-            PortPlan {
-                first: made(7, 100, 20),
-                ..none
-            },
-        ),
-        (
-            "lines|made:0:1|32",
-            PortPlan {
-                first: made(0, 1, 32),
-                ..none
-            },
-        ),
-        (
-            "lines|text:s|32",
-            PortPlan {
-                first: Opening::Path { word: 1, skip: 5 },
-                ..none
-            },
-        ),
-        (
-            "lines|s|32",
-            PortPlan {
-                first: file(1),
-                ..none
-            },
-        ),
-        ("lines|s|33", none),
-    ] {
-        assert_eq!(rt; ports(&words(alloc, text)?), want, "at {text}");
+        } => Some((*number, *count, depth.get())),
+        Opening::Nothing | Opening::Path { .. } => None,
+    }
+}
+
+#[test]
+fn makes_the_stream_of_a_command(rt: HostRuntime) -> Result<(), Fail> {
+    let alloc = rt.alloc();
+    for (text, want) in &MADE {
+        let plan = ports(&words(alloc, text)?);
+        assert_eq!(rt; made(&plan.first), Some(*want), "at {text}");
     }
     Ok(())
 }
