@@ -3,3 +3,5 @@ pub mod Replies
 pub mod Checks
 pub mod Talks
 pub mod Asking
+pub mod SumToy
+pub mod ListToy

@@ -12,6 +12,8 @@ mod asking;
 mod check;
 pub mod laws;
 mod taking;
+#[cfg(test)]
+mod toys;
 
 pub use asking::{AskStop, ask};
 pub use check::{Check, More, Said};
