@@ -15,7 +15,8 @@ use Rattle.sip_counts.specs.Strategies.{Strategy, IsOfBytes, replies, all_there,
 use Rattle.sip_counts.proofs.Vectors.{counted-grows, counted-none}
 use Rattle.sip_counts.proofs.Talks.{replies-length}
 use Rattle.sip_subvec.specs.AcceptsSub.{Siblings, Stated, gives_root}
-use Rattle.sip_subvec.specs.Replies.{Fault, stated, accepts}
+use Rattle.sip_replies.specs.Replies.{Fault}
+use Rattle.sip_subvec.specs.Replies.{stated, accepts}
 use Rattle.sip_subvec.specs.Counting.{has_small_value, rise_within, are_all_asked, accepts_stated, entries_of, said, is_same_entry, is_right, accepts_small}
 use Rattle.sip_subvec.proofs.SaidReplies.{same_ok}
 use Rattle.sip_subvec.proofs.WrongEntries.{few_wrong_entries}

@@ -12,7 +12,8 @@ use Rattle.sip_wire.specs.declared.message.WireFault.TheVariants as faults
 use Rattle.sip_wire.specs.Reading.{read_frame}
 use Rattle.sip_wire.proofs.ReadingLaws.{asked-least, read_frame-closed, read_frame-shrinks}
 use Rattle.sip_subvec.specs.AcceptsSub.{Siblings}
-use Rattle.sip_subvec.specs.Replies.{reason_of, with_entries, asked_siblings, at_end, first_reply}
+use Rattle.sip_replies.specs.Replies.{reason_of, at_end}
+use Rattle.sip_subvec.specs.Replies.{with_entries, asked_siblings, first_reply}
 
 -- reply 0 from a frame on, with as many frames as its bytes have room for
 abbrev pub read_first : ℕ → ℕ → List Entry → List ℕ → Result (List Entry × Siblings) Reason

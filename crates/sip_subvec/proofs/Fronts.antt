@@ -12,7 +12,8 @@ use Rattle.sip_wire.specs.declared.message.WireFault.TheVariants as faults
 use Rattle.sip_wire.specs.Reading.{read_frame}
 use Rattle.sip_wire.proofs.ReadingLaws.{read_frame-append, read_frame-append_fault, read_frame-shrinks}
 use Rattle.sip_subvec.specs.AcceptsSub.{Siblings}
-use Rattle.sip_subvec.specs.Replies.{reason_of, with_entries, asked_siblings, at_end, later_reply}
+use Rattle.sip_replies.specs.Replies.{reason_of, at_end}
+use Rattle.sip_subvec.specs.Replies.{with_entries, asked_siblings, later_reply}
 use Rattle.sip_subvec.proofs.FirstReply.{read_first, message_says, read_first-fault, read_first-message}
 use Rattle.sip_subvec.proofs.LaterReply as later
 use Rattle.sip_subvec.proofs.LaterReply.{later_reply-fault, later_reply-message}

@@ -17,7 +17,8 @@ use Rattle.sip_wire.specs.Spelling.{spelling}
 use Rattle.sip_wire.proofs.ReadingLaws.{read_frame-spelling}
 use Rattle.sip_subvec.specs.AcceptsSub.{Siblings}
 use Rattle.sip_subvec.specs.Honest.{honest_siblings, siblings_message, entry_frames}
-use Rattle.sip_subvec.specs.Replies.{with_entries, asked_siblings, at_end, later_reply, later_replies}
+use Rattle.sip_replies.specs.Replies.{at_end}
+use Rattle.sip_subvec.specs.Replies.{with_entries, asked_siblings, later_reply, later_replies}
 use Rattle.sip_subvec.proofs.FirstReply.{read_first, read_first-message}
 use Rattle.sip_subvec.proofs.LaterReply.{later_reply-message}
 use Rattle.sip_subvec.proofs.HonestEntries.{with_entries-parts}

@@ -9,7 +9,8 @@ use Rattle.sip_wire.specs.declared.message.Reason.TheVariants as reasons
 use Rattle.sip_wire.specs.declared.message.WireFault.{WireFault}
 use Rattle.sip_wire.specs.Reading.{read_frame}
 use Rattle.sip_subvec.specs.AcceptsSub.{Siblings}
-use Rattle.sip_subvec.specs.Replies.{reason_of, asked_siblings, at_end, later_reply}
+use Rattle.sip_replies.specs.Replies.{reason_of, at_end}
+use Rattle.sip_subvec.specs.Replies.{asked_siblings, later_reply}
 
 -- what a message and what follows it say
 abbrev pub message_says : ℕ → ℕ → List ℕ → Message → Result Siblings Reason

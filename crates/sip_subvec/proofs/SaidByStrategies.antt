@@ -8,7 +8,8 @@ use Rattle.sip_wire.specs.declared.message.Reason.TheVariants as reasons
 use Rattle.sip_counts.specs.Strategies.{Strategy, replies, before, all_there}
 use Rattle.sip_counts.proofs.Talks.{replies-more}
 use Rattle.sip_subvec.specs.AcceptsSub.{Siblings, Stated, gives_root}
-use Rattle.sip_subvec.specs.Replies.{Fault, in_round, first_reply, later_reply, later_replies, stated, verdict, accepts, are_asked}
+use Rattle.sip_replies.specs.Replies.{Fault, in_round}
+use Rattle.sip_subvec.specs.Replies.{first_reply, later_reply, later_replies, stated, verdict, accepts, are_asked}
 use Rattle.sip_subvec.specs.Counting.{are_all_asked, rise_within}
 use Rattle.sip_subvec.proofs.SaidReplies.{step_passed, same_ok, first_reply-rises, later_reply-asked}
 

@@ -14,7 +14,8 @@ use Rattle.sip_wire.specs.declared.message.WireFault.{WireFault}
 use Rattle.sip_wire.specs.Reading.{read_frame}
 use Rattle.arrayvec.specs.ArrayVec.{ArrayVec}
 use Rattle.sip_subvec.specs.AcceptsSub.{Siblings}
-use Rattle.sip_subvec.specs.Replies.{most_entries, with_entries, are_asked, asked_siblings, at_end, first_reply, later_reply}
+use Rattle.sip_replies.specs.Replies.{at_end}
+use Rattle.sip_subvec.specs.Replies.{most_entries, with_entries, are_asked, asked_siblings, first_reply, later_reply}
 use Rattle.sip_subvec.specs.Counting.{rise_within}
 use Rattle.sip_subvec.proofs.FirstReply.{message_says, frame_says}
 use Rattle.sip_subvec.proofs.LaterReply.{later_reply-frame}

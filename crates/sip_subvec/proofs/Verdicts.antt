@@ -5,7 +5,8 @@ use Rattle.sip_vector.specs.declared.update.Entry.{Entry}
 use Rattle.sip_wire.specs.declared.message.Reason.{Reason}
 use Rattle.sip_wire.specs.declared.message.Reason.TheVariants as reasons
 use Rattle.sip_subvec.specs.AcceptsSub.{Siblings, Stated, gives_root}
-use Rattle.sip_subvec.specs.Replies.{Fault, in_round, later_reply, later_replies, stated, verdict, IsUnfinished, IsFaulty, IsAccepted}
+use Rattle.sip_replies.specs.Replies.{Fault, in_round}
+use Rattle.sip_subvec.specs.Replies.{later_reply, later_replies, stated, verdict, IsUnfinished, IsFaulty, IsAccepted}
 use Rattle.sip_subvec.proofs.FirstReply.{read_first}
 
 -- ---- lists and faults

@@ -17,7 +17,8 @@ use Rattle.sip_wire.specs.declared.message.Reason.TheVariants as reasons
 use Rattle.sip_counts.specs.Strategies.{Strategy, replies, takes_wrong}
 use Rattle.sip_counts.proofs.Talks.{takes_wrong-at}
 use Rattle.sip_subvec.specs.AcceptsSub.{gives_root}
-use Rattle.sip_subvec.specs.Replies.{Fault, stated, verdict, accepts, IsAccepted}
+use Rattle.sip_replies.specs.Replies.{Fault}
+use Rattle.sip_subvec.specs.Replies.{stated, verdict, accepts, IsAccepted}
 use Rattle.sip_subvec.specs.Counting.{said, entries_of, is_right}
 use Rattle.sip_subvec.proofs.SaidReplies.{step_passed, test_passed, same_ok}
 use Rattle.sip_subvec.proofs.FewFooled.{same_entries}

@@ -10,7 +10,8 @@ use Rattle.sip_vector.specs.Trees.{root}
 use Rattle.sip_vector.specs.Vectors.{nonzero_within}
 use Rattle.sip_counts.specs.Clauses.{CountClause}
 use Rattle.sip_subvec.specs.AcceptsSub.{Siblings, Stated, gives_root}
-use Rattle.sip_subvec.specs.Replies.{Fault, are_asked, stated, accepts}
+use Rattle.sip_replies.specs.Replies.{Fault}
+use Rattle.sip_subvec.specs.Replies.{are_asked, stated, accepts}
 
 -- ---- over what replies state
 

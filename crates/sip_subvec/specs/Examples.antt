@@ -3,7 +3,8 @@ use Rattle.std.specs.Prelude.{ℕ, ◌+◌, ◌%◌, Some, None, List, [], ◌�
 use Rattle.sip_field.specs.Moduli.{m61_modulus}
 use Rattle.sip_vector.specs.declared.update.Entry.{Entry}
 use Rattle.sip_subvec.specs.AcceptsSub.{Siblings}
-use Rattle.sip_subvec.specs.Replies.{Fault, verdict}
+use Rattle.sip_replies.specs.Replies.{Fault}
+use Rattle.sip_subvec.specs.Replies.{verdict}
 
 -- Entries (2, 5), then Siblings 3 and 1
 abbrev pub reply_0 : List ℕ

@@ -10,20 +10,11 @@ use Rattle.sip_wire.specs.declared.kind.Place.TheVariants as places
 use Rattle.sip_wire.specs.declared.message.Message.TheVariants as messages
 use Rattle.sip_wire.specs.declared.message.Reason.{Reason}
 use Rattle.sip_wire.specs.declared.message.Reason.TheVariants as reasons
-use Rattle.sip_wire.specs.declared.message.WireFault.{WireFault}
-use Rattle.sip_wire.specs.declared.message.WireFault.TheVariants as faults
 use Rattle.sip_wire.specs.Reading.{read_frame}
+use Rattle.sip_replies.specs.Replies.{Fault, reason_of, at_end, in_round}
 use Rattle.sip_subvec.specs.AcceptsSub.{Siblings, Stated, gives_root}
 
 -- ---- one frame
-
--- the reason that a frame's fault is
-abbrev pub reason_of : WireFault → Reason
-reason_of faults.BadKind = reasons.BadKind
-reason_of faults.BadLength = reasons.BadLength
-reason_of faults.BadCount = reasons.BadCount
-reason_of faults.BadNumber = reasons.BadNumber
-reason_of _ = reasons.Closed
 
 -- the greatest number of entries in an answer
 abbrev pub most_entries : ℕ
@@ -44,11 +35,6 @@ are_asked lo hi s =
 
 abbrev pub asked_siblings : ℕ → ℕ → Siblings → Result Siblings Reason
 asked_siblings lo hi s = needs (are_asked lo hi s) reasons.BadFlags >>= λ _. Ok s
-
--- nothing stands behind the siblings of a reply
-abbrev pub at_end : {X : Type 0} → X → List ℕ → Result X Reason
-at_end x [] = Ok x
-at_end x (b ∷ bytes) = Err reasons.BadLength
 
 -- ---- one reply
 
@@ -77,15 +63,6 @@ later_reply lo hi bytes = elim (read_frame places.Siblings bytes) [
 ]
 
 -- ---- all replies
-
--- the number of the reply, or d for the test after the last one, and why it fails
-pub record Fault : Type 0 where
-  pub round : ℕ
-  pub reason : Reason
-
-abbrev pub in_round : {X : Type 0} → ℕ → Result X Reason → Result X Fault
-in_round j (Ok x) = Ok x
-in_round j (Err reason) = Err (record { round = j; reason = reason })
 
 -- the siblings of the replies from j on, whose level has the interval from lo to hi
 unfoldable pub later_replies : ℕ → ℕ → ℕ → List (List ℕ) → Result (List Siblings) Fault

@@ -10,7 +10,7 @@ use Rattle.sip_vector.specs.declared.update.Update.{Update}
 use Rattle.sip_vector.specs.Answers.{Answer, Fits, answer}
 use Rattle.sip_vector.specs.Streams.{IsLegal}
 use Rattle.sip_wire.specs.declared.message.Reason.TheVariants as reasons
-use Rattle.sip_subvec.specs.Replies.{Fault}
+use Rattle.sip_replies.specs.Replies.{Fault}
 use Rattle.sip_verifier.specs.CompletenessClause.{honest_bytes, HasFewEntries}
 use Rattle.sip_verifier.specs.Reports.{line, report_of}
 use Rattle.sip_verifier.specs.Turns.{Turn, Accepts, Accepted, IsFaulty}

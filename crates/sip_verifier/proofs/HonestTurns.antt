@@ -14,7 +14,8 @@ use Rattle.sip_wire.specs.declared.message.Reason.TheVariants as reasons
 use Rattle.sip_subvec.specs.AcceptsSub.{Stated, gives_root}
 use Rattle.sip_subvec.specs.Honest.{honest_replies, CanBeShown}
 use Rattle.sip_subvec.specs.Replies as sub
-use Rattle.sip_subvec.specs.Replies.{Fault, stated, verdict, IsAccepted}
+use Rattle.sip_replies.specs.Replies.{Fault}
+use Rattle.sip_subvec.specs.Replies.{stated, verdict, IsAccepted}
 use Rattle.sip_subvec.proofs.HonestLaws.{shown_accepted}
 use Rattle.sip_subvec.proofs.HonestStreams.{legal_shown}
 use Rattle.sip_subvec.proofs.SaidReplies.{step_passed, same_ok}

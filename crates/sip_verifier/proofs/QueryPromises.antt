@@ -9,7 +9,7 @@ use Rattle.sip_ports.specs.declared.port.TalkEvent.{TalkEvent}
 use Rattle.sip_ports.specs.Ports.{GoesOn, Rose, SendsWhole, outs}
 use Rattle.sip_ports.proofs.FaultLemmas.{Rose-since}
 use Rattle.sip_ports.proofs.TalkLemmas.{GoesOn-refl, GoesOn-trans, outs-append}
-use Rattle.sip_subvec.specs.Replies.{Fault}
+use Rattle.sip_replies.specs.Replies.{Fault}
 use Rattle.sip_vector.specs.declared.query.Query.{Query}
 use Rattle.sip_vector.specs.declared.query.Query.TheVariants.{Sub, Range, F2, Inner, Heavy}
 use Rattle.sip_vector.specs.Answers.{Answer}

@@ -22,7 +22,8 @@ use Rattle.sip_wire.proofs.Shapes.{mark_of_fit}
 use Rattle.sip_wire.specs.Decoding.{Decodes}
 use Rattle.sip_subvec.specs.AcceptsSub as sub
 use Rattle.sip_subvec.specs.Checking.{Kept, HasTaken, AnswersAs}
-use Rattle.sip_subvec.specs.Replies.{with_entries, are_asked, asked_siblings, at_end}
+use Rattle.sip_replies.specs.Replies.{at_end}
+use Rattle.sip_subvec.specs.Replies.{with_entries, are_asked, asked_siblings}
 use Rattle.sip_subvec.proofs.FirstReply as reply
 use Rattle.sip_verifier.specs.Turns.{ending}
 use Rattle.sip_verifier.specs.declared.replies.ReplyStop.{ReplyStop}

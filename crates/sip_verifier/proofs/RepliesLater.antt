@@ -13,7 +13,8 @@ use Rattle.sip_wire.specs.Reading.{read_frame}
 use Rattle.sip_field.specs.Moduli.{m61_modulus}
 use Rattle.sip_wire.specs.Decoding.{Decodes}
 use Rattle.sip_subvec.specs.AcceptsSub as sub
-use Rattle.sip_subvec.specs.Replies.{asked_siblings, at_end, later_reply}
+use Rattle.sip_replies.specs.Replies.{at_end}
+use Rattle.sip_subvec.specs.Replies.{asked_siblings, later_reply}
 use Rattle.sip_subvec.proofs.LaterReply.{later_reply-fault, later_reply-message}
 use Rattle.sip_verifier.specs.Turns.{ending}
 use Rattle.sip_verifier.specs.declared.replies.ReplyStop.{ReplyStop}

@@ -18,7 +18,7 @@ use Rattle.sip_wire.specs.Values.{InRange}
 use Rattle.sip_wire.specs.Faults.{ended_by}
 use Rattle.sip_wire.specs.Decoding.{Fails, Decodes}
 use Rattle.sip_wire.proofs.ReadingLaws.{read_frame-spelling}
-use Rattle.sip_subvec.specs.Replies.{reason_of}
+use Rattle.sip_replies.specs.Replies.{reason_of}
 use Rattle.sip_verifier.specs.Turns.{ending}
 use Rattle.sip_verifier.specs.declared.replies.ReplyStop.{ReplyStop}
 use Rattle.sip_verifier.specs.Taking.{stop_of_fault, Came, HasFault, IsPart, Takes}

@@ -8,7 +8,8 @@ use Rattle.sip_vector.specs.Steps.{◌>>=◌}
 use Rattle.sip_wire.specs.declared.message.Reason.{Reason}
 use Rattle.sip_wire.specs.declared.message.Reason.TheVariants as reasons
 use Rattle.sip_subvec.specs.AcceptsSub.{Siblings, Stated}
-use Rattle.sip_subvec.specs.Replies.{Fault, in_round, later_reply, later_replies, stated}
+use Rattle.sip_replies.specs.Replies.{Fault, in_round}
+use Rattle.sip_subvec.specs.Replies.{later_reply, later_replies, stated}
 use Rattle.sip_subvec.proofs.FirstReply.{read_first}
 use Rattle.sip_subvec.proofs.Fronts.{first_front, first_full, later_front, later_full}
 

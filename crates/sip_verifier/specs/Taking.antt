@@ -10,7 +10,8 @@ use Rattle.sip_wire.specs.declared.message.WireFault.{WireFault}
 use Rattle.sip_wire.specs.declared.message.WireFault.TheVariants as faults
 use Rattle.sip_subvec.specs.AcceptsSub as sub
 use Rattle.sip_subvec.specs.Checking.{Kept, HasTaken}
-use Rattle.sip_subvec.specs.Replies.{most_entries, reason_of, with_entries, first_reply}
+use Rattle.sip_replies.specs.Replies.{reason_of}
+use Rattle.sip_subvec.specs.Replies.{most_entries, with_entries, first_reply}
 use Rattle.sip_verifier.specs.Turns.{ending}
 use Rattle.sip_verifier.specs.declared.replies.ReplyStop.{ReplyStop}
 use Rattle.sip_verifier.specs.declared.replies.ReplyStop.TheVariants as stops

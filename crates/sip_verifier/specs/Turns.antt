@@ -14,6 +14,7 @@ use Rattle.sip_vector.specs.Trees.{root}
 use Rattle.sip_wire.specs.declared.message.Reason.{Reason}
 use Rattle.sip_wire.specs.declared.message.Reason.TheVariants.{Closed}
 use Rattle.sip_stream.specs.Records.{records}
+use Rattle.sip_replies.specs.Replies.{Fault}
 use Rattle.sip_subvec.specs.Replies as sub
 use Rattle.sip_verifier.specs.declared.task.Task.{Task}
 use Rattle.sip_verifier.specs.Draws.{drawn, blocks}
@@ -40,7 +41,7 @@ Accepts depth stream t answer = elim t.query [
 ]
 
 -- the replies have this fault, and no byte too many was taken
-abbrev pub IsFaulty : ℕ → List Update → Turn → sub.Fault → Type 0
+abbrev pub IsFaulty : ℕ → List Update → Turn → Fault → Type 0
 IsFaulty depth stream t fault = elim t.query [
   | Sub lo hi ↦ sub.IsFaulty m61_modulus (true_root depth stream t.block) lo hi t.block t.replies fault
   | _ ↦ ⊥
