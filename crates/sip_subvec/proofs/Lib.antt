@@ -24,3 +24,8 @@ pub mod SaidByStrategies
 pub mod SmallValues
 pub mod FewFooled
 pub mod WrittenAnswers
+pub mod ProtocolReplies
+pub mod ProtocolTurns
+pub mod RoomForEntries
+pub mod GivenEntries
+pub mod ProtocolSteps

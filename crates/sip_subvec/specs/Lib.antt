@@ -4,3 +4,6 @@ pub mod Counting
 pub mod Examples
 pub mod Honest
 pub mod Checking
+pub mod Protocol
+pub mod Asking
+pub mod LawProofs

@@ -90,6 +90,14 @@ impl<F: Field, const CAP: usize> SubCheck<F, CAP> {
         }
     }
 
+    /// The number of challenges.
+    pub fn depth(&self) -> usize
+        ensures exact { result ≡ length self.now.challenges }
+        ensures fits { result ≤ CAP }
+    {
+        self.root.seat.depth()
+    }
+
     /// Takes an entry of reply 0: `Reason::BadOrder` where its index is not above the last one or is outside the
     /// interval, and else `Reason::TooMany` where it is entry 65,537.
     ///
@@ -237,11 +245,11 @@ impl<F: Field, const CAP: usize> SubCheck<F, CAP> {
     /// Ends the check: `Reason::Root` where what was given does not fold to the root.
     ///
     /// No `times`: one comparison.
-    pub fn finish(self) -> Result<(), Reason>
-        requires unspent { self.spent ≡ false }
-        requires whole { self.level ≡ length self.challenges }
+    pub fn finish(&self) -> Result<(), Reason>
+        requires unspent { self.now.spent ≡ false }
+        requires whole { self.now.level ≡ length self.now.challenges }
         ensures { (root lo hi : ℕ) (challenges : List ℕ) (s : Stated)
-            → HasTaken F.MODULUS root lo hi challenges s self
+            → HasTaken F.MODULUS root lo hi challenges s self.now
             → result ≡ needs (gives_root F.MODULUS root lo hi challenges s) Reason.Root }
     {
         if self.sum.number() == self.root.value {

@@ -1,6 +1,7 @@
 //! Sub-vectors: the entries of a vector from one index to another, and the replies that show them.
 //!
 //! - [`SubCheck`] is the verifier's check of the replies to one query, as one running sum.
+//! - [`SubAsking`] is that check in the form in which the general talk of `sip_replies` asks.
 //! - [`SubProver`] is the honest side. It keeps one level of the hash tree over a vector and the interval of it above the
 //!   entries that were asked for; it gives the nodes beside the interval, and goes up by one challenge.
 //!
@@ -12,6 +13,10 @@
 //!   two, and by which reason, is what the definition of the test gives. So a caller that keeps the fact `HasTaken` of its
 //!   own list knows at the end that `finish` answers as the definition does of the whole list.
 //! - Folds keep weighted sums, so that one sum does for all the lists ([`laws`]).
+//! - `SubAsking` answers each frame as a step of the replies' protocol does, and the places of the
+//!   answer then hold the entries so far. Read by that protocol, replies state what they state by
+//!   their own definition, and are accepted, faulty, unfinished or missing in the same cases
+//!   ([`protocol`]).
 //! - `SubProver::siblings` gives the true siblings of the level that the challenges so far lead to.
 //! - Honest replies are accepted, and what they state is the answer of the stream; while they come they have no fault
 //!   ([`completeness`]).
@@ -24,31 +29,38 @@
 //! |---|---|
 //! | `AcceptsSub` | what replies state, and the lists that it folds to |
 //! | `Replies` | how replies are read from bytes, and their first fault |
+//! | `Protocol` | the same replies as a protocol of the general talk, frame by frame |
 //! | `Checking` | the sum that a check keeps, and what it has taken |
+//! | `Asking` | what a check of the general talk keeps, and what it stands for |
 //! | `Honest` | what a prover knows, and the honest replies as bytes |
 //! | `Counting` | when a helper has wrong entries accepted |
 //!
 //! # Cost
 //!
-//! No call of a check takes memory: it is a root with its challenges and eight numbers. Of a prover `start` alone takes
-//! memory, for the m nodes that are not 0. The unit of time is one `Field::times`, and d is the depth.
+//! No call of a check takes memory: it is a root with its challenges and eight numbers, or ten in a
+//! `SubAsking`. Of a prover `start` alone takes memory, for the m nodes that are not 0. The unit of
+//! time is one `Field::times`, and d is the depth.
 //!
 //! | Call | `times` |
 //! |---|---|
 //! | `SubCheck::start` | 0, and one copy of the challenges |
 //! | `SubCheck::entry` | one for each bit that is 1, and one more: d + 1 at most |
 //! | `SubCheck::siblings` | the same for each sibling, of the bits of its index in its level |
-//! | `SubCheck::reveal`, `SubCheck::finish`, `SubCheck::spent` | 0 |
+//! | `SubCheck::depth`, `SubCheck::reveal`, `SubCheck::finish`, `SubCheck::spent` | 0 |
+//! | `SubAsking::take` | those of its frame's entries or siblings; its other calls have none |
 //! | `SubProver::start`, `SubProver::siblings` | 0; in time O(m), O(log m) |
 //! | `SubProver::learn` | one a pair of nodes that is not 0: m at most |
 #![tactic(auto)]
 
+mod asking;
 mod check;
 pub mod completeness;
 pub mod counting;
 pub mod laws;
+pub mod protocol;
 mod prover;
 
+pub use asking::SubAsking;
 pub use check::SubCheck;
 pub use prover::{SiblingPair, SubProver};
 
