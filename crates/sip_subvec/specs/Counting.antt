@@ -8,7 +8,7 @@ use Rattle.sip_vector.specs.declared.update.Entry.{Entry}
 use Rattle.sip_vector.specs.Answers.{is_within}
 use Rattle.sip_vector.specs.Trees.{root}
 use Rattle.sip_vector.specs.Vectors.{nonzero_within}
-use Rattle.sip_counts.specs.Clauses.{CountClause}
+use Rattle.sip_counts.specs.Clauses.{FewAndCounted}
 use Rattle.sip_subvec.specs.AcceptsSub.{Siblings, Stated, gives_root}
 use Rattle.sip_replies.specs.Replies.{Fault}
 use Rattle.sip_subvec.specs.Replies.{are_asked, stated, accepts}
@@ -63,4 +63,5 @@ accepts_small p root lo hi challenges replies = accepts p root lo hi challenges 
 -- `block` are the query's challenges, `taken` the replies of this run, and `written` the answer, if one was written.
 abbrev pub SubCountClause : ℕ → List ℤ → ℕ → ℕ → List ℕ → List (List ℕ) → Option (List Entry) → Type 0
 SubCountClause d numbers lo hi block taken written =
-    CountClause m61_modulus d d (λ r. accepts m61_modulus (root m61_modulus numbers r) lo hi r) (is_right lo hi numbers) block taken written (nonzero_within lo hi numbers)
+    FewAndCounted m61_modulus d d (λ r. accepts m61_modulus (root m61_modulus numbers r) lo hi r)
+    (is_right lo hi numbers) block taken written (nonzero_within lo hi numbers)

@@ -11,7 +11,7 @@ use Rattle.sip_vector.specs.Answers.{Answer, Fits, answer, pairs}
 use Rattle.sip_vector.specs.Streams.{vector, IsLegal}
 use Rattle.sip_vector.specs.Trees.{root}
 use Rattle.sip_vector.proofs.Sides.{length-vector}
-use Rattle.sip_counts.specs.Clauses as counts
+use Rattle.sip_counts.specs.Clauses.{FewAndCounted}
 use Rattle.sip_subvec.specs.Counting.{is_right}
 use Rattle.sip_subvec.specs.Replies.{IsAccepted}
 use Rattle.sip_subvec.proofs.FewFooled.{few_fooled_bytes}
@@ -34,7 +34,7 @@ same_answer written stated other e f = cc
 -- replies to a sub-vector query
 sub_counts : (depth lo hi : ℕ) (stream : List Update) (block : List ℕ) (replies : List (List ℕ)) (written : Answer) (entries : List Entry) → lo ≤ hi → hi < 2 ^ depth → IsLegal depth stream
     → IsAccepted m61_modulus (true_root depth stream block) lo hi block replies entries → written ≡ pairs entries
-    → counts.CountClause m61_modulus depth depth (accepts_at depth stream lo hi) (is_right lo hi (vector depth stream First)) block replies (Some written) (answer depth stream (Sub lo hi))
+    → FewAndCounted m61_modulus depth depth (accepts_at depth stream lo hi) (is_right lo hi (vector depth stream First)) block replies (Some written) (answer depth stream (Sub lo hi))
 sub_counts depth lo hi stream block replies written entries order within legal accepted is = record {
   few = few_wrong depth stream (Sub lo hi) (order, within) legal;
   counts = λ strategy other talk same wrong.

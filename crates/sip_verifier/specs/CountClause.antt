@@ -15,7 +15,7 @@ use Rattle.sip_vector.specs.declared.update.Update.{Update}
 use Rattle.sip_vector.specs.Answers.{Answer, answer}
 use Rattle.sip_vector.specs.Streams.{vector}
 use Rattle.sip_wire.specs.declared.message.Reason.{Reason}
-use Rattle.sip_counts.specs.Clauses as counts
+use Rattle.sip_counts.specs.Clauses.{FewAndCounted}
 use Rattle.sip_counts.specs.Strategies.{Strategy, IsOfBytes, fooled}
 use Rattle.sip_subvec.specs.Counting.{is_right}
 use Rattle.sip_subvec.specs.Replies.{accepts}
@@ -44,7 +44,9 @@ FewFor depth stream (Heavy side at_least) = ⊤
 -- what a call that writes this answer for a turn promises of a helper that lies
 abbrev pub CountsFor : ℕ → List Update → Turn → Answer → Type 0
 CountsFor depth stream t written = elim t.query [
-  | Sub lo hi ↦ counts.CountClause m61_modulus depth depth (accepts_at depth stream lo hi) (is_right lo hi (vector depth stream First)) t.block t.replies (Some written) (answer depth stream (Sub lo hi))
+  | Sub lo hi ↦ FewAndCounted m61_modulus depth depth (accepts_at depth stream lo hi)
+      (is_right lo hi (vector depth stream First)) t.block t.replies (Some written)
+      (answer depth stream (Sub lo hi))
   | _ ↦ ⊥
 ]
 
