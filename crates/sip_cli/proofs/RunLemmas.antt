@@ -53,7 +53,8 @@ ends_otherwise Help word listed = listed
 ends_otherwise (Gen depth) word listed = listed
 ends_otherwise (Lines form depth) word listed = listed
 
-pub never_usage : (c : Command) (status : Status) (word : ℕ) → Ends c status → status ≡ statuses.Usage word → ⊥
+pub never_usage : (c : Command) (status : Status) (word : ℕ)
+    → Ends c status → status ≡ statuses.Usage word → ⊥
 never_usage c status word listed e = ends_otherwise c word (subst (Ends c) e listed)
 
 -- words that spell a command are refused nowhere, and it does not end with Usage
@@ -72,7 +73,8 @@ same_task {x = x} {before = before} {now = now} {status = status} e p = subst (�
 -- ---- what each command keeps
 
 module _ {before now : Moment} {status : Status} where
-  pub verify_keeps : {c : Command} (task : Task) → c ≡ Verify task → RunClause task before now status → CommandClause (λ is. c ≡ is) before now status
+  pub verify_keeps : {c : Command} (task : Task) → c ≡ Verify task
+      → RunClause task before now status → CommandClause (λ is. c ≡ is) before now status
   verify_keeps task e k = subst (λ (c : Command). CommandClause (λ is. c ≡ is) before now status) (sym e) (record {
     verify = λ other is x t. same_task (let same = is in cc) (k.promises x t);
     made = λ depth is. absurd (let same = is in cc);
@@ -83,7 +85,9 @@ module _ {before now : Moment} {status : Status} where
     listed = λ command is. subst (λ (c : Command). Ends c status) is k.listed;
   })
 
-  pub help_keeps : {c : Command} → c ≡ Help → HelpClause before.talk now.talk status → (IsTold before → (x : Exchange) × Tells before now x) → FaultClause before.faults now.faults status → EndsHelp status
+  pub help_keeps : {c : Command} → c ≡ Help → HelpClause before.talk now.talk status
+      → (IsTold before → (x : Exchange) × Tells before now x)
+      → FaultClause before.faults now.faults status → EndsHelp status
       → CommandClause (λ is. c ≡ is) before now status
   help_keeps e served moves fault listed = subst (λ (c : Command). CommandClause (λ is. c ≡ is) before now status) (sym e) (record {
     verify = λ other is. absurd (let same = is in cc);
@@ -95,11 +99,18 @@ module _ {before now : Moment} {status : Status} where
     listed = λ command is. subst (λ (c : Command). Ends c status) is listed;
   })
 
-  pub gen_keeps : {c : Command} (depth : ℕ) → c ≡ Gen depth → ((bytes : List ℕ) → before.first ≡ Some bytes → CopyClause depth Binary Binary bytes now.first before.report now.report status) → (IsTold before → (x : Exchange) × Tells before now x)
-      → FaultClause before.faults now.faults status → EndsCopy status → CommandClause (λ is. c ≡ is) before now status
+  pub gen_keeps : {c : Command} (depth : ℕ) → c ≡ Gen depth
+      → ((bytes : List ℕ) → before.first ≡ Some bytes
+      → CopyClause depth Binary Binary bytes now.first before.report now.report status)
+      → (IsTold before → (x : Exchange) × Tells before now x)
+      → FaultClause before.faults now.faults status → EndsCopy status
+      → CommandClause (λ is. c ≡ is) before now status
   gen_keeps depth e copied moves fault listed = subst (λ (c : Command). CommandClause (λ is. c ≡ is) before now status) (sym e) (record {
     verify = λ other is. absurd (let same = is in cc);
-    made = λ other is bytes told. (let same : depth ≡ other = cc in subst (λ (d : ℕ). CopyClause d Binary Binary bytes now.first before.report now.report status) same (copied bytes told));
+    made = λ other is bytes told. (
+        let same : depth ≡ other = cc in
+        subst (λ (d : ℕ). CopyClause d Binary Binary bytes now.first before.report now.report status)
+        same (copied bytes told));
     lines = λ form depth is. absurd (let same = is in cc);
     help = λ is. absurd (let same = is in cc);
     moves = moves;
@@ -107,15 +118,21 @@ module _ {before now : Moment} {status : Status} where
     listed = λ command is. subst (λ (c : Command). Ends c status) is listed;
   })
 
-  pub lines_keeps : {c : Command} (form : Form) (depth : ℕ) → c ≡ Lines form depth → ((bytes : List ℕ) → before.first ≡ Some bytes → CopyClause depth form Text bytes now.first before.report now.report status)
-      → (IsTold before → (x : Exchange) × Tells before now x) → FaultClause before.faults now.faults status → EndsCopy status → CommandClause (λ is. c ≡ is) before now status
+  pub lines_keeps : {c : Command} (form : Form) (depth : ℕ) → c ≡ Lines form depth
+      → ((bytes : List ℕ) → before.first ≡ Some bytes
+      → CopyClause depth form Text bytes now.first before.report now.report status)
+      → (IsTold before → (x : Exchange) × Tells before now x)
+      → FaultClause before.faults now.faults status → EndsCopy status
+      → CommandClause (λ is. c ≡ is) before now status
   lines_keeps form depth e copied moves fault listed = subst (λ (c : Command). CommandClause (λ is. c ≡ is) before now status) (sym e) (record {
     verify = λ other is. absurd (let same = is in cc);
     made = λ other is. absurd (let same = is in cc);
     lines = λ other_form other is bytes told. (
         let same : depth ≡ other = cc in
         let like : form ≡ other_form = cc in
-        subst (λ (f : Form). CopyClause other f Text bytes now.first before.report now.report status) like (subst (λ (d : ℕ). CopyClause d form Text bytes now.first before.report now.report status) same (copied bytes told)));
+        subst (λ (f : Form). CopyClause other f Text bytes now.first before.report now.report status) like
+        (subst (λ (d : ℕ). CopyClause d form Text bytes now.first before.report now.report status)
+        same (copied bytes told)));
     help = λ is. absurd (let same = is in cc);
     moves = moves;
     fault = fault;
@@ -123,7 +140,8 @@ module _ {before now : Moment} {status : Status} where
   })
 
   -- what a command keeps, it keeps for all who know it by another sign
-  pub known_by : {Is Other : Command → Type 0} → ((command : Command) → Other command → Is command) → CommandClause Is before now status → CommandClause Other before now status
+  pub known_by : {Is Other : Command → Type 0} → ((command : Command) → Other command → Is command)
+      → CommandClause Is before now status → CommandClause Other before now status
   known_by tells k = record {
     verify = λ task is. k.verify task (tells (Verify task) is);
     made = λ depth is. k.made depth (tells (Gen depth) is);
@@ -135,7 +153,8 @@ module _ {before now : Moment} {status : Status} where
   }
 
 -- where nothing is a command and nothing moved
-pub none_keeps : {Is : Command → Type 0} {m : Moment} (word : ℕ) → ((command : Command) → Is command → ⊥) → CommandClause Is m m (statuses.Usage word)
+pub none_keeps : {Is : Command → Type 0} {m : Moment} (word : ℕ)
+    → ((command : Command) → Is command → ⊥) → CommandClause Is m m (statuses.Usage word)
 none_keeps {m = m} word none = record {
   verify = λ task is. absurd (none (Verify task) is);
   made = λ depth is. absurd (none (Gen depth) is);

@@ -1,4 +1,5 @@
--- All that a command keeps, from the moment before it to the moment after, with the status that it answers.
+-- All that a command keeps, from the moment before it to the moment after, with the status that it
+-- answers.
 use Rattle.std.specs.Prelude.{◌≡◌, ℕ, List, Some}
 use Rattle.sip_cli.specs.CopyClause.{CopyClause}
 use Rattle.sip_cli.specs.declared.command.Command.{Command}
@@ -15,7 +16,8 @@ use Rattle.sip_verifier.specs.Promises.{Promises}
 use Rattle.sip_verifier.specs.Statuses.{FaultClause}
 
 -- `Is command` says which command it is
-pub record CommandClause (Is : Command → Type 0) (before now : Moment) (status : Status) : Type 0 where
+pub record CommandClause (Is : Command → Type 0) (before now : Moment) (status : Status)
+    : Type 0 where
   -- `verify`: the five promises, on the exchange that the ports tell
   pub verify : (task : Task) → Is (Verify task) → (x : Exchange) → Tells before now x
       → Promises task x before.faults now.faults status
@@ -23,7 +25,8 @@ pub record CommandClause (Is : Command → Type 0) (before now : Moment) (status
   pub made : (depth : ℕ) → Is (Gen depth) → (bytes : List ℕ) → before.first ≡ Some bytes
       → CopyClause depth Binary Binary bytes now.first before.report now.report status
   -- `lines`: they are copied as lines of text
-  pub lines : (form : Form) (depth : ℕ) → Is (Lines form depth) → (bytes : List ℕ) → before.first ≡ Some bytes
+  pub lines : (form : Form) (depth : ℕ) → Is (Lines form depth)
+      → (bytes : List ℕ) → before.first ≡ Some bytes
       → CopyClause depth form Text bytes now.first before.report now.report status
   -- `help`: a talk is served
   pub help : Is Help → HelpClause before.talk now.talk status

@@ -16,7 +16,12 @@ pub record Held : Type 0 where
   pub report : List ℕ
 
 abbrev pub held : List ℕ → List ℕ → List TalkEvent → List ℕ → Held
-held first second talk report = record { first = first; second = second; talk = talk; report = report }
+held first second talk report = record {
+  first = first;
+  second = second;
+  talk = talk;
+  report = report;
+}
 
 -- this exchange is what moved where ports held the one before and hold the other now
 pub record Moves (old new : Held) (x : Exchange) : Type 0 where

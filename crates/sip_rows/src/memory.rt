@@ -36,7 +36,8 @@ pub fn run_in_memory(
 ) -> Status
     // What moved between the ports before and the ports after keeps the five promises of `verify`.
     ensures promises { (task : Task) → Spells words.now (Verify task) → (x : Exchange)
-        × Moves (held_by first.old second.old peer.old report.old) (held_by first.new second.new peer.new report.new) x
+        × Moves (held_by first.old second.old peer.old report.old)
+        (held_by first.new second.new peer.new report.new) x
         × Promises task x (faults_of first.old second.old peer.old report.old)
         (faults_of first.new second.new peer.new report.new) result }
 

@@ -20,7 +20,8 @@ all_fit task can i other less = (can.asked i other less).1
 
 module _ (task : Task) (can : CanBeDone task) (some : 1 ≤ task.depth) (most : task.depth ≤ 32) where
   -- counts follow from verdicts, and honest helpers from verdicts and causes
-  promised : (x : Exchange) (before now : Counts) (status : Status) → IsListed status → Ended task x before now status → Promises task x before now status
+  promised : (x : Exchange) (before now : Counts) (status : Status) → IsListed status
+      → Ended task x before now status → Promises task x before now status
   promised x before now status listed e = record {
     verdict = e.verdict;
     talk = e.talk;
@@ -29,8 +30,12 @@ module _ (task : Task) (can : CanBeDone task) (some : 1 ≤ task.depth) (most : 
     complete = completes task x some most (all_fit task can) before now status e.verdict e.cause listed;
   }
 
-  pub kept : {before now : Moment} {status : Status} → ((x : Exchange) → Tells before now x → Ended task x before.faults now.faults status) → (IsTold before → (x : Exchange) × Tells before now x)
-      → FaultClause before.faults now.faults status → IsListed status → RunClause task before now status
+  -- a run keeps all, where each exchange that is told has the first three promises
+  pub kept : {before now : Moment} {status : Status}
+      → ((x : Exchange) → Tells before now x → Ended task x before.faults now.faults status)
+      → (IsTold before → (x : Exchange) × Tells before now x)
+      → FaultClause before.faults now.faults status → IsListed status
+      → RunClause task before now status
   kept {before = before} {now = now} {status = status} ends moves fault listed = record {
     promises = λ x t. promised x before.faults now.faults status listed (ends x t);
     moves = moves;

@@ -65,9 +65,12 @@ some_value (Some v) some = (v, refl)
 goes_to : (old new : Option (List TalkEvent)) (said : List TalkEvent) → IsSome old → GoesOn old new said → Adds old new said
 goes_to old new said some went = let had = some_value old some in (had.0, had.1, GoesOn-told had.0 new said (subst (λ (o : Option (List TalkEvent)). GoesOn o new said) had.1 went))
 
--- where the stream goes on being told, and what is new on the link and in the report is known, there is an exchange
-pub tells : (old new : Moment) → IsTold old → (IsSome old.first → IsSome new.first) → (said : List TalkEvent) → GoesOn old.talk new.talk said
-    → (bytes : List ℕ) → GoesOn old.report new.report (outs bytes) → (x : Exchange) × Tells old new x
+-- Where the stream goes on being told, and what is new on the link and in the report is known, there
+-- is an exchange.
+pub tells : (old new : Moment) → IsTold old → (IsSome old.first → IsSome new.first)
+    → (said : List TalkEvent) → GoesOn old.talk new.talk said
+    → (bytes : List ℕ) → GoesOn old.report new.report (outs bytes)
+    → (x : Exchange) × Tells old new x
 tells old new is still said went bytes wrote =
     let first = some_value old.first is.first in
     let left = some_value new.first (still is.first) in

@@ -1,12 +1,14 @@
 -- Causes.
 --
--- A verdict comes only where the seed gives challenges and the stream is legal to its end; a bad stream only where the
--- seed gives challenges and the stream is not legal to its end, with the number and the fault of the first record that
--- is not legal; a bad seed only where the seed has fewer than 32 bytes, and a spent one only where its 32 bytes do not
--- give the challenges. One of these four holds, so its answer comes, unless a port failed or memory ran out. A fault comes
--- only where the count of faults of that very port rose in this call, and where the steps before it had passed: faults of
--- the link and of the stream only where the seed gives challenges, faults of the report only where the stream is legal to
--- its end too. Want of memory is free. No other answer comes.
+-- A verdict comes only where the seed gives challenges and the stream is legal to its end; a bad
+-- stream only where the seed gives challenges and the stream is not legal to its end, with the
+-- number and the fault of the first record that is not legal; a bad seed only where the seed has
+-- fewer than 32 bytes, and a spent one only where its 32 bytes do not give the challenges. One of
+-- these four holds, so its answer comes, unless a port failed or memory ran out. A fault comes only
+-- where the count of faults of that very port rose in this call, and where the steps before it had
+-- passed: faults of the link and of the stream only where the seed gives challenges, faults of the
+-- report only where the stream is legal to its end too. Want of memory is free. No other answer
+-- comes.
 use Rattle.std.specs.Prelude.{◌≡◌, ◌≢◌, ◌<◌, ◌≤◌, length, Some, None}
 use Rattle.sip_stream.specs.Records.{records}
 use Rattle.sip_verifier.specs.declared.status.Port.TheVariants as ports
@@ -27,12 +29,17 @@ module _ (task : Task) (x : Exchange) where
   abbrev pub CauseClause : Counts → Counts → Status → Type 0
   CauseClause before now statuses.Accepted = HasGoodInput
   CauseClause before now (statuses.Rejected query round reason) = HasGoodInput
-  CauseClause before now (statuses.BadStream at why) = (drawn task x.seed ≢ None) × (at ≡ length (updates task x)) × ((records task.depth task.form x.stream).fault ≡ Some why)
+  CauseClause before now (statuses.BadStream at why) =
+      (drawn task x.seed ≢ None) × (at ≡ length (updates task x))
+      × ((records task.depth task.form x.stream).fault ≡ Some why)
   CauseClause before now statuses.BadSeed = length x.seed < 32
   CauseClause before now statuses.SeedSpent = (32 ≤ length x.seed) × (drawn task x.seed ≡ None)
-  CauseClause before now (statuses.ReadFault ports.First) = (drawn task x.seed ≢ None) × FaultClause before now (statuses.ReadFault ports.First)
+  CauseClause before now (statuses.ReadFault ports.First) =
+      (drawn task x.seed ≢ None) × FaultClause before now (statuses.ReadFault ports.First)
   CauseClause before now (statuses.ReadFault port) = FaultClause before now (statuses.ReadFault port)
-  CauseClause before now (statuses.WriteFault port) = HasGoodInput × FaultClause before now (statuses.WriteFault port)
-  CauseClause before now statuses.PeerFault = (drawn task x.seed ≢ None) × FaultClause before now statuses.PeerFault
+  CauseClause before now (statuses.WriteFault port) =
+      HasGoodInput × FaultClause before now (statuses.WriteFault port)
+  CauseClause before now statuses.PeerFault =
+      (drawn task x.seed ≢ None) × FaultClause before now statuses.PeerFault
   CauseClause before now statuses.OutOfMemory = Unit {0}
   CauseClause before now _ = ⊥

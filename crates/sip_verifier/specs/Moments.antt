@@ -10,10 +10,16 @@ pub record Counts : Type 0 where
   pub report : ℕ
 
 abbrev pub counts : ℕ → ℕ → ℕ → ℕ → Counts
-counts first second peer report = record { first = first; second = second; peer = peer; report = report }
+counts first second peer report = record {
+  first = first;
+  second = second;
+  peer = peer;
+  report = report;
+}
 
--- The bytes that the stream and the seed have to give, the events so far on the link and on the report, and how often these
--- ports have failed. The record of the talk is no part of it: a run leaves it alone.
+-- The bytes that the stream and the seed have to give, the events so far on the link and on the
+-- report, and how often these ports have failed. The record of the talk is no part of it: a run
+-- leaves it alone.
 pub record Moment : Type 0 where
   pub first : Option (List ℕ)
   pub second : Option (List ℕ)
@@ -22,7 +28,8 @@ pub record Moment : Type 0 where
   pub faults : Counts
 
 -- a moment, port by port: what each tells, and how often it has failed
-abbrev pub moment : Option (List ℕ) → ℕ → Option (List ℕ) → ℕ → Option (List TalkEvent) → ℕ → Option (List TalkEvent) → ℕ → Moment
+abbrev pub moment : Option (List ℕ) → ℕ → Option (List ℕ) → ℕ
+    → Option (List TalkEvent) → ℕ → Option (List TalkEvent) → ℕ → Moment
 moment first firsts second seconds talk peers report reports = record {
   first = first;
   second = second;

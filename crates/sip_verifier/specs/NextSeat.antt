@@ -5,8 +5,10 @@ use Rattle.sip_vector.specs.declared.update.Update.{Update}
 use Rattle.sip_verifier.specs.declared.seat.QuerySeat.{QuerySeat}
 use Rattle.sip_verifier.specs.QuerySeats.{StandsFor}
 
--- of the seats that were not asked yet this is the first; it has this query, and stands for this stream
-pub record IsNext (depth : ℕ) (stream : List Update) (left : List QuerySeat) (query : Query) (seat : QuerySeat) : Type 0 where
+-- of the seats that were not asked yet this is the first; it has this query, and stands for this
+-- stream
+pub record IsNext (depth : ℕ) (stream : List Update) (left : List QuerySeat) (query : Query)
+    (seat : QuerySeat) : Type 0 where
   pub more : List QuerySeat
   pub first : left ≡ seat ∷ more
   pub asks : seat.query ≡ query

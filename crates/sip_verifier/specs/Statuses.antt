@@ -1,4 +1,5 @@
--- The statuses of a run of `verify`: which are faults of a port, and which of them each part of a run may answer.
+-- The statuses of a run of `verify`: which are faults of a port, and which of them each part of a
+-- run may answer.
 use Rattle.std.specs.Prelude.{Bool, true, false, ◌||◌, IsTrue, IfErr, Result}
 use Rattle.sip_ports.specs.Ports.{Rose}
 use Rattle.sip_verifier.specs.declared.status.Port.TheVariants as ports
@@ -6,7 +7,8 @@ use Rattle.sip_verifier.specs.declared.status.Status.{Status}
 use Rattle.sip_verifier.specs.declared.status.Status.TheVariants as statuses
 use Rattle.sip_verifier.specs.Moments.{Counts}
 
--- Which count of faults rose where this status is answered, whatever the ports tell. A status that is no fault needs none.
+-- Which count of faults rose where this status is answered, whatever the ports tell. A status that
+-- is no fault needs none.
 abbrev pub FaultClause : Counts → Counts → Status → Type 0
 FaultClause before now (statuses.ReadFault ports.First) = Rose before.first now.first
 FaultClause before now (statuses.ReadFault ports.Second) = Rose before.second now.second
@@ -43,6 +45,8 @@ stops_asking _ = false
 abbrev pub IsListed : Status → Type 0
 IsListed status = IsTrue (is_accepted status || stops_gathering status || stops_asking status)
 
--- a call that stops does so with one of these statuses, and a fault of a port has its cause between these counts
+-- a call that stops does so with one of these statuses, and a fault of a port has its cause between
+-- these counts
 abbrev pub Stops : (Status → Bool) → Counts → Counts → {T : Type 0} → Result T Status → Type 0
-Stops listed before now result = IfErr result (λ status. IsTrue (listed status) × FaultClause before now status)
+Stops listed before now result =
+    IfErr result (λ status. IsTrue (listed status) × FaultClause before now status)

@@ -1,13 +1,14 @@
 -- The talk.
 --
--- Where every query was accepted, the talk is the whole one, in its order. Where a query's replies have a fault, it is
--- the talk up to the last byte that the fault needed, followed by the end of the link exactly where that is the fault.
--- With an illegal stream it ends before the end of the stream is sent: the opening, and a frame for each 512 legal
--- records. Where reading the stream failed, it ends before that too. With bad words or a bad seed, or where reading the
--- seed failed, nothing is said. With any other answer it is a front of that same talk: so each reply was taken and passed
--- its tests before the next challenge leaves, and the last challenge never leaves; and the line of an accepted query was
--- written before anything is said after its last reply. Where the line of a rejection could not be written whole, the
--- talk is that of the rejection.
+-- Where every query was accepted, the talk is the whole one, in its order. Where a query's replies
+-- have a fault, it is the talk up to the last byte that the fault needed, followed by the end of
+-- the link exactly where that is the fault. With an illegal stream it ends before the end of the
+-- stream is sent: the opening, and a frame for each 512 legal records. Where reading the stream
+-- failed, it ends before that too. With bad words or a bad seed, or where reading the seed failed,
+-- nothing is said. With any other answer it is a front of that same talk: so each reply was taken
+-- and passed its tests before the next challenge leaves, and the last challenge never leaves; and
+-- the line of an accepted query was written before anything is said after its last reply. Where the
+-- line of a rejection could not be written whole, the talk is that of the rejection.
 use Rattle.std.specs.Prelude.{◌≡◌, ◌≢◌, ◌⊎◌, List, [], ◌∷◌, ◌++◌, length, flat_map, option_to_list, Option, IfSome}
 use Rattle.sip_ports.specs.declared.port.TalkEvent.{TalkEvent}
 use Rattle.sip_replies.specs.Replies.{Fault}
@@ -27,7 +28,8 @@ module _ (task : Task) (x : Exchange) where
     pub all : length done ≡ length task.queries.items
     pub reached : Reached task x (turns_of task x done) bye_sent
 
-  -- the talk up to a fault of the replies to a query, after those to the queries before were accepted
+  -- the talk up to a fault of the replies to a query, after those to the queries before were
+  -- accepted
   pub record EndsAtFault (fault : Fault) : Type 0 where
     pub done : Done task x
     pub last : Turn
@@ -38,8 +40,8 @@ module _ (task : Task) (x : Exchange) where
   abbrev pub before_end : List TalkEvent
   before_end = opening_sent task.depth (whole_frames (updates task x))
 
-  -- The talk stopped somewhere: it has some accepted turns, each of them whole, and then a front of one that is under way
-  -- or of the farewell.
+  -- The talk stopped somewhere: it has some accepted turns, each of them whole, and then a front of
+  -- one that is under way or of the farewell.
   pub record IsUnderWay : Type 0 where
     pub done : Done task x
     pub reached : WereReached task x done

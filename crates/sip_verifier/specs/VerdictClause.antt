@@ -1,13 +1,15 @@
 -- Verdicts.
 --
--- The line of a query has the answer that its replies state. It is written only where they are accepted and the lines
--- of all queries before were written; and then it is written, unless writing the report failed or memory ran out. A run
--- is rejected as query k exactly where the replies to k - 1 queries were accepted and those to query k have that first
--- fault; the line of the rejection is then the last one. Where every query was accepted, the report is all their lines,
--- and the stream was read to its end. Where the link failed, the report is the lines of all queries that were accepted.
--- Where writing the report failed, it is the lines of the queries before the last verdict and a front of the line of that
--- verdict, and nothing was said after it. Where memory ran out, it is the one or the other. Which queries were accepted
--- is read off the talk, so none can be left out.
+-- The line of a query has the answer that its replies state. It is written only where they are
+-- accepted and the lines of all queries before were written; and then it is written, unless writing
+-- the report failed or memory ran out. A run is rejected as query k exactly where the replies to k
+-- - 1 queries were accepted and those to query k have that first fault; the line of the rejection
+-- is then the last one. Where every query was accepted, the report is all their lines, and the
+-- stream was read to its end. Where the link failed, the report is the lines of all queries that
+-- were accepted. Where writing the report failed, it is the lines of the queries before the last
+-- verdict and a front of the line of that verdict, and nothing was said after it. Where memory ran
+-- out, it is the one or the other. Which queries were accepted is read off the talk, so none can be
+-- left out.
 use Rattle.std.specs.Prelude.{◌≡◌, ◌⊎◌, ℕ, suc, List, [], ◌∷◌, ◌++◌, length, flat_map, option_to_list, Option, IfSome}
 use Rattle.sip_ports.specs.declared.port.TalkEvent.{TalkEvent}
 use Rattle.sip_replies.specs.Replies.{Fault}
@@ -30,8 +32,8 @@ module _ (task : Task) (x : Exchange) where
     pub report : x.report ≡ lines task x done
     pub read : x.unread ≡ []
 
-  -- The replies to the queries before this one were accepted, and its own have this first fault. The report is the
-  -- lines of those before and the line of the rejection.
+  -- The replies to the queries before this one were accepted, and its own have this first fault.
+  -- The report is the lines of those before and the line of the rejection.
   pub record OneFaulty (query round : ℕ) (reason : Reason) : Type 0 where
     pub done : Done task x
     pub number : query ≡ suc (length done)
@@ -44,7 +46,8 @@ module _ (task : Task) (x : Exchange) where
   abbrev pub WereReached : Done task x → Type 0
   WereReached done = (done ≡ []) ⊎ ((rest : List TalkEvent) × Reached task x (turns_of task x done) rest)
 
-  -- a part of the line of the next query, whose replies were accepted, and after which nothing was said
+  -- a part of the line of the next query, whose replies were accepted, and after which nothing was
+  -- said
   pub record PartWritten (done : Done task x) (part : List ℕ) : Type 0 where
     pub next : Accepted task.depth (updates task x)
     pub reached : Reached task x (turns_of task x done ++ next.turn ∷ []) []
@@ -58,8 +61,8 @@ module _ (task : Task) (x : Exchange) where
     pub reached : Reached task x (turns_of task x done ++ last ∷ []) (ending fault.reason)
     pub front : IsPrefix part (rejection (suc (length done)) fault.round fault.reason)
 
-  -- The lines of the queries before a verdict that was reached, and a front of the line of that verdict: none of it, a
-  -- part, or all. Nothing was said after that verdict.
+  -- The lines of the queries before a verdict that was reached, and a front of the line of that
+  -- verdict: none of it, a part, or all. Nothing was said after that verdict.
   pub record CutInLine : Type 0 where
     pub done : Done task x
     pub part : List ℕ
@@ -67,8 +70,9 @@ module _ (task : Task) (x : Exchange) where
     pub verdict : PartWritten done part ⊎ PartRejected done part
     pub report : x.report ≡ lines task x done ++ part
 
-  -- The lines of all queries that were accepted. What was said after them is a front of the farewell, or of a query
-  -- that waits for replies: so no other verdict was reached, and no front of the talk can hide an accepted query.
+  -- The lines of all queries that were accepted. What was said after them is a front of the
+  -- farewell, or of a query that waits for replies: so no other verdict was reached, and no front
+  -- of the talk can hide an accepted query.
   pub record NoneLeft : Type 0 where
     pub done : Done task x
     pub current : Option Turn

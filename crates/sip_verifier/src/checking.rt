@@ -72,7 +72,8 @@ fn check_all<L: Link, K: Sink, C: Sink>(
     requires count { length session.old.left ≡ length queries.now }
     requires most { length queries.now ≤ 16 }
     requires live { session.old.spent ≡ false }
-    ensures checks { (stream : List AnyUpdate) → map (λ seat. seat.query) session.old.left ≡ queries.now
+    ensures checks { (stream : List AnyUpdate)
+        → map (λ seat. seat.query) session.old.left ≡ queries.now
         → All (StandsFor session.old.depth stream) session.old.left
         → ChecksAll session.old.depth stream queries.now (map block_of session.old.left)
         (L.talk peer.old) (L.talk peer.new) (K.talk report.old) (K.talk report.new) result }

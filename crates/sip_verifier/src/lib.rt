@@ -24,7 +24,8 @@
 //!
 //! The other files there say what one private part of a run did: `Drawing`, `Sending`, `Questions`, `Taking`, `Ending`, `Progress`.
 //!
-//! [`check_stream`] is a whole run: [`gather`], then a [`Session`] that asks the queries. It carries the five clauses, as one `RunClause`.
+//! [`check_stream`] is a whole run: [`gather`], then a [`Session`] that asks the queries. It carries
+//! the five clauses, as one `RunClause`.
 #![tactic(auto)]
 
 mod asking;
