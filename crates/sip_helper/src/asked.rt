@@ -40,6 +40,7 @@ pub(crate) enum Answerer {
 impl Answerer {
     /// Takes the memory that the replies want, the only that they ever take.
     pub(crate) fn start(alloc: Global, vectors: &Option<Vectors>, query: Query) -> Answerer
+        requires depths { IfSome vectors.now (λ v. v.second.depth ≡ v.first.depth) }
         requires fits { IfSome vectors.now (λ v. Fits v.first.depth query) }
         ensures query { query_of result ≡ query }
         ensures ready { (depth : ℕ) → IfSome vectors.now (HaveDepth depth)

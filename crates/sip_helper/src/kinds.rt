@@ -1,5 +1,6 @@
 //! The kinds of query, a variant for each: how its prover starts, and that it proves.
 
+ghost use Rattle.std.specs.Prelude.{◌≡◌};
 ghost use Rattle.sip_vector.specs.Answers.{Fits};
 ghost use Rattle.sip_helper.specs.Kinds.{HasLearnt, query_proved};
 ghost use Rattle.sip_helper.specs.Starting.{Starts};
@@ -26,6 +27,7 @@ impl KindProver {
         vectors: &Vectors,
         query: Query,
     ) -> Result<KindProver, NotStarted>
+        requires depths { vectors.now.second.depth ≡ vectors.now.first.depth }
         requires fits { Fits vectors.now.first.depth query }
         ensures { Starts query_proved HasLearnt vectors.now query result }
     {
