@@ -1,4 +1,5 @@
--- What the calls did that ask: what was said on the link, and what was written to the keeper of what is received.
+-- What the calls did that ask: what was said on the link, and what was written to the keeper of what
+-- is received.
 use Rattle.std.specs.Prelude.{◌≡◌, ◌≢◌, ◌<◌, ◌⊎◌, ℕ, List, [], ◌∷◌, ◌++◌, length, Option, None, Result, Ok, Err, is_ok, IsTrue}
 use Rattle.sip_ports.specs.declared.port.PortStop.{PortStop}
 use Rattle.sip_ports.specs.declared.port.PortStop.TheVariants as ports
@@ -61,14 +62,16 @@ MayEnd IsOpen ended = (ended ≡ []) ⊎ ((ended ≡ Ended ∷ []) × IsOpen)
 
 -- ---- one reply, or one frame of it, of which `read` is what its bytes say
 
-module _ {X : Type 0} (read : List ℕ → Result X Reason) (old new before now : Option (List TalkEvent)) where
+module _ {X : Type 0} (read : List ℕ → Result X Reason)
+    (old new before now : Option (List TalkEvent)) where
   -- a whole reply came, no byte too many was taken, all were kept, and it says this
   pub record Came (said : X) : Type 0 where
     pub bytes : List ℕ
     pub heard : GoesOn old new (ins bytes)
     pub kept : GoesOn before now (outs bytes)
     pub says : read bytes ≡ Ok said
-    pub shortest : (front : List ℕ) (byte : ℕ) → bytes ≡ front ++ byte ∷ [] → read front ≡ Err reasons.Closed
+    pub shortest : (front : List ℕ) (byte : ℕ) → bytes ≡ front ++ byte ∷ []
+        → read front ≡ Err reasons.Closed
 
   -- the reply has this fault, no byte less shows it, and all that came was kept
   pub record HasFault (reason : Reason) : Type 0 where
@@ -76,7 +79,8 @@ module _ {X : Type 0} (read : List ℕ → Result X Reason) (old new before now 
     pub heard : GoesOn old new (ins bytes ++ ending reason)
     pub kept : GoesOn before now (outs bytes)
     pub says : read bytes ≡ Err reason
-    pub shortest : (front : List ℕ) (byte : ℕ) → bytes ≡ front ++ byte ∷ [] → reason ≢ reasons.Closed → read front ≡ Err reasons.Closed
+    pub shortest : (front : List ℕ) (byte : ℕ) → bytes ≡ front ++ byte ∷ [] → reason ≢ reasons.Closed
+        → read front ≡ Err reasons.Closed
 
   -- the link stopped, and what came has no fault but that it is not whole
   pub record IsPart : Type 0 where
@@ -92,9 +96,10 @@ module _ {X : Type 0} (read : List ℕ → Result X Reason) (old new before now 
     pub heard : GoesOn old new (ins bytes ++ ended)
     pub may_end : MayEnd (read bytes ≡ Err reasons.Closed) ended
     pub kept : KeepsPart before now bytes
-    pub shortest : (front : List ℕ) (byte : ℕ) → bytes ≡ front ++ byte ∷ [] → read front ≡ Err reasons.Closed
+    pub shortest : (front : List ℕ) (byte : ℕ) → bytes ≡ front ++ byte ∷ []
+        → read front ≡ Err reasons.Closed
 
-  -- what taking a reply did, where `Stands` holds of what the call gives and of what the whole reply says
+  -- what taking a reply did, where `Stands` holds of what the call gives and of what the reply says
   abbrev pub Takes : {T : Type 0} → (T → X → Type 0) → Result T ReplyStop → Type 0
   Takes Stands (Ok x) = (said : X) × Came said × Stands x said
   Takes Stands (Err (reply_stops.Faulty reason)) = HasFault reason
@@ -102,7 +107,7 @@ module _ {X : Type 0} (read : List ℕ → Result X Reason) (old new before now 
   Takes Stands (Err reply_stops.KeepFault) = IsUnkept
   Takes Stands (Err reply_stops.OutOfMemory) = IsPart ⊎ IsUnkept
 
--- a message was received: it is all that was read, it has a spelling, and its numbers fit their types
+-- a message was received: it is all that was read, has a spelling, and its numbers fit their types
 pub record Shows (version : Version) (m : Message) (said : Message × List ℕ) : Type 0 where
   pub is : said ≡ (m, [])
   pub has_spelling : IsTrue (fits_in version m)
@@ -110,7 +115,8 @@ pub record Shows (version : Version) (m : Message) (said : Message × List ℕ) 
 
 -- ---- all replies to a query
 
-module _ {S : Type 0} (P : Protocol S) (query : Query) (block : List ℕ) (old new before now : Option (List TalkEvent)) where
+module _ {S : Type 0} (P : Protocol S) (query : Query) (block : List ℕ)
+    (old new before now : Option (List TalkEvent)) where
   -- all replies came and are accepted; where the answer was known nothing was said
   pub record IsAnswered (answer : Answer) : Type 0 where
     pub replies : List (List ℕ)
@@ -136,19 +142,22 @@ module _ {S : Type 0} (P : Protocol S) (query : Query) (block : List ℕ) (old n
     pub unfinished : IsUnfinished P.rules block replies
     pub missing : IsMissing P.rules block replies
 
-  -- What came of the last reply could not be kept. The replies before it are whole and have no fault, and no byte less ends
-  -- the last one or shows a fault.
+  -- What came of the last reply could not be kept. The replies before it are whole and have no fault,
+  -- and no byte less ends the last one or shows a fault.
   pub record IsUnrecorded : Type 0 where
     pub due : P.unasked ≡ None
     pub earlier : List (List ℕ)
     pub last : List ℕ
     pub ended : List TalkEvent
     pub talk : GoesOn old new (asked P.rules.version query block (earlier ++ last ∷ []) ++ ended)
-    pub may_end : MayEnd (run P.rules block (earlier ++ last ∷ []) ≡ Err (record { round = length earlier; reason = reasons.Closed })) ended
+    pub may_end : MayEnd (run P.rules block (earlier ++ last ∷ [])
+        ≡ Err (record { round = length earlier; reason = reasons.Closed })) ended
     pub kept : KeepsPart before now (joined (earlier ++ last ∷ []))
     pub few : length earlier < length block
     pub passed : IsTrue (is_ok (run P.rules block earlier))
-    pub shortest : (front : List ℕ) (byte : ℕ) → last ≡ front ++ byte ∷ [] → run P.rules block (earlier ++ front ∷ []) ≡ Err (record { round = length earlier; reason = reasons.Closed })
+    pub shortest : (front : List ℕ) (byte : ℕ) → last ≡ front ++ byte ∷ []
+        → run P.rules block (earlier ++ front ∷ [])
+        ≡ Err (record { round = length earlier; reason = reasons.Closed })
 
   -- what was answered, where these are the places of the pairs
   abbrev pub Answers : List Entry → Result Said AskStop → Type 0

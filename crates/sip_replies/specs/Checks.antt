@@ -8,7 +8,8 @@ use Rattle.sip_replies.specs.declared.check.Said.{Said}
 use Rattle.sip_replies.specs.declared.check.Said.TheVariants as saids
 
 -- a call answers as the definition's step does; where that passes, `Stands` holds of what it gives
-abbrev pub Steps : {S : Type 0} → Result (More × S) Reason → (S → Type 0) → Result More Reason → Type 0
+abbrev pub Steps : {S : Type 0} → Result (More × S) Reason → (S → Type 0) → Result More Reason
+    → Type 0
 Steps (Ok x) Stands result = (result ≡ Ok x.0) × Stands x.1
 Steps (Err reason) Stands result = result ≡ Err reason
 

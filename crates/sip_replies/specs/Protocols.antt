@@ -24,7 +24,7 @@ pub record Rules (S : Type 0) : Type 0 where
 -- The rules of replies, and what they come to.
 pub record Protocol (S : Type 0) : Type 0 where
   pub rules : Rules S
-  -- the answer that all replies state once the last challenge was learnt, or the test that they fail
+  -- the answer that all replies state once the last challenge was learnt, or the test that fails
   pub finish : S → Result Answer Reason
   -- the answer, where it is known without a reply: then nothing is asked
   pub unasked : Option Answer

@@ -1,4 +1,4 @@
--- Replies as bytes, by any protocol: what they state, their first fault, and when they are accepted.
+-- Replies as bytes, by any protocol: what they state, their first fault, when they are accepted.
 use Rattle.std.specs.Prelude.{◌≡◌, ◌≢◌, ◌≤◌, ◌<◌, ◌⊎◌, min, ℕ, zero, suc, ◌+◌, ◌==◌, Bool, true, ◌&&◌, List, [], ◌∷◌, ◌++◌, length, drop, flat_map, Some, None, Result, Ok, Err, is_ok}
 use Rattle.sip_wire.specs.declared.kind.Place.{Place}
 use Rattle.sip_wire.specs.declared.message.Message.{Message}
@@ -24,11 +24,12 @@ reason_of _ = reasons.Closed
 
 -- ---- one frame
 
--- the message at the front of the bytes, and what follows its frame; or the reason why there is none
+-- a fault, as the reason that it is
 abbrev pub reasoned : {X : Type 0} → Result X WireFault → Result X Reason
 reasoned (Ok x) = Ok x
 reasoned (Err fault) = Err (reason_of fault)
 
+-- the message at the front of the bytes, and what follows its frame; or why there is none
 abbrev pub read_one : Version → Place → List ℕ → Result (Message × List ℕ) Reason
 read_one version place bytes = reasoned (read_in version place bytes)
 
@@ -40,15 +41,18 @@ at_end x [] = Ok x
 at_end x (b ∷ bytes) = Err reasons.BadLength
 
 -- what follows a frame: `then` reads on where the reply goes on
-abbrev pub goes_on : {S : Type 0} → (S → List ℕ → Result S Reason) → List ℕ → More → S → Result S Reason
+abbrev pub goes_on : {S : Type 0} → (S → List ℕ → Result S Reason) → List ℕ → More → S
+    → Result S Reason
 goes_on then rest mores.Due s = then s rest
 goes_on then rest mores.Complete s = at_end s rest
 
-abbrev pub step_says : {S : Type 0} → (S → List ℕ → Result S Reason) → List ℕ → Result (More × S) Reason → Result S Reason
+abbrev pub step_says : {S : Type 0} → (S → List ℕ → Result S Reason) → List ℕ
+    → Result (More × S) Reason → Result S Reason
 step_says then rest (Err reason) = Err reason
 step_says then rest (Ok x) = goes_on then rest x.0 x.1
 
-abbrev pub frame_says : {S : Type 0} → Rules S → (S → List ℕ → Result S Reason) → S → Result (Message × List ℕ) WireFault → Result S Reason
+abbrev pub frame_says : {S : Type 0} → Rules S → (S → List ℕ → Result S Reason) → S
+    → Result (Message × List ℕ) WireFault → Result S Reason
 frame_says R then s (Err fault) = Err (reason_of fault)
 frame_says R then s (Ok frame) = step_says then frame.1 (R.step s frame.0)
 
@@ -84,17 +88,20 @@ learnt R (r ∷ rs) s = R.learn s r
 -- the replies from j on, the challenges behind them being rs
 unfoldable pub run_from : {S : Type 0} → Rules S → ℕ → List ℕ → S → List (List ℕ) → Result S Fault
 run_from R j rs s [] = Ok s
-run_from R j rs s (bytes ∷ more) = in_round j (read_reply R s bytes) >>= λ t. run_from R (j + 1) (drop 1 rs) (learnt R rs t) more
+run_from R j rs s (bytes ∷ more) =
+    in_round j (read_reply R s bytes) >>= λ t. run_from R (j + 1) (drop 1 rs) (learnt R rs t) more
 
 -- what replies state, or their first fault; a fault Closed says that a reply is not whole
 abbrev pub run : {S : Type 0} → Rules S → List ℕ → List (List ℕ) → Result S Fault
 run R rs replies = run_from R 0 rs R.start replies
 
--- the answer that all replies state, or the first fault: the one of a reply, or that of the tests after the last one
+-- the answer that all replies state, or the first fault: the one of a reply, or that of the tests
+-- after the last one
 abbrev pub verdict : {S : Type 0} → Protocol S → List ℕ → List (List ℕ) → Result Answer Fault
 verdict P rs replies = run P.rules rs replies >>= λ s. in_round (length rs) (P.finish s)
 
--- the test that counts are about: there is a reply for each challenge, and no fault; or nothing is asked
+-- the test that counts are about: there is a reply for each challenge, and no fault; or nothing is
+-- asked
 abbrev pub accepts : {S : Type 0} → Protocol S → List ℕ → List (List ℕ) → Bool
 accepts P rs replies = elim P.unasked [
   | None ↦ (length replies == length rs) && is_ok (verdict P rs replies)
@@ -104,29 +111,37 @@ accepts P rs replies = elim P.unasked [
 -- ---- replies that are still being taken
 
 -- No reply has a fault, but that the last one may not be whole yet.
-pub record IsUnfinished {S : Type 0} (R : Rules S) (rs : List ℕ) (replies : List (List ℕ)) : Type 0 where
+pub record IsUnfinished {S : Type 0} (R : Rules S) (rs : List ℕ) (replies : List (List ℕ))
+    : Type 0 where
   pub few : length replies ≤ length rs
-  pub passes : (fault : Fault) → run R rs replies ≡ Err fault → (fault.reason ≡ reasons.Closed) × (suc fault.round ≡ length replies)
+  pub passes : (fault : Fault) → run R rs replies ≡ Err fault
+      → (fault.reason ≡ reasons.Closed) × (suc fault.round ≡ length replies)
 
 -- fewer replies came than there are challenges, or the last one is not whole
 abbrev pub IsMissing : {S : Type 0} → Rules S → List ℕ → List (List ℕ) → Type 0
-IsMissing R rs replies = (length replies < length rs) ⊎ ((fault : Fault) × (run R rs replies ≡ Err fault))
+IsMissing R rs replies =
+    (length replies < length rs) ⊎ ((fault : Fault) × (run R rs replies ≡ Err fault))
 
--- The replies taken have this first fault, and no byte less shows it. The last of them is the reply of its round; a
--- fault Closed is shown by the end of the link behind them.
-pub record IsFaulty {S : Type 0} (P : Protocol S) (rs : List ℕ) (replies : List (List ℕ)) (fault : Fault) : Type 0 where
+-- The replies taken have this first fault, and no byte less shows it. The last of them is the reply
+-- of its round; a fault Closed is shown by the end of the link behind them.
+pub record IsFaulty {S : Type 0} (P : Protocol S) (rs : List ℕ) (replies : List (List ℕ))
+    (fault : Fault) : Type 0 where
   pub asked : P.unasked ≡ None
   pub taken : length replies ≡ min (suc fault.round) (length rs)
   pub found : verdict P rs replies ≡ Err fault
-  pub shortest : (earlier : List (List ℕ)) (front : List ℕ) (byte : ℕ) → replies ≡ earlier ++ (front ++ byte ∷ []) ∷ [] → fault.reason ≢ reasons.Closed
-      → run P.rules rs (earlier ++ front ∷ []) ≡ Err (record { round = length earlier; reason = reasons.Closed })
+  pub shortest : (earlier : List (List ℕ)) (front : List ℕ) (byte : ℕ)
+      → replies ≡ earlier ++ (front ++ byte ∷ []) ∷ [] → fault.reason ≢ reasons.Closed
+      → run P.rules rs (earlier ++ front ∷ [])
+      ≡ Err (record { round = length earlier; reason = reasons.Closed })
 
 -- There is a reply for each challenge, and this answer is what they state.
-pub record IsStated {S : Type 0} (P : Protocol S) (rs : List ℕ) (replies : List (List ℕ)) (answer : Answer) : Type 0 where
+pub record IsStated {S : Type 0} (P : Protocol S) (rs : List ℕ) (replies : List (List ℕ))
+    (answer : Answer) : Type 0 where
   pub all : length replies ≡ length rs
   pub found : verdict P rs replies ≡ Ok answer
 
--- The replies are accepted with this answer. Where nothing is asked there are none, and the answer is the one that is known.
+-- The replies are accepted with this answer. Where nothing is asked there are none, and the answer is
+-- the one that is known.
 abbrev pub IsAccepted : {S : Type 0} → Protocol S → List ℕ → List (List ℕ) → Answer → Type 0
 IsAccepted P rs replies answer = elim P.unasked [
   | None ↦ IsStated P rs replies answer

@@ -1,5 +1,5 @@
--- A small protocol with a number and a test in each round: the replies to a query for a sum, a claim and a polynomial, and in
--- each later reply a polynomial. Only tests have a check of it.
+-- A small protocol with a number and a test in each round: the replies to a query for a sum, a claim
+-- and a polynomial, and in each later reply a polynomial. Only tests have a check of it.
 use Rattle.std.specs.Prelude.{◌≡◌, ◌≢◌, ℕ, ◌+◌, ◌*◌, ◌%◌, ◌==◌, Bool, true, false, ℤ, Option, Some, None, is_none, Result, Ok, Err, if◌then◌else◌}
 use Rattle.sip_field.specs.Moduli.{m61_modulus}
 use Rattle.sip_field.specs.Residue.{residue}
@@ -43,11 +43,14 @@ claimed (Some w) s v = Err reasons.BadKind
 abbrev pub summed : Option ℤ → SumState → ℕ → ℕ → ℕ → Result (More × SumState) Reason
 summed None s a b c = Err reasons.BadKind
 summed (Some w) s a b c =
-    if sum_of_ends a b c == s.expected then Ok (mores.Complete, record s { c0 = a; c1 = b; c2 = c }) else Err reasons.Sum
+    if sum_of_ends a b c == s.expected
+    then Ok (mores.Complete, record s { c0 = a; c1 = b; c2 = c })
+    else Err reasons.Sum
 
 abbrev pub sum_step : SumState → Message → Result (More × SumState) Reason
 sum_step s (messages.Claim v) = claimed s.claim s v
-sum_step s (messages.Poly a b c) = summed s.claim s (a % m61_modulus) (b % m61_modulus) (c % m61_modulus)
+sum_step s (messages.Poly a b c) =
+    summed s.claim s (a % m61_modulus) (b % m61_modulus) (c % m61_modulus)
 sum_step s (messages.Refuse code) = Err (reasons.Refused code)
 sum_step s _ = Err reasons.BadKind
 
@@ -72,7 +75,8 @@ sum_protocol asked = record {
 }
 
 -- the check's fields stand for this state
-pub record SumStands (asked : SumAsked) (s : SumState) (value : ℕ) (claim : Option ℤ) (expected c0 c1 c2 : ℕ) : Type 0 where
+pub record SumStands (asked : SumAsked) (s : SumState) (value : ℕ) (claim : Option ℤ)
+    (expected c0 c1 c2 : ℕ) : Type 0 where
   pub for_value : value ≡ asked.value
   pub of_claim : claim ≡ s.claim
   pub of_expected : expected ≡ s.expected
@@ -85,26 +89,33 @@ pub record SumStands (asked : SumAsked) (s : SumState) (value : ℕ) (claim : Op
 same : {X : Type 0} (a b : Reason) → ◌≡◌ {A = Result X Reason} (Err a) (Err b) → a ≡ b
 same a b e = cc
 
-kind : {X : Type 0} (reason : Reason) → ◌≡◌ {A = Result X Reason} (Err reasons.BadKind) (Err reason) → reason ≢ reasons.Closed
+kind : {X : Type 0} (reason : Reason) → ◌≡◌ {A = Result X Reason} (Err reasons.BadKind) (Err reason)
+    → reason ≢ reasons.Closed
 kind reason e c = let f = same reasons.BadKind reason e in cc
 
-open_claimed : (claim : Option ℤ) (s : SumState) (v : ℤ) (reason : Reason) → claimed claim s v ≡ Err reason → reason ≢ reasons.Closed
+open_claimed : (claim : Option ℤ) (s : SumState) (v : ℤ) (reason : Reason)
+    → claimed claim s v ≡ Err reason → reason ≢ reasons.Closed
 open_claimed None s v reason e c = absurd cc
 open_claimed (Some w) s v reason e c = kind {X = More × SumState} reason e c
 
 open_if : (test : Bool) (x : More × SumState) (reason : Reason)
-    → ◌≡◌ {A = Result (More × SumState) Reason} (if test then Ok x else Err reasons.Sum) (Err reason) → reason ≢ reasons.Closed
+    → ◌≡◌ {A = Result (More × SumState) Reason} (if test then Ok x else Err reasons.Sum) (Err reason)
+    → reason ≢ reasons.Closed
 open_if true x reason e c = absurd cc
 open_if false x reason e c = let f = same {X = More × SumState} reasons.Sum reason e in cc
 
-open_summed : (claim : Option ℤ) (s : SumState) (a b d : ℕ) (reason : Reason) → summed claim s a b d ≡ Err reason → reason ≢ reasons.Closed
+open_summed : (claim : Option ℤ) (s : SumState) (a b d : ℕ) (reason : Reason)
+    → summed claim s a b d ≡ Err reason → reason ≢ reasons.Closed
 open_summed None s a b d reason e c = kind {X = More × SumState} reason e c
 open_summed (Some w) s a b d reason e c = open_if (sum_of_ends a b d == s.expected) _ reason e c
 
-pub sum_tests : (asked : SumAsked) (s : SumState) (m : Message) (reason : Reason) → (sum_protocol asked).rules.step s m ≡ Err reason → reason ≢ reasons.Closed
+pub sum_tests : (asked : SumAsked) (s : SumState) (m : Message) (reason : Reason)
+    → (sum_protocol asked).rules.step s m ≡ Err reason → reason ≢ reasons.Closed
 sum_tests asked s (messages.Claim v) reason e = open_claimed s.claim s v reason e
-sum_tests asked s (messages.Poly a b d) reason e = open_summed s.claim s (a % m61_modulus) (b % m61_modulus) (d % m61_modulus) reason e
-sum_tests asked s (messages.Refuse code) reason e = λ c. (let f = same {X = More × SumState} (reasons.Refused code) reason e in cc)
+sum_tests asked s (messages.Poly a b d) reason e =
+    open_summed s.claim s (a % m61_modulus) (b % m61_modulus) (d % m61_modulus) reason e
+sum_tests asked s (messages.Refuse code) reason e =
+    λ c. (let f = same {X = More × SumState} (reasons.Refused code) reason e in cc)
 sum_tests asked s (messages.Open version depth) reason e = kind {X = More × SumState} reason e
 sum_tests asked s (messages.Updates us) reason e = kind {X = More × SumState} reason e
 sum_tests asked s messages.EndStream reason e = kind {X = More × SumState} reason e
@@ -117,10 +128,12 @@ sum_tests asked s (messages.Leaves v) reason e = kind {X = More × SumState} rea
 sum_tests asked s (messages.Nodes v) reason e = kind {X = More × SumState} reason e
 sum_tests asked s messages.LevelEnd reason e = kind {X = More × SumState} reason e
 
-open_ended : (claim : Option ℤ) (is : Bool) (reason : Reason) → sum_ended claim is ≡ Err reason → reason ≢ reasons.Closed
+open_ended : (claim : Option ℤ) (is : Bool) (reason : Reason) → sum_ended claim is ≡ Err reason
+    → reason ≢ reasons.Closed
 open_ended None is reason e c = let f = same {X = Answer} reasons.Root reason e in cc
 open_ended (Some v) true reason e c = absurd cc
 open_ended (Some v) false reason e c = let f = same {X = Answer} reasons.Root reason e in cc
 
-pub sum_ends : (asked : SumAsked) (s : SumState) (reason : Reason) → (sum_protocol asked).finish s ≡ Err reason → reason ≢ reasons.Closed
+pub sum_ends : (asked : SumAsked) (s : SumState) (reason : Reason)
+    → (sum_protocol asked).finish s ≡ Err reason → reason ≢ reasons.Closed
 sum_ends asked s reason e c = open_ended s.claim (s.expected == asked.value) reason e c

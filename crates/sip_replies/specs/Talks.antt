@@ -25,11 +25,13 @@ abbrev pub exchanged : Version → List (List ℕ) → List ℕ → List TalkEve
 exchanged version [] challenges = []
 exchanged version (reply ∷ []) challenges = ins reply
 exchanged version (reply ∷ next ∷ more) [] = ins reply
-exchanged version (reply ∷ next ∷ more) (r ∷ challenges) = ins reply ++ sent version (messages.Reveal r ∷ []) ++ exchanged version (next ∷ more) challenges
+exchanged version (reply ∷ next ∷ more) (r ∷ challenges) =
+    ins reply ++ sent version (messages.Reveal r ∷ []) ++ exchanged version (next ∷ more) challenges
 
 -- a query, and the replies to it so far
 abbrev pub asked : Version → Query → List ℕ → List (List ℕ) → List TalkEvent
-asked version query challenges replies = sent version (messages.Query query ∷ []) ++ exchanged version replies challenges
+asked version query challenges replies =
+    sent version (messages.Query query ∷ []) ++ exchanged version replies challenges
 
 -- the same; or nothing, where the answer is known without a reply
 abbrev pub asked_unless : Option Answer → Version → Query → List ℕ → List (List ℕ) → List TalkEvent

@@ -17,7 +17,8 @@ use sip_wire::{Frame, Message, Reason, Version, encode};
 /// Why a query has no answer.
 #[derive(Clone, Copy, Debug, PartialEq, Eq)]
 pub enum AskStop {
-    /// The replies have this first fault; `round` is the number of the reply, or the depth for the tests after the last.
+    /// The replies have this first fault; `round` is the number of the reply, or the depth for the
+    /// tests after the last.
     Rejected { round: u8, reason: Reason },
     /// A call of the link failed.
     PeerFault,
@@ -44,7 +45,8 @@ impl From<PortStop> for AskStop {
 // what taking the reply of this round gave, as a part of the query's turn
 fn in_round(round: u8, taken: Result<(), ReplyStop>) -> Result<(), AskStop>
     ensures same { MatchResult result (λ x. taken ≡ Ok x)
-        (λ stop. (of_reply : AnyReplyStop) × (taken ≡ Err of_reply) × (stop ≡ stop_in_round round of_reply)) }
+        (λ stop. (of_reply : AnyReplyStop) × (taken ≡ Err of_reply)
+        × (stop ≡ stop_in_round round of_reply)) }
     ensures peer { result ≡ Err AskStop.PeerFault → taken ≡ Err reply_stops.PeerFault }
     ensures keeper { result ≡ Err AskStop.KeepFault → taken ≡ Err reply_stops.KeepFault }
 {
@@ -59,9 +61,10 @@ fn in_round(round: u8, taken: Result<(), ReplyStop>) -> Result<(), AskStop>
 
 /// Asks a query, takes the replies, reveals a challenge between two of them, and checks them.
 ///
-/// A challenge leaves only after the reply before it was taken and passed its tests, and the last challenge never leaves. No byte
-/// is received behind the one that shows the verdict. Where the check knows the answer without a reply, nothing is said. The bytes
-/// of each frame are written to `keep` before they are judged. Takes no memory; the time is that of the check's calls, one for each
+/// A challenge leaves only after the reply before it was taken and passed its tests, and the last
+/// challenge never leaves. No byte is received behind the one that shows the verdict. Where the check
+/// knows the answer without a reply, nothing is said. The bytes of each frame are written to `keep`
+/// before they are judged. Takes no memory; the time is that of the check's calls, one for each
 /// frame.
 ///
 /// # Errors
@@ -77,7 +80,8 @@ pub fn ask<C: Check, L: Link, K: Sink>(
     keep: &mut K,
 ) -> Result<Said, AskStop>
     requires begins { Begins (C.phase check.old) }
-    requires stood { (asked : C.Asked) × C.stands asked (C.protocol asked).rules.start check.old places.old }
+    requires stood { (asked : C.Asked)
+        × C.stands asked (C.protocol asked).rules.start check.old places.old }
     requires fits { IsTrue (fits_in version (messages.Query query)) }
     ensures answers { (asked : C.Asked) → (C.protocol asked).rules.version ≡ version
         → C.stands asked (C.protocol asked).rules.start check.old places.old

@@ -25,8 +25,9 @@ pub enum Said {
 
 /// A check of the replies to one query, with places for the pairs of an answer.
 ///
-/// The calls come in the order of a talk: `unasked` first; then, for each reply, `take` for each of its frames, with a `reveal`
-/// between two replies; and `finish` behind the last one. The places are those of all calls, with nothing changed in between.
+/// The calls come in the order of a talk: `unasked` first; then, for each reply, `take` for each of
+/// its frames, with a `reveal` between two replies; and `finish` behind the last one. The places are
+/// those of all calls, with nothing changed in between.
 pub trait Check {
     ghost use Rattle.sip_field.specs.Moduli.{m61_modulus};
     ghost use Rattle.sip_vector.specs.declared.update.Entry.{Entry as AnyEntry};
@@ -65,12 +66,14 @@ pub trait Check {
 
     /// What is said without a reply, where nothing has to be asked.
     fn unasked(&self) -> Option<Said>
-        ensures { (asked : Asked) (s : State) (places : List AnyEntry) → stands asked s self.now places
+        ensures { (asked : Asked) (s : State) (places : List AnyEntry)
+            → stands asked s self.now places
             → option_map (answer_of places) result ≡ (protocol asked).unasked };
 
     /// What frames may come next.
     fn place(&self) -> Place
-        ensures { (asked : Asked) (s : State) (places : List AnyEntry) → stands asked s self.now places
+        ensures { (asked : Asked) (s : State) (places : List AnyEntry)
+            → stands asked s self.now places
             → result ≡ (protocol asked).rules.place s };
 
     /// Takes a frame of a reply.
@@ -80,7 +83,8 @@ pub trait Check {
         requires fits { IsTrue (fits message.now) }
         requires range { InRange message.now }
         ensures took { (asked : Asked) (s : State) → stands asked s self.old places.old
-            → Steps ((protocol asked).rules.step s message.now) (λ t. stands asked t self.new places.new) result }
+            → Steps ((protocol asked).rules.step s message.now)
+            (λ t. stands asked t self.new places.new) result }
         ensures phase { IfOk result (λ more. phase self.new ≡ after more (phase self.old)) }
         ensures smaller { result ≡ Ok Due → room self.new < room self.old }
         ensures places { length places.new ≡ length places.old };
@@ -88,10 +92,12 @@ pub trait Check {
     /// The next challenge.
     fn reveal(&mut self) -> u64
         requires phase { Reveals (phase self.old) }
-        requires stood { (asked : Asked) × (s : State) × (places : List AnyEntry) × stands asked s self.old places }
+        requires stood { (asked : Asked) × (s : State) × (places : List AnyEntry)
+            × stands asked s self.old places }
         ensures challenge { result ≡ slice_index (phase self.old).block (phase self.old).revealed }
         ensures below { result < m61_modulus }
-        ensures learns { (asked : Asked) (s : State) (places : List AnyEntry) → stands asked s self.old places
+        ensures learns { (asked : Asked) (s : State) (places : List AnyEntry)
+            → stands asked s self.old places
             → stands asked ((protocol asked).rules.learn s result) self.new places }
         ensures phase { phase self.new ≡ revealed_more (phase self.old) };
 
@@ -100,10 +106,14 @@ pub trait Check {
         requires phase { Ends (phase self.old) }
         requires stood { (asked : Asked) × (s : State) × stands asked s self.old places.now }
         ensures { (asked : Asked) (s : State) → stands asked s self.old places.now
-            → answered places.now result ≡ (protocol asked).finish ((protocol asked).rules.learn s (slice_index (phase self.old).block (phase self.old).revealed)) };
+            → answered places.now result ≡ (protocol asked).finish ((protocol asked).rules.learn s
+            (slice_index (phase self.old).block (phase self.old).revealed)) };
 
-    /// The end of the link is no test's reason.
-    ghost ends: { (asked : Asked) (s : State) (reason : AnyReason) → (protocol asked).finish s ≡ Err reason → reason ≢ Closed };
+    /// The end of the link is no reason of the tests behind the last reply.
+    ghost ends: { (asked : Asked) (s : State) (reason : AnyReason)
+        → (protocol asked).finish s ≡ Err reason → reason ≢ Closed };
 
-    ghost tests: { (asked : Asked) (s : State) (m : AnyMessage) (reason : AnyReason) → (protocol asked).rules.step s m ≡ Err reason → reason ≢ Closed };
+    /// Nor is it one of a frame's.
+    ghost tests: { (asked : Asked) (s : State) (m : AnyMessage) (reason : AnyReason)
+        → (protocol asked).rules.step s m ≡ Err reason → reason ≢ Closed };
 }

@@ -1,6 +1,6 @@
 //! Laws of replies, whatever their protocol. These functions do nothing.
 
-ghost use Rattle.std.specs.Prelude.{◌≡◌, ◌≢◌, ◌≤◌, ◌+◌, ℕ, suc, List, [], ◌∷◌, ◌++◌, length, Ok, Err};
+ghost use Rattle.std.specs.Prelude.{◌≡◌, ℕ, List, ◌∷◌, ◌++◌, length, Ok, Err};
 ghost use Rattle.sip_wire.specs.declared.message.Reason.TheVariants.{Closed, BadLength};
 ghost use Rattle.sip_replies.specs.Protocols.{Rules};
 ghost use Rattle.sip_replies.specs.Replies.{joined, read_reply, run};
@@ -9,12 +9,18 @@ use crate::check::Check;
 
 /// A whole reply is no front of another: a front of it is not whole, and one byte more is too many.
 pub fn whole_replies_end<C: Check>()
-    ensures front { (rules : Rules C.State) (s : C.State) (front : List ℕ) (byte : ℕ) (more : List ℕ) (t : C.State) → read_reply rules s (front ++ byte ∷ more) ≡ Ok t → read_reply rules s front ≡ Err Closed }
-    ensures full { (rules : Rules C.State) (s : C.State) (bytes : List ℕ) (byte : ℕ) (more : List ℕ) (t : C.State) → read_reply rules s bytes ≡ Ok t → read_reply rules s (bytes ++ byte ∷ more) ≡ Err BadLength }
+    ensures front { (rules : Rules C.State) (s : C.State) (front : List ℕ) (byte : ℕ) (more : List ℕ)
+        (t : C.State) → read_reply rules s (front ++ byte ∷ more) ≡ Ok t
+        → read_reply rules s front ≡ Err Closed }
+    ensures full { (rules : Rules C.State) (s : C.State) (bytes : List ℕ) (byte : ℕ) (more : List ℕ)
+        (t : C.State) → read_reply rules s bytes ≡ Ok t
+        → read_reply rules s (bytes ++ byte ∷ more) ≡ Err BadLength }
 {}
 
 /// Whole replies are determined by their bytes, one after another: and so is what follows them.
 pub fn bytes_tell_whole_replies<C: Check>()
-    ensures { (rules : Rules C.State) (block : List ℕ) (some others : List (List ℕ)) (rest last : List ℕ) (t u : C.State) → run rules block some ≡ Ok t → run rules block others ≡ Ok u → length others ≡ length some
+    ensures { (rules : Rules C.State) (block : List ℕ) (some others : List (List ℕ))
+        (rest last : List ℕ) (t u : C.State) → run rules block some ≡ Ok t
+        → run rules block others ≡ Ok u → length others ≡ length some
         → joined some ++ rest ≡ joined others ++ last → (some ≡ others) × (rest ≡ last) }
 {}

@@ -69,7 +69,8 @@ impl From<Reason> for ReplyStop {
     }
 }
 
-/// Receives one frame, writes its bytes to `keep`, and then judges it. Where the link stopped inside the frame nothing is kept.
+/// Receives one frame, writes its bytes to `keep`, and then judges it. Where the link stopped inside
+/// the frame nothing is kept.
 pub(crate) fn receive<L: Link, K: Sink>(
     version: Version,
     place: Place,
@@ -77,11 +78,13 @@ pub(crate) fn receive<L: Link, K: Sink>(
     link: &mut L,
     keep: &mut K,
 ) -> Result<Message, ReplyStop>
-    ensures took { Takes (read_one version place) (L.talk link.old) (L.talk link.new) (K.talk keep.old) (K.talk keep.new) (Shows version) result }
+    ensures took { Takes (read_one version place) (L.talk link.old) (L.talk link.new)
+        (K.talk keep.old) (K.talk keep.new) (Shows version) result }
     ensures link { Lasts L.faults L.is_sure link.old link.new }
     ensures keep { Lasts K.faults K.is_sure keep.old keep.new }
     ensures peer { result ≡ Err ReplyStop.PeerFault → Rose (L.faults link.old) (L.faults link.new) }
-    ensures keeper { result ≡ Err ReplyStop.KeepFault → Rose (K.faults keep.old) (K.faults keep.new) }
+    ensures keeper { result ≡ Err ReplyStop.KeepFault
+        → Rose (K.faults keep.old) (K.faults keep.new) }
 {
     let received = match version {
         Version::One => decode(link, place, frame),
@@ -96,7 +99,8 @@ pub(crate) fn receive<L: Link, K: Sink>(
     }
 }
 
-/// Takes one reply, frame by frame. The bytes of each frame are written to `keep` before they are judged.
+/// Takes one reply, frame by frame. The bytes of each frame are written to `keep` before they are
+/// judged.
 pub(crate) fn take_reply<C: Check, L: Link, K: Sink>(
     check: &mut C,
     version: Version,
@@ -107,9 +111,10 @@ pub(crate) fn take_reply<C: Check, L: Link, K: Sink>(
 ) -> Result<(), ReplyStop>
     requires phase { Awaits (C.phase check.old) }
     requires stood { (asked : C.Asked) × (s : C.State) × C.stands asked s check.old places.old }
-    ensures took { (asked : C.Asked) (s : C.State) → (C.protocol asked).rules.version ≡ version → C.stands asked s check.old places.old
-        → Takes (read_reply (C.protocol asked).rules s) (L.talk link.old) (L.talk link.new) (K.talk keep.old) (K.talk keep.new)
-        (λ _ t. C.stands asked t check.new places.new) result }
+    ensures took { (asked : C.Asked) (s : C.State) → (C.protocol asked).rules.version ≡ version
+        → C.stands asked s check.old places.old
+        → Takes (read_reply (C.protocol asked).rules s) (L.talk link.old) (L.talk link.new)
+        (K.talk keep.old) (K.talk keep.new) (λ _ t. C.stands asked t check.new places.new) result }
     ensures stands { (asked : C.Asked) (s : C.State) → C.stands asked s check.old places.old
         → IfOk result (λ _. (t : C.State) × C.stands asked t check.new places.new) }
     ensures phase { IfOk result (λ _. C.phase check.new ≡ after Complete (C.phase check.old)) }
@@ -117,7 +122,8 @@ pub(crate) fn take_reply<C: Check, L: Link, K: Sink>(
     ensures link { Lasts L.faults L.is_sure link.old link.new }
     ensures keep { Lasts K.faults K.is_sure keep.old keep.new }
     ensures peer { result ≡ Err ReplyStop.PeerFault → Rose (L.faults link.old) (L.faults link.new) }
-    ensures keeper { result ≡ Err ReplyStop.KeepFault → Rose (K.faults keep.old) (K.faults keep.new) }
+    ensures keeper { result ≡ Err ReplyStop.KeepFault
+        → Rose (K.faults keep.old) (K.faults keep.new) }
 {
     loop {
         let message = receive(version, check.place(), frame, link, keep)?;

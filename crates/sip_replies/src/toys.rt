@@ -6,7 +6,7 @@ use sip_ports::TalkEvent;
 use std::alloc::Global;
 use std::test::Fail;
 
-// These bytes, one part after another, as events: those that were sent, and those that were received.
+// These bytes, one part after another, as events: those that were sent, and those received.
 fn events(alloc: Global, parts: &[(bool, &[u8])]) -> Result<Vec<TalkEvent>, Fail> {
     let mut events = Vec::new(alloc);
     for (sent, bytes) in parts {

@@ -1,5 +1,5 @@
-//! A check whose answer is pairs, with scratch of its own that is reserved before, a query that may not be asked, and tests
-//! behind the last reply that change the check.
+//! A check whose answer is pairs, with scratch of its own that is reserved before, a query that may
+//! not be asked, and tests behind the last reply that change the check.
 
 ghost use Rattle.std.specs.Prelude.{◌≡◌, ◌≢◌, ◌≤◌, ◌+◌, ◌-◌, ◌<◌, ℕ, List, [], Ok, Err, length, slice_index, vec_len, vec_capacity, IfOk, IsTrue};
 ghost use Rattle.sip_vector.specs.declared.update.Entry.{Entry as AnyEntry};
@@ -35,7 +35,8 @@ impl<'a> ListCheck<'a> {
         most: usize,
     ) -> Result<ListCheck<'a>, AllocError>
         ensures stands { IfOk result (λ check. (places : List AnyEntry) → most ≤ length places
-            → ListStands (record { most = most }) (list_rules (record { most = most })).start check.most check.count check.learnt.items places) }
+            → ListStands (record { most = most }) (list_rules (record { most = most })).start
+            check.most check.count check.learnt.items places) }
         ensures seat { IfOk result (λ check. check.seat.now ≡ seat.now) }
         ensures taken { IfOk result (λ check. check.taken ≡ 0) }
         ensures revealed { IfOk result (λ check. check.revealed ≡ 0) }
@@ -139,7 +140,8 @@ const LESS: [u8; 11] = [0x11, 0, 8, 0xff, 0xff, 0xff, 0xff, 0xff, 0xff, 0xff, 0x
 
 const END: [u8; 3] = [0x17, 0, 0];
 
-// What a talk did: the answer, the challenges that the check has, what happened on the link, and what was kept.
+// What a talk did: the answer, the challenges that the check has, what happened on the link, and what
+// was kept.
 #[derive(Drop)]
 struct Talked {
     said: Result<Said, AskStop>,
@@ -148,8 +150,8 @@ struct Talked {
     keep: MemorySink,
 }
 
-// Asks for a list of so many values at most, at the challenges 2 and 5, over a link that gives these frames, with a keeper whose
-// calls of these numbers fail.
+// Asks for a list of as many values as there are places at most, at the challenges 2 and 5, over a
+// link that gives these frames, with a keeper whose calls of these numbers fail.
 fn asked_of(
     alloc: Global,
     frames: &[&[u8]],
@@ -186,7 +188,8 @@ fn entry(index: u64, value: i64) -> Entry {
     Entry { index, value }
 }
 
-// The first challenge asks for two values, and two came. Behind the last reply the check has both challenges.
+// The first challenge asks for two values, and two came. Behind the last reply the check has both
+// challenges.
 #[test]
 fn a_list_is_answered_by_its_places(rt: HostRuntime) -> Result<(), Fail> {
     let alloc = rt.alloc();

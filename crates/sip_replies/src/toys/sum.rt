@@ -1,4 +1,5 @@
-//! A check with a number and a test in each round: a sum, by a claim and a polynomial for each challenge.
+//! A check with a number and a test in each round: a sum, by a claim and a polynomial for each
+//! challenge.
 
 ghost use Rattle.std.specs.Prelude.{◌≡◌, ◌≢◌, ◌≤◌, ◌+◌, ◌-◌, ◌*◌, ◌%◌, ◌<◌, ℕ, ℤ, List, Ok, Err, None, length, slice_index, is_none, IfOk, IsTrue, if◌then◌else◌};
 ghost use Rattle.sip_field.specs.Elements.{m61_number};
@@ -30,7 +31,8 @@ struct SumCheck<'a> {
 
 // The value of a polynomial of three coefficients.
 fn value_at(c0: M61, c1: M61, c2: M61, r: M61) -> M61
-    ensures { m61_number result ≡ value_of (m61_number c0) (m61_number c1) (m61_number c2) (m61_number r) }
+    ensures { m61_number result
+        ≡ value_of (m61_number c0) (m61_number c1) (m61_number c2) (m61_number r) }
 {
     let top = c1.plus(c2.times(r));
     c0.plus(top.times(r))
@@ -46,8 +48,9 @@ fn sum_of(c0: M61, c1: M61, c2: M61) -> M61
 impl<'a> SumCheck<'a> {
     // A check that the last polynomial has this value at the last challenge.
     fn start(seat: &'a Seat<M61, 32>, value: u64) -> SumCheck<'a>
-        ensures stands { SumStands (record { value = value }) sum_rules.start result.value result.claim
-            (m61_number result.expected) (m61_number result.c0) (m61_number result.c1) (m61_number result.c2) }
+        ensures stands { SumStands (record { value = value }) sum_rules.start result.value
+            result.claim (m61_number result.expected) (m61_number result.c0) (m61_number result.c1)
+            (m61_number result.c2) }
         ensures seat { result.seat.now ≡ seat.now }
         ensures taken { result.taken ≡ 0 }
         ensures revealed { result.revealed ≡ 0 }
@@ -173,8 +176,8 @@ const QUERY: [u8; 5] = [4, 0, 2, 3, 0];
 // The challenge 2.
 const REVEAL: [u8; 11] = [5, 0, 8, 0, 0, 0, 0, 0, 0, 0, 2];
 
-// Asks for the sum of the squares of (3, 0, 5, 1) at the challenges 2 and 5, over a link that gives these bytes: the answer,
-// what happened on the link, and what was kept.
+// Asks for the sum of the squares of (3, 0, 5, 1) at the challenges 2 and 5, over a link that gives
+// these bytes: the answer, what happened on the link, and what was kept.
 fn asked_of(
     alloc: Global,
     incoming: &[u8],
@@ -197,8 +200,9 @@ fn asked_of(
     Ok((said, link, keep))
 }
 
-// The sum is 9 + 25 + 1 = 35. At 2 the pairs (3, 0) and (5, 1) are 3 - 2 * 3 = -3 and 5 - 2 * 4 = -3. So the polynomials are
-// (3 - 3x)^2 + (5 - 4x)^2 = 34 - 58x + 25x^2 and (-3)^2 = 9, and the last value is 9.
+// The sum is 9 + 25 + 1 = 35. At 2 the pairs (3, 0) and (5, 1) are 3 - 2 * 3 = -3 and 5 - 2 * 4 = -3.
+// So the polynomials are (3 - 3x)^2 + (5 - 4x)^2 = 34 - 58x + 25x^2 and (-3)^2 = 9, and the last
+// value is 9.
 #[test]
 fn a_sum_is_answered_and_all_that_came_is_kept(rt: HostRuntime) -> Result<(), Fail> {
     let alloc = rt.alloc();
@@ -220,8 +224,8 @@ fn a_sum_is_answered_and_all_that_came_is_kept(rt: HostRuntime) -> Result<(), Fa
     Ok(())
 }
 
-// A claim of 36 is refused by the first polynomial: nothing is revealed, nothing of what follows is received, and the bytes
-// that show the fault are kept.
+// A claim of 36 is refused by the first polynomial: nothing is revealed, nothing of what follows is
+// received, and the bytes that show the fault are kept.
 #[test]
 fn a_false_claim_is_rejected_and_kept(rt: HostRuntime) -> Result<(), Fail> {
     let alloc = rt.alloc();
