@@ -103,8 +103,8 @@ module _ {X Y : Type 0} (read : List ℕ → Result X Reason) (old mid new befor
   Takes-more Stood Stands (stops.Faulty reason) took = HasFault-more reason took
   Takes-more Stood Stands stops.PeerFault took = IsPart-more took
   Takes-more Stood Stands stops.KeepFault took = IsUnkept-more took
-  Takes-more Stood Stands stops.OutOfMemory (inl part) = inl (IsPart-more part)
-  Takes-more Stood Stands stops.OutOfMemory (inr unkept) = inr (IsUnkept-more unkept)
+  Takes-more Stood Stands stops.OutOfMemory took = IsPart-more took
+  Takes-more Stood Stands stops.KeepOutOfMemory took = IsUnkept-more took
 
   -- so where the frame was not taken
   pub Takes-stopped : {T V : Type 0} (Stood : T → Y → Type 0) (Stands : V → X → Type 0) (stop : ReplyStop) → Takes one mid new during now Stood (Err stop)

@@ -84,7 +84,7 @@ pub Answers-port : {S : Type 0} (P : Protocol S) (query : Query) (block : List �
     → IsErrAnd result (λ stop. stop ≡ stop_of_port port) → IsInterrupted P query block old new before now → Answers P query block old new before now places result
 Answers-port P query block old new before now places (Ok x) port is cut = absurd is
 Answers-port P query block old new before now places (Err stop) ports.Failed is cut = rw is cut
-Answers-port P query block old new before now places (Err stop) ports.OutOfMemory is cut = rw is (inl cut)
+Answers-port P query block old new before now places (Err stop) ports.OutOfMemory is cut = rw is cut
 
 -- ---- the tests behind the last reply
 

@@ -53,4 +53,4 @@ module _ (version : Version) (place : Place) (old new before now : Option (List 
     pub Takes-unkept : (port : PortStop) → ((n : ℕ) × (n < length got) × GoesOn before now (outs (take n got))) → (result : Result Message ReplyStop) → IsErrAnd result (λ stop. stop ≡ stop_of_keeper port) → Takes (read_one version place) old new before now (Shows version) result
     Takes-unkept port (n, less, part) (Ok m) is = absurd is
     Takes-unkept ports.Failed (n, less, part) (Err stop) is = rw is (IsUnkept-received (take n got, (drop n got, sym (take-append-drop n got)), part))
-    Takes-unkept ports.OutOfMemory (n, less, part) (Err stop) is = rw is (inr (IsUnkept-received (take n got, (drop n got, sym (take-append-drop n got)), part)))
+    Takes-unkept ports.OutOfMemory (n, less, part) (Err stop) is = rw is (IsUnkept-received (take n got, (drop n got, sym (take-append-drop n got)), part))

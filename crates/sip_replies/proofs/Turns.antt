@@ -164,11 +164,6 @@ module _ {S : Type 0} (P : Protocol S) (due : P.unasked ≡ None) (query : Query
     shortest = λ front byte e. run-fault P.rules block replies s ready.passed front reasons.Closed (u.shortest front byte e);
   }
 
-  either : IsPart (read_reply P.rules s) mid new during now ⊎ IsUnkept (read_reply P.rules s) mid new during now
-      → IsInterrupted P query block old new before now ⊎ IsUnrecorded P query block old new before now
-  either (inl part) = inl (IsInterrupted-reply part)
-  either (inr unkept) = inr (IsUnrecorded-reply unkept)
-
   -- the call that took the reply had no answer
   pub Answers-reply : (round : ℕ) {T : Type 0} (Stands : T → S → Type 0) (taken : Result T ReplyStop) (places : List Entry) (result : Result Said AskStop) (stop : AskStop) → round ≡ length replies → IsErrAnd result (λ other. other ≡ stop)
       → (of_reply : ReplyStop) × (taken ≡ Err of_reply) × (stop ≡ stop_in_round round of_reply) → Takes (read_reply P.rules s) mid new during now Stands taken → Answers P query block old new before now places result
@@ -176,7 +171,8 @@ module _ {S : Type 0} (P : Protocol S) (due : P.unasked ≡ None) (query : Query
   Answers-reply round Stands taken places (Err other) stop count is (reply_stops.Faulty reason, e, so) took = rw (is, so, count) (IsRejected-reply reason (rw e at took))
   Answers-reply round Stands taken places (Err other) stop count is (reply_stops.PeerFault, e, so) took = rw (is, so) (IsInterrupted-reply (rw e at took))
   Answers-reply round Stands taken places (Err other) stop count is (reply_stops.KeepFault, e, so) took = rw (is, so) (IsUnrecorded-reply (rw e at took))
-  Answers-reply round Stands taken places (Err other) stop count is (reply_stops.OutOfMemory, e, so) took = rw (is, so) (either (rw e at took))
+  Answers-reply round Stands taken places (Err other) stop count is (reply_stops.OutOfMemory, e, so) took = rw (is, so) (IsInterrupted-reply (rw e at took))
+  Answers-reply round Stands taken places (Err other) stop count is (reply_stops.KeepOutOfMemory, e, so) took = rw (is, so) (IsUnrecorded-reply (rw e at took))
 
   -- one reply more
   pub Going-next : (count : ℕ) (Stands : S → Type 0) (t : S) → length replies + 1 ≡ count → Came (read_reply P.rules s) mid new during now t → Stands t → Going P query block old new before now count Stands

@@ -46,11 +46,12 @@ stop_in_round round (reply_stops.Faulty reason) = stops.Rejected round reason
 stop_in_round round reply_stops.PeerFault = stops.PeerFault
 stop_in_round round reply_stops.KeepFault = stops.KeepFault
 stop_in_round round reply_stops.OutOfMemory = stops.OutOfMemory
+stop_in_round round reply_stops.KeepOutOfMemory = stops.KeepOutOfMemory
 
 -- why a reply was not taken, where the keeper stopped
 abbrev pub stop_of_keeper : PortStop → ReplyStop
 stop_of_keeper ports.Failed = reply_stops.KeepFault
-stop_of_keeper ports.OutOfMemory = reply_stops.OutOfMemory
+stop_of_keeper ports.OutOfMemory = reply_stops.KeepOutOfMemory
 
 -- a front of these bytes was kept
 abbrev pub KeepsPart : Option (List TalkEvent) → Option (List TalkEvent) → List ℕ → Type 0
@@ -105,7 +106,8 @@ module _ {X : Type 0} (read : List ℕ → Result X Reason)
   Takes Stands (Err (reply_stops.Faulty reason)) = HasFault reason
   Takes Stands (Err reply_stops.PeerFault) = IsPart
   Takes Stands (Err reply_stops.KeepFault) = IsUnkept
-  Takes Stands (Err reply_stops.OutOfMemory) = IsPart ⊎ IsUnkept
+  Takes Stands (Err reply_stops.OutOfMemory) = IsPart
+  Takes Stands (Err reply_stops.KeepOutOfMemory) = IsUnkept
 
 -- a message was received: it is all that was read, has a spelling, and its numbers fit their types
 pub record Shows (version : Version) (m : Message) (said : Message × List ℕ) : Type 0 where
@@ -165,4 +167,5 @@ module _ {S : Type 0} (P : Protocol S) (query : Query) (block : List ℕ)
   Answers places (Err (stops.Rejected round reason)) = IsRejected round reason
   Answers places (Err stops.PeerFault) = IsInterrupted
   Answers places (Err stops.KeepFault) = IsUnrecorded
-  Answers places (Err stops.OutOfMemory) = IsInterrupted ⊎ IsUnrecorded
+  Answers places (Err stops.OutOfMemory) = IsInterrupted
+  Answers places (Err stops.KeepOutOfMemory) = IsUnrecorded

@@ -1,5 +1,5 @@
 //! One query, asked of the helper and checked.
-ghost use Rattle.std.specs.Prelude.{◌≡◌, length, Ok, Err, IsTrue, MatchResult};
+ghost use Rattle.std.specs.Prelude.{◌≡◌, ◌≢◌, length, Ok, Err, IsTrue, MatchResult};
 ghost use Rattle.sip_ports.specs.Ports.{Lasts, Rose};
 ghost use Rattle.sip_wire.specs.Versions.{fits_in};
 ghost use Rattle.sip_wire.specs.declared.message.Message.TheVariants as messages;
@@ -9,8 +9,9 @@ ghost use Rattle.sip_replies.specs.declared.taking.ReplyStop.{ReplyStop as AnyRe
 ghost use Rattle.sip_replies.specs.declared.taking.ReplyStop.TheVariants as reply_stops;
 
 use crate::check::{Check, Said};
+use crate::keeper::Keeper;
 use crate::taking::{ReplyStop, take_reply};
-use sip_ports::{Link, PortStop, Sink};
+use sip_ports::{Link, PortStop};
 use sip_vector::{Entry, Query};
 use sip_wire::{Frame, Message, Reason, Version, encode};
 
@@ -24,8 +25,10 @@ pub enum AskStop {
     PeerFault,
     /// What was received could not be kept: a call of the keeper failed.
     KeepFault,
-    /// The link or the keeper ran out of memory.
+    /// The link ran out of memory.
     OutOfMemory,
+    /// The keeper ran out of memory.
+    KeepOutOfMemory,
 }
 
 impl From<PortStop> for AskStop {
@@ -49,6 +52,7 @@ fn in_round(round: u8, taken: Result<(), ReplyStop>) -> Result<(), AskStop>
         × (stop ≡ stop_in_round round of_reply)) }
     ensures peer { result ≡ Err AskStop.PeerFault → taken ≡ Err reply_stops.PeerFault }
     ensures keeper { result ≡ Err AskStop.KeepFault → taken ≡ Err reply_stops.KeepFault }
+    ensures free { result ≡ Err AskStop.KeepOutOfMemory → taken ≡ Err reply_stops.KeepOutOfMemory }
 {
     match taken {
         Ok(reply) => Ok(reply),
@@ -56,6 +60,7 @@ fn in_round(round: u8, taken: Result<(), ReplyStop>) -> Result<(), AskStop>
         Err(ReplyStop::PeerFault) => Err(AskStop::PeerFault),
         Err(ReplyStop::KeepFault) => Err(AskStop::KeepFault),
         Err(ReplyStop::OutOfMemory) => Err(AskStop::OutOfMemory),
+        Err(ReplyStop::KeepOutOfMemory) => Err(AskStop::KeepOutOfMemory),
     }
 }
 
@@ -70,7 +75,7 @@ fn in_round(round: u8, taken: Result<(), ReplyStop>) -> Result<(), AskStop>
 /// # Errors
 ///
 /// [`AskStop::Rejected`] with the first fault of the replies; the others are those of the ports.
-pub fn ask<C: Check, L: Link, K: Sink>(
+pub fn ask<C: Check, L: Link, K: Keeper>(
     check: &mut C,
     version: Version,
     query: Query,
@@ -92,6 +97,7 @@ pub fn ask<C: Check, L: Link, K: Sink>(
     ensures keep { Lasts K.faults K.is_sure keep.old keep.new }
     ensures peer { result ≡ Err AskStop.PeerFault → Rose (L.faults link.old) (L.faults link.new) }
     ensures keeper { result ≡ Err AskStop.KeepFault → Rose (K.faults keep.old) (K.faults keep.new) }
+    ensures free { K.is_free → result ≢ Err AskStop.KeepOutOfMemory }
 {
     if let Some(said) = check.unasked() {
         return Ok(said);

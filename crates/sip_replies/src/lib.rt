@@ -10,6 +10,7 @@
 
 mod asking;
 mod check;
+mod keeper;
 pub mod laws;
 mod taking;
 #[cfg(test)]
@@ -17,3 +18,4 @@ mod toys;
 
 pub use asking::{AskStop, ask};
 pub use check::{Check, More, Said};
+pub use keeper::Keeper;

@@ -1,5 +1,5 @@
 // One reply, taken off a link frame by frame, with all that comes kept.
-ghost use Rattle.std.specs.Prelude.{◌≡◌, ℕ, List, length, Ok, Err, IfOk, MatchResult};
+ghost use Rattle.std.specs.Prelude.{◌≡◌, ◌≢◌, ℕ, List, length, Ok, Err, IfOk, MatchResult};
 ghost use Rattle.sip_ports.specs.Ports.{Lasts, Rose};
 ghost use Rattle.sip_replies.specs.Protocols.{Awaits, after};
 ghost use Rattle.sip_replies.specs.Replies.{read_one, read_reply};
@@ -7,7 +7,8 @@ ghost use Rattle.sip_replies.specs.Asking.{Shows, Takes};
 ghost use Rattle.sip_replies.specs.declared.check.More.TheVariants.{Complete};
 
 use crate::check::{Check, More};
-use sip_ports::{Link, PortStop, Sink, write_whole};
+use crate::keeper::Keeper;
+use sip_ports::{Link, PortStop};
 use sip_vector::Entry;
 use sip_wire::{Frame, Message, Place, Reason, Version, WireFault, decode};
 
@@ -20,8 +21,10 @@ pub(crate) enum ReplyStop {
     PeerFault,
     /// What was received could not be kept: a call of the keeper failed.
     KeepFault,
-    /// The link or the keeper ran out of memory.
+    /// The link ran out of memory.
     OutOfMemory,
+    /// The keeper ran out of memory.
+    KeepOutOfMemory,
 }
 
 impl From<WireFault> for ReplyStop {
@@ -53,7 +56,7 @@ impl From<PortStop> for ReplyStop {
     fn from(port: PortStop) -> Self {
         match port {
             PortStop::Failed => ReplyStop::KeepFault,
-            PortStop::OutOfMemory => ReplyStop::OutOfMemory,
+            PortStop::OutOfMemory => ReplyStop::KeepOutOfMemory,
         }
     }
 }
@@ -71,7 +74,7 @@ impl From<Reason> for ReplyStop {
 
 /// Receives one frame, writes its bytes to `keep`, and then judges it. Where the link stopped inside
 /// the frame nothing is kept.
-pub(crate) fn receive<L: Link, K: Sink>(
+pub(crate) fn receive<L: Link, K: Keeper>(
     version: Version,
     place: Place,
     frame: &mut Frame,
@@ -85,6 +88,7 @@ pub(crate) fn receive<L: Link, K: Sink>(
     ensures peer { result ≡ Err ReplyStop.PeerFault → Rose (L.faults link.old) (L.faults link.new) }
     ensures keeper { result ≡ Err ReplyStop.KeepFault
         → Rose (K.faults keep.old) (K.faults keep.new) }
+    ensures free { K.is_free → result ≢ Err ReplyStop.KeepOutOfMemory }
 {
     let received = match version {
         Version::One => decode(link, place, frame),
@@ -93,7 +97,7 @@ pub(crate) fn receive<L: Link, K: Sink>(
         Err(WireFault::PeerFault) => Err(ReplyStop::PeerFault),
         Err(WireFault::OutOfMemory) => Err(ReplyStop::OutOfMemory),
         judged => {
-            write_whole(keep, frame.bytes())?;
+            keep.keep(frame.bytes())?;
             Ok(judged?)
         }
     }
@@ -101,7 +105,7 @@ pub(crate) fn receive<L: Link, K: Sink>(
 
 /// Takes one reply, frame by frame. The bytes of each frame are written to `keep` before they are
 /// judged.
-pub(crate) fn take_reply<C: Check, L: Link, K: Sink>(
+pub(crate) fn take_reply<C: Check, L: Link, K: Keeper>(
     check: &mut C,
     version: Version,
     places: &mut [Entry],
@@ -124,6 +128,7 @@ pub(crate) fn take_reply<C: Check, L: Link, K: Sink>(
     ensures peer { result ≡ Err ReplyStop.PeerFault → Rose (L.faults link.old) (L.faults link.new) }
     ensures keeper { result ≡ Err ReplyStop.KeepFault
         → Rose (K.faults keep.old) (K.faults keep.new) }
+    ensures free { K.is_free → result ≢ Err ReplyStop.KeepOutOfMemory }
 {
     loop {
         let message = receive(version, check.place(), frame, link, keep)?;
