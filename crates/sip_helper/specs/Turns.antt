@@ -133,7 +133,8 @@ step s refused _ = s
 
 -- ---- the reply that is owed
 
--- the messages of a reply to a query: the refusal for want of memory, or else that of its row, or else the honest ones
+-- the messages of a reply to a query: the refusal for want of memory, or else that of its row, or
+-- else the honest ones
 abbrev pub reply_to : Option Vectors → OpenQuery → List Message
 reply_to None o = refusal want_of_memory
 reply_to (Some v) o = if o.refused then refusal want_of_memory else reply_by (row_of o.query) v o.revealed

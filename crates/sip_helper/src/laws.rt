@@ -7,7 +7,7 @@ ghost use Rattle.sip_helper.specs.Kinds.{row_of};
 ghost use Rattle.sip_helper.specs.KindRows.{out_of_turn, want_of_memory};
 ghost use Rattle.sip_helper.specs.declared.vectors.Vectors.{Vectors as AnyVectors};
 
-/// The row of a kind that is built refuses neither as out of turn nor for want of memory, and that of
+/// The row of a kind that is built refuses neither as out of turn nor for want of memory. The row of
 /// another kind always refuses as out of turn.
 pub fn rows_go_by_what_is_built()
     ensures built { (query : AnyQuery) (vectors : AnyVectors) → IsTrue (is_built query)

@@ -20,14 +20,16 @@
 //! answered are those of `is_built`; `hear` refuses another one as out of turn, and `serve` does not come to it: it ends there as
 //! at bytes without a spelling (`is_known`, `IsUnknown`). `specs/Serving.antt` says what a talk on a link is, by its status.
 //!
-//! What a kind of query means to a helper is a row (`specs/KindRows.antt`): which refusal applies to it over the two vectors, and the
-//! honest reply behind the challenges so far. `specs/Kinds.antt` has the row of each kind.
+//! What a kind of query means to a helper is a row (`specs/KindRows.antt`): which refusal applies to it
+//! over the two vectors, and the honest reply behind the challenges so far. `specs/Kinds.antt` has the
+//! row of each kind.
 //!
 //! # How a kind is added
 //!
-//! A file of `specs/` with its row and with what its prover stands for; a file of `src/` with the
-//! prover, an `impl` of the trait `Prover` and a `start` that `Starts` describes; and a line for it in
-//! each definition of `specs/Kinds.antt` and each `match` of `src/kinds.rt`. The rest names no kind.
+//! A file of `specs/` has its row and what its prover stands for. A file of `src/` has the prover, an
+//! `impl` of the trait `Prover`, and a `start` that `Starts` describes. A line for it stands in each
+//! definition of `specs/Kinds.antt`, each `match` of `src/kinds.rt` and each lemma of
+//! `proofs/EachKind.antt`. The turns, and the calls that answer, name no kind.
 #![tactic(auto)]
 
 mod asked;
