@@ -24,14 +24,38 @@ fn root_of_four() -> Root<M61, 32>
     root
 }
 
-fn reason_of(fault: WireFault) -> Reason {
-    match fault {
-        WireFault::BadKind => Reason::BadKind,
-        WireFault::BadLength => Reason::BadLength,
-        WireFault::BadCount => Reason::BadCount,
-        WireFault::BadNumber => Reason::BadNumber,
-        WireFault::Closed | WireFault::PeerFault | WireFault::OutOfMemory => Reason::Closed,
+// Why replies are not accepted: they have a fault, or could not be heard.
+#[derive(Clone, Copy, Debug, PartialEq, Eq)]
+enum Stop {
+    Rejected(Reason),
+    PeerFault,
+    OutOfMemory,
+}
+
+impl From<Reason> for Stop {
+    ghost use Rattle.sip_rows.specs.declared.check_tests.Stop.{Stop};
+
+    ghost from_gives = { λ reason stop. stop ≡ Stop.Rejected reason };
+
+    fn from(reason: Reason) -> Stop {
+        Stop::Rejected(reason)
     }
+}
+
+fn stop_of(fault: WireFault) -> Stop {
+    match fault {
+        WireFault::BadKind => Stop::Rejected(Reason::BadKind),
+        WireFault::BadLength => Stop::Rejected(Reason::BadLength),
+        WireFault::BadCount => Stop::Rejected(Reason::BadCount),
+        WireFault::BadNumber => Stop::Rejected(Reason::BadNumber),
+        WireFault::Closed => Stop::Rejected(Reason::Closed),
+        WireFault::PeerFault => Stop::PeerFault,
+        WireFault::OutOfMemory => Stop::OutOfMemory,
+    }
+}
+
+fn rejected(round: u8, reason: Reason) -> Result<(), (u8, Stop)> {
+    Err((round, Stop::Rejected(reason)))
 }
 
 // Gives the entries of one frame.
@@ -57,7 +81,7 @@ fn take_first(
     check: &mut SubCheck<M61, 32>,
     link: &mut MemoryLink,
     frame: &mut Frame,
-) -> Result<bool, Reason>
+) -> Result<bool, Stop>
     requires unspent { check.old.spent ≡ false }
     requires first { check.old.level ≡ 0 }
     requires none { check.old.revealed ≡ 0 }
@@ -76,9 +100,9 @@ fn take_first(
             check.siblings(left.map(|x| M61::of(x)), right.map(|x| M61::of(x)))?;
             Ok(true)
         }
-        Ok(Message::Refuse { code }) => Err(Reason::Refused(code)),
-        Ok(_) => Err(Reason::BadKind),
-        Err(fault) => Err(reason_of(fault)),
+        Ok(Message::Refuse { code }) => Err(Stop::Rejected(Reason::Refused(code))),
+        Ok(_) => Err(Stop::Rejected(Reason::BadKind)),
+        Err(fault) => Err(stop_of(fault)),
     }
 }
 
@@ -87,7 +111,7 @@ fn take_last(
     check: SubCheck<M61, 32>,
     link: &mut MemoryLink,
     frame: &mut Frame,
-) -> Result<(), (u8, Reason)>
+) -> Result<(), (u8, Stop)>
     requires unspent { check.spent ≡ false }
     requires level { check.level ≡ 1 }
     requires none { check.revealed ≡ 0 }
@@ -97,22 +121,22 @@ fn take_last(
     check.reveal();
     let (left, right) = match decode(link, Place::Siblings, frame) {
         Ok(Message::Siblings { left, right }) => (left, right),
-        Ok(Message::Refuse { code }) => return Err((1, Reason::Refused(code))),
-        Ok(_) => return Err((1, Reason::BadKind)),
-        Err(fault) => return Err((1, reason_of(fault))),
+        Ok(Message::Refuse { code }) => return rejected(1, Reason::Refused(code)),
+        Ok(_) => return rejected(1, Reason::BadKind),
+        Err(fault) => return Err((1, stop_of(fault))),
     };
     match check.siblings(left.map(|x| M61::of(x)), right.map(|x| M61::of(x))) {
         Ok(()) => {}
-        Err(reason) => return Err((1, reason)),
+        Err(reason) => return rejected(1, reason),
     }
     match check.finish() {
         Ok(()) => Ok(()),
-        Err(reason) => Err((2, reason)),
+        Err(reason) => rejected(2, reason),
     }
 }
 
 // The round and the reason of the first fault of these bytes. No table has more than three frames of reply 0.
-fn judge(lo: u64, hi: u64, link: &mut MemoryLink, frame: &mut Frame) -> Result<(), (u8, Reason)>
+fn judge(lo: u64, hi: u64, link: &mut MemoryLink, frame: &mut Frame) -> Result<(), (u8, Stop)>
     requires order { lo ≤ hi }
     requires item { hi < 4 }
 {
@@ -121,10 +145,10 @@ fn judge(lo: u64, hi: u64, link: &mut MemoryLink, frame: &mut Frame) -> Result<(
         match take_first(&mut check, link, frame) {
             Ok(false) => {}
             Ok(true) => return take_last(check, link, frame),
-            Err(reason) => return Err((0, reason)),
+            Err(stop) => return Err((0, stop)),
         }
     }
-    Err((9, Reason::TooMany))
+    rejected(9, Reason::TooMany)
 }
 
 fn judge_all(
@@ -132,7 +156,7 @@ fn judge_all(
     alloc: Global,
     lo: u64,
     hi: u64,
-    rows: &[(&[&[u8]], Result<(), (u8, Reason)>)],
+    rows: &[(&[&[u8]], Result<(), (u8, Stop)>)],
 ) -> Result<(), Fail>
     requires order { lo ≤ hi }
     requires item { hi < 4 }
@@ -160,40 +184,56 @@ const LEFT_SIBLING_3: [u8; 12] = [0x14, 0, 9, 1, 0, 0, 0, 0, 0, 0, 0, 3];
 
 #[test]
 fn replies_to_a_query_for_1_to_2(rt: HostRuntime) -> Result<(), Fail> {
-    let rows: [(&[&[u8]], Result<(), (u8, Reason)>); 15] = [
+    let rows: [(&[&[u8]], Result<(), (u8, Stop)>); 15] = [
         (&[&ENTRY_2, &SIBLINGS_3_1, &NO_SIBLINGS], Ok(())),
-        (&[], Err((0, Reason::Closed))),
-        (&[&CLAIM_HEADER], Err((0, Reason::BadKind))),
-        (&[&SHORT_ENTRIES_HEADER], Err((0, Reason::BadLength))),
-        (&[&ONE_AS_TWO], Err((0, Reason::BadCount))),
-        (&[&ONE_AS_BOTH], Err((0, Reason::BadCount))),
-        (&[&REFUSE_5], Err((0, Reason::BadNumber))),
-        (&[&REFUSE_1], Err((0, Reason::Refused(1)))),
-        (&[&ENTRY_3], Err((0, Reason::BadOrder))),
-        (&[&ENTRY_2, &ENTRY_2], Err((0, Reason::BadOrder))),
-        (&[&ENTRY_2, &SIBLINGS_3_1], Err((1, Reason::Closed))),
+        (&[], rejected(0, Reason::Closed)),
+        (&[&CLAIM_HEADER], rejected(0, Reason::BadKind)),
+        (&[&SHORT_ENTRIES_HEADER], rejected(0, Reason::BadLength)),
+        (&[&ONE_AS_TWO], rejected(0, Reason::BadCount)),
+        (&[&ONE_AS_BOTH], rejected(0, Reason::BadCount)),
+        (&[&REFUSE_5], rejected(0, Reason::BadNumber)),
+        (&[&REFUSE_1], rejected(0, Reason::Refused(1))),
+        (&[&ENTRY_3], rejected(0, Reason::BadOrder)),
+        (&[&ENTRY_2, &ENTRY_2], rejected(0, Reason::BadOrder)),
+        (&[&ENTRY_2, &SIBLINGS_3_1], rejected(1, Reason::Closed)),
         (
             &[&ENTRY_2, &SIBLINGS_3_1, &RIGHT_SIBLING_1],
-            Err((1, Reason::BadFlags)),
+            rejected(1, Reason::BadFlags),
         ),
         (
             &[&ENTRY_1, &ENTRY_2, &SIBLINGS_3_1, &NO_SIBLINGS],
-            Err((2, Reason::Root)),
+            rejected(2, Reason::Root),
         ),
         (
             &[&ENTRY_2, &SIBLINGS_4_1, &NO_SIBLINGS],
-            Err((2, Reason::Root)),
+            rejected(2, Reason::Root),
         ),
-        (&[&ENTRY_2_OF_ZERO], Err((0, Reason::BadNumber))),
+        (&[&ENTRY_2_OF_ZERO], rejected(0, Reason::BadNumber)),
     ];
     judge_all(&rt, rt.alloc(), 1, 2, &rows)
 }
 
 #[test]
 fn no_sibling_is_asked_for_by_all_items(rt: HostRuntime) -> Result<(), Fail> {
-    let rows: [(&[&[u8]], Result<(), (u8, Reason)>); 2] = [
-        (&[&LEFT_SIBLING_3], Err((0, Reason::BadFlags))),
-        (&[&NO_SIBLINGS, &NO_SIBLINGS], Err((2, Reason::Root))),
+    let rows: [(&[&[u8]], Result<(), (u8, Stop)>); 2] = [
+        (&[&LEFT_SIBLING_3], rejected(0, Reason::BadFlags)),
+        (&[&NO_SIBLINGS, &NO_SIBLINGS], rejected(2, Reason::Root)),
     ];
     judge_all(&rt, rt.alloc(), 0, 3, &rows)
+}
+
+// A frame is received in two calls, its header and its body. A call that fails is no end of the replies.
+#[test]
+fn a_link_that_fails_is_not_closed(rt: HostRuntime) -> Result<(), Fail> {
+    let alloc = rt.alloc();
+    let mut frame = Frame::new(alloc)?;
+    for (call, round) in [(1, 0), (2, 0), (3, 0), (4, 0), (5, 1), (6, 1)] {
+        let mut bytes = ENTRY_2.to_vec(alloc)?;
+        bytes.extend_from_slice(&SIBLINGS_3_1)?;
+        bytes.extend_from_slice(&NO_SIBLINGS)?;
+        let mut link = MemoryLink::new(alloc, bytes, 10_000, vec![in alloc; call]?);
+        let verdict = judge(1, 2, &mut link, &mut frame);
+        assert_eq!(rt; verdict, Err((round, Stop::PeerFault)), "call {call}");
+    }
+    Ok(())
 }

@@ -132,17 +132,16 @@ fn copies_of_bad_streams(rt: HostRuntime) -> Result<(), Fail> {
     Ok(())
 }
 
-// Each call of the report fails once: the bytes before it are written. So does each of the source, where a front is.
+// Each call of the report fails once: the bytes before it are written.
 #[test]
-fn copies_over_ports_that_fail(rt: HostRuntime) -> Result<(), Fail> {
-    let alloc = rt.alloc();
+fn copies_over_a_report_that_fails(rt: HostRuntime) -> Result<(), Fail> {
     let row = wrote("lines s 2", &THREE_RECORDS, THREE_LINES);
     for number in 1..=18usize {
         let failing = Failing {
             at: At::Report,
             number: number as u64,
         };
-        let shown = row.given().run(alloc, 1, Some(failing))?;
+        let shown = row.given().run(rt.alloc(), 1, Some(failing))?;
         let status = Status::WriteFault { port: Port::Report };
         assert_eq!(rt; shown.status, status, "call {number}");
         assert_eq!(rt; exit_code(&shown.status), 4, "call {number}");
@@ -152,20 +151,82 @@ fn copies_over_ports_that_fail(rt: HostRuntime) -> Result<(), Fail> {
         );
         assert_eq!(rt; shown.report.bytes().len(), number - 1);
     }
-    for number in 1..=40 {
-        let failing = Failing {
-            at: At::First,
-            number,
-        };
-        let shown = row.given().run(alloc, 1, Some(failing))?;
-        let status = Status::ReadFault { port: Port::First };
-        assert_eq!(rt; shown.status, status, "call {number}");
-        assert!(rt;
-            THREE_LINES.starts_with(shown.report.bytes()),
-            "call {number}"
-        );
+    Ok(())
+}
+
+// The calls of the source of which one fails, and what is written then: all that the calls before it gave whole.
+type Cut<'a> = (u64, u64, &'a [u8]);
+
+// A copy of three records whose source fails, once at each call up to the one that meets the end.
+fn check_cuts(
+    rt: &impl Abort,
+    alloc: Global,
+    copied: &Copied,
+    chunk: usize,
+    cuts: &[Cut],
+) -> Result<(), Fail>
+    requires { 1 ≤ chunk }
+{
+    let words = copied.words;
+    for (first, last, written) in cuts {
+        for number in *first..=*last {
+            let failing = Failing {
+                at: At::First,
+                number,
+            };
+            let shown = copied.given().run(alloc, chunk, Some(failing))?;
+            let status = Status::ReadFault { port: Port::First };
+            assert_eq!(rt; shown.status, status, "call {number} of {words}");
+            assert_eq!(rt; exit_code(&shown.status), 4, "call {number} of {words}");
+            assert_eq!(rt; shown.report.bytes(), *written, "call {number} of {words}");
+        }
     }
     Ok(())
+}
+
+// A record is 13 bytes, and each line is 6. In single bytes these are as many calls; a record that may be asked for at once
+// is one call, and a line is read byte by byte all the same.
+#[test]
+fn copies_of_a_source_that_fails(rt: HostRuntime) -> Result<(), Fail> {
+    let alloc = rt.alloc();
+    let lines = wrote("lines s 2", &THREE_RECORDS, THREE_LINES);
+    let (one, two) = (&THREE_LINES[..6], &THREE_LINES[..12]);
+    let in_bytes: [Cut; 4] = [
+        (1, 13, &[]),
+        (14, 26, one),
+        (27, 39, two),
+        (40, 40, THREE_LINES),
+    ];
+    check_cuts(&rt, alloc, &lines, 1, &in_bytes)?;
+    let in_records: [Cut; 4] = [(1, 1, &[]), (2, 2, one), (3, 3, two), (4, 4, THREE_LINES)];
+    check_cuts(&rt, alloc, &lines, 10_000, &in_records)?;
+
+    let text = wrote("lines text:s 2", THREE_LINES, THREE_LINES);
+    let in_lines: [Cut; 4] = [
+        (1, 6, &[]),
+        (7, 12, one),
+        (13, 18, two),
+        (19, 19, THREE_LINES),
+    ];
+    check_cuts(&rt, alloc, &text, 1, &in_lines)?;
+    check_cuts(&rt, alloc, &text, 10_000, &in_lines)?;
+
+    let records = wrote("gen 7 3 2", &THREE_RECORDS, &THREE_RECORDS);
+    let (one, two) = (&THREE_RECORDS[..13], &THREE_RECORDS[..26]);
+    let in_bytes: [Cut; 4] = [
+        (1, 13, &[]),
+        (14, 26, one),
+        (27, 39, two),
+        (40, 40, &THREE_RECORDS),
+    ];
+    check_cuts(&rt, alloc, &records, 1, &in_bytes)?;
+    let in_records: [Cut; 4] = [
+        (1, 1, &[]),
+        (2, 2, one),
+        (3, 3, two),
+        (4, 4, &THREE_RECORDS),
+    ];
+    check_cuts(&rt, alloc, &records, 10_000, &in_records)
 }
 
 // Runs a command whose stream is made, over the source that its words name.
@@ -243,6 +304,13 @@ fn long_streams(rt: HostRuntime) -> Result<(), Fail> {
             (records.bytes().len(), sum(records.bytes())),
             (13_000, 198_709)
         );
+        let copied = wrote("gen 7 1000 20", records.bytes(), records.bytes());
+        // What is gathered when the source fails is written: 630 records are the most below a block of 8,192 bytes.
+        for (number, written) in [(1, 0), (631, 8_190), (632, 8_203), (1_001, 13_000)] {
+            let front = records.bytes().get(..written).unwrap_or(&[]);
+            let cut = [(number, number, front)];
+            check_cuts(&rt, alloc, &copied, 10_000, &cut)?;
+        }
         wrote("lines s 20", records.bytes(), lines.bytes()).check(&rt, alloc)?;
         wrote("lines text:s 20", lines.bytes(), lines.bytes()).check(&rt, alloc)?;
     }

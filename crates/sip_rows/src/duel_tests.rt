@@ -1,4 +1,5 @@
 use crate::duel::duel;
+use crate::ones::rows_of_ones;
 use sip_verifier::Status;
 use std::alloc::Global;
 use std::process::Abort;
@@ -57,12 +58,7 @@ fn sixteen_queries(rt: HostRuntime) -> Result<(), Fail> {
 #[test]
 fn a_stream_of_three_frames(rt: HostRuntime) -> Result<(), Fail> {
     let alloc = rt.alloc();
-    let mut stream = Vec::new(alloc);
-    for item in 0..1100_u32 {
-        stream.push(0)?;
-        stream.extend_from_slice(&item.to_be_bytes())?;
-        stream.extend_from_slice(&1_i64.to_be_bytes())?;
-    }
+    let stream = rows_of_ones(alloc, 1100, &[], &[0])?;
     check(
         &rt,
         alloc,

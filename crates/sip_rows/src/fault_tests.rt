@@ -1,45 +1,32 @@
+use crate::faulty::{Faulty, check_faulty};
 use crate::frames::*;
 use crate::row::{Given, Row, Said, first_run};
-use sip_verifier::Status;
 use sip_wire::Reason;
-use std::alloc::Global;
-use std::process::Abort;
 use std::test::Fail;
 
-// Replies of which one has a fault, its round and reason, the line that is written, and what is said up to the fault.
-#[derive(Clone, Copy)]
-struct Faulty<'a> {
-    name: &'a str,
-    replies: &'a [&'a [u8]],
-    then: &'a [Said<'a>],
-    round: u8,
-    reason: Reason,
-    line: &'a str,
+// The first run, up to these replies and what is said then.
+fn up_to<'a>(replies: &'a [&'a [u8]], then: &'a [Said<'a>]) -> Row<'a> {
+    Row {
+        given: Given {
+            replies,
+            ..first_run().given
+        },
+        report: "",
+        then,
+        ..first_run()
+    }
 }
 
-fn check(rt: &impl Abort, alloc: Global, rows: &[Faulty]) -> Result<(), Fail> {
-    let honest = first_run();
-    for row in rows {
-        let given = Given {
-            replies: row.replies,
-            ..honest.given
-        };
-        let rejected = Row {
-            name: row.name,
-            given,
-            status: Status::Rejected {
-                query: 1,
-                round: row.round,
-                reason: row.reason,
-            },
-            code: 1,
-            report: row.line,
-            then: row.then,
-            ..honest
-        };
-        rejected.check(rt, alloc)?;
+// Replies that are in order and false, which the root tells at the end.
+fn false_reply<'a>(name: &'a str, replies: &'a [&'a [u8]], then: &'a [Said<'a>]) -> Faulty<'a> {
+    Faulty {
+        name,
+        replies,
+        then,
+        round: 2,
+        reason: Reason::Root,
+        line: "rejected query 1 round 2 Root\n",
     }
-    Ok(())
 }
 
 // One frame of reply 0 has a fault. The bytes behind it are not taken.
@@ -135,10 +122,11 @@ fn frames_with_a_fault(rt: HostRuntime) -> Result<(), Fail> {
             line: "rejected query 1 round 0 BadNumber\n",
         },
     ];
-    check(&rt, rt.alloc(), &rows)
+    check_faulty(&rt, rt.alloc(), &up_to(&[], &[]), 1, &rows)
 }
 
-// Each frame is in order, and the replies have a fault. The bytes behind it are not taken.
+// Each frame is in order, and the replies have a fault. The bytes behind it are not taken. Where reply 0 is false, which only
+// the root tells, the challenge goes out. The farewell does not.
 #[test]
 fn replies_with_a_fault(rt: HostRuntime) -> Result<(), Fail> {
     let rows = [
@@ -174,8 +162,48 @@ fn replies_with_a_fault(rt: HostRuntime) -> Result<(), Fail> {
             reason: Reason::BadFlags,
             line: "rejected query 1 round 0 BadFlags\n",
         },
+        false_reply(
+            "leaf 0 is not 4",
+            &[&ENTRY_2, &SIBLINGS_4_1, &NO_SIBLINGS],
+            &[
+                Said::In(&ENTRY_2),
+                Said::In(&SIBLINGS_4_1),
+                Said::Out(&REVEAL),
+                Said::In(&NO_SIBLINGS),
+            ],
+        ),
+        false_reply(
+            "entry 1 is not 7",
+            &[&ENTRIES_1_2, &SIBLINGS_3_1, &NO_SIBLINGS],
+            &[
+                Said::In(&ENTRIES_1_2),
+                Said::In(&SIBLINGS_3_1),
+                Said::Out(&REVEAL),
+                Said::In(&NO_SIBLINGS),
+            ],
+        ),
+        false_reply(
+            "entry 1 is not 7, in a frame of its own",
+            &[&ENTRY_1, &ENTRY_2, &SIBLINGS_3_1, &NO_SIBLINGS],
+            &[
+                Said::In(&ENTRY_1),
+                Said::In(&ENTRY_2),
+                Said::In(&SIBLINGS_3_1),
+                Said::Out(&REVEAL),
+                Said::In(&NO_SIBLINGS),
+            ],
+        ),
+        false_reply(
+            "entry 2 is not left out",
+            &[&SIBLINGS_3_1, &NO_SIBLINGS],
+            &[
+                Said::In(&SIBLINGS_3_1),
+                Said::Out(&REVEAL),
+                Said::In(&NO_SIBLINGS),
+            ],
+        ),
     ];
-    check(&rt, rt.alloc(), &rows)
+    check_faulty(&rt, rt.alloc(), &up_to(&[], &[]), 1, &rows)
 }
 
 // Reply 0 is taken, and the challenge goes out. The farewell does not.
@@ -183,123 +211,53 @@ fn replies_with_a_fault(rt: HostRuntime) -> Result<(), Fail> {
 fn later_replies_with_a_fault(rt: HostRuntime) -> Result<(), Fail> {
     let rows = [
         Faulty {
-            name: "leaf 0 is not 4",
-            replies: &[&ENTRY_2, &SIBLINGS_4_1, &NO_SIBLINGS],
-            then: &[
-                Said::In(&ENTRY_2),
-                Said::In(&SIBLINGS_4_1),
-                Said::Out(&REVEAL),
-                Said::In(&NO_SIBLINGS),
-            ],
-            round: 2,
-            reason: Reason::Root,
-            line: "rejected query 1 round 2 Root\n",
-        },
-        Faulty {
-            name: "entry 1 is not 7",
-            replies: &[&ENTRIES_1_2, &SIBLINGS_3_1, &NO_SIBLINGS],
-            then: &[
-                Said::In(&ENTRIES_1_2),
-                Said::In(&SIBLINGS_3_1),
-                Said::Out(&REVEAL),
-                Said::In(&NO_SIBLINGS),
-            ],
-            round: 2,
-            reason: Reason::Root,
-            line: "rejected query 1 round 2 Root\n",
-        },
-        Faulty {
-            name: "entry 1 is not 7, in a frame of its own",
-            replies: &[&ENTRY_1, &ENTRY_2, &SIBLINGS_3_1, &NO_SIBLINGS],
-            then: &[
-                Said::In(&ENTRY_1),
-                Said::In(&ENTRY_2),
-                Said::In(&SIBLINGS_3_1),
-                Said::Out(&REVEAL),
-                Said::In(&NO_SIBLINGS),
-            ],
-            round: 2,
-            reason: Reason::Root,
-            line: "rejected query 1 round 2 Root\n",
-        },
-        Faulty {
-            name: "entry 2 is not left out",
-            replies: &[&SIBLINGS_3_1, &NO_SIBLINGS],
-            then: &[
-                Said::In(&SIBLINGS_3_1),
-                Said::Out(&REVEAL),
-                Said::In(&NO_SIBLINGS),
-            ],
-            round: 2,
-            reason: Reason::Root,
-            line: "rejected query 1 round 2 Root\n",
-        },
-        Faulty {
             name: "nothing of reply 1 comes",
-            replies: &[&ENTRY_2, &SIBLINGS_3_1],
-            then: &[
-                Said::In(&ENTRY_2),
-                Said::In(&SIBLINGS_3_1),
-                Said::Out(&REVEAL),
-                Said::Ended,
-            ],
+            replies: &[],
+            then: &[Said::Ended],
             round: 1,
             reason: Reason::Closed,
             line: "rejected query 1 round 1 Closed\n",
         },
         Faulty {
             name: "two bytes of reply 1 come",
-            replies: &[&ENTRY_2, &SIBLINGS_3_1, &PART_OF_NO_SIBLINGS],
-            then: &[
-                Said::In(&ENTRY_2),
-                Said::In(&SIBLINGS_3_1),
-                Said::Out(&REVEAL),
-                Said::In(&PART_OF_NO_SIBLINGS),
-                Said::Ended,
-            ],
+            replies: &[&PART_OF_NO_SIBLINGS],
+            then: &[Said::In(&PART_OF_NO_SIBLINGS), Said::Ended],
             round: 1,
             reason: Reason::Closed,
             line: "rejected query 1 round 1 Closed\n",
         },
         Faulty {
             name: "level 1 has no sibling",
-            replies: &[&ENTRY_2, &SIBLINGS_3_1, &RIGHT_SIBLING_1, &NO_SIBLINGS],
-            then: &[
-                Said::In(&ENTRY_2),
-                Said::In(&SIBLINGS_3_1),
-                Said::Out(&REVEAL),
-                Said::In(&RIGHT_SIBLING_1),
-            ],
+            replies: &[&RIGHT_SIBLING_1, &NO_SIBLINGS],
+            then: &[Said::In(&RIGHT_SIBLING_1)],
             round: 1,
             reason: Reason::BadFlags,
             line: "rejected query 1 round 1 BadFlags\n",
         },
         Faulty {
             name: "reply 1 has no entries",
-            replies: &[&ENTRY_2, &SIBLINGS_3_1, &ENTRY_2, &NO_SIBLINGS],
-            then: &[
-                Said::In(&ENTRY_2),
-                Said::In(&SIBLINGS_3_1),
-                Said::Out(&REVEAL),
-                Said::In(&ENTRY_HEADER),
-            ],
+            replies: &[&ENTRY_2, &NO_SIBLINGS],
+            then: &[Said::In(&ENTRY_HEADER)],
             round: 1,
             reason: Reason::BadKind,
             line: "rejected query 1 round 1 BadKind\n",
         },
         Faulty {
             name: "the helper refuses in reply 1",
-            replies: &[&ENTRY_2, &SIBLINGS_3_1, &REFUSE_1, &NO_SIBLINGS],
-            then: &[
-                Said::In(&ENTRY_2),
-                Said::In(&SIBLINGS_3_1),
-                Said::Out(&REVEAL),
-                Said::In(&REFUSE_1),
-            ],
+            replies: &[&REFUSE_1, &NO_SIBLINGS],
+            then: &[Said::In(&REFUSE_1)],
             round: 1,
             reason: Reason::Refused(1),
             line: "rejected query 1 round 1 Refused(1)\n",
         },
     ];
-    check(&rt, rt.alloc(), &rows)
+    let before = up_to(
+        &[&ENTRY_2, &SIBLINGS_3_1],
+        &[
+            Said::In(&ENTRY_2),
+            Said::In(&SIBLINGS_3_1),
+            Said::Out(&REVEAL),
+        ],
+    );
+    check_faulty(&rt, rt.alloc(), &before, 1, &rows)
 }

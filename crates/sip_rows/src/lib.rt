@@ -20,9 +20,15 @@ mod failing_tests;
 #[cfg(test)]
 mod fault_tests;
 #[cfg(test)]
+mod faulty;
+#[cfg(test)]
 mod frames;
 #[cfg(test)]
 mod help_tests;
+#[cfg(test)]
+mod many_tests;
+#[cfg(test)]
+mod ones;
 #[cfg(test)]
 mod query_tests;
 #[cfg(test)]

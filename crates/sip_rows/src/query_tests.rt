@@ -1,11 +1,10 @@
 // Runs of three queries: 1 to 2, 0 to 3, and 1 to 2 again.
 
+use crate::faulty::{Faulty, check_faulty};
 use crate::frames::*;
 use crate::row::{At, Failing, Given, Row, Said, first_run};
 use sip_verifier::{Port, Status};
 use sip_wire::Reason;
-use std::alloc::Global;
-use std::process::Abort;
 use std::test::Fail;
 
 // The run that is accepted.
@@ -55,40 +54,23 @@ fn three_queries_are_accepted(rt: HostRuntime) -> Result<(), Fail> {
     three_queries().check(&rt, rt.alloc())
 }
 
-// Replies to query 2 of which one has a fault, its round and reason, the report, and what is said from query 2 on.
-#[derive(Clone, Copy)]
-struct Faulty<'a> {
-    name: &'a str,
-    replies: &'a [&'a [u8]],
-    then: &'a [Said<'a>],
-    round: u8,
-    reason: Reason,
-    report: &'a str,
-}
-
-fn check(rt: &impl Abort, alloc: Global, rows: &[Faulty]) -> Result<(), Fail> {
-    let honest = three_queries();
-    for row in rows {
-        let given = Given {
-            replies: row.replies,
-            ..honest.given
-        };
-        let rejected = Row {
-            name: row.name,
-            given,
-            status: Status::Rejected {
-                query: 2,
-                round: row.round,
-                reason: row.reason,
-            },
-            code: 1,
-            report: row.report,
-            then: row.then,
-            ..honest
-        };
-        rejected.check(rt, alloc)?;
+// The same up to the second query.
+fn up_to_query_2() -> Row<'static> {
+    Row {
+        given: Given {
+            replies: &[&ENTRY_2, &SIBLINGS_3_1, &NO_SIBLINGS],
+            ..three_queries().given
+        },
+        report: "sub:1:2 2:5\n",
+        then: &[
+            Said::In(&ENTRY_2),
+            Said::In(&SIBLINGS_3_1),
+            Said::Out(&REVEAL),
+            Said::In(&NO_SIBLINGS),
+            Said::Out(&SUB_0_3),
+        ],
+        ..three_queries()
     }
-    Ok(())
 }
 
 // The line of query 1 stands, the line of the rejection is the last one, and nothing more is sent. The bytes behind the
@@ -98,57 +80,24 @@ fn query_2_is_rejected_in_each_round(rt: HostRuntime) -> Result<(), Fail> {
     let rows = [
         Faulty {
             name: "nothing of reply 0 comes",
-            replies: &[&ENTRY_2, &SIBLINGS_3_1, &NO_SIBLINGS],
-            then: &[
-                Said::In(&ENTRY_2),
-                Said::In(&SIBLINGS_3_1),
-                Said::Out(&REVEAL),
-                Said::In(&NO_SIBLINGS),
-                Said::Out(&SUB_0_3),
-                Said::Ended,
-            ],
+            replies: &[],
+            then: &[Said::Ended],
             round: 0,
             reason: Reason::Closed,
-            report: "sub:1:2 2:5\nrejected query 2 round 0 Closed\n",
+            line: "rejected query 2 round 0 Closed\n",
         },
         Faulty {
             name: "all items have no sibling",
-            replies: &[
-                &ENTRY_2,
-                &SIBLINGS_3_1,
-                &NO_SIBLINGS,
-                &SIBLINGS_3_1,
-                &NO_SIBLINGS,
-            ],
-            then: &[
-                Said::In(&ENTRY_2),
-                Said::In(&SIBLINGS_3_1),
-                Said::Out(&REVEAL),
-                Said::In(&NO_SIBLINGS),
-                Said::Out(&SUB_0_3),
-                Said::In(&SIBLINGS_3_1),
-            ],
+            replies: &[&SIBLINGS_3_1, &NO_SIBLINGS],
+            then: &[Said::In(&SIBLINGS_3_1)],
             round: 0,
             reason: Reason::BadFlags,
-            report: "sub:1:2 2:5\nrejected query 2 round 0 BadFlags\n",
+            line: "rejected query 2 round 0 BadFlags\n",
         },
         Faulty {
             name: "the helper refuses in reply 1",
-            replies: &[
-                &ENTRY_2,
-                &SIBLINGS_3_1,
-                &NO_SIBLINGS,
-                &ENTRIES_0_2_3,
-                &NO_SIBLINGS,
-                &REFUSE_1,
-                &ENTRY_2,
-            ],
+            replies: &[&ENTRIES_0_2_3, &NO_SIBLINGS, &REFUSE_1, &ENTRY_2],
             then: &[
-                Said::In(&ENTRY_2),
-                Said::In(&SIBLINGS_3_1),
-                Said::Out(&REVEAL),
-                Said::In(&NO_SIBLINGS),
-                Said::Out(&SUB_0_3),
                 Said::In(&ENTRIES_0_2_3),
                 Said::In(&NO_SIBLINGS),
                 Said::Out(&REVEAL_FOR_QUERY_2),
@@ -156,14 +105,11 @@ fn query_2_is_rejected_in_each_round(rt: HostRuntime) -> Result<(), Fail> {
             ],
             round: 1,
             reason: Reason::Refused(1),
-            report: "sub:1:2 2:5\nrejected query 2 round 1 Refused(1)\n",
+            line: "rejected query 2 round 1 Refused(1)\n",
         },
         Faulty {
             name: "entries 0 and 3 are left out",
             replies: &[
-                &ENTRY_2,
-                &SIBLINGS_3_1,
-                &NO_SIBLINGS,
                 &ENTRY_2,
                 &NO_SIBLINGS,
                 &NO_SIBLINGS,
@@ -173,21 +119,16 @@ fn query_2_is_rejected_in_each_round(rt: HostRuntime) -> Result<(), Fail> {
             ],
             then: &[
                 Said::In(&ENTRY_2),
-                Said::In(&SIBLINGS_3_1),
-                Said::Out(&REVEAL),
-                Said::In(&NO_SIBLINGS),
-                Said::Out(&SUB_0_3),
-                Said::In(&ENTRY_2),
                 Said::In(&NO_SIBLINGS),
                 Said::Out(&REVEAL_FOR_QUERY_2),
                 Said::In(&NO_SIBLINGS),
             ],
             round: 2,
             reason: Reason::Root,
-            report: "sub:1:2 2:5\nrejected query 2 round 2 Root\n",
+            line: "rejected query 2 round 2 Root\n",
         },
     ];
-    check(&rt, rt.alloc(), &rows)
+    check_faulty(&rt, rt.alloc(), &up_to_query_2(), 2, &rows)
 }
 
 // A port, the first call that the run does not make on it, and how it ends where an earlier one fails. Ports move as many

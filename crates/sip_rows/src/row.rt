@@ -73,7 +73,8 @@ pub fn words_of(alloc: Global, text: &str) -> Result<Words, Fail> {
     Ok(Words::of(list))
 }
 
-fn bytes_of(alloc: Global, parts: &[&[u8]]) -> Result<Vec<u8>, Fail> {
+// The parts, one after another.
+pub fn bytes_of(alloc: Global, parts: &[&[u8]]) -> Result<Vec<u8>, Fail> {
     let mut bytes = Vec::new(alloc);
     for part in parts {
         bytes.extend_from_slice(part)?;
@@ -157,19 +158,25 @@ impl Row<'_> {
 
     // Runs it in single bytes, and in pieces that are as long as is asked for.
     pub fn check(&self, rt: &impl Abort, alloc: Global) -> Result<(), Fail> {
+        self.check_in(rt, alloc, 1)?;
+        self.check_in(rt, alloc, 10_000)
+    }
+
+    // Runs it over ports that move at most a chunk in a call.
+    pub fn check_in(&self, rt: &impl Abort, alloc: Global, chunk: usize) -> Result<(), Fail>
+        requires { 1 ≤ chunk }
+    {
         let talk = self.talk(alloc)?;
-        for chunk in [1, 10_000] {
-            let shown = self.given.run(alloc, chunk, None)?;
-            let name = self.name;
-            assert_eq!(rt; shown.status, self.status, "{name}, chunk {chunk}");
-            assert_eq!(rt; exit_code(&shown.status), self.code, "{name}");
-            assert_eq!(rt;
-                shown.report.bytes(),
-                self.report.as_bytes(),
-                "{name}, chunk {chunk}"
-            );
-            assert_eq!(rt; shown.peer.talk(), talk.as_slice(), "{name}, chunk {chunk}");
-        }
+        let shown = self.given.run(alloc, chunk, None)?;
+        let name = self.name;
+        assert_eq!(rt; shown.status, self.status, "{name}, chunk {chunk}");
+        assert_eq!(rt; exit_code(&shown.status), self.code, "{name}");
+        assert_eq!(rt;
+            shown.report.bytes(),
+            self.report.as_bytes(),
+            "{name}, chunk {chunk}"
+        );
+        assert_eq!(rt; shown.peer.talk(), talk.as_slice(), "{name}, chunk {chunk}");
         Ok(())
     }
 }

@@ -1,0 +1,62 @@
+// Replies with a fault, behind what an honest helper said.
+
+use crate::row::{Given, Row, Said, bytes_of};
+use sip_verifier::Status;
+use sip_wire::Reason;
+use std::alloc::Global;
+use std::process::Abort;
+use std::test::Fail;
+
+// Replies of which one has a fault, what is said up to the fault, its round and reason, and the line that is written.
+#[derive(Clone, Copy)]
+pub struct Faulty<'a> {
+    pub name: &'a str,
+    pub replies: &'a [&'a [u8]],
+    pub then: &'a [Said<'a>],
+    pub round: u8,
+    pub reason: Reason,
+    pub line: &'a str,
+}
+
+impl Faulty<'_> {
+    // Runs it behind what was said and written before, where this query is open.
+    fn check(&self, rt: &impl Abort, alloc: Global, before: &Row, query: u8) -> Result<(), Fail> {
+        let mut replies = bytes_of(alloc, before.given.replies)?;
+        replies.extend_from_slice(&bytes_of(alloc, self.replies)?)?;
+        let mut then = before.then.to_vec(alloc)?;
+        then.extend_from_slice(self.then)?;
+        let mut report = String::from_str(alloc, before.report)?;
+        report.push_str(self.line)?;
+        let rejected = Row {
+            name: self.name,
+            given: Given {
+                replies: &[&replies],
+                ..before.given
+            },
+            status: Status::Rejected {
+                query,
+                round: self.round,
+                reason: self.reason,
+            },
+            code: 1,
+            report: &report,
+            sent: before.sent,
+            then: &then,
+        };
+        rejected.check(rt, alloc)
+    }
+}
+
+// Runs each of them behind what was said and written before, where this query is open.
+pub fn check_faulty(
+    rt: &impl Abort,
+    alloc: Global,
+    before: &Row,
+    query: u8,
+    rows: &[Faulty],
+) -> Result<(), Fail> {
+    for row in rows {
+        row.check(rt, alloc, before, query)?;
+    }
+    Ok(())
+}
