@@ -22,11 +22,12 @@ use Rattle.sip_verifier.specs.Moments.{Counts}
 use Rattle.sip_verifier.specs.Reports.{report_of}
 use Rattle.sip_verifier.specs.Statuses.{IsListed}
 use Rattle.sip_verifier.specs.Talks.{bye_sent, stream_sent}
-use Rattle.sip_verifier.specs.Turns.{Turn, said_in_turn, ending, updates, turns_of, AreTurns, Reached}
+use Rattle.sip_replies.specs.Talks.{ending}
+use Rattle.sip_verifier.specs.Turns.{Turn, said_in_turn, updates, turns_of, AreTurns, Reached}
 use Rattle.sip_verifier.specs.VerdictClause.{AllWritten, OneFaulty, VerdictClause}
 use Rattle.sip_verifier.proofs.Blocks.{none_drawn, block_sizes}
-use Rattle.sip_verifier.proofs.HeardTalks.{HasFew, replied, heard-talk, last_is}
-use Rattle.sip_verifier.proofs.HonestRuns.{faulty_few, done_few, CanBeAsked, AreFirst, all_honest, done_honest, none_faulty}
+use Rattle.sip_verifier.proofs.HeardTalks.{IsHeard, replied, heard-talk, last_is}
+use Rattle.sip_verifier.proofs.HonestRuns.{faulty_heard, done_heard, CanBeAsked, AreFirst, all_honest, done_honest, none_faulty}
 use Rattle.sip_verifier.proofs.LegalRecords.{records_legal}
 
 module _ (task : Task) (x : Exchange) (some : 1 ≤ task.depth) (most : task.depth ≤ 32) (fits : All (Fits task.depth) task.queries.items) (honest : IsHonest task x) where
@@ -46,7 +47,10 @@ module _ (task : Task) (x : Exchange) (some : 1 ≤ task.depth) (most : task.dep
   }
 
   -- the honest bytes begin with what was heard in turns
-  front : (turns : List Turn) (rest : List TalkEvent) → All HasFew turns → Reached task x turns rest → all_honest task.depth (updates task x) task.queries.items (blocks task honest.challenges) ≡ replied turns ++ (heard rest ++ honest.heard.0)
+  front : (turns : List Turn) (rest : List TalkEvent)
+      → All (IsHeard task.depth (updates task x)) turns → Reached task x turns rest
+      → all_honest task.depth (updates task x) task.queries.items
+      (blocks task honest.challenges) ≡ replied turns ++ (heard rest ++ honest.heard.0)
   front turns rest few reached =
       honest.heard.1 ∙ ap (λ (l : List ℕ). l ++ honest.heard.0) (ap heard reached.talk ∙ heard-talk task.depth (updates task x) turns rest few)
       ∙ append_assoc (replied turns) (heard rest) honest.heard.0
@@ -59,22 +63,30 @@ module _ (task : Task) (x : Exchange) (some : 1 ≤ task.depth) (most : task.dep
       let all : take (length turns) task.queries.items ≡ task.queries.items = take_all (length turns) task.queries.items (omega (arith, count, v.all)) in
       v.report
       ∙ done_honest task.depth (updates task x) some most legal v.done task.queries.items (blocks task honest.challenges) (heard bye_sent ++ honest.heard.0) can (are_first turns are)
-      (front turns bye_sent (done_few task.depth (updates task x) v.done) v.reached)
+      (front turns bye_sent (done_heard task.depth (updates task x) v.done) v.reached)
       ∙ ap (report_of task.depth (updates task x)) (are.queries ∙ all)
 
   -- the link did not end
   not_ended : (turns : List Turn) (reason : Reason) → Reached task x turns (ending reason) → reason ≢ reasons.Closed
   not_ended turns reason reached closed =
-      let talk : x.talk ≡ (stream_sent task.depth (updates task x) ++ flat_map said_in_turn turns) ++ Ended ∷ [] =
-      reached.talk ∙ ap (λ (r : Reason). (stream_sent task.depth (updates task x) ++ flat_map said_in_turn turns) ++ ending r) closed in
-      last_is (λ (e : TalkEvent). e ≢ Ended) (stream_sent task.depth (updates task x) ++ flat_map said_in_turn turns) Ended (subst (All (λ (e : TalkEvent). e ≢ Ended)) talk honest.lasts) refl
+      let talk : x.talk ≡ (stream_sent task.depth (updates task x) ++ flat_map
+      (said_in_turn task.depth (updates task x)) turns) ++ Ended ∷ [] =
+      reached.talk ∙ ap (λ (r : Reason). (stream_sent task.depth (updates task x) ++ flat_map
+      (said_in_turn task.depth (updates task x)) turns) ++ ending r) closed in
+      last_is (λ (e : TalkEvent). e ≢ Ended) (stream_sent task.depth (updates task x) ++ flat_map
+      (said_in_turn task.depth (updates task x)) turns) Ended
+      (subst (All (λ (e : TalkEvent). e ≢ Ended)) talk honest.lasts) refl
 
   not_rejected : (query round : ℕ) (reason : Reason) → OneFaulty task x query round reason → ⊥
   not_rejected query round reason v =
       let last = v.last in
       let turns = turns_of task x v.done ++ last ∷ [] in
-      let few = All-append HasFew (turns_of task x v.done) (last ∷ []) (done_few task.depth (updates task x) v.done)
-      (All-cons HasFew last [] (faulty_few task.depth (updates task x) last.query last.block last.replies (record { round = round; reason = reason }) v.faulty) (All-nil HasFew)) in
+      let few = All-append (IsHeard task.depth (updates task x)) (turns_of task x v.done)
+      (last ∷ []) (done_heard task.depth (updates task x) v.done)
+      (All-cons (IsHeard task.depth (updates task x)) last []
+      (faulty_heard task.depth (updates task x) last.query last.block last.replies
+      (record { round = round; reason = reason }) v.faulty)
+      (All-nil (IsHeard task.depth (updates task x)))) in
       none_faulty task.depth (updates task x) some most legal v.done last (record { round = round; reason = reason }) task.queries.items (blocks task honest.challenges) (heard (ending reason) ++ honest.heard.0) can
       (are_first turns v.reached.are_turns) v.faulty (not_ended turns reason v.reached) (front turns (ending reason) few v.reached)
 

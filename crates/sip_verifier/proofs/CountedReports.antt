@@ -14,23 +14,31 @@ use Rattle.sip_verifier.specs.declared.status.Status.{Status}
 use Rattle.sip_verifier.specs.declared.status.Status.TheVariants as statuses
 use Rattle.sip_verifier.specs.declared.task.Task.{Task}
 use Rattle.sip_verifier.specs.CountClause.{FewFor, CountsFor, Written, turns_written, lines_written, IsRejection, AreInTalk, CountClause}
-use Rattle.sip_verifier.specs.Exchanges.{Exchange, IsPrefix}
+use Rattle.sip_replies.specs.Talks.{IsPrefix, ending}
+use Rattle.sip_verifier.specs.Exchanges.{Exchange}
 use Rattle.sip_verifier.specs.Reports.{line, rejection}
 use Rattle.sip_verifier.specs.Statuses.{IsListed}
 use Rattle.sip_verifier.specs.Talks.{bye_sent}
-use Rattle.sip_verifier.specs.Turns.{Turn, ending, updates, Done, turns_of, lines, Reached}
+use Rattle.sip_verifier.specs.Tasks.{CanBeAsked}
+use Rattle.sip_verifier.specs.Turns.{Turn, updates, Done, turns_of, lines, Reached}
 use Rattle.sip_verifier.specs.VerdictClause.{OneFaulty, WereReached, PartWritten, PartRejected, CutInLine, VerdictClause}
 use Rattle.sip_verifier.proofs.CountedTurns.{few_wrong, turn_counts}
 use Rattle.sip_verifier.proofs.LegalRecords.{records_legal}
 
-module _ (task : Task) (x : Exchange) (fits : All (Fits task.depth) task.queries.items) where
+module _ (task : Task) (x : Exchange) (can : All (CanBeAsked task.depth) task.queries.items) where
+  fits : All (Fits task.depth) task.queries.items
+  fits i other less = (can i other less).1
+
   legal : IsLegal task.depth (updates task x)
   legal = records_legal task.depth task.form x.stream
 
-  few_of : (queries : List Query) → All (Fits task.depth) queries → All (FewFor task.depth (updates task x)) queries
+  few_of : (queries : List Query) → All (CanBeAsked task.depth) queries
+      → All (FewFor task.depth (updates task x)) queries
   few_of [] all = All-nil (FewFor task.depth (updates task x))
   few_of (q ∷ queries) all =
-      All-cons (FewFor task.depth (updates task x)) q queries (few_wrong task.depth (updates task x) q (All-head (Fits task.depth) q queries all) legal) (few_of queries (All-tail (Fits task.depth) q queries all))
+      All-cons (FewFor task.depth (updates task x)) q queries
+      (few_wrong task.depth (updates task x) q (All-head (CanBeAsked task.depth) q queries all)
+      legal) (few_of queries (All-tail (CanBeAsked task.depth) q queries all))
 
   -- what was written of accepted turns
   written_of : Done task x → List Written
@@ -70,7 +78,7 @@ module _ (task : Task) (x : Exchange) (fits : All (Fits task.depth) task.queries
   -- the clause, by the turns whose lines are written and what may follow them
   clause_of : (done : Done task x) → AreInTalk task x (turns_of task x done) → (rejected : List ℕ) → IsRejection rejected → IsPrefix x.report (lines task x done ++ rejected) → CountClause task x
   clause_of done reached rejected is report = record {
-    few = few_of task.queries.items fits;
+    few = few_of task.queries.items can;
     lines = written_of done;
     turns = subst (AreInTalk task x) (sym (turns_same done)) reached;
     rejected = rejected;

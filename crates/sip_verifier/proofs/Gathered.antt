@@ -18,7 +18,7 @@ use Rattle.sip_verifier.specs.declared.task.Task.{Task}
 use Rattle.sip_verifier.specs.Drawing.{HasDrawn}
 use Rattle.sip_verifier.specs.Draws.{blocks}
 use Rattle.sip_verifier.specs.Ending.{status_of_link, status_of_stream}
-use Rattle.sip_verifier.specs.Exchanges.{IsPrefix}
+use Rattle.sip_replies.specs.Talks.{IsPrefix}
 use Rattle.sip_verifier.specs.Gathering.{legal, before_end, IsGathered, IsCut, IsCutBefore, HasSeed, Gathers}
 use Rattle.sip_verifier.specs.Seats.{AreSeats}
 use Rattle.sip_verifier.specs.Sending.{IsSentBut, IsStopped, IsStoppedAtEnd}

@@ -5,12 +5,16 @@ use Rattle.std.proofs.lemmas.List.Elements.{All-head, All-tail}
 use Rattle.sip_ports.specs.declared.port.TalkEvent.{TalkEvent}
 use Rattle.sip_ports.specs.Ports.{outs, ins, heard}
 use Rattle.sip_ports.proofs.TalkLemmas.{heard-append}
+use Rattle.sip_vector.specs.declared.query.Query.{Query}
 use Rattle.sip_vector.specs.declared.update.Update.{Update}
 use Rattle.sip_wire.specs.declared.message.Message.TheVariants as messages
+use Rattle.sip_wire.specs.declared.version.Version.{Version}
+use Rattle.sip_wire.specs.declared.version.Version.TheVariants.{One}
 use Rattle.sip_wire.specs.Spelling.{spelling}
-use Rattle.sip_verifier.specs.Talks.{sent, exchanged, stream_sent, opening_sent, update_frames}
+use Rattle.sip_replies.specs.Talks.{sent, exchanged, asked}
+use Rattle.sip_verifier.specs.Talks.{stream_sent, opening_sent, update_frames}
 use Rattle.sip_verifier.specs.Turns.{Turn, said_in_turn}
-use Rattle.sip_verifier.proofs.WholeReplies.{joined}
+use Rattle.sip_replies.specs.Replies.{joined}
 
 -- what was sent is not heard
 pub heard-outs : (bytes : List ℕ) → heard (outs bytes) ≡ []
@@ -29,41 +33,59 @@ after_sent bytes talk = heard-append (outs bytes) talk ∙ ap (λ l. l ++ heard 
 before_sent : (talk : List TalkEvent) (bytes : List ℕ) → heard (talk ++ outs bytes) ≡ heard talk
 before_sent talk bytes = heard-append talk (outs bytes) ∙ ap (λ l. heard talk ++ l) (heard-outs bytes) ∙ append-nil (heard talk)
 
-heard-exchanged : (replies : List (List ℕ)) (challenges : List ℕ) → length replies ≤ length challenges + 1 → heard (exchanged replies challenges) ≡ joined replies
+heard-exchanged : (replies : List (List ℕ)) (challenges : List ℕ)
+    → length replies ≤ length challenges + 1 → heard
+    (exchanged One replies challenges) ≡ joined replies
 heard-exchanged [] challenges few = refl
 heard-exchanged (r ∷ []) challenges few = heard-ins r ∙ sym (append-nil r)
 heard-exchanged (r ∷ next ∷ more) [] few = absurd (omega arith)
 heard-exchanged (r ∷ next ∷ more) (c ∷ challenges) few =
-    heard-append (ins r ++ sent (messages.Reveal c ∷ [])) (exchanged (next ∷ more) challenges)
-    ∙ ap (λ l. l ++ heard (exchanged (next ∷ more) challenges)) (before_sent (ins r) (flat_map spelling (messages.Reveal c ∷ [])) ∙ heard-ins r)
+    heard-append (ins r ++ sent One (messages.Reveal c ∷ []))
+    (exchanged One (next ∷ more) challenges)
+    ∙ ap (λ l. l ++ heard (exchanged One (next ∷ more) challenges))
+    (before_sent (ins r) (flat_map spelling (messages.Reveal c ∷ [])) ∙ heard-ins r)
     ∙ ap (λ l. r ++ l) (heard-exchanged (next ∷ more) challenges (omega arith))
 
--- no more replies came than there are challenges
-abbrev pub HasFew : Turn → Type 0
-HasFew t = length t.replies ≤ length t.block
+-- where no more replies came than there are challenges
+pub heard-asked : (version : Version) (query : Query) (block : List ℕ) (replies : List (List ℕ))
+    → length replies ≤ length block → heard (asked version query block replies) ≡ joined replies
+heard-asked One query block replies few =
+    after_sent (flat_map spelling (messages.Query query ∷ [])) (exchanged One replies block)
+    ∙ heard-exchanged replies block (omega arith)
 
-heard-turn : (t : Turn) → HasFew t → heard (said_in_turn t) ≡ joined t.replies
-heard-turn t few = after_sent (flat_map spelling (messages.Query t.query ∷ [])) (exchanged t.replies t.block) ∙ heard-exchanged t.replies t.block (omega arith)
+-- what was heard in a turn are its replies
+abbrev pub IsHeard : ℕ → List Update → Turn → Type 0
+IsHeard depth stream t = heard (said_in_turn depth stream t) ≡ joined t.replies
 
 -- the reply bytes of turns
 abbrev pub replied : List Turn → List ℕ
 replied turns = flat_map (λ t. joined t.replies) turns
 
-heard-turns : (turns : List Turn) → All HasFew turns → heard (flat_map said_in_turn turns) ≡ replied turns
-heard-turns [] few = refl
-heard-turns (t ∷ turns) few =
-    heard-append (said_in_turn t) (flat_map said_in_turn turns)
-    ∙ ap (λ l. l ++ heard (flat_map said_in_turn turns)) (heard-turn t (All-head HasFew t turns few))
-    ∙ ap (λ l. joined t.replies ++ l) (heard-turns turns (All-tail HasFew t turns few))
+heard-turns : (depth : ℕ) (stream : List Update) (turns : List Turn)
+    → All (IsHeard depth stream) turns
+    → heard (flat_map (said_in_turn depth stream) turns) ≡ replied turns
+heard-turns depth stream [] each = refl
+heard-turns depth stream (t ∷ turns) each =
+    heard-append (said_in_turn depth stream t) (flat_map (said_in_turn depth stream) turns)
+    ∙ ap (λ l. l ++ heard (flat_map (said_in_turn depth stream) turns))
+    (All-head (IsHeard depth stream) t turns each)
+    ∙ ap (λ l. joined t.replies ++ l)
+    (heard-turns depth stream turns (All-tail (IsHeard depth stream) t turns each))
 
 heard-stream : (depth : ℕ) (stream : List Update) → heard (stream_sent depth stream) ≡ []
 heard-stream depth stream = before_sent (opening_sent depth stream) (flat_map spelling (messages.EndStream ∷ [])) ∙ heard-outs (flat_map spelling (messages.Open 1 depth ∷ update_frames stream))
 
-pub heard-talk : (depth : ℕ) (stream : List Update) (turns : List Turn) (rest : List TalkEvent) → All HasFew turns → heard (stream_sent depth stream ++ flat_map said_in_turn turns ++ rest) ≡ replied turns ++ heard rest
-heard-talk depth stream turns rest few =
-    heard-append (stream_sent depth stream ++ flat_map said_in_turn turns) rest
+pub heard-talk : (depth : ℕ) (stream : List Update) (turns : List Turn) (rest : List TalkEvent)
+    → All (IsHeard depth stream) turns
+    → heard (stream_sent depth stream ++ flat_map (said_in_turn depth stream) turns ++ rest)
+    ≡ replied turns ++ heard rest
+heard-talk depth stream turns rest each =
+    let said : List TalkEvent = flat_map (said_in_turn depth stream) turns in
+    heard-append (stream_sent depth stream ++ said) rest
     ∙ ap (λ l. l ++ heard rest)
-    (heard-append (stream_sent depth stream) (flat_map said_in_turn turns) ∙ ap (λ l. l ++ heard (flat_map said_in_turn turns)) (heard-stream depth stream) ∙ heard-turns turns few)
+    (heard-append (stream_sent depth stream) said
+    ∙ ap (λ l. l ++ heard said) (heard-stream depth stream)
+    ∙ heard-turns depth stream turns each)
 
 -- the last event of a talk in which each event is such
 pub last_is : (P : TalkEvent → Type 0) (talk : List TalkEvent) (event : TalkEvent) → All P (talk ++ event ∷ []) → P event

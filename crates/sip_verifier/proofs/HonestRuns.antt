@@ -1,47 +1,77 @@
 -- A run that heard honest replies is accepted, with the stream's own answers.
-use Rattle.std.proofs.Common.{◌≡◌, ◌≢◌, ℕ, ◌≤◌, List, [], ◌∷◌, ◌++◌, length, take, map, All, refl, sym, ap, subst, ◌∙◌, arith, append_assoc, append-nil}
+use Rattle.std.proofs.Common.{◌≡◌, ◌≢◌, ℕ, ◌≤◌, Option, Some, None, List, [], ◌∷◌, ◌++◌, length, take, map, All, refl, sym, ap, subst, ◌∙◌, arith, append_assoc, append-nil}
 use Rattle.std.specs.Prelude.{flat_map}
 use Rattle.std.specs.List.{zip}
 use Rattle.std.proofs.lemmas.List.Elements.{All-cons, All-nil, All-head, All-tail}
 use Rattle.sip_ports.specs.Ports.{heard}
 use Rattle.sip_vector.specs.declared.query.Query.{Query}
-use Rattle.sip_vector.specs.declared.query.Query.TheVariants.{Sub, Range, F2, Inner, Heavy}
 use Rattle.sip_vector.specs.declared.update.Update.{Update}
 use Rattle.sip_vector.specs.Answers.{Answer, Fits, answer}
 use Rattle.sip_vector.specs.Streams.{IsLegal}
 use Rattle.sip_wire.specs.declared.message.Reason.TheVariants as reasons
-use Rattle.sip_replies.specs.Replies.{Fault}
+use Rattle.sip_replies.specs.Protocols.{Protocol}
+use Rattle.sip_replies.specs.Talks.{asked_unless}
+use Rattle.sip_replies.specs.Replies as replied
+use Rattle.sip_replies.specs.Replies.{Fault, IsAccepted, IsStated, joined}
 use Rattle.sip_verifier.specs.CompletenessClause.{honest_bytes, HasFewEntries}
+use Rattle.sip_verifier.specs.Kinds.{Row, built, missing, row_of, Holds}
 use Rattle.sip_verifier.specs.Reports.{line, report_of}
-use Rattle.sip_verifier.specs.Turns.{Turn, Accepts, Accepted, IsFaulty}
-use Rattle.sip_verifier.proofs.HeardTalks.{HasFew, replied}
+use Rattle.sip_verifier.specs.Turns.{Turn, Accepted, IsFaulty, said_by}
+use Rattle.sip_verifier.proofs.HeardTalks.{IsHeard, heard-asked, replied}
 use Rattle.sip_verifier.proofs.HonestTurns.{turn_done, turn_faulty}
-use Rattle.sip_verifier.proofs.WholeReplies.{joined}
 
--- ---- how many replies a turn has
+-- ---- what is heard in a turn
 
-accepted_few : (depth : ℕ) (stream : List Update) (query : Query) (block : List ℕ) (replies : List (List ℕ)) (written : Answer) → Accepts depth stream (record { query = query; block = block; replies = replies }) written → length replies ≤ length block
-accepted_few depth stream (Sub lo hi) block replies written accepts = omega (arith, (accepts.1).all)
-accepted_few depth stream (Range side lo hi) block replies written accepts = absurd accepts
-accepted_few depth stream (F2 side) block replies written accepts = absurd accepts
-accepted_few depth stream Inner block replies written accepts = absurd accepts
-accepted_few depth stream (Heavy side at_least) block replies written accepts = absurd accepts
+heard_accepted : {S : Type 0} (P : Protocol S) (query : Query) (block : List ℕ)
+    (replies : List (List ℕ)) (given : Answer) (unasked : Option Answer)
+    → elim unasked as (λ _. Type 0) [
+      | None ↦ IsStated P block replies given
+      | Some known ↦ (replies ≡ []) × (given ≡ known)
+    ] → heard (asked_unless unasked P.rules.version query block replies) ≡ joined replies
+heard_accepted P query block replies given None stated =
+    heard-asked P.rules.version query block replies (omega (arith, stated.all))
+heard_accepted P query block replies given (Some known) none = sym (ap joined none.0)
 
-pub faulty_few : (depth : ℕ) (stream : List Update) (query : Query) (block : List ℕ) (replies : List (List ℕ)) (fault : Fault) → IsFaulty depth stream (record { query = query; block = block; replies = replies }) fault → length replies ≤ length block
-faulty_few depth stream (Sub lo hi) block replies fault faulty = omega (arith, faulty.taken)
-faulty_few depth stream (Range side lo hi) block replies fault faulty = absurd faulty
-faulty_few depth stream (F2 side) block replies fault faulty = absurd faulty
-faulty_few depth stream Inner block replies fault faulty = absurd faulty
-faulty_few depth stream (Heavy side at_least) block replies fault faulty = absurd faulty
+turn_heard : (row : Row) (query : Query) (block : List ℕ) (replies : List (List ℕ)) (given : Answer)
+    → Holds (λ kind. IsAccepted (kind.protocol block) block replies given) row
+    → heard (said_by row (record { query = query; block = block; replies = replies }))
+    ≡ joined replies
+turn_heard (built kind) query block replies given accepted =
+    let P = kind.protocol block in
+    heard_accepted P query block replies given P.unasked accepted
+turn_heard missing query block replies given accepted = absurd accepted
+
+fault_heard : (row : Row) (query : Query) (block : List ℕ) (replies : List (List ℕ)) (fault : Fault)
+    → Holds (λ kind. replied.IsFaulty (kind.protocol block) block replies fault) row
+    → heard (said_by row (record { query = query; block = block; replies = replies }))
+    ≡ joined replies
+fault_heard (built kind) query block replies fault faulty =
+    let P = kind.protocol block in
+    ap (λ (u : Option Answer). heard (asked_unless u P.rules.version query block replies))
+    faulty.asked
+    ∙ heard-asked P.rules.version query block replies (omega (arith, faulty.taken))
+fault_heard missing query block replies fault faulty = absurd faulty
+
+pub faulty_heard : (depth : ℕ) (stream : List Update) (query : Query) (block : List ℕ)
+    (replies : List (List ℕ)) (fault : Fault)
+    → IsFaulty depth stream (record { query = query; block = block; replies = replies }) fault
+    → IsHeard depth stream (record { query = query; block = block; replies = replies })
+faulty_heard depth stream query block replies fault faulty =
+    fault_heard (row_of depth stream query) query block replies fault faulty
 
 module _ (depth : ℕ) (stream : List Update) where
   -- the turns of accepted ones
   abbrev pub their_turns : List (Accepted depth stream) → List Turn
   their_turns done = map (λ (a : Accepted depth stream). a.turn) done
 
-  pub done_few : (done : List (Accepted depth stream)) → All HasFew (their_turns done)
-  done_few [] = All-nil HasFew
-  done_few (a ∷ done) = All-cons HasFew a.turn (their_turns done) (accepted_few depth stream a.turn.query a.turn.block a.turn.replies a.answer a.accepts) (done_few done)
+  pub done_heard : (done : List (Accepted depth stream))
+      → All (IsHeard depth stream) (their_turns done)
+  done_heard [] = All-nil (IsHeard depth stream)
+  done_heard (a ∷ done) =
+      let t = a.turn in
+      All-cons (IsHeard depth stream) t (their_turns done)
+      (turn_heard (row_of depth stream t.query) t.query t.block t.replies a.answer a.accepts)
+      (done_heard done)
 
   -- these queries can be asked, have few enough entries in their answers, and have whole blocks
   pub record CanBeAsked (queries : List Query) (blocks : List (List ℕ)) : Type 0 where

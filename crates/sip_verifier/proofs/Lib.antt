@@ -12,12 +12,8 @@ pub mod StreamSent
 pub mod StreamSending
 pub mod SeedRead
 pub mod Gathered
-mod RepliesTaking
-mod RoomForEntries
-mod GivenEntries
-mod RepliesFirst
-mod RepliesLater
-mod AskingTurns
+mod QueryAsked
+mod SeatAsked
 pub mod QueriesChecked
 pub mod RunTalks
 pub mod StreamPromises
@@ -25,9 +21,9 @@ pub mod QueryPromises
 pub mod LegalRecords
 pub mod CountedTurns
 pub mod CountedReports
-pub mod WholeReplies
 pub mod Blocks
 pub mod HeardTalks
+pub mod HonestReplies
 pub mod HonestTurns
 pub mod HonestRuns
 pub mod CompleteRuns

@@ -111,7 +111,11 @@ module _ (depth : ℕ) (stream : List Update) (queries : List Query) (blocks : L
       let first : AreFirst queries blocks (turns ++ turn ∷ []) =
       first_more queries more blocks others turns query block passes.answered.replies so.passed.first (ap (λ (n : ℕ). drop n queries) is ∙ asks) (ap (λ (n : ℕ). drop n blocks) is ∙ at) in
       let same : map (λ (a : Accepted depth stream). a.turn) (so.done ++ one ∷ []) ≡ turns ++ turn ∷ [] = map-append (λ (a : Accepted depth stream). a.turn) so.done (one ∷ []) in
-      let said : flat_map said_in_turn turns ++ said_in_turn turn ≡ flat_map said_in_turn (map (λ (a : Accepted depth stream). a.turn) (so.done ++ one ∷ [])) = sym (ap (λ (l : List Turn). flat_map said_in_turn l) same ∙ flat_map_snoc said_in_turn turns turn) in
+      let said : flat_map (said_in_turn depth stream) turns ++ said_in_turn depth stream turn
+      ≡ flat_map (said_in_turn depth stream) (map (λ (a : Accepted depth stream). a.turn)
+      (so.done ++ one ∷ [])) = sym (ap (λ (l : List Turn). flat_map
+      (said_in_turn depth stream) l) same ∙ flat_map_snoc
+      (said_in_turn depth stream) turns turn) in
       let lines = flat_map (λ (a : Accepted depth stream). line a.turn.query a.answer) so.done in
       let wrote : outs lines ++ outs (line query passes.answer) ≡ outs (flat_map (λ (a : Accepted depth stream). line a.turn.query a.answer) (so.done ++ one ∷ [])) =
       sym (ap outs (flat_map_snoc (λ (a : Accepted depth stream). line a.turn.query a.answer) so.done one) ∙ outs-append lines (line query passes.answer)) in

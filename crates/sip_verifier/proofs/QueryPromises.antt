@@ -9,9 +9,9 @@ use Rattle.sip_ports.specs.declared.port.TalkEvent.{TalkEvent}
 use Rattle.sip_ports.specs.Ports.{GoesOn, Rose, SendsWhole, outs}
 use Rattle.sip_ports.proofs.FaultLemmas.{Rose-since}
 use Rattle.sip_ports.proofs.TalkLemmas.{GoesOn-refl, GoesOn-trans, outs-append}
+use Rattle.sip_replies.specs.Replies as replied
 use Rattle.sip_replies.specs.Replies.{Fault}
 use Rattle.sip_vector.specs.declared.query.Query.{Query}
-use Rattle.sip_vector.specs.declared.query.Query.TheVariants.{Sub, Range, F2, Inner, Heavy}
 use Rattle.sip_vector.specs.Answers.{Answer}
 use Rattle.sip_wire.specs.declared.message.Message.TheVariants as messages
 use Rattle.sip_wire.specs.declared.message.Reason.{Reason}
@@ -23,25 +23,26 @@ use Rattle.sip_verifier.specs.declared.task.Task.{Task}
 use Rattle.sip_verifier.specs.Asking.{turn_of}
 use Rattle.sip_verifier.specs.Draws.{drawn, blocks}
 use Rattle.sip_verifier.specs.Ending.{status_of_link}
-use Rattle.sip_verifier.specs.Exchanges.{Exchange, IsPrefix}
+use Rattle.sip_replies.specs.Talks.{IsPrefix, ending}
+use Rattle.sip_verifier.specs.Exchanges.{Exchange}
+use Rattle.sip_verifier.specs.Kinds.{Row, built, missing, row_of, Holds}
 use Rattle.sip_verifier.specs.Moments.{Counts}
 use Rattle.sip_verifier.specs.Progress.{Fails, PassesInPart, FailsInPart, HasNone, AreFirst, Passed, PassedBy, EndsWith, Ended, status_of}
 use Rattle.sip_verifier.specs.Reports.{line, rejection}
 use Rattle.sip_verifier.specs.Statuses.{FaultClause, IsListed}
 use Rattle.sip_verifier.specs.Talks.{stream_sent, bye_sent}
 use Rattle.sip_verifier.specs.TalkClause.{EndsAtFault, IsUnderWay}
-use Rattle.sip_verifier.specs.Turns.{Turn, Accepted, Accepts, IsFaulty, IsUnfinished, IsWaiting, said_in_turn, ending, updates, IsLegalToEnd, Done, turns_of, lines, farewell, AreTurns, Reached}
+use Rattle.sip_verifier.specs.Turns.{Turn, Accepted, Accepts, IsDue, IsFaulty, IsWaiting, said_in_turn, updates, IsLegalToEnd, Done, turns_of, lines, farewell, AreTurns, Reached}
 use Rattle.sip_verifier.specs.VerdictClause.{OneFaulty, PartWritten, PartRejected, CutInLine, NoneLeft}
 use Rattle.sip_verifier.proofs.QueriesChecked.{first_more, flat_map_snoc}
 use Rattle.sip_verifier.proofs.RunTalks.{Adds, said_is, written_is, front_before}
 
 -- a turn that waits is unfinished
-unfinished : (query : Query) (block : List ℕ) (replies : List (List ℕ)) → IsWaiting (turn_of query block replies) → IsUnfinished (turn_of query block replies)
-unfinished (Sub lo hi) block replies waits = waits.0
-unfinished (Range side lo hi) block replies waits = waits
-unfinished (F2 side) block replies waits = waits
-unfinished Inner block replies waits = waits
-unfinished (Heavy side at_least) block replies waits = waits
+waits_unfinished : (row : Row) (block : List ℕ) (replies : List (List ℕ))
+    → Holds (λ kind. IsDue (kind.protocol block) block replies) row
+    → Holds (λ kind. replied.IsUnfinished (kind.protocol block).rules block replies) row
+waits_unfinished (built kind) block replies waits = waits.1
+waits_unfinished missing block replies waits = waits
 
 -- the farewell is one message's spelling
 bye_is : outs (spelling messages.Bye) ≡ bye_sent
@@ -65,14 +66,15 @@ module _ (task : Task) (x : Exchange) where
 
   -- a list of turns, said
   abbrev said : List Turn → List TalkEvent
-  said turns = flat_map said_in_turn turns
+  said turns = flat_map (said_in_turn task.depth (updates task x)) turns
 
   -- the seed gave these challenges, and the stream was legal and sent; these queries were accepted, then this was said and this was written
   pub record Came (challenges : List ℕ) (done : Done task x) (rest : List TalkEvent) (part : List ℕ) : Type 0 where
     pub draws : drawn task x.seed ≡ Some challenges
     pub legal : IsLegalToEnd task x
     pub first : AreFirst task.queries.items (blocks task challenges) (turns_of task x done)
-    pub talk : x.talk ≡ stream_sent task.depth (updates task x) ++ flat_map said_in_turn (turns_of task x done) ++ rest
+    pub talk : x.talk ≡ stream_sent task.depth (updates task x) ++ flat_map
+        (said_in_turn task.depth (updates task x)) (turns_of task x done) ++ rest
     pub report : x.report ≡ lines task x done ++ part
 
   pub came : (challenges : List ℕ) (done : Done task x) (rest : List TalkEvent) (part : List ℕ) (t0 t1 t2 t3 r0 r1 r2 : Option (List TalkEvent)) → drawn task x.seed ≡ Some challenges → IsLegalToEnd task x
@@ -123,17 +125,24 @@ module _ (task : Task) (x : Exchange) where
       all_turns = turns_of task x done ++ turn ∷ []
 
       -- with that query's turn
-      reached_more : (end : List TalkEvent) → rest ≡ said_in_turn turn ++ end → Reached task x all_turns end
+      reached_more : (end : List TalkEvent) → rest ≡ said_in_turn task.depth
+          (updates task x) turn ++ end → Reached task x all_turns end
       reached_more end is = record {
         are_turns = are_turns replies next;
         legal = c.legal;
-        talk = c.talk ∙ ap (λ (l : List TalkEvent). streamed ++ said (turns_of task x done) ++ l) is ∙ regroup streamed (said (turns_of task x done)) (said_in_turn turn) end
-            ∙ ap (λ (l : List TalkEvent). streamed ++ l ++ end) (sym (flat_map_snoc said_in_turn (turns_of task x done) turn));
+        talk = c.talk ∙ ap (λ (l : List TalkEvent). streamed ++ said (turns_of task x done) ++ l) is
+            ∙ regroup streamed (said (turns_of task x done))
+            (said_in_turn task.depth (updates task x) turn) end
+            ∙ ap (λ (l : List TalkEvent). streamed ++ l ++ end)
+            (sym (flat_map_snoc (said_in_turn task.depth (updates task x))
+            (turns_of task x done) turn));
       }
 
       -- ---- its replies have a fault
 
-      module _ (round : ℕ) (reason : Reason) (faulty : IsFaulty task.depth (updates task x) turn (record { round = round; reason = reason })) (is : rest ≡ said_in_turn turn ++ ending reason) where
+      module _ (round : ℕ) (reason : Reason) (faulty : IsFaulty task.depth (updates task x) turn
+          (record { round = round; reason = reason }))
+          (is : rest ≡ said_in_turn task.depth (updates task x) turn ++ ending reason) where
         ends_at_fault : EndsAtFault task x (record { round = round; reason = reason })
         ends_at_fault = record { done = done; last = turn; faulty = faulty; reached = reached_more (ending reason) is }
 
@@ -152,7 +161,8 @@ module _ (task : Task) (x : Exchange) where
 
       -- ---- its replies are accepted, and nothing was said since
 
-      module _ (answer : Answer) (accepts : Accepts task.depth (updates task x) turn answer) (is : rest ≡ said_in_turn turn ++ []) where
+      module _ (answer : Answer) (accepts : Accepts task.depth (updates task x) turn answer)
+          (is : rest ≡ said_in_turn task.depth (updates task x) turn ++ []) where
         abbrev one : Accepted task.depth (updates task x)
         one = record { turn = turn; answer = answer; accepts = accepts }
 
@@ -183,14 +193,18 @@ module _ (task : Task) (x : Exchange) where
 
       -- ---- it waits for replies, and nothing was written
 
-      module _ (waits : IsWaiting turn) (order : IsPrefix rest (said_in_turn turn)) (blank : part ≡ []) where
+      module _ (waits : IsWaiting task.depth (updates task x) turn)
+          (order : IsPrefix rest (said_in_turn task.depth (updates task x) turn))
+          (blank : part ≡ []) where
         only_lines : x.report ≡ lines task x done
         only_lines = c.report ∙ ap (λ (l : List ℕ). lines task x done ++ l) blank ∙ append-nil _
 
         front_of_turns : IsPrefix x.talk (streamed ++ said all_turns)
         front_of_turns = (
           order.0,
-          ap (λ (l : List TalkEvent). streamed ++ l) (flat_map_snoc said_in_turn (turns_of task x done) turn) ∙ ap (λ (l : List TalkEvent). streamed ++ (said (turns_of task x done) ++ l)) order.1
+          ap (λ (l : List TalkEvent). streamed ++ l)
+              (flat_map_snoc (said_in_turn task.depth (updates task x)) (turns_of task x done) turn)
+              ∙ ap (λ (l : List TalkEvent). streamed ++ (said (turns_of task x done) ++ l)) order.1
               ∙ sym (append_assoc streamed (said (turns_of task x done)) (rest ++ order.0)) ∙ sym (append_assoc (streamed ++ said (turns_of task x done)) rest order.0)
               ∙ ap (λ (l : List TalkEvent). l ++ order.0) (sym c.talk),
         )
@@ -203,7 +217,8 @@ module _ (task : Task) (x : Exchange) where
           done = done;
           reached = were_reached;
           current = Some turn;
-          unfinished = unfinished query block replies waits;
+          unfinished = waits_unfinished (row_of task.depth (updates task x) query) block replies
+              waits;
           turns = λ _. are_turns replies next;
           order = in_order;
           legal = λ not. absurd (not c.legal);
@@ -226,7 +241,9 @@ module _ (task : Task) (x : Exchange) where
         order_at_bye : IsPrefix x.talk (streamed ++ said (turns_of task x done ++ []) ++ farewell task x done)
         order_at_bye = (
           front.0,
-          ap (λ (ts : List Turn). streamed ++ said ts ++ farewell task x done) (append-nil _) ∙ ap (λ (l : List TalkEvent). streamed ++ said (turns_of task x done) ++ l) (farewell_is all ∙ front.1)
+          ap (λ (ts : List Turn). streamed ++ said ts ++ farewell task x done)
+              (append-nil (turns_of task x done)) ∙ ap (λ (l : List TalkEvent). streamed ++ said
+              (turns_of task x done) ++ l) (farewell_is all ∙ front.1)
               ∙ sym (append_assoc (streamed ++ said (turns_of task x done)) rest front.0) ∙ ap (λ (l : List TalkEvent). l ++ front.0) (sym c.talk),
         )
 
@@ -278,7 +295,8 @@ module _ (task : Task) (x : Exchange) where
 
       -- its line was not written whole
       module _ (p : PassesInPart task.depth (updates task x) e.query e.block (suc (length e.done)) e.mid t3 e.half r2) where
-        passing : Came challenges e.done (said_in_turn (turn_of e.query e.block p.answered.replies) ++ []) p.part
+        passing : Came challenges e.done (said_in_turn task.depth (updates task x)
+            (turn_of e.query e.block p.answered.replies) ++ []) p.part
         passing = its (subst (GoesOn e.mid t3) (sym (append-nil _)) p.answered.talk) p.wrote
 
         written_in_part : PartWritten task x e.done p.part
@@ -292,7 +310,8 @@ module _ (task : Task) (x : Exchange) where
 
       -- the line of its rejection was not written whole
       module _ (p : FailsInPart task.depth (updates task x) e.query e.block (suc (length e.done)) e.mid t3 e.half r2) where
-        failing : Came challenges e.done (said_in_turn (turn_of e.query e.block p.rejected.replies) ++ ending p.reason) p.part
+        failing : Came challenges e.done (said_in_turn task.depth (updates task x)
+            (turn_of e.query e.block p.rejected.replies) ++ ending p.reason) p.part
         failing = its p.rejected.talk p.wrote
 
         rejected_in_part : PartRejected task x e.done p.part
@@ -319,7 +338,9 @@ module _ (task : Task) (x : Exchange) where
       rejects : (before now : Counts) (round : ℕ) (reason : Reason) → Fails task.depth (updates task x) e.query e.block (suc (length e.done)) e.mid t3 e.half r2 round reason
           → Ended task x before now (statuses.Rejected (suc (length e.done)) round reason)
       rejects before now round reason f =
-          let c : Came challenges e.done (said_in_turn (turn_of e.query e.block f.rejected.replies) ++ ending reason) (rejection (suc (length e.done)) round reason) = its f.rejected.talk f.wrote in
+          let c : Came challenges e.done (said_in_turn task.depth (updates task x)
+          (turn_of e.query e.block f.rejected.replies) ++ ending reason)
+          (rejection (suc (length e.done)) round reason) = its f.rejected.talk f.wrote in
           record {
             verdict = one_faulty c (its_next c) f.rejected.replies round reason f.rejected.faulty refl refl;
             talk = ends_at_fault c (its_next c) f.rejected.replies round reason f.rejected.faulty refl;

@@ -26,7 +26,7 @@ module _ (task : Task) (can : CanBeDone task) (some : 1 ≤ task.depth) (most : 
     verdict = e.verdict;
     talk = e.talk;
     cause = e.cause;
-    count = report_counts task x (all_fit task can) status e.verdict listed;
+    count = report_counts task x can.asked status e.verdict listed;
     complete = completes task x some most (all_fit task can) before now status e.verdict e.cause listed;
   }
 

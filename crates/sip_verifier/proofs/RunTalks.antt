@@ -11,7 +11,8 @@ use Rattle.sip_verifier.specs.declared.status.Port.TheVariants as ports
 use Rattle.sip_verifier.specs.declared.status.Status.{Status}
 use Rattle.sip_verifier.specs.declared.status.Status.TheVariants as statuses
 use Rattle.sip_verifier.specs.declared.task.Task.{Task}
-use Rattle.sip_verifier.specs.Exchanges.{Exchange, Tells, IsPrefix}
+use Rattle.sip_replies.specs.Talks.{IsPrefix}
+use Rattle.sip_verifier.specs.Exchanges.{Exchange, Tells}
 use Rattle.sip_verifier.specs.Gathering.{Refuses}
 use Rattle.sip_verifier.specs.Moments.{Moment, IsTold}
 use Rattle.sip_verifier.specs.Progress.{Checks, PassesInPart, FailsInPart, PassedBy, EndsWith}

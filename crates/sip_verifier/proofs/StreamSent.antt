@@ -12,10 +12,11 @@ use Rattle.sip_vector.specs.Pieces.{cut}
 use Rattle.sip_stream.proofs.Cuts.{cut-one}
 use Rattle.sip_wire.specs.declared.message.Message.{Message}
 use Rattle.sip_wire.specs.declared.message.Message.TheVariants as messages
+use Rattle.sip_wire.specs.declared.version.Version.TheVariants.{One}
 use Rattle.sip_wire.specs.Spelling.{spelling}
-use Rattle.sip_verifier.specs.Exchanges.{IsPrefix}
+use Rattle.sip_replies.specs.Talks.{IsPrefix, sent}
 use Rattle.sip_verifier.specs.Feeding.{due_at_end}
-use Rattle.sip_verifier.specs.Talks.{sent, update_frames, whole_frames, opening_sent, stream_sent}
+use Rattle.sip_verifier.specs.Talks.{update_frames, whole_frames, opening_sent, stream_sent}
 use Rattle.sip_verifier.proofs.FramesCut.{cut-append}
 
 -- ---- fronts
@@ -35,35 +36,37 @@ sent_front events bytes n = (
 
 -- ---- messages one after another
 
-sent-append : (ms ns : List Message) → sent (ms ++ ns) ≡ sent ms ++ sent ns
+sent-append : (ms ns : List Message) → sent One (ms ++ ns) ≡ sent One ms ++ sent One ns
 sent-append ms ns = ap outs (flat_map-append spelling ms ns) ∙ outs-append (flat_map spelling ms) (flat_map spelling ns)
 
 abbrev pub frame : List Update → Message
 frame us = messages.Updates (record { items = us })
 
-pub sent-one : (m : Message) → sent (m ∷ []) ≡ outs (spelling m)
+pub sent-one : (m : Message) → sent One (m ∷ []) ≡ outs (spelling m)
 sent-one m = ap outs (append-nil (spelling m))
 
 -- whole frames, and what follows them
-opening_sent-append : (depth : ℕ) (xs ys : List Update) → length xs % 512 ≡ 0 → opening_sent depth (xs ++ ys) ≡ opening_sent depth xs ++ sent (update_frames ys)
+opening_sent-append : (depth : ℕ) (xs ys : List Update) → length xs % 512 ≡ 0
+    → opening_sent depth (xs ++ ys) ≡ opening_sent depth xs ++ sent One (update_frames ys)
 opening_sent-append depth xs ys whole =
-    ap (λ l. sent (messages.Open 1 depth ∷ map frame l)) (cut-append 512 xs ys (omega arith) whole)
-    ∙ ap (λ l. sent (messages.Open 1 depth ∷ l)) (map-append frame (cut 512 xs) (cut 512 ys))
+    ap (λ l. sent One (messages.Open 1 depth ∷ map frame l))
+    (cut-append 512 xs ys (omega arith) whole)
+    ∙ ap (λ l. sent One (messages.Open 1 depth ∷ l)) (map-append frame (cut 512 xs) (cut 512 ys))
     ∙ sent-append (messages.Open 1 depth ∷ update_frames xs) (update_frames ys)
 
 -- whole frames, and one more
 pub opening_sent-frame : (depth : ℕ) (xs ys : List Update) → length xs % 512 ≡ 0 → 0 < length ys → length ys ≤ 512 → opening_sent depth (xs ++ ys) ≡ opening_sent depth xs ++ outs (spelling (frame ys))
 opening_sent-frame depth xs ys whole some most =
     opening_sent-append depth xs ys whole
-    ∙ ap (λ l. opening_sent depth xs ++ sent (map frame l)) (cut-one 512 ys some most)
+    ∙ ap (λ l. opening_sent depth xs ++ sent One (map frame l)) (cut-one 512 ys some most)
     ∙ ap (λ l. opening_sent depth xs ++ l) (sent-one (frame ys))
 
 -- whole frames, those that wait, and the end
 pub stream_sent-rest : (depth : ℕ) (xs ys : List Update) → length xs % 512 ≡ 0 → stream_sent depth (xs ++ ys) ≡ opening_sent depth xs ++ outs (due_at_end ys)
 stream_sent-rest depth xs ys whole =
     let end = messages.EndStream ∷ [] in
-    ap (λ l. l ++ sent end) (opening_sent-append depth xs ys whole)
-    ∙ append_assoc (opening_sent depth xs) (sent (update_frames ys)) (sent end)
+    ap (λ l. l ++ sent One end) (opening_sent-append depth xs ys whole)
+    ∙ append_assoc (opening_sent depth xs) (sent One (update_frames ys)) (sent One end)
     ∙ ap (λ l. opening_sent depth xs ++ l) (sym (sent-append (update_frames ys) end))
 
 -- ---- the whole frames of a stream
@@ -82,8 +85,12 @@ whole_frames-waiting xs ys whole few =
 
 -- whole frames stay in front, whatever follows
 pub opening_sent-front : (depth : ℕ) (xs more : List Update) → length xs % 512 ≡ 0 → IsPrefix (opening_sent depth xs) (opening_sent depth (whole_frames (xs ++ more)))
-opening_sent-front depth xs more whole =
-    (sent (update_frames (whole_frames more)), ap (opening_sent depth) (whole_frames-append xs more whole) ∙ opening_sent-append depth xs (whole_frames more) whole)
+opening_sent-front depth xs more whole = (
+  sent One (update_frames (whole_frames more)),
+  ap (opening_sent depth)
+      (whole_frames-append xs more whole) ∙ opening_sent-append depth xs
+      (whole_frames more) whole,
+)
 
 -- the whole frames of a stream, and what is none yet
 record Framed (stream : List Update) : Type 0 where

@@ -1,40 +1,39 @@
 -- Completeness.
 --
--- Take a seed that gives challenges, a legal stream, and queries of sub-vectors that have at most 65,536 entries in their answers.
+-- Take a seed that gives challenges, a legal stream, and queries whose check stands here and whose answers have no more entries
+-- than may be sent.
 -- Let the link give the bytes of honest replies at the run's blocks, or a front of them, and not end. If no port's count of faults
 -- rises, then each query is accepted and the report has the stream's own answers; or memory ran out.
-use Rattle.std.specs.Prelude.{◌≡◌, ◌≢◌, ◌≤◌, ◌⊎◌, ℕ, List, [], length, flat_map, Some, All}
+use Rattle.std.specs.Prelude.{◌≡◌, ◌≢◌, ◌⊎◌, ℕ, List, [], flat_map, Some, All}
 use Rattle.std.specs.List.{zip}
-use Rattle.sip_field.specs.Moduli.{m61_modulus}
 use Rattle.sip_ports.specs.declared.port.TalkEvent.TheVariants.{Ended}
 use Rattle.sip_ports.specs.Ports.{heard, Rose}
 use Rattle.sip_vector.specs.declared.query.Query.{Query}
-use Rattle.sip_vector.specs.declared.query.Query.TheVariants.{Sub}
-use Rattle.sip_vector.specs.declared.update.Side.TheVariants.{First}
 use Rattle.sip_vector.specs.declared.update.Update.{Update}
-use Rattle.sip_vector.specs.Streams.{vector}
-use Rattle.sip_vector.specs.Vectors.{nonzero_within}
-use Rattle.sip_subvec.specs.Honest.{honest_replies}
-use Rattle.sip_subvec.specs.Replies.{most_entries}
 use Rattle.sip_verifier.specs.declared.status.Status.{Status}
 use Rattle.sip_verifier.specs.declared.status.Status.TheVariants as statuses
 use Rattle.sip_verifier.specs.declared.task.Task.{Task}
 use Rattle.sip_verifier.specs.Draws.{drawn, blocks}
-use Rattle.sip_verifier.specs.Exchanges.{Exchange, IsPrefix}
+use Rattle.sip_replies.specs.Talks.{IsPrefix}
+use Rattle.sip_verifier.specs.Exchanges.{Exchange}
+use Rattle.sip_verifier.specs.Kinds.{Row, built, missing, row_of, OfKind}
 use Rattle.sip_verifier.specs.Moments.{Counts}
 use Rattle.sip_verifier.specs.Reports.{report_of}
 use Rattle.sip_verifier.specs.Turns.{updates, IsLegalToEnd}
 
--- the bytes of all honest replies to a query at its block; of a query whose check does not stand here there are none, for it is
--- never asked
-abbrev pub honest_bytes : ℕ → List Update → Query × List ℕ → List ℕ
-honest_bytes depth stream (Sub lo hi, block) = flat_map (λ b. b) (honest_replies m61_modulus (vector depth stream First) lo hi block)
-honest_bytes depth stream (_, block) = []
+-- what an honest helper replies, by the row of a query
+abbrev pub honest_in : Row → List ℕ → List (List ℕ)
+honest_in (built kind) block = kind.honest block
+honest_in missing block = []
 
--- the answer has no more entries than may be sent
+-- the bytes of all honest replies to a query at its block
+abbrev pub honest_bytes : ℕ → List Update → Query × List ℕ → List ℕ
+honest_bytes depth stream (query, block) = flat_map (λ b. b)
+    (honest_in (row_of depth stream query) block)
+
+-- the query's check stands here, and its answer has no more entries than may be sent
 abbrev pub HasFewEntries : ℕ → List Update → Query → Type 0
-HasFewEntries depth stream (Sub lo hi) = length (nonzero_within lo hi (vector depth stream First)) ≤ most_entries
-HasFewEntries depth stream _ = Unit {0}
+HasFewEntries depth stream query = OfKind depth stream query (λ kind. kind.HasFew)
 
 -- no port's count of faults rose
 pub record NoneRose (before now : Counts) : Type 0 where

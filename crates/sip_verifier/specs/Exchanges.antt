@@ -24,10 +24,6 @@ pub record Tells (old new : Moment) (x : Exchange) : Type 0 where
   pub talk : (had : List TalkEvent) × (old.talk ≡ Some had) × (new.talk ≡ Some (had ++ x.talk))
   pub report : (had : List TalkEvent) × (old.report ≡ Some had) × (new.report ≡ Some (had ++ outs x.report))
 
--- ys is xs, with more at its end
-abbrev pub IsPrefix : {X : Type 0} → List X → List X → Type 0
-IsPrefix {X} xs ys = (more : List X) × (ys ≡ xs ++ more)
-
 -- of the bytes that were left, at most so many were taken, from the front
 abbrev pub TakesAtMost : ℕ → Option (List ℕ) → Option (List ℕ) → Type 0
 TakesAtMost most old new = (bytes : List ℕ) × (length bytes ≤ most) × Consumes old new bytes

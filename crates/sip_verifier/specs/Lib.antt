@@ -4,6 +4,7 @@ pub mod Reports
 pub mod Moments
 pub mod Statuses
 pub mod Exchanges
+pub mod Kinds
 pub mod Turns
 pub mod VerdictClause
 pub mod TalkClause
@@ -17,7 +18,6 @@ pub mod Gathering
 pub mod Sittings
 pub mod Asking
 pub mod Questions
-pub mod Taking
 pub mod Ending
 pub mod Transcripts
 pub mod Drawing

@@ -12,7 +12,8 @@ use Rattle.sip_verifier.specs.declared.status.Status.TheVariants as statuses
 use Rattle.sip_verifier.specs.declared.task.Task.{Task}
 use Rattle.sip_verifier.specs.Asking.{IsAnswered, IsRejected, IsInterrupted}
 use Rattle.sip_verifier.specs.CauseClause.{CauseClause}
-use Rattle.sip_verifier.specs.Exchanges.{Exchange, IsPrefix}
+use Rattle.sip_replies.specs.Talks.{IsPrefix}
+use Rattle.sip_verifier.specs.Exchanges.{Exchange}
 use Rattle.sip_verifier.specs.Moments.{Counts}
 use Rattle.sip_verifier.specs.Reports.{line, rejection}
 use Rattle.sip_verifier.specs.TalkClause.{TalkClause}
@@ -74,7 +75,7 @@ pub record AreFirst (queries : List Query) (blocks : List (List ℕ)) (turns : L
 -- the first queries were accepted, and their lines were written
 pub record Passed (depth : ℕ) (stream : List Update) (queries : List Query) (blocks : List (List ℕ)) (old new blank full : Option (List TalkEvent)) (done : List (Accepted depth stream)) : Type 0 where
   pub first : AreFirst queries blocks (map (λ a. a.turn) done)
-  pub talk : GoesOn old new (flat_map said_in_turn (map (λ a. a.turn) done))
+  pub talk : GoesOn old new (flat_map (said_in_turn depth stream) (map (λ a. a.turn) done))
   pub report : GoesOn blank full (outs (flat_map (λ a. line a.turn.query a.answer) done))
 
 -- so many queries were accepted, and their lines were written

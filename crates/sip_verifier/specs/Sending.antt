@@ -3,7 +3,7 @@ use Rattle.std.specs.Prelude.{◌≡◌, ℕ, ◌%◌, ◌<◌, List, ◌++◌, 
 use Rattle.sip_ports.specs.declared.port.TalkEvent.{TalkEvent}
 use Rattle.sip_ports.specs.Ports.{GoesOn}
 use Rattle.sip_vector.specs.declared.update.Update.{Update}
-use Rattle.sip_verifier.specs.Exchanges.{IsPrefix}
+use Rattle.sip_replies.specs.Talks.{IsPrefix}
 use Rattle.sip_verifier.specs.Talks.{whole_frames, opening_sent, stream_sent}
 
 module _ (depth : ℕ) (old new : Option (List TalkEvent)) (stream : List Update) where

@@ -16,9 +16,10 @@ use Rattle.sip_verifier.specs.declared.status.Port.TheVariants as ports
 use Rattle.sip_verifier.specs.declared.status.Status.{Status}
 use Rattle.sip_verifier.specs.declared.status.Status.TheVariants as statuses
 use Rattle.sip_verifier.specs.declared.task.Task.{Task}
-use Rattle.sip_verifier.specs.Exchanges.{Exchange, IsPrefix}
+use Rattle.sip_replies.specs.Talks.{IsPrefix, ending}
+use Rattle.sip_verifier.specs.Exchanges.{Exchange}
 use Rattle.sip_verifier.specs.Talks.{whole_frames, opening_sent, stream_sent, bye_sent}
-use Rattle.sip_verifier.specs.Turns.{Turn, IsFaulty, IsUnfinished, ending, said_in_turn, updates, IsLegalToEnd, Done, turns_of, lines, farewell, AreTurns, Reached}
+use Rattle.sip_verifier.specs.Turns.{Turn, IsFaulty, IsUnfinished, said_in_turn, updates, IsLegalToEnd, Done, turns_of, lines, farewell, AreTurns, Reached}
 use Rattle.sip_verifier.specs.VerdictClause.{WereReached}
 
 module _ (task : Task) (x : Exchange) where
@@ -46,12 +47,16 @@ module _ (task : Task) (x : Exchange) where
     pub done : Done task x
     pub reached : WereReached task x done
     pub current : Option Turn
-    pub unfinished : IfSome current IsUnfinished
+    pub unfinished : IfSome current (IsUnfinished task.depth (updates task x))
     pub turns : x.talk ≢ [] → AreTurns task x (turns_of task x done ++ option_to_list current)
-    pub order : IsPrefix x.talk (stream_sent task.depth (updates task x) ++ flat_map said_in_turn (turns_of task x done ++ option_to_list current) ++ farewell task x done)
+    pub order : IsPrefix x.talk (stream_sent task.depth (updates task x) ++ flat_map
+        (said_in_turn task.depth (updates task x))
+        (turns_of task x done ++ option_to_list current) ++ farewell task x done)
     pub legal : ¬ IsLegalToEnd task x → IsPrefix x.talk before_end
     -- what is said after the accepted turns is said only once all their lines were written
-    pub written : ¬ IsPrefix x.talk (stream_sent task.depth (updates task x) ++ flat_map said_in_turn (turns_of task x done)) → x.report ≡ lines task x done
+    pub written : ¬ IsPrefix x.talk (stream_sent task.depth (updates task x) ++ flat_map
+        (said_in_turn task.depth (updates task x)) (turns_of task x done))
+        → x.report ≡ lines task x done
 
   -- the talk stopped somewhere, or at a fault
   abbrev pub Stopped : Type 0

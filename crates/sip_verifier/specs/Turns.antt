@@ -1,65 +1,52 @@
 -- The queries of a run, each with its block of challenges and the reply bytes that were taken.
 use Rattle.std.specs.Prelude.{◌≡◌, ◌==◌, ℕ, List, [], ◌∷◌, ◌++◌, length, take, map, flat_map, Some, None, if◌then◌else◌}
-use Rattle.sip_field.specs.Moduli.{m61_modulus}
 use Rattle.sip_ports.specs.declared.port.TalkEvent.{TalkEvent}
-use Rattle.sip_ports.specs.declared.port.TalkEvent.TheVariants.{Ended}
 use Rattle.sip_vector.specs.declared.query.Query.{Query}
-use Rattle.sip_vector.specs.declared.query.Query.TheVariants.{Sub}
-use Rattle.sip_vector.specs.declared.update.Entry.{Entry}
-use Rattle.sip_vector.specs.declared.update.Side.TheVariants.{First}
 use Rattle.sip_vector.specs.declared.update.Update.{Update}
-use Rattle.sip_vector.specs.Answers.{Answer, pairs}
-use Rattle.sip_vector.specs.Streams.{vector}
-use Rattle.sip_vector.specs.Trees.{root}
-use Rattle.sip_wire.specs.declared.message.Reason.{Reason}
-use Rattle.sip_wire.specs.declared.message.Reason.TheVariants.{Closed}
+use Rattle.sip_vector.specs.Answers.{Answer}
 use Rattle.sip_stream.specs.Records.{records}
+use Rattle.sip_replies.specs.Protocols.{Protocol}
+use Rattle.sip_replies.specs.Replies as general
 use Rattle.sip_replies.specs.Replies.{Fault}
-use Rattle.sip_subvec.specs.Replies as sub
+use Rattle.sip_replies.specs.Talks.{asked_unless}
 use Rattle.sip_verifier.specs.declared.task.Task.{Task}
 use Rattle.sip_verifier.specs.Draws.{drawn, blocks}
 use Rattle.sip_verifier.specs.Exchanges.{Exchange}
+use Rattle.sip_verifier.specs.Kinds.{Row, built, missing, row_of, OfKind}
 use Rattle.sip_verifier.specs.Reports.{line}
-use Rattle.sip_verifier.specs.Talks.{asked, stream_sent, bye_sent}
+use Rattle.sip_verifier.specs.Talks.{stream_sent, bye_sent}
 
 pub record Turn : Type 0 where
   pub query : Query
   pub block : List ℕ
   pub replies : List (List ℕ)
 
--- the root that a stream's first side has at the challenges
-abbrev pub true_root : ℕ → List Update → List ℕ → ℕ
-true_root depth stream block = root m61_modulus (vector depth stream First) block
+-- a reply is due, and none of those that came has a fault so far
+abbrev pub IsDue : {S : Type 0} → Protocol S → List ℕ → List (List ℕ) → Type 0
+IsDue P block replies = (P.unasked ≡ None) × general.IsUnfinished P.rules block replies
+    × general.IsMissing P.rules block replies
 
 -- ---- the states of a turn; a query whose check does not stand here is never asked
 
 -- the replies are accepted, and this is the answer that they state
 abbrev pub Accepts : ℕ → List Update → Turn → Answer → Type 0
-Accepts depth stream t answer = elim t.query [
-  | Sub lo hi ↦ (entries : List Entry) × sub.IsAccepted m61_modulus (true_root depth stream t.block) lo hi t.block t.replies entries × (answer ≡ pairs entries)
-  | _ ↦ ⊥
-]
+Accepts depth stream t answer = OfKind depth stream t.query
+    (λ kind. general.IsAccepted (kind.protocol t.block) t.block t.replies answer)
 
 -- the replies have this fault, and no byte too many was taken
 abbrev pub IsFaulty : ℕ → List Update → Turn → Fault → Type 0
-IsFaulty depth stream t fault = elim t.query [
-  | Sub lo hi ↦ sub.IsFaulty m61_modulus (true_root depth stream t.block) lo hi t.block t.replies fault
-  | _ ↦ ⊥
-]
+IsFaulty depth stream t fault = OfKind depth stream t.query
+    (λ kind. general.IsFaulty (kind.protocol t.block) t.block t.replies fault)
 
 -- no fault so far
-abbrev pub IsUnfinished : Turn → Type 0
-IsUnfinished t = elim t.query [
-  | Sub lo hi ↦ sub.IsUnfinished lo hi t.block t.replies
-  | _ ↦ ⊥
-]
+abbrev pub IsUnfinished : ℕ → List Update → Turn → Type 0
+IsUnfinished depth stream t = OfKind depth stream t.query
+    (λ kind. general.IsUnfinished (kind.protocol t.block).rules t.block t.replies)
 
--- no fault so far, and a reply is missing or not whole yet
-abbrev pub IsWaiting : Turn → Type 0
-IsWaiting t = elim t.query [
-  | Sub lo hi ↦ sub.IsUnfinished lo hi t.block t.replies × sub.IsMissing lo hi t.block t.replies
-  | _ ↦ ⊥
-]
+-- the query has to be asked, there is no fault so far, and a reply is missing or not whole yet
+abbrev pub IsWaiting : ℕ → List Update → Turn → Type 0
+IsWaiting depth stream t = OfKind depth stream t.query
+    (λ kind. IsDue (kind.protocol t.block) t.block t.replies)
 
 -- a turn whose replies are accepted
 pub record Accepted (depth : ℕ) (stream : List Update) : Type 0 where
@@ -69,14 +56,15 @@ pub record Accepted (depth : ℕ) (stream : List Update) : Type 0 where
 
 -- ---- the turns of a run
 
--- what was said in a turn
-abbrev pub said_in_turn : Turn → List TalkEvent
-said_in_turn t = asked t.query t.block t.replies
+-- what was said for a query by its row: nothing, where its answer is known without a reply
+abbrev pub said_by : Row → Turn → List TalkEvent
+said_by (built kind) t = asked_unless (kind.protocol t.block).unasked
+    (kind.protocol t.block).rules.version t.query t.block t.replies
+said_by missing t = []
 
--- what follows a fault: the end of the link, where that is the fault
-abbrev pub ending : Reason → List TalkEvent
-ending Closed = Ended ∷ []
-ending _ = []
+-- what was said in a turn
+abbrev pub said_in_turn : ℕ → List Update → Turn → List TalkEvent
+said_in_turn depth stream t = said_by (row_of depth stream t.query) t
 
 module _ (task : Task) (x : Exchange) where
   -- the legal records of the stream
@@ -111,4 +99,5 @@ module _ (task : Task) (x : Exchange) where
   pub record Reached (turns : List Turn) (rest : List TalkEvent) : Type 0 where
     pub are_turns : AreTurns turns
     pub legal : IsLegalToEnd
-    pub talk : x.talk ≡ stream_sent task.depth updates ++ flat_map said_in_turn turns ++ rest
+    pub talk : x.talk ≡ stream_sent task.depth updates ++ flat_map
+        (said_in_turn task.depth updates) turns ++ rest

@@ -18,10 +18,11 @@ use Rattle.sip_verifier.specs.declared.status.Port.TheVariants as ports
 use Rattle.sip_verifier.specs.declared.status.Status.{Status}
 use Rattle.sip_verifier.specs.declared.status.Status.TheVariants as statuses
 use Rattle.sip_verifier.specs.declared.task.Task.{Task}
-use Rattle.sip_verifier.specs.Exchanges.{Exchange, IsPrefix}
+use Rattle.sip_replies.specs.Talks.{IsPrefix, ending}
+use Rattle.sip_verifier.specs.Exchanges.{Exchange}
 use Rattle.sip_verifier.specs.Reports.{line, rejection}
 use Rattle.sip_verifier.specs.Talks.{bye_sent, stream_sent}
-use Rattle.sip_verifier.specs.Turns.{Turn, Accepted, IsFaulty, IsWaiting, ending, said_in_turn, updates, Done, turns_of, lines, farewell, Reached}
+use Rattle.sip_verifier.specs.Turns.{Turn, Accepted, IsFaulty, IsWaiting, said_in_turn, updates, Done, turns_of, lines, farewell, Reached}
 
 module _ (task : Task) (x : Exchange) where
   -- every query was accepted, and every line was written
@@ -76,9 +77,11 @@ module _ (task : Task) (x : Exchange) where
   pub record NoneLeft : Type 0 where
     pub done : Done task x
     pub current : Option Turn
-    pub waits : IfSome current IsWaiting
+    pub waits : IfSome current (IsWaiting task.depth (updates task x))
     pub reached : WereReached done
-    pub order : IsPrefix x.talk (stream_sent task.depth (updates task x) ++ flat_map said_in_turn (turns_of task x done ++ option_to_list current) ++ farewell task x done)
+    pub order : IsPrefix x.talk (stream_sent task.depth (updates task x) ++ flat_map
+        (said_in_turn task.depth (updates task x))
+        (turns_of task x done ++ option_to_list current) ++ farewell task x done)
     pub report : x.report ≡ lines task x done
 
   abbrev pub VerdictClause : Status → Type 0

@@ -10,6 +10,7 @@ ghost use Rattle.sip_verifier.specs.declared.task.Task.{Task};
 ghost use Rattle.sip_verifier.specs.CountClause.{CountsFor, CountClause};
 ghost use Rattle.sip_verifier.specs.Exchanges.{Exchange};
 ghost use Rattle.sip_verifier.specs.Statuses.{IsListed};
+ghost use Rattle.sip_verifier.specs.Tasks.{CanBeAsked};
 ghost use Rattle.sip_verifier.specs.Turns.{Turn, Accepts, updates};
 ghost use Rattle.sip_verifier.specs.VerdictClause.{VerdictClause};
 
@@ -23,7 +24,7 @@ pub fn accepted_turns_are_counted()
     ensures { (depth : ℕ) (stream : List Update) (t : Turn) (answer : Answer) → Fits depth t.query → IsLegal depth stream → Accepts depth stream t answer → CountsFor depth stream t answer }
 {}
 
-/// Each report of a verifying command is counted, where its queries fit the depth.
+/// Each report of a verifying command is counted, where its queries can be asked.
 pub fn reports_are_counted()
-    ensures { (task : Task) (x : Exchange) (status : Status) → All (Fits task.depth) task.queries.items → VerdictClause task x status → IsListed status → CountClause task x }
+    ensures { (task : Task) (x : Exchange) (status : Status) → All (CanBeAsked task.depth) task.queries.items → VerdictClause task x status → IsListed status → CountClause task x }
 {}

@@ -10,12 +10,14 @@ ghost use Rattle.sip_vector.specs.Examples.{stream};
 ghost use Rattle.sip_verifier.specs.Draws.{blocks};
 ghost use Rattle.sip_verifier.specs.Examples.{whole_talk, two_queries};
 ghost use Rattle.sip_wire.specs.declared.message.Reason.TheVariants as reasons;
+ghost use Rattle.sip_wire.specs.declared.version.Version.TheVariants.{One};
 ghost use Rattle.sip_verifier.specs.Reports.{line, rejection};
-ghost use Rattle.sip_verifier.specs.Talks.{stream_sent, update_frames, whole_frames, asked, bye_sent};
+ghost use Rattle.sip_replies.specs.Talks.{asked};
+ghost use Rattle.sip_verifier.specs.Talks.{stream_sent, update_frames, whole_frames, bye_sent};
 
 /// A whole talk of one query is these bytes in this order.
 pub fn talk_of_one_query()
-    ensures { stream_sent 2 stream ++ asked (queries.Sub 1 2) (2 ∷ 10 ∷ []) (reply_0 ∷ reply_1 ∷ []) ++ bye_sent ≡ whole_talk }
+    ensures { stream_sent 2 stream ++ asked One (queries.Sub 1 2) (2 ∷ 10 ∷ []) (reply_0 ∷ reply_1 ∷ []) ++ bye_sent ≡ whole_talk }
 {}
 
 /// An empty stream has no frame of updates, and 513 updates have two frames, of which one is whole.

@@ -4,10 +4,11 @@
 //! |---|---|
 //! | `Tasks` | which tasks can be done |
 //! | `Draws` | the challenges of a run, and the block of each query |
-//! | `Talks` | the order of bytes in a talk |
+//! | `Talks` | the order of bytes in a talk, around the queries |
 //! | `Reports` | the lines of a report |
 //! | `Moments` | what the ports tell at one moment, and how often they have failed |
 //! | `Exchanges` | what one call moved through its ports |
+//! | `Kinds` | what is known of a query by its kind, one row a kind |
 //! | `Turns` | a query with its block and its reply bytes; when its replies are accepted, and their fault |
 //! | `VerdictClause` | which lines are written, and when |
 //! | `TalkClause` | in which order the bytes go |
@@ -22,7 +23,7 @@
 //! | `Gathering` | what a call did that reads the stream |
 //! | `Sittings`, `Asking` | what is seen of a session, and what a call did that asks a query |
 //!
-//! The other files there say what one private part of a run did: `Drawing`, `Sending`, `Questions`, `Taking`, `Ending`, `Progress`.
+//! The other files there say what one private part of a run did: `Drawing`, `Sending`, `Questions`, `Ending`, `Progress`.
 //!
 //! [`check_stream`] is a whole run: [`gather`], then a [`Session`] that asks the queries. It carries
 //! the five clauses, as one `RunClause`.
@@ -36,7 +37,6 @@ mod ending;
 mod feed;
 mod gathering;
 pub mod laws;
-mod replies;
 mod report;
 mod seat;
 mod seats;

@@ -1,8 +1,9 @@
 //! The seat of one query.
 
-ghost use Rattle.std.specs.Prelude.{◌≡◌, ◌<◌, ◌^◌, ℕ, List, [], ◌∷◌, ◌++◌, length};
+ghost use Rattle.std.specs.Prelude.{◌≡◌, ◌<◌, ◌^◌, ℕ, List, [], ◌∷◌, ◌++◌, length, IsTrue};
 ghost use Rattle.sip_vector.specs.declared.update.Update.{Update as AnyUpdate};
-ghost use Rattle.sip_verifier.specs.QuerySeats.{StandsFor, block_of};
+ghost use Rattle.sip_verifier.specs.QuerySeats.{StandsFor, block_of, is_seat};
+ghost use Rattle.sip_verifier.specs.Tasks.{CanBeAsked, is_built};
 
 use sip_field::{M61, Seat};
 use sip_tree::Root;
@@ -38,6 +39,20 @@ impl Default for QuerySeat {
 }
 
 impl QuerySeat {
+    /// The seat of a query with these challenges, before any update.
+    pub(crate) fn begin(query: Query, block: Seat<M61, 32>) -> QuerySeat
+        requires built { IsTrue (is_built query) }
+        ensures query { result.query ≡ query }
+        ensures block { block_of result ≡ block }
+        ensures stands { (depth : ℕ) → CanBeAsked depth query → length block ≡ depth → IsTrue (is_seat depth result) × StandsFor depth [] result }
+    {
+        let running = match query {
+            Query::Sub { .. } => Running::Root(Root::new(block)),
+            _ => unreachable!(),
+        };
+        QuerySeat { query, running }
+    }
+
     /// The challenges.
     pub(crate) fn block(&self) -> &Seat<M61, 32>
         ensures { result.now ≡ block_of self.now }

@@ -11,11 +11,10 @@ ghost use Rattle.sip_vector.specs.Pieces.{cut};
 ghost use Rattle.sip_verifier.specs.QuerySeats.{is_seat};
 ghost use Rattle.sip_verifier.specs.Tasks.{CanBeAsked};
 
-use crate::seat::{QuerySeat, Running};
+use crate::seat::QuerySeat;
 use arrayvec::ArrayVec;
 use sip_field::{M61, Seat, SeedSpent, draw_challenges};
 use sip_ports::{PortStop, Sink};
-use sip_tree::Root;
 use sip_vector::{Depth, Query, Update};
 use sip_wire::{put_ask, put_head};
 
@@ -71,10 +70,7 @@ impl Seats {
             let Some(seat) = Seat::of(block) else {
                 unreachable!()
             };
-            seats.push(QuerySeat {
-                query: *query,
-                running: Running::Root(Root::new(seat)),
-            });
+            seats.push(QuerySeat::begin(*query, seat));
         }
         Seats { depth, seats }
     }

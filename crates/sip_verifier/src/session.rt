@@ -172,7 +172,7 @@ impl Session {
         let seat = &seats.seats[self.asked];
         let asked = ask_seat(seat, &mut self.entries, &mut self.frame, link);
         self.asked += 1;
-        self.found = found_in(&asked);
+        self.found = found_in(self.entries.len(), &asked);
         self.is_spent = asked.is_err();
         verdict_of(asked)
     }

@@ -1,4 +1,6 @@
 -- A line that could not be written whole, and the line of an answer.
+use Rattle.std.proofs.Common.{rules, ◌≡◌, w64, to_z, of_z, FitsSigned}
+use Rattle.std.proofs.lemmas.Int.{to_z-of_z}
 use Rattle.std.proofs.lemmas.Result.{err_from_is_err_and}
 use Rattle.sip_verifier.proofs.QueriesChecked.{fault_checked, line_checked, rejection_cut}
 use Rattle.sip_verifier.proofs.checking.check_query.Goals as goal
@@ -15,6 +17,16 @@ pub returns-in-Ok-Pairs-clause-checks : goal.returns-in-Ok-Pairs-clause-checks
 returns-in-Ok-Pairs-clause-checks g c = λ stream seat next.
     let asks = rw (next.asks, c.in-Ok-Pairs.is, c.in-Ok-Pairs.field-0-is, ← c.entries.ensures) at (c.ask.ensures.asks stream seat next.more next.first next.stands) in
     line_checked _ _ _ _ _ _ _ _ _ _ c.write_pairs.result c.on_report.result asks c.write_pairs.ensures.talk c.on_report.ensures
+
+pub returns-in-Ok-Number-clause-checks : goal.returns-in-Ok-Number-clause-checks
+returns-in-Ok-Number-clause-checks g c = λ stream seat next.
+    let asks = rw (next.asks, c.in-Ok-Number.is, c.in-Ok-Number.field-0-is) at
+    (c.ask.ensures.asks stream seat next.more next.first next.stands) in
+    let fits : FitsSigned w64 c.in-Ok-Number.value = search rules in
+    let kept : to_z w64 (of_z w64 c.in-Ok-Number.value)
+    ≡ c.in-Ok-Number.value = to_z-of_z w64 c.in-Ok-Number.value fits in
+    line_checked _ _ _ _ _ _ _ _ _ _ c.write_number.result c.on_report-in-Ok-Number.result asks
+    (rw kept at c.write_number.ensures.talk) c.on_report-in-Ok-Number.ensures
 
 pub returns-in-Err-clause-checks : goal.returns-in-Err-clause-checks
 returns-in-Err-clause-checks g c = λ stream seat next.

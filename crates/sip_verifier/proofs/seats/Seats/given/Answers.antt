@@ -4,8 +4,8 @@ use Rattle.std.proofs.lemmas.List.{length-map, take-map, drop-map}
 use Rattle.std.proofs.lemmas.List.Elements.{All-nil}
 use Rattle.sip_field.specs.Elements.{m61_number}
 use Rattle.sip_vector.specs.declared.query.Query.TheVariants.{Sub}
-use Rattle.sip_verifier.specs.QuerySeats.{StandsFor}
-use Rattle.sip_verifier.proofs.SeatsGiven.{new-seat, block-size, given-more, given-count, given-asked, given-blocks}
+use Rattle.sip_verifier.specs.QuerySeats.{StandsFor, block_of}
+use Rattle.sip_verifier.proofs.SeatsGiven.{block-size, given-more, given-count, given-asked, given-blocks}
 use Rattle.sip_verifier.proofs.seats.Seats.given.Goals as goal
 
 pub loop-index-init : goal.loop-index-init
@@ -23,12 +23,22 @@ loop-index-preserved c =
     let first = c.loop-index.index * c.get-levels.result in
     let levels : (first + c.get-levels.result) - first ≡ c.get-levels.result = omega arith in
     let cut_out = ap (take c.get-levels.result) (drop-map m61_number first c.args.challenges.now) ∙ take-map m61_number c.get-levels.result (drop first c.args.challenges.now) in
-    let block : c.new.result.seat ≡ take c.get-levels.result (drop (c.loop-index.index * c.get-levels.result) (map m61_number c.args.challenges.now)) =
-    c.new.ensures.seat ∙ c.in-Some.ensures.same ∙ ap (λ k. map m61_number (take k (drop first c.args.challenges.now))) levels ∙ sym cut_out in
-    let size : length c.new.result.seat ≡ c.args.depth = ap length block ∙ block-size c.get-levels.result (length c.args.queries.now) c.loop-index.index (map m61_number c.args.challenges.now) lt (length-map c.args.challenges.now m61_number ∙ c.requires.count ∙ ap (λ k. k * length c.args.queries.now) (sym c.get-levels.ensures.same)) ∙ c.get-levels.ensures.same in
+    let block : block_of c.begin.result ≡ take c.get-levels.result
+    (drop (c.loop-index.index * c.get-levels.result) (map m61_number c.args.challenges.now)) =
+    c.begin.ensures.block ∙ c.in-Some.ensures.same
+    ∙ ap (λ k. map m61_number (take k (drop first c.args.challenges.now))) levels
+    ∙ sym cut_out in
+    let size : length c.in-Some.seat ≡ c.args.depth = ap length (sym c.begin.ensures.block ∙ block)
+    ∙ block-size c.get-levels.result (length c.args.queries.now) c.loop-index.index
+    (map m61_number c.args.challenges.now) lt
+    (length-map c.args.challenges.now m61_number ∙ c.requires.count
+    ∙ ap (λ k. k * length c.args.queries.now) (sym c.get-levels.ensures.same))
+    ∙ c.get-levels.ensures.same in
     let asked = c.requires.asked c.loop-index.index (Sub 0 0) lt in
-    rw c.push.ensures.items (given-more c.args.depth c.get-levels.result c.loop-index.index c.args.queries.now (map m61_number c.args.challenges.now) c.loop-index.seats.items (Sub 0 0) _ c.loop-index.invariant lt refl block
-    (new-seat c.args.depth _ c.new.result.seat c.new.result.value asked (refl, refl) size (rw (sym c.new.ensures.seat) at c.new.ensures.stands)))
+    rw c.push.ensures.items (given-more c.args.depth c.get-levels.result c.loop-index.index
+    c.args.queries.now (map m61_number c.args.challenges.now) c.loop-index.seats.items
+    (Sub 0 0) _ c.loop-index.invariant lt c.begin.ensures.query block
+    (c.begin.ensures.stands c.args.depth asked size))
 
 pub invariant_of-result : goal.invariant_of-result
 invariant_of-result c =

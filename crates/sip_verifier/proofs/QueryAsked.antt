@@ -1,0 +1,94 @@
+-- What the general talk did for a query is what a session promises of it, by the protocol of the query's kind.
+use Rattle.std.proofs.Common.{◌≡◌, ◌≢◌, ℕ, None, Option, Result, Ok, Err, List, [], ◌∷◌, ◌++◌, length, min, zero, suc, take, refl, sym, ap, subst, ◌∙◌, arith}
+use Rattle.sip_ports.specs.declared.port.TalkEvent.{TalkEvent}
+use Rattle.sip_ports.specs.Ports.{GoesOn}
+use Rattle.sip_vector.specs.declared.query.Query.{Query}
+use Rattle.sip_vector.specs.declared.update.Entry.{Entry}
+use Rattle.sip_vector.specs.declared.update.Update.{Update}
+use Rattle.sip_vector.specs.Answers.{Answer, pairs, number}
+use Rattle.sip_wire.specs.declared.message.Reason.{Reason}
+use Rattle.sip_replies.specs.declared.asking.AskStop.{AskStop}
+use Rattle.sip_replies.specs.declared.asking.AskStop.TheVariants as stops
+use Rattle.sip_replies.specs.declared.check.Said.{Said}
+use Rattle.sip_replies.specs.declared.check.Said.TheVariants as saids
+use Rattle.sip_replies.specs.Asking as general
+use Rattle.sip_replies.specs.Protocols.{Protocol}
+use Rattle.sip_replies.specs.Replies as replied
+use Rattle.sip_replies.specs.Replies.{Fault}
+use Rattle.sip_replies.specs.Talks.{IsPrefix, asked, asked_unless, ending}
+use Rattle.sip_verifier.specs.Asking.{turn_of, IsAnswered, IsRejected, IsInterrupted, Asks}
+use Rattle.sip_verifier.specs.Questions.{found_in, verdict_of}
+use Rattle.sip_verifier.specs.Turns.{Accepts, IsDue, IsFaulty, IsWaiting, said_in_turn}
+
+-- no more are shown than there are
+take-min : {X : Type 0} (n : ℕ) (xs : List X) → take (min n (length xs)) xs ≡ take n xs
+take-min zero xs = let none : min 0 (length xs) ≡ 0 = omega arith in ap (λ (k : ℕ). take k xs) none
+take-min (suc n) [] = let none : min (suc n) 0 ≡ 0 = omega arith in ap (λ (k : ℕ). take k []) none
+take-min (suc n) (x ∷ xs) =
+    let one : min (suc n) (suc (length xs)) ≡ suc (min n (length xs)) = omega arith in
+    ap (λ (k : ℕ). take k (x ∷ xs)) one ∙ ap (λ (l : List _). x ∷ l) (take-min n xs)
+
+-- This is the protocol of the query's kind: what is said and what holds by it is so of the query's
+-- turns.
+pub record IsProtocol (depth : ℕ) (stream : List Update) (query : Query) (block : List ℕ)
+    {S : Type 0} (P : Protocol S) : Type 0 where
+  pub said : (replies : List (List ℕ))
+      → asked_unless P.unasked P.rules.version query block replies
+      ≡ said_in_turn depth stream (turn_of query block replies)
+  pub accepts : (replies : List (List ℕ)) (answer : Answer)
+      → replied.IsAccepted P block replies answer
+      → Accepts depth stream (turn_of query block replies) answer
+  pub faulty : (replies : List (List ℕ)) (fault : Fault) → replied.IsFaulty P block replies fault
+      → IsFaulty depth stream (turn_of query block replies) fault
+  pub waits : (replies : List (List ℕ)) → IsDue P block replies
+      → IsWaiting depth stream (turn_of query block replies)
+
+module _ (depth : ℕ) (stream : List Update) (query : Query) (block : List ℕ) (old new before now : Option (List TalkEvent)) {S : Type 0} (P : Protocol S) (is : IsProtocol depth stream query block P) where
+  asked_is : P.unasked ≡ None → (replies : List (List ℕ))
+      → asked P.rules.version query block replies
+      ≡ said_in_turn depth stream (turn_of query block replies)
+  asked_is due replies =
+      ap (λ (u : Option Answer). asked_unless u P.rules.version query block replies) (sym due)
+      ∙ is.said replies
+
+  answered : (answer : Answer) → general.IsAnswered P query block old new before now answer
+      → IsAnswered depth stream query block old new answer
+  answered answer a = record {
+    replies = a.replies;
+    talk = subst (GoesOn old new) (is.said a.replies) a.talk;
+    accepted = is.accepts a.replies answer a.accepted;
+  }
+
+  rejected : (round : ℕ) (reason : Reason) → general.IsRejected P query block old new before now
+      round reason → IsRejected depth stream query block old new round reason
+  rejected round reason r = record {
+    replies = r.replies;
+    talk = subst (GoesOn old new) (ap (λ (talk : List TalkEvent). talk ++ ending reason)
+        (asked_is r.faulty.asked r.replies)) r.talk;
+    faulty = is.faulty r.replies (record { round = round; reason = reason }) r.faulty;
+  }
+
+  interrupted : general.IsInterrupted P query block old new before now
+      → IsInterrupted depth stream query block old new
+  interrupted i = record {
+    replies = i.replies;
+    said = i.said;
+    talk = i.talk;
+    order = subst (IsPrefix i.said) (asked_is i.due i.replies) i.order;
+    waits = is.waits i.replies (i.due, i.unfinished, i.missing);
+  }
+
+  -- What was answered, where the keeper neither failed nor ran out of memory.
+  pub asks : (places : List Entry) (result : Result Said AskStop)
+      → general.Answers P query block old new before now places result
+      → result ≢ Err stops.KeepFault
+      → result ≢ Err stops.KeepOutOfMemory → Asks depth stream query block old new
+      (take (found_in (length places) result) places) (verdict_of result)
+  asks places (Ok (saids.Number n)) a kept free = answered (number n) a
+  asks places (Ok (saids.Pairs found)) a kept free = rw (take-min found places)
+      (answered (pairs (take found places)) a)
+  asks places (Err (stops.Rejected round reason)) a kept free = rejected round reason a
+  asks places (Err stops.PeerFault) a kept free = interrupted a
+  asks places (Err stops.KeepFault) a kept free = absurd (kept refl)
+  asks places (Err stops.OutOfMemory) a kept free = interrupted a
+  asks places (Err stops.KeepOutOfMemory) a kept free = absurd (free refl)

@@ -1,0 +1,65 @@
+-- The kinds of query: how the replies to one are read, when a helper that lies can win, and what an honest one replies.
+use Rattle.std.specs.Prelude.{◌≤◌, ℕ, ℤ, Bool, List, length}
+use Rattle.sip_field.specs.Moduli.{m61_modulus}
+use Rattle.sip_vector.specs.declared.query.Query.{Query}
+use Rattle.sip_vector.specs.declared.query.Query.TheVariants.{Sub, Range, F2, Inner, Heavy}
+use Rattle.sip_vector.specs.declared.update.Side.TheVariants.{First}
+use Rattle.sip_vector.specs.declared.update.Update.{Update}
+use Rattle.sip_vector.specs.Streams.{vector}
+use Rattle.sip_vector.specs.Trees.{root}
+use Rattle.sip_vector.specs.Vectors.{nonzero_within}
+use Rattle.sip_replies.specs.Protocols.{Protocol}
+use Rattle.sip_subvec.specs.AcceptsSub.{Stated}
+use Rattle.sip_subvec.specs.Counting.{is_right}
+use Rattle.sip_subvec.specs.Honest.{honest_replies}
+use Rattle.sip_subvec.specs.Protocol.{sub_asked, sub_protocol}
+use Rattle.sip_subvec.specs.Replies.{most_entries}
+
+-- what is known of a query, by its kind
+pub record Kind : Type 1 where
+  -- what replies state so far
+  pub State : Type 0
+  -- how the replies at these challenges are read, and what they come to
+  pub protocol : List ℕ → Protocol State
+  -- how many values of one challenge let a wrong answer pass its reply, at most
+  pub chances : ℕ
+  -- the replies say the stream's own answer
+  pub is_right : List (List ℕ) → Bool
+  -- the answer has no more entries than may be sent
+  pub HasFew : Type 0
+  -- what an honest helper replies at these challenges
+  pub honest : List ℕ → List (List ℕ)
+
+-- the entries of these numbers from lo to hi
+abbrev pub sub_kind : List ℤ → ℕ → ℕ → Kind
+sub_kind numbers lo hi = record {
+  State = Stated;
+  protocol = λ block. sub_protocol (sub_asked m61_modulus
+      (root m61_modulus numbers block) lo hi block);
+  chances = 1;
+  is_right = is_right lo hi numbers;
+  HasFew = length (nonzero_within lo hi numbers) ≤ most_entries;
+  honest = honest_replies m61_modulus numbers lo hi;
+}
+
+-- whether a query's check stands here
+pub data Row : Type 1 where
+  built : Kind → Row
+  missing : Row
+
+-- The table of kinds: to build one is to change its row.
+abbrev pub row_of : ℕ → List Update → Query → Row
+row_of depth stream (Sub lo hi) = built (sub_kind (vector depth stream First) lo hi)
+row_of depth stream (Range side lo hi) = missing
+row_of depth stream (F2 side) = missing
+row_of depth stream Inner = missing
+row_of depth stream (Heavy side at_least) = missing
+
+-- this holds of the kind in a row; of a check that doesn't stand here nothing holds
+abbrev pub Holds : (Kind → Type 0) → Row → Type 0
+Holds of_kind (built kind) = of_kind kind
+Holds of_kind missing = ⊥
+
+-- this holds of the query's kind
+abbrev pub OfKind : ℕ → List Update → Query → (Kind → Type 0) → Type 0
+OfKind depth stream query of_kind = Holds of_kind (row_of depth stream query)
