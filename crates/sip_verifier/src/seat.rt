@@ -3,7 +3,8 @@
 ghost use Rattle.std.specs.Prelude.{◌≡◌, ◌<◌, ◌^◌, ℕ, List, [], ◌∷◌, ◌++◌, length, IsTrue};
 ghost use Rattle.sip_vector.specs.declared.update.Update.{Update as AnyUpdate};
 ghost use Rattle.sip_verifier.specs.QuerySeats.{StandsFor, block_of, is_seat};
-ghost use Rattle.sip_verifier.specs.Tasks.{CanBeAsked, is_built};
+ghost use Rattle.sip_vector.specs.Built.{is_built};
+ghost use Rattle.sip_verifier.specs.Tasks.{CanBeAsked};
 
 use sip_field::{M61, Seat};
 use sip_tree::Root;
