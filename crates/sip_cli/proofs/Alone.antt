@@ -5,8 +5,8 @@ use Rattle.std.specs.List.{slice_get}
 use Rattle.std.specs.Option.{option_copied}
 use Rattle.sip_cli.specs.declared.verb.Verb.{Verb}
 use Rattle.sip_cli.specs.declared.verb.Verb.TheVariants.{Verify, Help, Gen, Lines}
-use Rattle.sip_cli.specs.Verbs.{built, verb_word}
-use Rattle.sip_cli.specs.Words.{word, IsRefusedOf}
+use Rattle.sip_cli.specs.Verbs.{verb_word}
+use Rattle.sip_cli.specs.Words.{word, IsRefusedAt}
 use Rattle.sip_cli.proofs.Beginning.{refused_verb}
 
 -- the word that the first get gives is the only one, where the second gives none
@@ -26,5 +26,5 @@ no_verb w Gen dash = λ e. let h : get_or w 0 0 ≡ 103 = ap (λ v. get_or v 0 0
 no_verb w Lines dash = λ e. let h : get_or w 0 0 ≡ 108 = ap (λ v. get_or v 0 0) e in omega arith
 
 -- one word that begins with a dash is refused at once
-pub refused_alone : (words : List (List ℕ)) (w : List ℕ) → words ≡ w ∷ [] → get_or w 0 0 ≡ 45 → IsRefusedOf built words 0
-refused_alone words w is dash = refused_verb built words (λ verb some has same. no_verb w verb dash (sym (ap (λ ws. word ws 0) is) ∙ same))
+pub refused_alone : (words : List (List ℕ)) (w : List ℕ) → words ≡ w ∷ [] → get_or w 0 0 ≡ 45 → IsRefusedAt words 0
+refused_alone words w is dash = refused_verb words (λ verb some has same. no_verb w verb dash (sym (ap (λ ws. word ws 0) is) ∙ same))

@@ -10,12 +10,11 @@ use Rattle.sip_vector.specs.declared.query.Query.TheVariants.{Sub}
 use Rattle.sip_verifier.specs.Reports.{query_word}
 use Rattle.sip_cli.specs.declared.shape.Shape.TheVariants.{Name}
 use Rattle.sip_cli.specs.declared.stream.Stream.TheVariants as stream
-use Rattle.sip_cli.specs.declared.verb.Built.{Built}
 use Rattle.sip_cli.specs.declared.verb.Verb.{Verb}
 use Rattle.sip_cli.specs.declared.verb.Verb.TheVariants.{Verify, Help, Gen, Lines}
 use Rattle.sip_cli.specs.Shapes.{IsOf, IsDepth, Asks}
-use Rattle.sip_cli.specs.Verbs.{has_verb, verb_word, shapes, least_asked, most_asked}
-use Rattle.sip_cli.specs.Words.{word, IsWhole, BeginsOf, IsRefusedOf}
+use Rattle.sip_cli.specs.Verbs.{verb_word, shapes, least_asked, most_asked}
+use Rattle.sip_cli.specs.Words.{word, IsWhole, Begins, IsRefusedAt}
 
 -- words of a command to end with
 abbrev pub examples : Verb → List (List ℕ)
@@ -78,8 +77,7 @@ least_below_most Gen = omega arith
 least_below_most Lines = omega arith
 
 -- the first n words are those of a command of this verb, which is not yet too long
-pub record Begun (some : Built) (verb : Verb) (words : List (List ℕ)) (n : ℕ) : Type 0 where
-  pub is_built : IsTrue (has_verb some verb)
+pub record Begun (verb : Verb) (words : List (List ℕ)) (n : ℕ) : Type 0 where
   pub first : word words 0 ≡ verb_word verb
   pub some_words : 0 < n
   pub within : n ≤ length words
@@ -109,16 +107,16 @@ ended_long verb words n within =
     length-append (take n words) (drop n (examples verb)) ∙ omega (arith, counted, rest)
 
 -- each word of it has its shape
-pub ended_shaped : (some : Built) (verb : Verb) (words : List (List ℕ)) (n : ℕ) → Begun some verb words n → (i : ℕ) → i < length (shapes verb) → IsOf (get_or (shapes verb) i Name) (word (ended verb words n) (i + 1))
-ended_shaped some verb words n b i less =
+pub ended_shaped : (verb : Verb) (words : List (List ℕ)) (n : ℕ) → Begun verb words n → (i : ℕ) → i < length (shapes verb) → IsOf (get_or (shapes verb) i Name) (word (ended verb words n) (i + 1))
+ended_shaped verb words n b i less =
     elim (cases_lt (i + 1) n) [
       | inl before ↦ subst (IsOf (get_or (shapes verb) i Name)) (sym (ended_before verb words n (i + 1) b.within before)) (b.shaped i less before)
       | inr after ↦ subst (IsOf (get_or (shapes verb) i Name)) (sym (ended_after verb words n (i + 1) b.within after)) (examples_fit verb i less)
     ]
 
 -- and asks its query
-pub ended_asked : (some : Built) (verb : Verb) (words : List (List ℕ)) (n : ℕ) → Begun some verb words n → (i : ℕ) → length (shapes verb) < i → i < length (ended verb words n) → (d : ℕ) × IsDepth d (word (ended verb words n) 6) × (query : Query) × Asks d query (word (ended verb words n) i)
-ended_asked some verb words n b i low high =
+pub ended_asked : (verb : Verb) (words : List (List ℕ)) (n : ℕ) → Begun verb words n → (i : ℕ) → length (shapes verb) < i → i < length (ended verb words n) → (d : ℕ) × IsDepth d (word (ended verb words n) 6) × (query : Query) × Asks d query (word (ended verb words n) i)
+ended_asked verb words n b i low high =
     let long = ended_long verb words n b.within in
     let examples_are = examples_long verb in
     let few = least_below_most verb in
@@ -129,35 +127,33 @@ ended_asked some verb words n b i low high =
           let a = b.asked i low before in
           (a.0, subst (IsDepth a.0) (sym (ended_before verb words n 6 b.within (omega arith))) a.1, a.2, subst (Asks a.0 a.2) (sym (ended_before verb words n i b.within before)) a.3))
       | inr after ↦ (
-          let deep = depth_shape verb i low most (ended verb words n) (ended_shaped some verb words n b 5 (omega arith)) in
+          let deep = depth_shape verb i low most (ended verb words n) (ended_shaped verb words n b 5 (omega arith)) in
           (deep.0, deep.1, Sub 0 0, subst (Asks deep.0 (Sub 0 0)) (sym (ended_after verb words n i b.within after)) (example_asks verb i deep.0 low (omega arith))))
     ]
 
 -- words that are begun begin a command
-pub begins : (some : Built) (verb : Verb) (words : List (List ℕ)) (n : ℕ) → Begun some verb words n → BeginsOf some (take n words)
-begins some verb words n b =
+pub begins : (verb : Verb) (words : List (List ℕ)) (n : ℕ) → Begun verb words n → Begins (take n words)
+begins verb words n b =
     let long = ended_long verb words n b.within in
     let examples_are = examples_long verb in
     let few = least_below_most verb in (
       verb,
       drop n (examples verb),
       record {
-        is_built = b.is_built;
         first = ended_before verb words n 0 b.within b.some_words ∙ b.first;
-        shaped = ended_shaped some verb words n b;
-        asked = ended_asked some verb words n b;
+        shaped = ended_shaped verb words n b;
+        asked = ended_asked verb words n b;
         least = omega arith;
         most = omega (arith, b.most);
       },
     )
 
 -- no words begin `verify`
-pub begins_none : (some : Built) (words : List (List ℕ)) → BeginsOf some (take 0 words)
-begins_none some words = (
+pub begins_none : (words : List (List ℕ)) → Begins (take 0 words)
+begins_none words = (
   Verify,
   examples Verify,
   record {
-    is_built = refl;
     first = refl;
     shaped = examples_fit Verify;
     asked = λ n low high. (1, (omega arith, omega arith, refl), Sub 0 0, example_asks Verify n 1 low high);
@@ -192,32 +188,32 @@ reads_from words whole rest n more is k within =
     ap (λ ws. word ws k) is ∙ (get_or_append_left (take (n + 1) words) rest [] k (omega arith) ∙ get_or-take (n + 1) words k [] (omega arith))
 
 -- where no command of the verb has the words up to number n, they are refused at n
-pub refused : (some : Built) (verb : Verb) (words : List (List ℕ)) (n : ℕ) → Begun some verb words n
-    → (n < length words → (whole : List (List ℕ)) → IsWhole some verb whole → n < length whole → ((k : ℕ) → k ≤ n → word whole k ≡ word words k) → ⊥)
-    → (length words ≤ n → IsWhole some verb words → ⊥)
-    → IsRefusedOf some words n
-refused some verb words n b none short = record {
-  before = begins some verb words n b;
+pub refused : (verb : Verb) (words : List (List ℕ)) (n : ℕ) → Begun verb words n
+    → (n < length words → (whole : List (List ℕ)) → IsWhole verb whole → n < length whole → ((k : ℕ) → k ≤ n → word whole k ≡ word words k) → ⊥)
+    → (length words ≤ n → IsWhole verb words → ⊥)
+    → IsRefusedAt words n
+refused verb words n b none short = record {
+  before = begins verb words n b;
   here = λ more (other, rest, is).
       let whole : List (List ℕ) = take (n + 1) words ++ rest in
       let reads = reads_from words whole rest n more refl in
       let same : verb ≡ other = verb_once verb other (sym b.first ∙ (sym (reads 0 (omega arith)) ∙ is.first)) in
       let counted = length-take-le (n + 1) words (omega arith) in
-      none more whole (subst (λ v. IsWhole some v whole) (sym same) is) (omega (arith, length-append (take (n + 1) words) rest)) reads;
+      none more whole (subst (λ v. IsWhole v whole) (sym same) is) (omega (arith, length-append (take (n + 1) words) rest)) reads;
   short = λ least. (
     omega (arith, b.within),
     λ other is.
         let same : verb ≡ other = verb_once verb other (sym b.first ∙ is.first) in
-        short least (subst (λ v. IsWhole some v words) (sym same) is),
+        short least (subst (λ v. IsWhole v words) (sym same) is),
   );
 }
 
 -- where word 0 is no verb, it is refused
-pub refused_verb : (some : Built) (words : List (List ℕ)) → ((verb : Verb) → 0 < length words → IsTrue (has_verb some verb) → word words 0 ≢ verb_word verb) → IsRefusedOf some words 0
-refused_verb some words none = record {
-  before = begins_none some words;
+pub refused_verb : (words : List (List ℕ)) → ((verb : Verb) → 0 < length words → word words 0 ≢ verb_word verb) → IsRefusedAt words 0
+refused_verb words none = record {
+  before = begins_none words;
   here = λ more (verb, rest, is).
       let reads = reads_from words (take 1 words ++ rest) rest 0 more refl 0 (omega arith) in
-      none verb more is.is_built (sym reads ∙ is.first);
+      none verb more (sym reads ∙ is.first);
   short = λ least. (omega arith, λ verb is. let enough = is.least in omega arith);
 }

@@ -10,10 +10,9 @@ use Rattle.sip_cli.specs.declared.plan.Opening.TheVariants.{Path}
 use Rattle.sip_cli.specs.declared.plan.PortPlan.{PortPlan}
 use Rattle.sip_cli.specs.declared.stream.Stream.{Stream}
 use Rattle.sip_cli.specs.declared.stream.Stream.TheVariants as stream
-use Rattle.sip_cli.specs.declared.verb.Built.{Built}
 use Rattle.sip_cli.specs.Plan.{HasName, HaveNames, Opens, opening_of}
 use Rattle.sip_cli.specs.Shapes.{IsStreamWord}
-use Rattle.sip_cli.specs.Words.{word, SpellsOf}
+use Rattle.sip_cli.specs.Words.{word, Spells}
 
 -- a word that is there is a name
 pub file_named : (words : List (List ℕ)) (n : ℕ) → n < length words → HasName words (Path n 0)
@@ -26,7 +25,7 @@ stream_named words stream.Text depth more (path, some, is) = (more, inr (refl, (
 stream_named words stream.File depth more names = (more, inl refl)
 
 -- all files of a command have their names
-pub opens_named : (some : Built) (words : List (List ℕ)) (c : Command) (plan : PortPlan) → SpellsOf some words c → Opens words c plan → HaveNames words plan
+pub opens_named : (words : List (List ℕ)) (c : Command) (plan : PortPlan) → Spells words c → Opens words c plan → HaveNames words plan
 opens_named some words (command.Verify task) plan spells (s, names, is) =
     let least = spells.0.least in
     subst (HaveNames words) (sym is) (record {

@@ -8,56 +8,55 @@ use Rattle.sip_vector.specs.declared.query.Query.TheVariants.{Inner}
 use Rattle.sip_verifier.specs.declared.task.Task.{Task}
 use Rattle.sip_cli.specs.declared.command.Command.{Command}
 use Rattle.sip_cli.specs.declared.command.Command.TheVariants as command
-use Rattle.sip_cli.specs.declared.verb.Built.{Built}
 use Rattle.sip_cli.specs.declared.verb.Verb.{Verb}
 use Rattle.sip_cli.specs.declared.verb.Verb.TheVariants as verb
 use Rattle.sip_cli.specs.Shapes.{Asks}
-use Rattle.sip_cli.specs.Words.{word, IsWhole, SaysTask, SpellsOf, BeginsOf, IsRefusedOf}
+use Rattle.sip_cli.specs.Words.{word, IsWhole, SaysTask, Spells, Begins, IsRefusedAt}
 use Rattle.sip_cli.proofs.QueryWords.{query_once}
 use Rattle.sip_cli.proofs.StreamWords.{form_once}
 use Rattle.sip_cli.proofs.Beginning.{verb_once}
 use Rattle.sip_cli.proofs.Stopping.{depth_once}
 
 -- fewer words begin a command too
-pub begins_fewer : (some : Built) (words : List (List ℕ)) (m n : ℕ) → m ≤ n → BeginsOf some (take n words) → BeginsOf some (take m words)
-begins_fewer some words m n fewer (v, rest, is) =
+pub begins_fewer : (words : List (List ℕ)) (m n : ℕ) → m ≤ n → Begins (take n words) → Begins (take m words)
+begins_fewer words m n fewer (v, rest, is) =
     let parts = take-append-drop m (take n words) in
     let front = take-take m n words fewer in
     let split : take n words ≡ take m words ++ drop m (take n words) = sym (rw front at parts) in
     let whole : take n words ++ rest ≡ take m words ++ (drop m (take n words) ++ rest) = ap (λ ws. ws ++ rest) split ∙ append_assoc (take m words) (drop m (take n words)) rest in
-    (v, drop m (take n words) ++ rest, subst (IsWhole some v) whole is)
+    (v, drop m (take n words) ++ rest, subst (IsWhole v) whole is)
 
-refused_before : (some : Built) (words : List (List ℕ)) (m n : ℕ) → m < n → IsRefusedOf some words m → IsRefusedOf some words n → ⊥
-refused_before some words m n less first second =
+refused_before : (words : List (List ℕ)) (m n : ℕ) → m < n → IsRefusedAt words m → IsRefusedAt words n → ⊥
+refused_before words m n less first second =
     elim (cases_lt m (length words)) [
-      | inl more ↦ first.here more (begins_fewer some words (m + 1) n (omega arith) second.before)
+      | inl more ↦ first.here more (begins_fewer words (m + 1) n (omega arith) second.before)
       | inr least ↦ (let one = (first.short least).0 in let other = (second.short (omega arith)).0 in omega arith)
     ]
 
 -- words are refused at one number at most
-pub refused_once : (some : Built) (words : List (List ℕ)) (m n : ℕ) → IsRefusedOf some words m → IsRefusedOf some words n → m ≡ n
-refused_once some words m n first second =
+pub refused_once : (words : List (List ℕ)) (m n : ℕ) → IsRefusedAt words m → IsRefusedAt words n → m ≡ n
+refused_once words m n first second =
     elim (cases_lt m n) [
-      | inl less ↦ absurd (refused_before some words m n less first second)
+      | inl less ↦ absurd (refused_before words m n less first second)
       | inr least ↦ elim (cases_lt n m) [
-        | inl more ↦ absurd (refused_before some words n m more second first)
+        | inl more ↦ absurd (refused_before words n m more second first)
         | inr most ↦ omega arith
       ]
     ]
 
 -- the words of a command are whole
-pub whole_of : (some : Built) (words : List (List ℕ)) (c : Command) → SpellsOf some words c → (v : Verb) × IsWhole some v words
-whole_of some words (command.Verify task) s = (verb.Verify, s.0)
-whole_of some words command.Help s = (verb.Help, s)
-whole_of some words (command.Gen depth) s = (verb.Gen, s.0)
-whole_of some words (command.Lines form depth) s = (verb.Lines, s.0)
+pub whole_of : (words : List (List ℕ)) (c : Command) → Spells words c → (v : Verb) × IsWhole v words
+whole_of words (command.Verify task) s = (verb.Verify, s.0)
+whole_of words command.Help s = (verb.Help, s)
+whole_of words (command.Gen depth) s = (verb.Gen, s.0)
+whole_of words (command.Lines form depth) s = (verb.Lines, s.0)
 
 -- and are refused at no number
-pub spelled_not_refused : (some : Built) (words : List (List ℕ)) (c : Command) (n : ℕ) → SpellsOf some words c → IsRefusedOf some words n → ⊥
-spelled_not_refused some words c n s refused =
-    let whole = whole_of some words c s in
+pub spelled_not_refused : (words : List (List ℕ)) (c : Command) (n : ℕ) → Spells words c → IsRefusedAt words n → ⊥
+spelled_not_refused words c n s refused =
+    let whole = whole_of words c s in
     elim (cases_lt n (length words)) [
-      | inl more ↦ refused.here more (whole.0, drop (n + 1) words, subst (IsWhole some whole.0) (sym (take-append-drop (n + 1) words)) whole.1)
+      | inl more ↦ refused.here more (whole.0, drop (n + 1) words, subst (IsWhole whole.0) (sym (take-append-drop (n + 1) words)) whole.1)
       | inr least ↦ (refused.short least).1 whole.0 whole.1
     ]
 
@@ -78,25 +77,25 @@ task_once words task other s t =
     ap (λ d. task_of d task.form task.queries.items) depth ∙ (ap (λ f. task_of other.depth f task.queries.items) form ∙ ap (λ qs. task_of other.depth other.form qs) items)
 
 -- words have one verb
-pub verbs_agree : (some : Built) (words : List (List ℕ)) (v w : Verb) → IsWhole some v words → IsWhole some w words → v ≡ w
-verbs_agree some words v w a b = verb_once v w (sym a.first ∙ b.first)
+pub verbs_agree : (words : List (List ℕ)) (v w : Verb) → IsWhole v words → IsWhole w words → v ≡ w
+verbs_agree words v w a b = verb_once v w (sym a.first ∙ b.first)
 
 -- words spell one command at most
-pub command_once : (some : Built) (words : List (List ℕ)) (c d : Command) → SpellsOf some words c → SpellsOf some words d → c ≡ d
-command_once some words (command.Verify task) (command.Verify other) s t = ap command.Verify (task_once words task other s.1 t.1)
-command_once some words (command.Verify task) command.Help s t = absurd (let same = verbs_agree some words verb.Verify verb.Help s.0 t in cc)
-command_once some words (command.Verify task) (command.Gen e) s t = absurd (let same = verbs_agree some words verb.Verify verb.Gen s.0 t.0 in cc)
-command_once some words (command.Verify task) (command.Lines g e) s t = absurd (let same = verbs_agree some words verb.Verify verb.Lines s.0 t.0 in cc)
-command_once some words command.Help (command.Verify other) s t = absurd (let same = verbs_agree some words verb.Help verb.Verify s t.0 in cc)
-command_once some words command.Help command.Help s t = refl
-command_once some words command.Help (command.Gen e) s t = absurd (let same = verbs_agree some words verb.Help verb.Gen s t.0 in cc)
-command_once some words command.Help (command.Lines g e) s t = absurd (let same = verbs_agree some words verb.Help verb.Lines s t.0 in cc)
-command_once some words (command.Gen d) (command.Verify other) s t = absurd (let same = verbs_agree some words verb.Gen verb.Verify s.0 t.0 in cc)
-command_once some words (command.Gen d) command.Help s t = absurd (let same = verbs_agree some words verb.Gen verb.Help s.0 t in cc)
-command_once some words (command.Gen d) (command.Gen e) s t = ap command.Gen (depth_once (word words 3) d e s.1 t.1)
-command_once some words (command.Gen d) (command.Lines g e) s t = absurd (let same = verbs_agree some words verb.Gen verb.Lines s.0 t.0 in cc)
-command_once some words (command.Lines f d) (command.Verify other) s t = absurd (let same = verbs_agree some words verb.Lines verb.Verify s.0 t.0 in cc)
-command_once some words (command.Lines f d) command.Help s t = absurd (let same = verbs_agree some words verb.Lines verb.Help s.0 t in cc)
-command_once some words (command.Lines f d) (command.Gen e) s t = absurd (let same = verbs_agree some words verb.Lines verb.Gen s.0 t.0 in cc)
-command_once some words (command.Lines f d) (command.Lines g e) s t =
+pub command_once : (words : List (List ℕ)) (c d : Command) → Spells words c → Spells words d → c ≡ d
+command_once words (command.Verify task) (command.Verify other) s t = ap command.Verify (task_once words task other s.1 t.1)
+command_once words (command.Verify task) command.Help s t = absurd (let same = verbs_agree words verb.Verify verb.Help s.0 t in cc)
+command_once words (command.Verify task) (command.Gen e) s t = absurd (let same = verbs_agree words verb.Verify verb.Gen s.0 t.0 in cc)
+command_once words (command.Verify task) (command.Lines g e) s t = absurd (let same = verbs_agree words verb.Verify verb.Lines s.0 t.0 in cc)
+command_once words command.Help (command.Verify other) s t = absurd (let same = verbs_agree words verb.Help verb.Verify s t.0 in cc)
+command_once words command.Help command.Help s t = refl
+command_once words command.Help (command.Gen e) s t = absurd (let same = verbs_agree words verb.Help verb.Gen s t.0 in cc)
+command_once words command.Help (command.Lines g e) s t = absurd (let same = verbs_agree words verb.Help verb.Lines s t.0 in cc)
+command_once words (command.Gen d) (command.Verify other) s t = absurd (let same = verbs_agree words verb.Gen verb.Verify s.0 t.0 in cc)
+command_once words (command.Gen d) command.Help s t = absurd (let same = verbs_agree words verb.Gen verb.Help s.0 t in cc)
+command_once words (command.Gen d) (command.Gen e) s t = ap command.Gen (depth_once (word words 3) d e s.1 t.1)
+command_once words (command.Gen d) (command.Lines g e) s t = absurd (let same = verbs_agree words verb.Gen verb.Lines s.0 t.0 in cc)
+command_once words (command.Lines f d) (command.Verify other) s t = absurd (let same = verbs_agree words verb.Lines verb.Verify s.0 t.0 in cc)
+command_once words (command.Lines f d) command.Help s t = absurd (let same = verbs_agree words verb.Lines verb.Help s.0 t in cc)
+command_once words (command.Lines f d) (command.Gen e) s t = absurd (let same = verbs_agree words verb.Lines verb.Gen s.0 t.0 in cc)
+command_once words (command.Lines f d) (command.Lines g e) s t =
     ap (λ form. command.Lines form d) (form_once f g (word words 1) s.1 t.1) ∙ ap (λ depth. command.Lines g depth) (depth_once (word words 2) d e s.2 t.2)

@@ -24,7 +24,6 @@ use Rattle.sip_cli.specs.CopyClause.{CopyClause}
 use Rattle.sip_cli.specs.HelpClause.{HelpClause}
 use Rattle.sip_cli.specs.Shapes.{Asks}
 use Rattle.sip_cli.specs.Statuses.{Ends, EndsCopy, EndsHelp}
-use Rattle.sip_cli.specs.Verbs.{built}
 use Rattle.sip_cli.specs.Words.{word, Spells, IsRefusedAt}
 use Rattle.sip_cli.proofs.Refusals.{refused_once, spelled_not_refused}
 
@@ -59,12 +58,12 @@ never_usage c status word listed e = ends_otherwise c word (subst (Ends c) e lis
 
 -- words that spell a command are refused nowhere, and it does not end with Usage
 pub usage_never : (words : List (List ℕ)) (c : Command) (status : Status) (word : ℕ) → Spells words c → Ends c status → (status ≡ statuses.Usage word) ↔ IsRefusedAt words word
-usage_never words c status word s listed = (λ e. absurd (never_usage c status word listed e), λ refused. absurd (spelled_not_refused built words c word s refused))
+usage_never words c status word s listed = (λ e. absurd (never_usage c status word listed e), λ refused. absurd (spelled_not_refused words c word s refused))
 
 -- refused words are refused at the number that is answered, and there alone
 pub usage_at : (words : List (List ℕ)) (word other : ℕ) → IsRefusedAt words word → (statuses.Usage word ≡ statuses.Usage other) ↔ IsRefusedAt words other
 usage_at words word other refused =
-    (λ e. let same : word ≡ other = cc in subst (IsRefusedAt words) same refused, λ also. ap statuses.Usage (refused_once built words word other refused also))
+    (λ e. let same : word ≡ other = cc in subst (IsRefusedAt words) same refused, λ also. ap statuses.Usage (refused_once words word other refused also))
 
 -- the promises on equal tasks
 same_task : {a b : Task} {x : Exchange} {before now : Counts} {status : Status} → a ≡ b → Promises b x before now status → Promises a x before now status

@@ -9,13 +9,12 @@ use Rattle.sip_vector.specs.declared.query.Query.TheVariants.{Inner}
 use Rattle.sip_cli.specs.declared.command.Command.{Command}
 use Rattle.sip_cli.specs.declared.shape.Shape.{Shape}
 use Rattle.sip_cli.specs.declared.shape.Shape.TheVariants.{Name}
-use Rattle.sip_cli.specs.declared.verb.Built.{Built}
 use Rattle.sip_cli.specs.declared.words.Usage.{Usage}
 use Rattle.sip_cli.specs.declared.verb.Verb.{Verb}
 use Rattle.sip_cli.specs.declared.verb.Verb.TheVariants.{Verify}
 use Rattle.sip_cli.specs.Shapes.{IsOf, IsDepth, Asks}
-use Rattle.sip_cli.specs.Verbs.{has_verb, verb_word, shapes, least_asked, most_asked, most_queries}
-use Rattle.sip_cli.specs.Words.{word, IsWhole, IsRefusedOf}
+use Rattle.sip_cli.specs.Verbs.{verb_word, shapes, least_asked, most_asked, most_queries}
+use Rattle.sip_cli.specs.Words.{word, IsWhole, IsRefusedAt}
 use Rattle.sip_cli.specs.Progress.{HaveShapes, StopsInShapes, Fitted, AreAsked, StopsInQueries}
 use Rattle.sip_cli.proofs.Beginning.{Begun, refused}
 
@@ -24,9 +23,8 @@ pub depth_once : (word : List ℕ) (d e : ℕ) → IsDepth d word → IsDepth e 
 depth_once word d e is also = decimal_injective d e (omega (arith, is.1)) (omega (arith, also.1)) (sym is.2 ∙ also.2)
 
 -- the words of the first shapes are begun
-pub begun_shapes : (some : Built) (verb : Verb) (words : List (List ℕ)) (n : ℕ) → IsTrue (has_verb some verb) → word words 0 ≡ verb_word verb → n ≤ length (shapes verb) → HaveShapes (shapes verb) words n → Begun some verb words (n + 1)
-begun_shapes some verb words n has first few have = record {
-  is_built = has;
+pub begun_shapes : (verb : Verb) (words : List (List ℕ)) (n : ℕ) → word words 0 ≡ verb_word verb → n ≤ length (shapes verb) → HaveShapes (shapes verb) words n → Begun verb words (n + 1)
+begun_shapes verb words n first few have = record {
   first = first;
   some_words = omega arith;
   within = let more = have.0 in omega arith;
@@ -36,28 +34,27 @@ begun_shapes some verb words n has first few have = record {
 }
 
 -- a word that has not its shape is refused
-pub refused_shape : (some : Built) (verb : Verb) (words : List (List ℕ)) (number : ℕ) → IsTrue (has_verb some verb) → word words 0 ≡ verb_word verb → StopsInShapes (shapes verb) words number → IsRefusedOf some words number
-refused_shape some verb words number has first stops =
+pub refused_shape : (verb : Verb) (words : List (List ℕ)) (number : ℕ) → word words 0 ≡ verb_word verb → StopsInShapes (shapes verb) words number → IsRefusedAt words number
+refused_shape verb words number first stops =
     let within = stops.within in
-    let least_of = λ (ws : List (List ℕ)) (w : IsWhole some verb ws). w.least in
-    rw (stops.number_is) (refused some verb words (stops.index + 1) (begun_shapes some verb words stops.index has first (omega arith) stops.before)
+    let least_of = λ (ws : List (List ℕ)) (w : IsWhole verb ws). w.least in
+    rw (stops.number_is) (refused verb words (stops.index + 1) (begun_shapes verb words stops.index first (omega arith) stops.before)
     (λ more whole is longer reads. stops.here (rw stops.number_is more) (rw stops.number_is (subst (IsOf (get_or (shapes verb) stops.index Name)) (reads (stops.index + 1) (omega arith)) (is.shaped stops.index within))))
     (λ least is. let enough = is.least in omega arith))
 
 -- a word behind the last one is refused
-pub refused_end : (some : Built) (verb : Verb) (words : List (List ℕ)) (n : ℕ) → Begun some verb words n → n ≡ 1 + length (shapes verb) + most_asked verb → n < length words → IsRefusedOf some words n
-refused_end some verb words n begun last more =
-    refused some verb words n begun (λ _ whole is longer reads. let most = is.most in omega arith) (λ least. absurd (omega arith))
+pub refused_end : (verb : Verb) (words : List (List ℕ)) (n : ℕ) → Begun verb words n → n ≡ 1 + length (shapes verb) + most_asked verb → n < length words → IsRefusedAt words n
+refused_end verb words n begun last more =
+    refused verb words n begun (λ _ whole is longer reads. let most = is.most in omega arith) (λ least. absurd (omega arith))
 
 -- the queries of `verify` as far as they were read are begun
-pub begun_queries : (some : Built) (words : List (List ℕ)) (d n : ℕ) (queries : List Query) → Fitted some Verify words → IsDepth d (word words 6) → n ≤ 7 + most_queries → AreAsked words d queries n → Begun some Verify words n
-begun_queries some words d n queries fitted deep most asked = record {
-  is_built = fitted.0;
-  first = fitted.1;
+pub begun_queries : (words : List (List ℕ)) (d n : ℕ) (queries : List Query) → Fitted Verify words → IsDepth d (word words 6) → n ≤ 7 + most_queries → AreAsked words d queries n → Begun Verify words n
+begun_queries words d n queries fitted deep most asked = record {
+  first = fitted.0;
   some_words = let count = asked.count in omega arith;
   within = asked.within;
   most = omega arith;
-  shaped = λ i less before. fitted.2.1 i less;
+  shaped = λ i less before. fitted.1.1 i less;
   asked = λ i low high.
       let count = asked.count in
       let sum : 7 + (i - 7) ≡ i = omega arith in
@@ -65,11 +62,11 @@ begun_queries some words d n queries fitted deep most asked = record {
 }
 
 -- a word that asks no query is refused, and so is one too many
-pub refused_query : (some : Built) (words : List (List ℕ)) (d n : ℕ) → Fitted some Verify words → IsDepth d (word words 6) → StopsInQueries words d n → IsRefusedOf some words n
-refused_query some words d n fitted deep stops =
-    let begun = begun_queries some words d n stops.queries fitted deep stops.most stops.before in
+pub refused_query : (words : List (List ℕ)) (d n : ℕ) → Fitted Verify words → IsDepth d (word words 6) → StopsInQueries words d n → IsRefusedAt words n
+refused_query words d n fitted deep stops =
+    let begun = begun_queries words d n stops.queries fitted deep stops.most stops.before in
     let count = stops.before.count in
-    refused some Verify words n begun
+    refused Verify words n begun
     (λ more whole is longer reads.
     let fewer : n < 7 + most_queries = let most = is.most in omega arith in
     let a = is.asked n (omega arith) longer in
@@ -78,23 +75,21 @@ refused_query some words d n fitted deep stops =
     (λ least is. let enough = is.least in let missing = stops.missing least in omega arith)
 
 -- words with all their shapes and no more are whole, where the verb asks no query
-pub whole_end : (some : Built) (verb : Verb) (words : List (List ℕ)) → Fitted some verb words → least_asked verb ≡ 0 → length words ≤ 1 + length (shapes verb) → IsWhole some verb words
-whole_end some verb words fitted none few = record {
-  is_built = fitted.0;
-  first = fitted.1;
-  shaped = fitted.2.1;
+pub whole_end : (verb : Verb) (words : List (List ℕ)) → Fitted verb words → least_asked verb ≡ 0 → length words ≤ 1 + length (shapes verb) → IsWhole verb words
+whole_end verb words fitted none few = record {
+  first = fitted.0;
+  shaped = fitted.1.1;
   asked = λ n low high. absurd (omega arith);
-  least = let more = fitted.2.0 in omega arith;
+  least = let more = fitted.1.0 in omega arith;
   most = omega arith;
 }
 
 -- words of `verify` with all their queries are whole
-pub whole_asked : (some : Built) (words : List (List ℕ)) (d : ℕ) (queries : List Query) → Fitted some Verify words → IsDepth d (word words 6) → AreAsked words d queries (length words) → 8 ≤ length words → length words ≤ 7 + most_queries → IsWhole some Verify words
-whole_asked some words d queries fitted deep asked enough few = record {
-  is_built = fitted.0;
-  first = fitted.1;
-  shaped = fitted.2.1;
-  asked = (begun_queries some words d (length words) queries fitted deep few asked).asked;
+pub whole_asked : (words : List (List ℕ)) (d : ℕ) (queries : List Query) → Fitted Verify words → IsDepth d (word words 6) → AreAsked words d queries (length words) → 8 ≤ length words → length words ≤ 7 + most_queries → IsWhole Verify words
+whole_asked words d queries fitted deep asked enough few = record {
+  first = fitted.0;
+  shaped = fitted.1.1;
+  asked = (begun_queries words d (length words) queries fitted deep few asked).asked;
   least = omega arith;
   most = omega arith;
 }
@@ -130,10 +125,10 @@ pub asked_all : (words : List (List ℕ)) (d n : ℕ) (queries : List Query) →
 asked_all words d n queries asked least = let within = asked.within in let same : n ≡ length words = omega arith in rw same at asked
 
 -- a word too many behind a verb without queries is refused
-pub refused_more : (some : Built) (verb : Verb) (words : List (List ℕ)) (n : ℕ) → Fitted some verb words → most_asked verb ≡ 0 → n ≡ 1 + length (shapes verb) → n < length words → IsRefusedOf some words n
-refused_more some verb words n fitted none last more =
+pub refused_more : (verb : Verb) (words : List (List ℕ)) (n : ℕ) → Fitted verb words → most_asked verb ≡ 0 → n ≡ 1 + length (shapes verb) → n < length words → IsRefusedAt words n
+refused_more verb words n fitted none last more =
     let sum : length (shapes verb) + 1 ≡ n = omega arith in
-    refused_end some verb words n (subst (Begun some verb words) sum (begun_shapes some verb words (length (shapes verb)) fitted.0 fitted.1 (omega arith) fitted.2)) (omega arith) more
+    refused_end verb words n (subst (Begun verb words) sum (begun_shapes verb words (length (shapes verb)) fitted.0 (omega arith) fitted.1)) (omega arith) more
 
 -- there is no word of a number
 pub no_word : (r : Bool) (n m : ℕ) → IsTrue r ↔ (n < m) → r ≡ false → m ≤ n
@@ -145,10 +140,10 @@ no_word false n m is none =
     ]
 
 -- the words that were read so far, of shapes that are the verb's
-pub fitted_by : (some : Built) (verb : Verb) (words : List (List ℕ)) (read : List Shape) → (0 < length words) × IsTrue (has_verb some verb) × (word words 0 ≡ verb_word verb) → read ≡ shapes verb → HaveShapes read words (length read) → Fitted some verb words
-fitted_by some verb words read known same have = (known.1, known.2, subst (λ ss. HaveShapes ss words (length ss)) same have)
+pub fitted_by : (verb : Verb) (words : List (List ℕ)) (read : List Shape) → (0 < length words) × (word words 0 ≡ verb_word verb) → read ≡ shapes verb → HaveShapes read words (length read) → Fitted verb words
+fitted_by verb words read known same have = (known.1, subst (λ ss. HaveShapes ss words (length ss)) same have)
 
 -- what is refused for every choice of commands is refused for this one
-pub refused_by : (some : Built) (verb : Verb) (words : List (List ℕ)) (r : Result Command Usage) → IfErr r (λ usage. (b : Built) → Fitted b verb words → IsRefusedOf b words usage.word) → Fitted some verb words → IfErr r (λ usage. IsRefusedOf some words usage.word)
-refused_by some verb words (Ok c) refused fitted = refused
-refused_by some verb words (Err usage) refused fitted = refused some fitted
+pub refused_by : (verb : Verb) (words : List (List ℕ)) (r : Result Command Usage) → IfErr r (λ usage. Fitted verb words → IsRefusedAt words usage.word) → Fitted verb words → IfErr r (λ usage. IsRefusedAt words usage.word)
+refused_by verb words (Ok c) refused fitted = refused
+refused_by verb words (Err usage) refused fitted = refused fitted

@@ -4,10 +4,9 @@ use Rattle.sip_vector.specs.declared.query.Query.{Query}
 use Rattle.sip_vector.specs.declared.query.Query.TheVariants.{Inner}
 use Rattle.sip_cli.specs.declared.shape.Shape.{Shape}
 use Rattle.sip_cli.specs.declared.shape.Shape.TheVariants.{Name}
-use Rattle.sip_cli.specs.declared.verb.Built.{Built}
 use Rattle.sip_cli.specs.declared.verb.Verb.{Verb}
 use Rattle.sip_cli.specs.Shapes.{IsOf, Asks}
-use Rattle.sip_cli.specs.Verbs.{has_verb, verb_word, shapes, most_queries}
+use Rattle.sip_cli.specs.Verbs.{verb_word, shapes, most_queries}
 use Rattle.sip_cli.specs.Words.{word}
 
 -- there are n words behind the verb, and they have the first n shapes
@@ -23,8 +22,8 @@ pub record StopsInShapes (shapes : List Shape) (words : List (List ℕ)) (number
   pub here : number < length words → IsOf (slice_index_or shapes index Name) (word words number) → ⊥
 
 -- the words are the verb and words of its shapes, at least
-abbrev pub Fitted : Built → Verb → List (List ℕ) → Type 0
-Fitted built verb words = IsTrue (has_verb built verb) × (word words 0 ≡ verb_word verb) × HaveShapes (shapes verb) words (length (shapes verb))
+abbrev pub Fitted : Verb → List (List ℕ) → Type 0
+Fitted verb words = (word words 0 ≡ verb_word verb) × HaveShapes (shapes verb) words (length (shapes verb))
 
 -- the words from 7 up to n are these queries
 pub record AreAsked (words : List (List ℕ)) (depth : ℕ) (queries : List Query) (n : ℕ) : Type 0 where

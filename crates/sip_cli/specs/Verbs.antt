@@ -2,7 +2,6 @@
 use Rattle.std.specs.Prelude.{ℕ, Bool, true, List, [], ◌∷◌, codes}
 use Rattle.sip_cli.specs.declared.shape.Shape.{Shape}
 use Rattle.sip_cli.specs.declared.shape.Shape.TheVariants.{Name, Stream, NoRecord, Number, Depth}
-use Rattle.sip_cli.specs.declared.verb.Built.{Built}
 use Rattle.sip_cli.specs.declared.verb.Verb.{Verb}
 use Rattle.sip_cli.specs.declared.verb.Verb.TheVariants.{Verify, Help, Gen, Lines}
 
@@ -41,14 +40,3 @@ most_asked Verify = most_queries
 most_asked Help = 0
 most_asked Gen = 0
 most_asked Lines = 0
-
--- The commands that `sip` has beside `verify`. To build one is to change its field.
-abbrev pub built : Built
-built = record { help = true; generator = true; lines = true }
-
--- the command of this verb is built
-abbrev pub has_verb : Built → Verb → Bool
-has_verb b Verify = true
-has_verb b Help = b.help
-has_verb b Gen = b.generator
-has_verb b Lines = b.lines

@@ -6,19 +6,17 @@ use Rattle.sip_verifier.specs.declared.task.Task.{Task}
 use Rattle.sip_cli.specs.declared.command.Command.{Command}
 use Rattle.sip_cli.specs.declared.command.Command.TheVariants as command
 use Rattle.sip_cli.specs.declared.shape.Shape.TheVariants.{Name}
-use Rattle.sip_cli.specs.declared.verb.Built.{Built}
 use Rattle.sip_cli.specs.declared.verb.Verb.{Verb}
 use Rattle.sip_cli.specs.declared.verb.Verb.TheVariants as verb
 use Rattle.sip_cli.specs.Shapes.{IsOf, HasForm, IsDepth, Asks}
-use Rattle.sip_cli.specs.Verbs.{built, has_verb, verb_word, shapes, least_asked, most_asked}
+use Rattle.sip_cli.specs.Verbs.{verb_word, shapes, least_asked, most_asked}
 
 -- word n, from 0
 abbrev pub word : List (List ℕ) → ℕ → List ℕ
 word words n = slice_index_or words n []
 
--- The words are a command of this verb, of those that are built. Its queries fit the depth that word 6 says.
-pub record IsWhole (some : Built) (verb : Verb) (words : List (List ℕ)) : Type 0 where
-  pub is_built : IsTrue (has_verb some verb)
+-- The words are a command of this verb. Its queries fit the depth that word 6 says.
+pub record IsWhole (verb : Verb) (words : List (List ℕ)) : Type 0 where
   pub first : word words 0 ≡ verb_word verb
   pub shaped : (n : ℕ) → n < length (shapes verb) → IsOf (slice_index_or (shapes verb) n Name) (word words (n + 1))
   pub asked : (n : ℕ) → length (shapes verb) < n → n < length words → (d : ℕ) × IsDepth d (word words 6) × (query : Query) × Asks d query (word words n)
@@ -33,26 +31,19 @@ pub record SaysTask (words : List (List ℕ)) (task : Task) : Type 0 where
   pub queries : (i : ℕ) → i < length task.queries.items → Asks task.depth (slice_index_or task.queries.items i Inner) (word words (7 + i))
 
 -- the words are those of this command
-abbrev pub SpellsOf : Built → List (List ℕ) → Command → Type 0
-SpellsOf some words (command.Verify task) = IsWhole some verb.Verify words × SaysTask words task
-SpellsOf some words command.Help = IsWhole some verb.Help words
-SpellsOf some words (command.Gen depth) = IsWhole some verb.Gen words × IsDepth depth (word words 3)
-SpellsOf some words (command.Lines form depth) = IsWhole some verb.Lines words × HasForm form (word words 1) × IsDepth depth (word words 2)
+abbrev pub Spells : List (List ℕ) → Command → Type 0
+Spells words (command.Verify task) = IsWhole verb.Verify words × SaysTask words task
+Spells words command.Help = IsWhole verb.Help words
+Spells words (command.Gen depth) = IsWhole verb.Gen words × IsDepth depth (word words 3)
+Spells words (command.Lines form depth) = IsWhole verb.Lines words × HasForm form (word words 1) × IsDepth depth (word words 2)
 
 -- some command begins with these words
-abbrev pub BeginsOf : Built → List (List ℕ) → Type 0
-BeginsOf some words = (verb : Verb) × (rest : List (List ℕ)) × IsWhole some verb (words ++ rest)
+abbrev pub Begins : List (List ℕ) → Type 0
+Begins words = (verb : Verb) × (rest : List (List ℕ)) × IsWhole verb (words ++ rest)
 
 -- Word n, from 0, is the first one such that the words up to it begin no command; or all words begin one, but are
 -- none, and n is their number.
-pub record IsRefusedOf (some : Built) (words : List (List ℕ)) (n : ℕ) : Type 0 where
-  pub before : BeginsOf some (take n words)
-  pub here : n < length words → BeginsOf some (take (n + 1) words) → ⊥
-  pub short : length words ≤ n → (n ≡ length words) × ((verb : Verb) → IsWhole some verb words → ⊥)
-
--- the same of the commands that `sip` has
-abbrev pub Spells : List (List ℕ) → Command → Type 0
-Spells = SpellsOf built
-
-abbrev pub IsRefusedAt : List (List ℕ) → ℕ → Type 0
-IsRefusedAt = IsRefusedOf built
+pub record IsRefusedAt (words : List (List ℕ)) (n : ℕ) : Type 0 where
+  pub before : Begins (take n words)
+  pub here : n < length words → Begins (take (n + 1) words) → ⊥
+  pub short : length words ≤ n → (n ≡ length words) × ((verb : Verb) → IsWhole verb words → ⊥)

@@ -2,17 +2,16 @@
 
 ghost use Rattle.std.specs.Prelude.{◌≡◌, ◌≢◌, ℕ, ◌+◌, ◌<◌, ◌≤◌, IsTrue, ◌↔◌, MatchOption, OnOk, IfOk, IfErr, length};
 ghost use Rattle.sip_cli.specs.Shapes.{IsDepth, HasForm};
-ghost use Rattle.sip_cli.specs.Words.{Spells, SpellsOf, IsRefusedAt, IsRefusedOf, word};
-ghost use Rattle.sip_cli.specs.Verbs.{verb_word, has_verb, most_queries};
+ghost use Rattle.sip_cli.specs.Words.{Spells, IsRefusedAt, word};
+ghost use Rattle.sip_cli.specs.Verbs.{verb_word, most_queries};
 ghost use Rattle.sip_cli.specs.Progress.{Fitted, HaveShapes, AreAsked, StopsInShapes, StopsInQueries};
-ghost use Rattle.sip_cli.specs.declared.verb.Built.{Built as AnyBuilt};
 ghost use Rattle.sip_cli.specs.declared.verb.Verb.{Verb as AnyVerb};
 
 use crate::decimal::read_decimal;
 use crate::query::read_query;
 use crate::shape::Shape;
 use crate::stream::stream_of;
-use crate::verb::{BUILT, Built, Verb};
+use crate::verb::Verb;
 use crate::{Usage, Words};
 use arrayvec::ArrayVec;
 use sip_stream::Form;
@@ -39,12 +38,12 @@ const FIRST_QUERY: usize = 7;
 const MOST_QUERIES: usize = 16;
 
 // The verb that word 0 is.
-fn verb_of(words: &Words, built: Built) -> Option<Verb>
+fn verb_of(words: &Words) -> Option<Verb>
     ensures { MatchOption result
-        ((verb : AnyVerb) → 0 < length words.now → IsTrue (has_verb built verb) → word words.now 0 ≢ verb_word verb)
-        (λ verb. (0 < length words.now) × IsTrue (has_verb built verb) × (word words.now 0 ≡ verb_word verb)) }
+        ((verb : AnyVerb) → 0 < length words.now → word words.now 0 ≢ verb_word verb)
+        (λ verb. (0 < length words.now) × (word words.now 0 ≡ verb_word verb)) }
 {
-    built.verb(words.get(0)?)
+    Verb::of(words.get(0)?)
 }
 
 // The words behind the verb have these shapes.
@@ -129,8 +128,8 @@ fn read_queries(words: &Words, depth: Depth) -> Result<ArrayVec<Query, 16>, Usag
 
 // The rest of `verify`, whose words up to DEPTH have their shapes.
 fn read_verify(words: &Words) -> Result<Command, Usage>
-    ensures command { IfOk result (λ command. (built : AnyBuilt) → Fitted built Verb.Verify words.now → SpellsOf built words.now command) }
-    ensures refused { IfErr result (λ usage. (built : AnyBuilt) → Fitted built Verb.Verify words.now → IsRefusedOf built words.now usage.word) }
+    ensures command { IfOk result (λ command. Fitted Verb.Verify words.now → Spells words.now command) }
+    ensures refused { IfErr result (λ usage. Fitted Verb.Verify words.now → IsRefusedAt words.now usage.word) }
 {
     let Some(form) = form_of(words) else {
         return Err(Usage { word: 1 });
@@ -148,8 +147,8 @@ fn read_verify(words: &Words) -> Result<Command, Usage>
 
 // The rest of `help`.
 fn read_help(words: &Words) -> Result<Command, Usage>
-    ensures command { IfOk result (λ command. (built : AnyBuilt) → Fitted built Verb.Help words.now → SpellsOf built words.now command) }
-    ensures refused { IfErr result (λ usage. (built : AnyBuilt) → Fitted built Verb.Help words.now → IsRefusedOf built words.now usage.word) }
+    ensures command { IfOk result (λ command. Fitted Verb.Help words.now → Spells words.now command) }
+    ensures refused { IfErr result (λ usage. Fitted Verb.Help words.now → IsRefusedAt words.now usage.word) }
 {
     if has_word(words, 3) {
         return Err(Usage { word: 3 });
@@ -159,8 +158,8 @@ fn read_help(words: &Words) -> Result<Command, Usage>
 
 // The rest of `gen`.
 fn read_gen(words: &Words) -> Result<Command, Usage>
-    ensures command { IfOk result (λ command. (built : AnyBuilt) → Fitted built Verb.Gen words.now → SpellsOf built words.now command) }
-    ensures refused { IfErr result (λ usage. (built : AnyBuilt) → Fitted built Verb.Gen words.now → IsRefusedOf built words.now usage.word) }
+    ensures command { IfOk result (λ command. Fitted Verb.Gen words.now → Spells words.now command) }
+    ensures refused { IfErr result (λ usage. Fitted Verb.Gen words.now → IsRefusedAt words.now usage.word) }
 {
     let Some(depth) = depth_at(words, 3) else {
         return Err(Usage { word: 3 });
@@ -173,8 +172,8 @@ fn read_gen(words: &Words) -> Result<Command, Usage>
 
 // The rest of `lines`.
 fn read_lines(words: &Words) -> Result<Command, Usage>
-    ensures command { IfOk result (λ command. (built : AnyBuilt) → Fitted built Verb.Lines words.now → SpellsOf built words.now command) }
-    ensures refused { IfErr result (λ usage. (built : AnyBuilt) → Fitted built Verb.Lines words.now → IsRefusedOf built words.now usage.word) }
+    ensures command { IfOk result (λ command. Fitted Verb.Lines words.now → Spells words.now command) }
+    ensures refused { IfErr result (λ usage. Fitted Verb.Lines words.now → IsRefusedAt words.now usage.word) }
 {
     let Some(form) = form_of(words) else {
         return Err(Usage { word: 1 });
@@ -188,23 +187,6 @@ fn read_lines(words: &Words) -> Result<Command, Usage>
     Ok(Command::Lines { form, depth })
 }
 
-/// The command that words are, of those that are built.
-pub(crate) fn read_words_of(words: &Words, built: Built) -> Result<Command, Usage>
-    ensures command { IfOk result (SpellsOf built words.now) }
-    ensures refused { IfErr result (λ usage. IsRefusedOf built words.now usage.word) }
-{
-    let Some(verb) = verb_of(words, built) else {
-        return Err(Usage { word: 0 });
-    };
-    check_shapes(words, verb.shapes())?;
-    match verb {
-        Verb::Verify => read_verify(words),
-        Verb::Help => read_help(words),
-        Verb::Gen => read_gen(words),
-        Verb::Lines => read_lines(words),
-    }
-}
-
 /// The command that words are.
 ///
 /// # Errors
@@ -215,7 +197,16 @@ pub fn read_words(words: &Words) -> Result<Command, Usage>
     ensures command { IfOk result (Spells words.now) }
     ensures refused { IfErr result (λ usage. IsRefusedAt words.now usage.word) }
 {
-    read_words_of(words, BUILT)
+    let Some(verb) = verb_of(words) else {
+        return Err(Usage { word: 0 });
+    };
+    check_shapes(words, verb.shapes())?;
+    match verb {
+        Verb::Verify => read_verify(words),
+        Verb::Help => read_help(words),
+        Verb::Gen => read_gen(words),
+        Verb::Lines => read_lines(words),
+    }
 }
 
 #[cfg(test)]

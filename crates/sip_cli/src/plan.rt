@@ -5,16 +5,13 @@ ghost use Rattle.std.specs.Option.{option_copied};
 ghost use Rattle.sip_verifier.specs.declared.task.Task.{Task as AnyTask};
 ghost use Rattle.sip_cli.specs.declared.command.Command.{Command as AnyCommand};
 ghost use Rattle.sip_cli.specs.declared.stream.Stream.{Stream as AnyStream};
-ghost use Rattle.sip_cli.specs.declared.verb.Built.{Built as AnyBuilt};
 ghost use Rattle.sip_cli.specs.Plan.{HasName, HaveNames, Opens, file_name, help_ports, no_ports, opening_of, source_ports, verify_ports};
 ghost use Rattle.sip_cli.specs.Shapes.{IsStreamWord};
-ghost use Rattle.sip_cli.specs.Words.{Spells, SpellsOf, IsRefusedAt, IsRefusedOf, word};
+ghost use Rattle.sip_cli.specs.Words.{Spells, IsRefusedAt, word};
 
-use crate::command::read_words_of;
 use crate::decimal::read_decimal;
 use crate::stream::{Stream, stream_of};
-use crate::verb::{BUILT, Built};
-use crate::{Command, Words};
+use crate::{Command, Words, read_words};
 use sip_vector::Depth;
 
 /// What a port is opened on.
@@ -180,7 +177,7 @@ impl PortPlan {
 
     // The ports of a command that the words are.
     fn of(words: &Words, command: &Command) -> PortPlan
-        ensures { (built : AnyBuilt) → SpellsOf built words.now command.now → Opens words.now command.now result }
+        ensures { Spells words.now command.now → Opens words.now command.now result }
     {
         match command {
             Command::Verify(task) => PortPlan::verify(Opening::stream(words, task.depth)),
@@ -196,19 +193,6 @@ impl PortPlan {
     }
 }
 
-/// The ports of a command, of those that are built.
-pub(crate) fn ports_of(words: &Words, built: Built) -> PortPlan
-    ensures spelled { (command : AnyCommand) → SpellsOf built words.now command → Opens words.now command result }
-    ensures refused { (n : ℕ) → IsRefusedOf built words.now n → result ≡ no_ports }
-    ensures counted { (number count depth : ℕ) → result.first ≡ Opening.Made number count depth → count ≤ 10000000 }
-    ensures named { HaveNames words.now result }
-{
-    match read_words_of(words, built) {
-        Ok(command) => PortPlan::of(words, &command),
-        Err(_) => PortPlan::source(Opening::Nothing),
-    }
-}
-
 /// The files and made streams that a command opens: for `verify` its stream, its seed and the two ends of its link, for
 /// `help` the two ends of its link, for `gen` and `lines` their stream. Words that are no command open nothing.
 pub fn ports(words: &Words) -> PortPlan
@@ -217,5 +201,8 @@ pub fn ports(words: &Words) -> PortPlan
     ensures counted { (number count depth : ℕ) → result.first ≡ Opening.Made number count depth → count ≤ 10000000 }
     ensures named { HaveNames words.now result }
 {
-    ports_of(words, BUILT)
+    match read_words(words) {
+        Ok(command) => PortPlan::of(words, &command),
+        Err(_) => PortPlan::source(Opening::Nothing),
+    }
 }

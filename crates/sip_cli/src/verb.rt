@@ -1,8 +1,8 @@
 //! The first word of a command, and what words follow it.
 
-ghost use Rattle.std.specs.Prelude.{◌≡◌, ◌≢◌, IsTrue, MatchOption};
+ghost use Rattle.std.specs.Prelude.{◌≡◌, ◌≢◌, MatchOption};
 ghost use Rattle.sip_cli.specs.declared.verb.Verb.{Verb as AnyVerb};
-ghost use Rattle.sip_cli.specs.Verbs.{built, has_verb, verb_word, shapes};
+ghost use Rattle.sip_cli.specs.Verbs.{verb_word, shapes};
 
 use crate::shape::Shape;
 use crate::stream::MOST_COUNT;
@@ -19,21 +19,6 @@ pub(crate) enum Verb {
     /// To write a stream as lines of text.
     Lines,
 }
-
-/// Which commands there are beside `verify`.
-#[derive(Clone, Copy, Debug, PartialEq, Eq)]
-pub(crate) struct Built {
-    pub help: bool,
-    pub generator: bool,
-    pub lines: bool,
-}
-
-/// The commands of the program.
-pub(crate) const BUILT: Built = Built {
-    help: true,
-    generator: true,
-    lines: true,
-};
 
 /// The greatest depth.
 const MOST_DEPTH: u64 = 32;
@@ -57,37 +42,22 @@ const GEN: [Shape; 3] = [
 
 const LINES: [Shape; 2] = [Shape::Stream, Shape::Depth { most: MOST_DEPTH }];
 
-impl Built {
-    // Whether there is a command of this verb.
-    fn has(self, verb: Verb) -> bool
-        ensures { result ≡ has_verb self verb }
+impl Verb {
+    /// The verb that a word is.
+    pub(crate) fn of(word: &str) -> Option<Verb>
+        ensures { MatchOption result
+            ((verb : AnyVerb) → word.now ≢ verb_word verb)
+            (λ verb. word.now ≡ verb_word verb) }
     {
-        match verb {
-            Verb::Verify => true,
-            Verb::Help => self.help,
-            Verb::Gen => self.generator,
-            Verb::Lines => self.lines,
+        match word {
+            "verify" => Some(Verb::Verify),
+            "help" => Some(Verb::Help),
+            "gen" => Some(Verb::Gen),
+            "lines" => Some(Verb::Lines),
+            _ => None,
         }
     }
 
-    /// The verb that a word is, of the commands that there are.
-    pub(crate) fn verb(self, word: &str) -> Option<Verb>
-        ensures { MatchOption result
-            ((verb : AnyVerb) → IsTrue (has_verb self verb) → word.now ≢ verb_word verb)
-            (λ verb. IsTrue (has_verb self verb) × (word.now ≡ verb_word verb)) }
-    {
-        let verb = match word {
-            "verify" => Verb::Verify,
-            "help" => Verb::Help,
-            "gen" => Verb::Gen,
-            "lines" => Verb::Lines,
-            _ => return None,
-        };
-        self.has(verb).then_some(verb)
-    }
-}
-
-impl Verb {
     /// The shapes of the words behind the verb, and before the queries.
     pub(crate) fn shapes(self) -> &'static [Shape]
         ensures { result.now ≡ shapes self }

@@ -3,20 +3,19 @@ use Rattle.sip_cli.proofs.Refusals.{command_once, spelled_not_refused}
 use Rattle.sip_cli.proofs.RunLemmas.{served_task, usage_never, usage_at, never_usage, known_by, none_keeps}
 use Rattle.sip_cli.specs.declared.command.Command.TheVariants.{Help}
 use Rattle.sip_cli.specs.Statuses.{IsCopy}
-use Rattle.sip_cli.specs.Verbs.{built}
 use Rattle.sip_cli.proofs.top.run.Goals as goal
 
 pub obey-requires : goal.obey-requires
 obey-requires g c = record { served = served_task _ _ c.in-Ok.ensures.command }
 
 pub returns-in-Ok-clause-keeps : goal.returns-in-Ok-clause-keeps
-returns-in-Ok-clause-keeps g c = known_by (λ command spells. command_once built _ _ command c.in-Ok.ensures.command spells) c.obey.ensures.keeps
+returns-in-Ok-clause-keeps g c = known_by (λ command spells. command_once _ _ command c.in-Ok.ensures.command spells) c.obey.ensures.keeps
 
 pub returns-in-Ok-clause-copies_apart : goal.returns-in-Ok-clause-copies_apart
-returns-in-Ok-clause-copies_apart g c = λ command spells is. c.obey.ensures.copies_apart (subst IsCopy (sym (command_once built _ _ command c.in-Ok.ensures.command spells)) is)
+returns-in-Ok-clause-copies_apart g c = λ command spells is. c.obey.ensures.copies_apart (subst IsCopy (sym (command_once _ _ command c.in-Ok.ensures.command spells)) is)
 
 pub returns-in-Ok-clause-helps_apart : goal.returns-in-Ok-clause-helps_apart
-returns-in-Ok-clause-helps_apart g c = λ spells. c.obey.ensures.helps_apart (command_once built _ _ Help c.in-Ok.ensures.command spells)
+returns-in-Ok-clause-helps_apart g c = λ spells. c.obey.ensures.helps_apart (command_once _ _ Help c.in-Ok.ensures.command spells)
 
 pub returns-in-Ok-clause-usage : goal.returns-in-Ok-clause-usage
 returns-in-Ok-clause-usage g c = λ word. usage_never _ _ _ word c.in-Ok.ensures.command (c.obey.ensures.keeps.listed _ refl)
@@ -25,7 +24,7 @@ pub returns-in-Ok-clause-untouched : goal.returns-in-Ok-clause-untouched
 returns-in-Ok-clause-untouched g c = λ word e. absurd (never_usage _ c.obey.result word (c.obey.ensures.keeps.listed _ refl) e)
 
 pub returns-in-Err-clause-keeps : goal.returns-in-Err-clause-keeps
-returns-in-Err-clause-keeps g c = none_keeps _ (λ command spells. spelled_not_refused built _ command _ spells c.in-Err.ensures.refused)
+returns-in-Err-clause-keeps g c = none_keeps _ (λ command spells. spelled_not_refused _ command _ spells c.in-Err.ensures.refused)
 
 pub returns-in-Err-clause-usage : goal.returns-in-Err-clause-usage
 returns-in-Err-clause-usage g c = λ word. usage_at _ _ word c.in-Err.ensures.refused

@@ -3,7 +3,7 @@ use Rattle.sip_cli.specs.Plan.{source_ports}
 use Rattle.sip_cli.proofs.plan.PortPlan.of.Goals as goal
 
 pub returns-in-Gen : goal.returns-in-Gen
-returns-in-Gen c = λ built spells.
+returns-in-Gen c = λ spells.
     let s = rw c.in-Gen.is at spells in
     let n = s.0.shaped 0 (omega arith) in
     let k = s.0.shaped 1 (omega arith) in
