@@ -96,7 +96,8 @@ fn depth_at(words: &Words, number: usize) -> Option<Depth>
 // The queries of `verify`.
 fn read_queries(words: &Words, depth: Depth) -> Result<ArrayVec<Query, 16>, Usage>
     requires shaped { 7 ≤ length words.now }
-    ensures asked { IfOk result (λ queries. AreAsked words.now depth queries.items (length words.now)) }
+    ensures asked { IfOk result (λ queries. AreAsked words.now depth queries.items
+        (length words.now)) }
     ensures count { OnOk result ((8 ≤ length words.now) × (length words.now ≤ 7 + most_queries)) }
     ensures refused { IfErr result (λ usage. StopsInQueries words.now depth usage.word) }
 {
@@ -128,8 +129,10 @@ fn read_queries(words: &Words, depth: Depth) -> Result<ArrayVec<Query, 16>, Usag
 
 // The rest of `verify`, whose words up to DEPTH have their shapes.
 fn read_verify(words: &Words) -> Result<Command, Usage>
-    ensures command { IfOk result (λ command. Fitted Verb.Verify words.now → Spells words.now command) }
-    ensures refused { IfErr result (λ usage. Fitted Verb.Verify words.now → IsRefusedAt words.now usage.word) }
+    ensures command { IfOk result (λ command. Fitted Verb.Verify words.now
+        → Spells words.now command) }
+    ensures refused { IfErr result (λ usage. Fitted Verb.Verify words.now
+        → IsRefusedAt words.now usage.word) }
 {
     let Some(form) = form_of(words) else {
         return Err(Usage { word: 1 });
@@ -147,8 +150,10 @@ fn read_verify(words: &Words) -> Result<Command, Usage>
 
 // The rest of `help`.
 fn read_help(words: &Words) -> Result<Command, Usage>
-    ensures command { IfOk result (λ command. Fitted Verb.Help words.now → Spells words.now command) }
-    ensures refused { IfErr result (λ usage. Fitted Verb.Help words.now → IsRefusedAt words.now usage.word) }
+    ensures command { IfOk result (λ command. Fitted Verb.Help words.now
+        → Spells words.now command) }
+    ensures refused { IfErr result (λ usage. Fitted Verb.Help words.now
+        → IsRefusedAt words.now usage.word) }
 {
     if has_word(words, 3) {
         return Err(Usage { word: 3 });
@@ -158,8 +163,10 @@ fn read_help(words: &Words) -> Result<Command, Usage>
 
 // The rest of `gen`.
 fn read_gen(words: &Words) -> Result<Command, Usage>
-    ensures command { IfOk result (λ command. Fitted Verb.Gen words.now → Spells words.now command) }
-    ensures refused { IfErr result (λ usage. Fitted Verb.Gen words.now → IsRefusedAt words.now usage.word) }
+    ensures command { IfOk result (λ command. Fitted Verb.Gen words.now
+        → Spells words.now command) }
+    ensures refused { IfErr result (λ usage. Fitted Verb.Gen words.now
+        → IsRefusedAt words.now usage.word) }
 {
     let Some(depth) = depth_at(words, 3) else {
         return Err(Usage { word: 3 });
@@ -172,8 +179,10 @@ fn read_gen(words: &Words) -> Result<Command, Usage>
 
 // The rest of `lines`.
 fn read_lines(words: &Words) -> Result<Command, Usage>
-    ensures command { IfOk result (λ command. Fitted Verb.Lines words.now → Spells words.now command) }
-    ensures refused { IfErr result (λ usage. Fitted Verb.Lines words.now → IsRefusedAt words.now usage.word) }
+    ensures command { IfOk result (λ command. Fitted Verb.Lines words.now
+        → Spells words.now command) }
+    ensures refused { IfErr result (λ usage. Fitted Verb.Lines words.now
+        → IsRefusedAt words.now usage.word) }
 {
     let Some(form) = form_of(words) else {
         return Err(Usage { word: 1 });

@@ -21,10 +21,13 @@ pub(crate) fn copy_stream<A: Source, K: Sink>(
     report: &mut K,
 ) -> Status
     ensures copied { (bytes : List ℕ) → A.left first.old ≡ Some bytes
-        → CopyClause depth from to bytes (A.left first.new) (K.talk report.old) (K.talk report.new) result }
-    ensures wrote { IsSome (A.left first.old) → (bytes : List ℕ) × GoesOn (K.talk report.old) (K.talk report.new) (outs bytes) }
+        → CopyClause depth from to bytes (A.left first.new) (K.talk report.old)
+        (K.talk report.new) result }
+    ensures wrote { IsSome (A.left first.old) → (bytes : List ℕ)
+        × GoesOn (K.talk report.old) (K.talk report.new) (outs bytes) }
     ensures told { IsSome (A.left first.old) → IsSome (A.left first.new) }
-    ensures fault { (second seconds peer peers : ℕ) → FaultClause (counts (A.faults first.old) second peer (K.faults report.old))
+    ensures fault { (second seconds peer peers : ℕ)
+        → FaultClause (counts (A.faults first.old) second peer (K.faults report.old))
         (counts (A.faults first.new) seconds peers (K.faults report.new)) result }
     ensures listed { EndsCopy result }
     ensures first { Lasts A.faults A.is_sure first.old first.new }

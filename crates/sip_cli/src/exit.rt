@@ -49,7 +49,8 @@ pub fn status_without_words(error: &Error) -> Status
 /// own whatever became of the line.
 pub fn finish<K: Sink>(status: &Status, errors: &mut K) -> u8
     ensures code { result ≡ code_of status.now }
-    ensures line { (n : ℕ) × GoesOn (K.talk errors.old) (K.talk errors.new) (outs (take n (line_of_status status.now))) }
+    ensures line { (n : ℕ) × GoesOn (K.talk errors.old) (K.talk errors.new)
+        (outs (take n (line_of_status status.now))) }
     ensures errors { Lasts K.faults K.is_sure errors.old errors.new }
 {
     // The code tells the status where the line cannot be written.

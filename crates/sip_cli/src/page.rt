@@ -103,7 +103,8 @@ pub fn page_of(words: &Words) -> Option<&'static str>
 /// Writes a page to the report. It is accepted exactly where all of it was written.
 pub fn write_page<K: Sink>(text: &str, report: &mut K) -> Status
     ensures page { PageClause (K.talk report.old) (K.talk report.new) text.now result }
-    ensures fault { result ≡ Status.WriteFault Port.Report → Rose (K.faults report.old) (K.faults report.new) }
+    ensures fault { result ≡ Status.WriteFault Port.Report
+        → Rose (K.faults report.old) (K.faults report.new) }
     ensures report { Lasts K.faults K.is_sure report.old report.new }
 {
     match write_whole(report, text.as_bytes()) {

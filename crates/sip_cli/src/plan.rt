@@ -63,7 +63,8 @@ impl Opening {
 
     // On the stream that word 1 names, at a depth.
     fn stream(words: &Words, depth: Depth) -> Opening
-        ensures { (stream : AnyStream) → 1 < length words.now → IsStreamWord stream (word words.now 1)
+        ensures { (stream : AnyStream) → 1 < length words.now
+            → IsStreamWord stream (word words.now 1)
             → result ≡ opening_of stream depth }
     {
         match stream_of(words) {
@@ -89,7 +90,8 @@ impl Opening {
 
     // On the stream of the numbers of words 1 and 2, at a depth.
     fn numbers(words: &Words, depth: Depth) -> Option<Opening>
-        ensures { (number count : ℕ) → number < 2 ^ 64 → count < 2 ^ 64 → 2 < length words.now → word words.now 1 ≡ decimal number
+        ensures { (number count : ℕ) → number < 2 ^ 64 → count < 2 ^ 64 → 2 < length words.now
+            → word words.now 1 ≡ decimal number
             → word words.now 2 ≡ decimal count → result ≡ Some (Opening.Made number count depth) }
     {
         let number = read_decimal(words.get(1)?)?;
@@ -125,9 +127,11 @@ pub enum LinkOrder {
 impl PortPlan {
     /// Which end of the link is opened first.
     pub fn link_order(&self) -> LinkOrder
-        ensures verify { (words : List (List ℕ)) (task : AnyTask) → Opens words (Command.Verify task) self.now
+        ensures verify { (words : List (List ℕ)) (task : AnyTask)
+            → Opens words (Command.Verify task) self.now
             → result ≡ LinkOrder.ToFirst }
-        ensures help { (words : List (List ℕ)) → Opens words Command.Help self.now → result ≡ LinkOrder.FromFirst }
+        ensures help { (words : List (List ℕ)) → Opens words Command.Help self.now
+            → result ≡ LinkOrder.FromFirst }
     {
         // A helper has no stream.
         match self.first {
@@ -196,9 +200,11 @@ impl PortPlan {
 /// The files and made streams that a command opens: for `verify` its stream, its seed and the two ends of its link, for
 /// `help` the two ends of its link, for `gen` and `lines` their stream. Words that are no command open nothing.
 pub fn ports(words: &Words) -> PortPlan
-    ensures spelled { (command : AnyCommand) → Spells words.now command → Opens words.now command result }
+    ensures spelled { (command : AnyCommand) → Spells words.now command
+        → Opens words.now command result }
     ensures refused { (n : ℕ) → IsRefusedAt words.now n → result ≡ no_ports }
-    ensures counted { (number count depth : ℕ) → result.first ≡ Opening.Made number count depth → count ≤ 10000000 }
+    ensures counted { (number count depth : ℕ) → result.first ≡ Opening.Made number count depth
+        → count ≤ 10000000 }
     ensures named { HaveNames words.now result }
 {
     match read_words(words) {

@@ -30,7 +30,8 @@ impl Default for Shape {
 
 // Whether a word is a number from `least` to `most`.
 fn is_within(word: &str, least: u64, most: u64) -> bool
-    ensures { IsTrue result ↔ ((n : ℕ) × (least ≤ n) × (n ≤ most) × (n < 2 ^ 64) × (word.now ≡ decimal n)) }
+    ensures { IsTrue result ↔ ((n : ℕ) × (least ≤ n) × (n ≤ most) × (n < 2 ^ 64)
+        × (word.now ≡ decimal n)) }
 {
     match read_decimal(word) {
         Some(number) => lies_within(number, least, most),

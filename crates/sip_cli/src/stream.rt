@@ -38,7 +38,8 @@ impl Stream {
 // What follows `made:`.
 fn read_made(rest: &str) -> Option<Stream>
     ensures { MatchOption result
-        ((number count : ℕ) → number < 2 ^ 64 → count ≤ 10000000 → rest.now ≢ decimal number ++ 58 ∷ decimal count)
+        ((number count : ℕ) → number < 2 ^ 64 → count ≤ 10000000
+        → rest.now ≢ decimal number ++ 58 ∷ decimal count)
         (λ s. (number : ℕ) × (count : ℕ) × (number < 2 ^ 64) × (count ≤ 10000000)
         × (rest.now ≡ decimal number ++ 58 ∷ decimal count) × (s ≡ Stream.Made number count)) }
 {

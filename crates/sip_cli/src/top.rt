@@ -37,7 +37,8 @@ fn obey<A: Source, B: Source, L: Link, K: Sink, C: Sink>(
         (L.talk peer.new) (L.faults peer.new) (K.talk report.new) (K.faults report.new))
         result }
     ensures copies_apart { IsCopy command.now → (second.new ≡ second.old) × (peer.new ≡ peer.old) }
-    ensures helps_apart { command.now ≡ Command.Help → (first.new ≡ first.old) × (second.new ≡ second.old) × (report.new ≡ report.old) }
+    ensures helps_apart { command.now ≡ Command.Help → (first.new ≡ first.old)
+        × (second.new ≡ second.old) × (report.new ≡ report.old) }
     ensures first { Lasts A.faults A.is_sure first.old first.new }
     ensures seed { TakesAtMost 32 (B.left second.old) (B.left second.new) }
     ensures second { Lasts B.faults B.is_sure second.old second.new }
@@ -86,13 +87,16 @@ pub fn run<A: Source, B: Source, L: Link, K: Sink, C: Sink>(
         result }
 
     // Copies and helpers leave the other ports alone.
-    ensures copies_apart { (command : AnyCommand) → Spells words.now command → IsCopy command → (second.new ≡ second.old) × (peer.new ≡ peer.old) }
-    ensures helps_apart { Spells words.now Command.Help → (first.new ≡ first.old) × (second.new ≡ second.old) × (report.new ≡ report.old) }
+    ensures copies_apart { (command : AnyCommand) → Spells words.now command → IsCopy command
+        → (second.new ≡ second.old) × (peer.new ≡ peer.old) }
+    ensures helps_apart { Spells words.now Command.Help → (first.new ≡ first.old)
+        × (second.new ≡ second.old) × (report.new ≡ report.old) }
 
     // Words are refused exactly where they are no command, and then no port is called.
     ensures usage { (word : ℕ) → (result ≡ Status.Usage word) ↔ IsRefusedAt words.now word }
     ensures untouched { (word : ℕ) → result ≡ Status.Usage word
-        → (first.new ≡ first.old) × (second.new ≡ second.old) × (peer.new ≡ peer.old) × (report.new ≡ report.old) }
+        → (first.new ≡ first.old) × (second.new ≡ second.old) × (peer.new ≡ peer.old)
+        × (report.new ≡ report.old) }
     ensures kept { keep.new ≡ keep.old }
 
     // Counts of faults never fall, and no more than 32 bytes of the seed are taken.

@@ -13,6 +13,7 @@ pub fn few_roots()
 
 /// Over a prime modulus two polynomials of degree at most k that differ in a coefficient agree at no more than k points.
 pub fn few_points_of_agreement()
-    ensures { (p k i : ℕ) (cs ds : List ℕ) → IsPrime p → length cs ≤ k + 1 → length ds ≤ k + 1 → slice_index cs i % p ≢ slice_index ds i % p
+    ensures { (p k i : ℕ) (cs ds : List ℕ) → IsPrime p → length cs ≤ k + 1 → length ds ≤ k + 1
+        → slice_index cs i % p ≢ slice_index ds i % p
         → count_below p (λ x. polynomial x cs % p == polynomial x ds % p) ≤ k }
 {}

@@ -8,7 +8,8 @@ use crate::arithmetic::Field;
 ///
 /// Horner's rule: a product and a sum for each coefficient.
 pub fn horner<F: Field>(coefficients: &[F], x: F) -> F
-    ensures { F.number result ≡ polynomial (F.number x) (map F.number coefficients.now) % F.MODULUS }
+    ensures { F.number result ≡ polynomial (F.number x)
+        (map F.number coefficients.now) % F.MODULUS }
 {
     let mut value = F::of(0);
     for &coefficient in coefficients.iter().rev() {

@@ -28,7 +28,8 @@ impl<F: Field, const CAP: usize> Model for Seat<F, CAP> {
 impl<F: Field, const CAP: usize> Seat<F, CAP> {
     /// The seat with these challenges, `r_1` first. `None` where there is no challenge, or more than `CAP`.
     pub fn of(challenges: &[F]) -> Option<Seat<F, CAP>>
-        ensures fits { IsSome result ↔ ((0 < length challenges.now) × (length challenges.now ≤ CAP)) }
+        ensures fits { IsSome result ↔ ((0 < length challenges.now)
+            × (length challenges.now ≤ CAP)) }
         ensures same { IfSome result (λ seat. seat ≡ map F.number challenges.now) }
     {
         if challenges.is_empty() || challenges.len() > CAP {

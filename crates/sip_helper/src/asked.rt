@@ -87,8 +87,10 @@ impl Asked {
         requires element { challenge < m61_modulus }
         requires stands { (vectors : Option AnyVectors) × Stands depth vectors self.old }
         ensures turn { IsOk result ↔ IsTrue (may_reveal depth (open_of self.old)) }
-        ensures revealed { OnOk result (open_of self.new ≡ with_challenge challenge (open_of self.old)) }
-        ensures stands { (vectors : Option AnyVectors) → Stands depth vectors self.old → Stands depth vectors self.new }
+        ensures revealed { OnOk result (open_of self.new
+            ≡ with_challenge challenge (open_of self.old)) }
+        ensures stands { (vectors : Option AnyVectors) → Stands depth vectors self.old
+            → Stands depth vectors self.new }
         ensures same { OnErr result (self.new ≡ self.old) }
     {
         if !self.given || self.revealed.len() + 1 >= depth as usize {
@@ -110,7 +112,8 @@ impl Asked {
     ) -> Result<(), PortStop>
         requires stands { (depth : ℕ) × (depth ≤ 32) × IfSome vectors.now (HaveDepth depth)
             × Stands depth vectors.now self.now }
-        ensures talk { SendsWhole (K.talk out.old) (K.talk out.new) result (flat_map spelling (reply_to vectors.now (open_of self.now))) }
+        ensures talk { SendsWhole (K.talk out.old)
+            (K.talk out.new) result (flat_map spelling (reply_to vectors.now (open_of self.now))) }
         ensures cause { HasCause K.faults K.is_sure out.old out.new result }
     {
         match &self.answerer {
@@ -126,8 +129,10 @@ impl Asked {
     /// The query once its reply was given; `None` where that was a refusal or the last one.
     pub(crate) fn after_reply(self, depth: u8) -> Option<Asked>
         requires owed { self.given ≡ false }
-        ensures after { (vectors : Option AnyVectors) → Stands depth vectors self → option_map open_of result ≡ after_reply depth vectors (open_of self) }
-        ensures stands { (vectors : Option AnyVectors) → Stands depth vectors self → IfSome result (Stands depth vectors) }
+        ensures after { (vectors : Option AnyVectors) → Stands depth vectors self
+            → option_map open_of result ≡ after_reply depth vectors (open_of self) }
+        ensures stands { (vectors : Option AnyVectors) → Stands depth vectors self
+            → IfSome result (Stands depth vectors) }
     {
         let Answerer::Honest(_) = &self.answerer else {
             return None;

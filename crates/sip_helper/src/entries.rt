@@ -16,8 +16,10 @@ use sip_wire::{MOST_ROWS, Message, encode};
 fn next_rows(vector: &Vector, from: u64, hi: u64) -> (ArrayVec<Entry, MOST_ROWS>, u64)
     requires within { hi < 2 ^ vector.now.depth }
     requires small { hi < 2 ^ 32 }
-    ensures split { nonzero_within from hi vector.now.numbers ≡ result.0.items ++ nonzero_within result.1 hi vector.now.numbers }
-    ensures last { length result.0.items < 512 → nonzero_within result.1 hi vector.now.numbers ≡ [] }
+    ensures split { nonzero_within from hi vector.now.numbers ≡ result.0.items
+        ++ nonzero_within result.1 hi vector.now.numbers }
+    ensures last { length result.0.items < 512
+        → nonzero_within result.1 hi vector.now.numbers ≡ [] }
 {
     let mut rows = ArrayVec::new();
     let mut next = from;
@@ -40,7 +42,9 @@ pub(crate) fn put_entries<K: Sink>(
 ) -> Result<(), PortStop>
     requires within { hi < 2 ^ vector.now.depth }
     requires small { hi < 2 ^ 32 }
-    ensures talk { SendsWhole (K.talk out.old) (K.talk out.new) result (flat_map spelling (entry_frames (nonzero_within lo hi vector.now.numbers))) }
+    ensures talk { SendsWhole (K.talk out.old)
+        (K.talk out.new) result (flat_map spelling (entry_frames
+        (nonzero_within lo hi vector.now.numbers))) }
     ensures cause { HasCause K.faults K.is_sure out.old out.new result }
 {
     // No entry is heavier than all that was added, so each has a spelling.

@@ -73,8 +73,10 @@ impl HelperCore {
     fn open(&mut self, depth: u8) -> Result<(), OutOfTurn>
         requires some { 1 ≤ depth }
         requires most { depth ≤ 32 }
-        ensures turn { (version : ℕ) → IsOk result ↔ IsTrue (is_allowed self.old (messages.Open version depth)) }
-        ensures ok { (version : ℕ) → OnOk result ((refused : Bool) × (self.new ≡ step self.old refused (messages.Open version depth))) }
+        ensures turn { (version : ℕ) → IsOk result ↔ IsTrue
+            (is_allowed self.old (messages.Open version depth)) }
+        ensures ok { (version : ℕ) → OnOk result ((refused : Bool)
+            × (self.new ≡ step self.old refused (messages.Open version depth))) }
         ensures err { OnErr result (self.new ≡ self.old) }
     {
         let Heard::Nothing = self.heard else {
@@ -90,7 +92,8 @@ impl HelperCore {
 
     fn add(&mut self, updates: &ArrayVec<Update, MOST_ROWS>) -> Result<(), OutOfTurn>
         ensures turn { IsOk result ↔ IsTrue (is_allowed self.old (messages.Updates updates.now)) }
-        ensures ok { OnOk result ((refused : Bool) × (self.new ≡ step self.old refused (messages.Updates updates.now))) }
+        ensures ok { OnOk result ((refused : Bool)
+            × (self.new ≡ step self.old refused (messages.Updates updates.now))) }
         ensures err { OnErr result (self.new ≡ self.old) }
     {
         let Some(depth) = self.heard.part() else {
@@ -106,7 +109,8 @@ impl HelperCore {
 
     fn end(&mut self) -> Result<(), OutOfTurn>
         ensures turn { IsOk result ↔ IsTrue (is_allowed self.old messages.EndStream) }
-        ensures ok { OnOk result ((refused : Bool) × (self.new ≡ step self.old refused messages.EndStream)) }
+        ensures ok { OnOk result ((refused : Bool)
+            × (self.new ≡ step self.old refused messages.EndStream)) }
         ensures err { OnErr result (self.new ≡ self.old) }
     {
         let Some(depth) = self.heard.part() else {
@@ -119,7 +123,8 @@ impl HelperCore {
     fn ask(&mut self, query: Query) -> Result<(), OutOfTurn>
         requires { IsTrue (fits (messages.Query query)) }
         ensures turn { IsOk result ↔ IsTrue (is_allowed self.old (messages.Query query)) }
-        ensures ok { OnOk result ((refused : Bool) × (self.new ≡ step self.old refused (messages.Query query))) }
+        ensures ok { OnOk result ((refused : Bool)
+            × (self.new ≡ step self.old refused (messages.Query query))) }
         ensures err { OnErr result (self.new ≡ self.old) }
     {
         let Some(depth) = self.heard.whole() else {
@@ -140,7 +145,8 @@ impl HelperCore {
     fn reveal(&mut self, challenge: u64) -> Result<(), OutOfTurn>
         requires { challenge < m61_modulus }
         ensures turn { IsOk result ↔ IsTrue (is_allowed self.old (messages.Reveal challenge)) }
-        ensures ok { OnOk result ((refused : Bool) × (self.new ≡ step self.old refused (messages.Reveal challenge))) }
+        ensures ok { OnOk result ((refused : Bool)
+            × (self.new ≡ step self.old refused (messages.Reveal challenge))) }
         ensures err { OnErr result (self.new ≡ self.old) }
     {
         let depth = self.heard.depth();
@@ -158,7 +164,8 @@ impl HelperCore {
         requires fits { IsTrue (fits message.now) }
         requires live { self.old.spent ≡ false }
         ensures turn { IsOk result ↔ IsTrue (is_allowed self.old message.now) }
-        ensures heard { OnOk result ((refused : Bool) × (self.new ≡ step self.old refused message.now)) }
+        ensures heard { OnOk result ((refused : Bool)
+            × (self.new ≡ step self.old refused message.now)) }
         ensures same { OnErr result (self.new ≡ self.old) }
     {
         match message {

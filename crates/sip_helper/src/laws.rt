@@ -11,7 +11,8 @@ ghost use Rattle.sip_helper.specs.declared.vectors.Vectors.{Vectors as AnyVector
 /// another kind always refuses as out of turn.
 pub fn rows_go_by_what_is_built()
     ensures built { (query : AnyQuery) (vectors : AnyVectors) → IsTrue (is_built query)
-        → IfSome ((row_of query).refused_by vectors) (λ code. (want_of_memory < code) × (code < out_of_turn)) }
+        → IfSome ((row_of query).refused_by vectors)
+        (λ code. (want_of_memory < code) × (code < out_of_turn)) }
     ensures others { (query : AnyQuery) (vectors : AnyVectors) → is_built query ≡ false
         → (row_of query).refused_by vectors ≡ Some out_of_turn }
 {}

@@ -46,7 +46,8 @@ pub(crate) trait Prover {
         requires stands { (depth : ℕ) × (v : AnyVectors) × (revealed : List ℕ)
             × (length revealed + 1 < depth) × has_learnt depth v revealed self.old }
         ensures query { query self.new ≡ query self.old }
-        ensures learnt { (depth : ℕ) (v : AnyVectors) (revealed : List ℕ) → length revealed + 1 < depth
+        ensures learnt { (depth : ℕ) (v : AnyVectors) (revealed : List ℕ)
+            → length revealed + 1 < depth
             → has_learnt depth v revealed self.old
             → has_learnt depth v (revealed ++ challenge ∷ []) self.new };
 

@@ -21,7 +21,8 @@ pub(crate) const OUT_OF_TURN: u8 = 4;
 pub(crate) fn put_refusal<K: Sink>(code: u8, out: &mut K) -> Result<(), PortStop>
     requires some { 1 ≤ code }
     requires most { code ≤ 4 }
-    ensures talk { SendsWhole (K.talk out.old) (K.talk out.new) result (spelling (messages.Refuse code)) }
+    ensures talk { SendsWhole (K.talk out.old)
+        (K.talk out.new) result (spelling (messages.Refuse code)) }
     ensures cause { HasCause K.faults K.is_sure out.old out.new result }
 {
     encode(&Message::Refuse { code }, out)

@@ -22,8 +22,10 @@ fn take_turn<L: Link>(
 ) -> Result<(), HelpStatus>
     requires live { core.old.spent ≡ false }
     requires going { core.old.done ≡ false }
-    ensures turn { TakesTurn (L.talk link.old) (L.talk link.new) core.old core.new offset (frame_bytes frame.new) result }
-    ensures cause { result ≡ Err HelpStatus.PeerFault → Rose (L.faults link.old) (L.faults link.new) }
+    ensures turn { TakesTurn (L.talk link.old)
+        (L.talk link.new) core.old core.new offset (frame_bytes frame.new) result }
+    ensures cause { result ≡ Err HelpStatus.PeerFault
+        → Rose (L.faults link.old) (L.faults link.new) }
     ensures lasts { Lasts L.faults L.is_sure link.old link.new }
 {
     let message = match decode(link, Place::ToHelper, frame) {

@@ -103,7 +103,8 @@ fn put_honest<K: Sink>(
     requires small { hi < 2 ^ 32 }
     requires level { 2 ≤ length prover.now.level }
     requires proving { prover.now ≡ proving m61_modulus vector.now.numbers lo hi revealed.now }
-    ensures talk { SendsWhole (K.talk out.old) (K.talk out.new) result (honest_reply m61_modulus vector.now.numbers lo hi revealed.now) }
+    ensures talk { SendsWhole (K.talk out.old)
+        (K.talk out.new) result (honest_reply m61_modulus vector.now.numbers lo hi revealed.now) }
     ensures cause { HasCause K.faults K.is_sure out.old out.new result }
 {
     if revealed.is_empty() {

@@ -90,9 +90,11 @@ impl Vectors {
 
 /// The vectors once these updates are added, where they are still kept; none where memory is refused.
 pub(crate) fn grown(vectors: Option<Vectors>, updates: &[Update]) -> Option<Vectors>
-    requires legal { IfSome vectors (λ v. IsTrue (stays_legal v.first.depth (weights_of v) updates.now)) }
+    requires legal { IfSome vectors (λ v. IsTrue (stays_legal v.first.depth
+        (weights_of v) updates.now)) }
     requires depths { IfSome vectors (λ v. v.second.depth ≡ v.first.depth) }
-    ensures { (refused : Bool) × (result ≡ (if refused then None else option_map (λ v. with_updates v updates.now) vectors)) }
+    ensures { (refused : Bool) × (result ≡ (if refused then None else option_map
+        (λ v. with_updates v updates.now) vectors)) }
 {
     vectors?.with(updates).ok()
 }

@@ -23,7 +23,8 @@ impl<F: Field, const CAP: usize> Point<F, CAP> {
     pub fn new(seat: Seat<F, CAP>) -> Point<F, CAP>
         ensures seat { result.seat ≡ seat }
         ensures value { result.value ≡ 0 }
-        ensures stands { PointStandsFor F.MODULUS seat result.value (replicate (2 ^ length seat) (pos 0)) }
+        ensures stands { PointStandsFor F.MODULUS seat result.value (replicate (2 ^ length seat)
+            (pos 0)) }
     {
         Point { seat, value: 0 }
     }
@@ -37,8 +38,10 @@ impl<F: Field, const CAP: usize> Point<F, CAP> {
         ensures seat { self.new.seat ≡ self.old.seat }
         ensures value { self.new.value
             ≡ (self.old.value + residue F.MODULUS delta * chi F.MODULUS index self.old.seat) % F.MODULUS }
-        ensures stands { (numbers : List ℤ) → PointStandsFor F.MODULUS self.old.seat self.old.value numbers
-            → PointStandsFor F.MODULUS self.new.seat self.new.value (raised_numbers numbers index delta) }
+        ensures stands { (numbers : List ℤ)
+            → PointStandsFor F.MODULUS self.old.seat self.old.value numbers
+            → PointStandsFor F.MODULUS self.new.seat self.new.value
+            (raised_numbers numbers index delta) }
     {
         let term = times_chi(F::of_signed(delta), &self.seat, index);
         self.value = F::of(self.value).plus(term).number();

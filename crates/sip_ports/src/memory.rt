@@ -80,7 +80,8 @@ impl Source for MemorySource {
             result buf.new }
         ensures answer { MatchResult result
             (λ n. (source_next_fails self.old ≡ false)
-            × (n ≡ min (length buf.old) (min (source_chunk self.old) (length (source_left self.old)))))
+            × (n ≡ min (length buf.old) (min (source_chunk self.old)
+            (length (source_left self.old)))))
             (λ e. (source_next_fails self.old ≡ true) × (e ≡ PortStop.Failed)) }
         ensures call { MakesCall source_fails source_calls source_chunk self.old self.new }
     {
@@ -225,7 +226,8 @@ impl Sink for MemoryLink {
     fn write(&mut self, buf: &[u8]) -> Result<usize, PortStop>
         ensures bound { WritesAtMost result buf.now }
         ensures takes { 0 < length buf.now → IfOk result (λ n. 0 < n) }
-        ensures talk { Sends (Some (link_talk self.old)) (Some (link_talk self.new)) result buf.now }
+        ensures talk { Sends (Some (link_talk self.old))
+            (Some (link_talk self.new)) result buf.now }
         ensures failed { IsErrOf result PortStop.Failed ↔ (link_next_fails self.old ≡ true) }
         ensures count { IfOk result (λ n. n ≡ min (length buf.now) (link_chunk self.old)) }
         ensures incoming { link_incoming self.new ≡ link_incoming self.old }
@@ -246,10 +248,12 @@ impl Link for MemoryLink {
 
     fn recv(&mut self, buf: &mut [u8]) -> Result<usize, PortStop>
         ensures bound { ReadsAtMost result buf.new }
-        ensures talk { Hears (Some (link_talk self.old)) (Some (link_talk self.new)) result buf.new }
+        ensures talk { Hears (Some (link_talk self.old))
+            (Some (link_talk self.new)) result buf.new }
         ensures failed { IsErrOf result PortStop.Failed ↔ (link_next_fails self.old ≡ true) }
         ensures count { IfOk result
-            (λ n. n ≡ min (length buf.old) (min (link_chunk self.old) (length (link_incoming self.old)))) }
+            (λ n. n ≡ min (length buf.old) (min (link_chunk self.old)
+            (length (link_incoming self.old)))) }
         ensures bytes { MatchResult result
             (λ n. link_incoming self.old ≡ take n buf.new ++ link_incoming self.new)
             (λ _. link_incoming self.new ≡ link_incoming self.old) }

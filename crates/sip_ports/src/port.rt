@@ -102,6 +102,7 @@ pub trait Link: Sink {
     fn recv(&mut self, buf: &mut [u8]) -> Result<usize, PortStop>
         ensures bound { ReadsAtMost result buf.new }
         ensures talk { Hears (Self.talk self.old) (Self.talk self.new) result buf.new }
-        ensures empty { length buf.old ≡ 0 → OnOk result (Self.faults self.new ≡ Self.faults self.old) }
+        ensures empty { length buf.old ≡ 0 → OnOk result (Self.faults self.new
+            ≡ Self.faults self.old) }
         ensures cause { HasCause Self.faults Self.is_sure self.old self.new result };
 }

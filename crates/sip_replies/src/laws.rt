@@ -9,7 +9,8 @@ use crate::check::Check;
 
 /// A whole reply is no front of another: a front of it is not whole, and one byte more is too many.
 pub fn whole_replies_end<C: Check>()
-    ensures front { (rules : Rules C.State) (s : C.State) (front : List ℕ) (byte : ℕ) (more : List ℕ)
+    ensures front { (rules : Rules C.State) (s : C.State) (front : List ℕ) (byte : ℕ)
+        (more : List ℕ)
         (t : C.State) → read_reply rules s (front ++ byte ∷ more) ≡ Ok t
         → read_reply rules s front ≡ Err Closed }
     ensures full { (rules : Rules C.State) (s : C.State) (bytes : List ℕ) (byte : ℕ) (more : List ℕ)

@@ -42,16 +42,20 @@ pub fn run_in_memory(
         (faults_of first.new second.new peer.new report.new) result }
 
     // A copy is written to the report, and a talk is served on the link.
-    ensures made { (depth : ℕ) → Spells words.now (Gen depth) → CopyClause depth Binary Binary (source_left first.old)
+    ensures made { (depth : ℕ) → Spells words.now (Gen depth)
+        → CopyClause depth Binary Binary (source_left first.old)
         (Some (source_left first.new)) (Some (outs (sink_bytes report.old))) (Some (outs (sink_bytes report.new))) result }
-    ensures lines { (form : Form) (depth : ℕ) → Spells words.now (Lines form depth) → CopyClause depth form Text (source_left first.old)
+    ensures lines { (form : Form) (depth : ℕ) → Spells words.now (Lines form depth)
+        → CopyClause depth form Text (source_left first.old)
         (Some (source_left first.new)) (Some (outs (sink_bytes report.old))) (Some (outs (sink_bytes report.new))) result }
-    ensures help { Spells words.now Help → HelpClause (Some (link_talk peer.old)) (Some (link_talk peer.new)) result }
+    ensures help { Spells words.now Help → HelpClause (Some (link_talk peer.old))
+        (Some (link_talk peer.new)) result }
 
     // Words that are no command are refused, and move nothing.
     ensures usage { (word : ℕ) → (result ≡ Status.Usage word) ↔ IsRefusedAt words.now word }
     ensures untouched { (word : ℕ) → result ≡ Status.Usage word
-        → (first.new ≡ first.old) × (second.new ≡ second.old) × (peer.new ≡ peer.old) × (report.new ≡ report.old) }
+        → (first.new ≡ first.old) × (second.new ≡ second.old) × (peer.new ≡ peer.old)
+        × (report.new ≡ report.old) }
 
     // Where no call of a port is to fail there is no fault of that port.
     ensures sure_first { source_is_sure first.old → result ≢ Status.ReadFault ports.First }

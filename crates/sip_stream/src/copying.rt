@@ -109,9 +109,11 @@ fn copy_on<A: Source, K: Sink>(
 ) -> Result<Option<StreamFault>, PortStop>
     requires { gathered.old.items ≡ [] }
     ensures copied { (bytes : List ℕ) → A.left source.old ≡ Some bytes
-        → CopiesOn depth from to bytes (A.left source.new) (K.talk sink.old) (K.talk sink.new) gathered.new.items result }
+        → CopiesOn depth from to bytes (A.left source.new) (K.talk sink.old)
+        (K.talk sink.new) gathered.new.items result }
     ensures told { IsSome (A.left source.old) → IsSome (A.left source.new) }
-    ensures read { result ≡ Ok (Some StreamFault.ReadFault) → Rose (A.faults source.old) (A.faults source.new) }
+    ensures read { result ≡ Ok (Some StreamFault.ReadFault)
+        → Rose (A.faults source.old) (A.faults source.new) }
     ensures source { Lasts A.faults A.is_sure source.old source.new }
     ensures cause { HasCause K.faults K.is_sure sink.old sink.new result }
 {
@@ -141,10 +143,13 @@ pub fn copy<A: Source, K: Sink>(
     sink: &mut K,
 ) -> Result<(), CopyStop>
     ensures copied { (bytes : List ℕ) → A.left source.old ≡ Some bytes
-        → Copies depth from to bytes (A.left source.new) (K.talk sink.old) (K.talk sink.new) result }
+        → Copies depth from to bytes (A.left source.new) (K.talk sink.old)
+        (K.talk sink.new) result }
     ensures told { IsSome (A.left source.old) → IsSome (A.left source.new) }
-    ensures read { result ≡ Err CopyStop.ReadFault → Rose (A.faults source.old) (A.faults source.new) }
-    ensures write { result ≡ Err CopyStop.WriteFault → Rose (K.faults sink.old) (K.faults sink.new) }
+    ensures read { result ≡ Err CopyStop.ReadFault
+        → Rose (A.faults source.old) (A.faults source.new) }
+    ensures write { result ≡ Err CopyStop.WriteFault
+        → Rose (K.faults sink.old) (K.faults sink.new) }
     ensures source { Lasts A.faults A.is_sure source.old source.new }
     ensures sink { Lasts K.faults K.is_sure sink.old sink.new }
 {

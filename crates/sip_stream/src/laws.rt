@@ -26,32 +26,38 @@ pub fn lines_of_three_records()
 
 /// Twelve bytes are no record, and neither are one byte more than whole records.
 pub fn records_cut_short()
-    ensures twelve { records 2 Binary (replicate 12 0) ≡ record { legal = []; fault = Some whys.Truncated } }
-    ensures one_more { records 2 Binary (bytes_of_three ++ 0 ∷ []) ≡ record { legal = stream; fault = Some whys.Truncated } }
+    ensures twelve { records 2 Binary (replicate 12 0)
+        ≡ record { legal = []; fault = Some whys.Truncated } }
+    ensures one_more { records 2 Binary (bytes_of_three ++ 0 ∷ [])
+        ≡ record { legal = stream; fault = Some whys.Truncated } }
 {}
 
 /// A side of the greatest weight, and one more.
 pub fn records_too_heavy()
     ensures fits { (records 1 Binary heaviest).fault ≡ None }
-    ensures above { (records 1 Binary (heaviest ++ 0 ∷ 0 ∷ 0 ∷ 0 ∷ 0 ∷ replicate 8 255)).fault ≡ Some (whys.TooHeavy sides.First) }
+    ensures above { (records 1 Binary (heaviest ++ 0 ∷ 0 ∷ 0 ∷ 0 ∷ 0 ∷ replicate 8 255)).fault
+        ≡ Some (whys.TooHeavy sides.First) }
 {}
 
 /// One fault each: side 2, item 4 at depth 2, delta 0.
 pub fn records_with_a_fault()
     ensures side { (records 2 Binary (2 ∷ replicate 12 0)).fault ≡ Some whys.BadSide }
-    ensures item { (records 2 Binary (0 ∷ 0 ∷ 0 ∷ 0 ∷ 4 ∷ replicate 8 0)).fault ≡ Some whys.BadItem }
+    ensures item { (records 2 Binary (0 ∷ 0 ∷ 0 ∷ 0 ∷ 4 ∷ replicate 8 0)).fault
+        ≡ Some whys.BadItem }
     ensures delta { (records 2 Binary (replicate 13 0)).fault ≡ Some whys.ZeroDelta }
 {}
 
 /// One fault each in text: side 2, also far above, item 4 at depth 2, delta 0, and a weight too much.
 pub fn lines_with_a_fault()
     ensures side { line_fault_of (codes "2 0 5") ≡ Some whys.BadSide }
-    ensures any_side { line_fault_of (codes "123456789012345678901234567890 0 5") ≡ Some whys.BadSide }
+    ensures any_side { line_fault_of (codes "123456789012345678901234567890 0 5")
+        ≡ Some whys.BadSide }
     ensures item { line_fault_of (codes "0 4 5") ≡ Some whys.BadItem }
     ensures greatest_item { line_fault_of (codes "0 18446744073709551615 5") ≡ Some whys.BadItem }
     ensures delta { line_fault_of (codes "1 3 0") ≡ Some whys.ZeroDelta }
     ensures weight { line_fault_of (codes "1 3 -1073741824") ≡ Some (whys.TooHeavy sides.Second) }
-    ensures least_delta { line_fault_of (codes "0 0 -9223372036854775808") ≡ Some (whys.TooHeavy sides.First) }
+    ensures least_delta { line_fault_of (codes "0 0 -9223372036854775808")
+        ≡ Some (whys.TooHeavy sides.First) }
 {}
 
 /// Lines of another shape, whatever their side is.
@@ -71,8 +77,10 @@ pub fn lines_of_another_shape()
 
 /// A line without its line feed is cut short, up to 40 bytes, and whatever it holds.
 pub fn lines_cut_short()
-    ensures legal { records 2 Text (lines_of_three ++ codes "0 1 5") ≡ record { legal = stream; fault = Some whys.Truncated } }
-    ensures malformed { records 2 Text (codes "x") ≡ record { legal = []; fault = Some whys.Truncated } }
+    ensures legal { records 2 Text (lines_of_three ++ codes "0 1 5")
+        ≡ record { legal = stream; fault = Some whys.Truncated } }
+    ensures malformed { records 2 Text (codes "x")
+        ≡ record { legal = []; fault = Some whys.Truncated } }
     ensures forty { (records 2 Text (replicate 40 48)).fault ≡ Some whys.Truncated }
 {}
 
@@ -81,13 +89,15 @@ pub fn lines_too_long()
     ensures longest { line_fault_of (replicate 35 57 ++ codes " 0 5") ≡ Some whys.BadSide }
     ensures with_a_feed { line_fault_of (replicate 36 57 ++ codes " 0 5") ≡ Some whys.BadLine }
     ensures without { (records 2 Text (replicate 41 48)).fault ≡ Some whys.BadLine }
-    ensures greatest_of_all { line_fault_of (codes "0 18446744073709551615 -9223372036854775808") ≡ Some whys.BadLine }
+    ensures greatest_of_all { line_fault_of (codes "0 18446744073709551615 -9223372036854775808")
+        ≡ Some whys.BadLine }
 {}
 
 /// A decimal number below 2^64 has one spelling, which is read as that number.
 #[tactic(auto, using(crate::proofs::Digits::only_spelling, crate::proofs::Digits::spelling_read))]
 pub fn decimals_have_one_spelling()
-    ensures read { (text : List ℕ) (n : ℕ) → n < 2 ^ 64 → decimal_at text ≡ Some n → text ≡ decimal n }
+    ensures read { (text : List ℕ) (n : ℕ) → n < 2 ^ 64 → decimal_at text ≡ Some n
+        → text ≡ decimal n }
     ensures written { (n : ℕ) → n < 2 ^ 64 → decimal_at (decimal n) ≡ Some n }
 {}
 
@@ -95,5 +105,6 @@ pub fn decimals_have_one_spelling()
 /// the whole stream as they were, so a reader that is called to its end gives these.
 #[tactic(auto, using(crate::proofs::RecordsRead::records_end))]
 pub fn records_end()
-    ensures { (depth : ℕ) (form : Form) (before : List Update) → records_from depth form before [] ≡ record { legal = before; fault = None } }
+    ensures { (depth : ℕ) (form : Form) (before : List Update)
+        → records_from depth form before [] ≡ record { legal = before; fault = None } }
 {}

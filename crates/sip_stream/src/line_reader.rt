@@ -28,7 +28,8 @@ pub(crate) enum LineEnd {
 
 /// The next byte, or `None` at the end.
 fn next_byte<S: Source>(source: &mut S) -> Result<Option<u8>, PortStop>
-    ensures reads { (bytes : List ℕ) → S.left source.old ≡ Some bytes → ReadsByte bytes (S.left source.new) result }
+    ensures reads { (bytes : List ℕ) → S.left source.old ≡ Some bytes
+        → ReadsByte bytes (S.left source.new) result }
     ensures told { IsSome (S.left source.old) → IsSome (S.left source.new) }
     ensures cause { HasCause S.faults S.is_sure source.old source.new result }
 {
@@ -47,7 +48,8 @@ fn take_line<S: Source>(
     line: &mut ArrayVec<u8, MOST_LINE>,
 ) -> Result<LineEnd, PortStop>
     requires { line.old.items ≡ [] }
-    ensures takes { (bytes : List ℕ) → S.left source.old ≡ Some bytes → TakesLine bytes line.new.items (S.left source.new) result }
+    ensures takes { (bytes : List ℕ) → S.left source.old ≡ Some bytes
+        → TakesLine bytes line.new.items (S.left source.new) result }
     ensures fits { length line.new.items ≤ 40 }
     ensures short { result ≡ Ok LineEnd.Feed → length line.new.items < 40 }
     ensures told { IsSome (S.left source.old) → IsSome (S.left source.new) }
@@ -89,7 +91,8 @@ fn update_of(line: &[u8]) -> Result<Update, Why>
 
 /// What the next line says, or why it says no update; `None` at the end.
 pub(crate) fn next_line<S: Source>(source: &mut S) -> Result<Option<Result<Update, Why>>, PortStop>
-    ensures reads { (bytes : List ℕ) → S.left source.old ≡ Some bytes → ReadsPiece Text bytes (S.left source.new) result }
+    ensures reads { (bytes : List ℕ) → S.left source.old ≡ Some bytes
+        → ReadsPiece Text bytes (S.left source.new) result }
     ensures told { IsSome (S.left source.old) → IsSome (S.left source.new) }
     ensures cause { HasCause S.faults S.is_sure source.old source.new result }
 {

@@ -91,7 +91,8 @@ impl Source for MadeSource {
 
     fn read(&mut self, buf: &mut [u8]) -> Result<usize, PortStop>
         ensures bound { ReadsAtMost result buf.new }
-        ensures bytes { ReadConsumes (Some (made_left self.old)) (Some (made_left self.new)) result buf.new }
+        ensures bytes { ReadConsumes (Some (made_left self.old))
+            (Some (made_left self.new)) result buf.new }
         ensures count { result ≡ Ok (min (length buf.old) (length (made_left self.old))) }
     {
         let mut filled = 0;

@@ -17,7 +17,8 @@ pub(crate) struct Numbers {
 /// The text in front of its first space, and the text behind that.
 fn split_at_space(text: &[u8]) -> Option<(&[u8], &[u8])>
     ensures parts { option_map (λ parts. (parts.0.now, parts.1.now)) result ≡ parts_at 32 text.now }
-    ensures lens { IfSome result (λ parts. length parts.0.now + length parts.1.now + 1 ≡ length text.now) }
+    ensures lens { IfSome result (λ parts. length parts.0.now + length parts.1.now + 1
+        ≡ length text.now) }
 {
     for index in 0..text.len() {
         if text[index] == b' ' {

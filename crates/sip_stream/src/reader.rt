@@ -81,7 +81,8 @@ impl Reader {
 
     // Why the update is not legal after those so far, tested in this order.
     fn fault(&self, update: &Update) -> Option<Why>
-        ensures first { (before : List Update) → IsAfter self.now before → result ≡ update_fault self.now.depth before update.now }
+        ensures first { (before : List Update) → IsAfter self.now before
+            → result ≡ update_fault self.now.depth before update.now }
         ensures room { IfNone result (HasRoom self.now update.now) }
     {
         if update.item >= 1 << self.depth.get() {
@@ -99,7 +100,8 @@ impl Reader {
     // Counts a legal update.
     fn add(&mut self, update: &Update)
         requires { HasRoom self.old update.now }
-        ensures after { (before : List Update) → IsAfter self.old before → IsAfter self.new (before ++ update.now ∷ []) }
+        ensures after { (before : List Update) → IsAfter self.old before
+            → IsAfter self.new (before ++ update.now ∷ []) }
         ensures heavier { self.old.first + self.old.second < self.new.first + self.new.second }
         ensures bounded { self.new.first + self.new.second ≤ 2147483646 }
         ensures depth { self.new.depth ≡ self.old.depth }
@@ -123,16 +125,21 @@ impl Reader {
     /// that. After an error the reader is spent.
     pub fn next<S: Source>(&mut self, source: &mut S) -> Result<Option<Update>, StreamFault>
         requires { self.old.is_spent ≡ false }
-        ensures reads { (before : List Update) (bytes : List ℕ) → IsAfter self.old before → S.left source.old ≡ Some bytes → Reads self.old.depth self.old.form before bytes (S.left source.new) result }
-        ensures after { (before : List Update) → IsAfter self.old before → GoesOnAfter self.new before result }
+        ensures reads { (before : List Update) (bytes : List ℕ) → IsAfter self.old before
+            → S.left source.old ≡ Some bytes → Reads self.old.depth self.old.form before bytes
+            (S.left source.new) result }
+        ensures after { (before : List Update) → IsAfter self.old before
+            → GoesOnAfter self.new before result }
         ensures legal { IfOk result (λ next. IfSome next (HasRoom self.old)) }
         ensures nearer { IfOk result (λ next. IfSome next (λ _. room self.new < room self.old)) }
-        ensures at { (at : ℕ) (why : Why) → result ≡ Err (StreamFault.Bad at why) → at ≡ self.old.count }
+        ensures at { (at : ℕ) (why : Why) → result ≡ Err (StreamFault.Bad at why)
+            → at ≡ self.old.count }
         ensures spent { self.new.is_spent ≡ is_err result }
         ensures depth { self.new.depth ≡ self.old.depth }
         ensures form { self.new.form ≡ self.old.form }
         ensures told { IsSome (S.left source.old) → IsSome (S.left source.new) }
-        ensures cause { result ≡ Err StreamFault.ReadFault → Rose (S.faults source.old) (S.faults source.new) }
+        ensures cause { result ≡ Err StreamFault.ReadFault
+            → Rose (S.faults source.old) (S.faults source.new) }
         ensures source { Lasts S.faults S.is_sure source.old source.new }
     {
         let said = match next_piece(self.form, source) {
@@ -166,7 +173,8 @@ fn next_piece<S: Source>(
     form: Form,
     source: &mut S,
 ) -> Result<Option<Result<Update, Why>>, PortStop>
-    ensures reads { (bytes : List ℕ) → S.left source.old ≡ Some bytes → ReadsPiece form bytes (S.left source.new) result }
+    ensures reads { (bytes : List ℕ) → S.left source.old ≡ Some bytes
+        → ReadsPiece form bytes (S.left source.new) result }
     ensures told { IsSome (S.left source.old) → IsSome (S.left source.new) }
     ensures cause { HasCause S.faults S.is_sure source.old source.new result }
 {

@@ -33,7 +33,8 @@ fn update_of(bytes: &[u8; RECORD]) -> Update
 pub(crate) fn next_record<S: Source>(
     source: &mut S,
 ) -> Result<Option<Result<Update, Why>>, PortStop>
-    ensures reads { (bytes : List ℕ) → S.left source.old ≡ Some bytes → ReadsPiece Binary bytes (S.left source.new) result }
+    ensures reads { (bytes : List ℕ) → S.left source.old ≡ Some bytes
+        → ReadsPiece Binary bytes (S.left source.new) result }
     ensures told { IsSome (S.left source.old) → IsSome (S.left source.new) }
     ensures cause { HasCause S.faults S.is_sure source.old source.new result }
 {

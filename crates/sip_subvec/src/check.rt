@@ -109,7 +109,8 @@ impl<F: Field, const CAP: usize> SubCheck<F, CAP> {
         requires most { nat_abs value ≤ F.HALF }
         ensures answers { (root lo hi : ℕ) (challenges : List ℕ) (s : Stated)
             → HasTaken F.MODULUS root lo hi challenges s self.old
-            → AnswersAs (with_entries lo hi s.entries (record { index = index; value = value } ∷ []))
+            → AnswersAs
+            (with_entries lo hi s.entries (record { index = index; value = value } ∷ []))
             (λ entries. HasTaken F.MODULUS root lo hi challenges (record s { entries = entries }) self.new)
             self.new result }
         ensures advances { Advances self.old self.new 0 0 }

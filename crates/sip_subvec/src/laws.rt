@@ -20,28 +20,40 @@ pub fn honest_replies_are_accepted()
 
 /// One wrong number: a sibling, or the entry.
 pub fn one_wrong_number_is_rejected()
-    ensures left { verdict_of ((entry_2 5 ++ both 4 1) ∷ reply_1 ∷ []) ≡ Err (record { round = 2; reason = reasons.Root }) }
-    ensures right { verdict_of ((entry_2 5 ++ both 3 2) ∷ reply_1 ∷ []) ≡ Err (record { round = 2; reason = reasons.Root }) }
-    ensures entry { verdict_of ((entry_2 6 ++ both 3 1) ∷ reply_1 ∷ []) ≡ Err (record { round = 2; reason = reasons.Root }) }
-    ensures zero { verdict_of ((entry_2 0 ++ both 3 1) ∷ reply_1 ∷ []) ≡ Err (record { round = 0; reason = reasons.BadNumber }) }
+    ensures left { verdict_of ((entry_2 5 ++ both 4 1) ∷ reply_1 ∷ [])
+        ≡ Err (record { round = 2; reason = reasons.Root }) }
+    ensures right { verdict_of ((entry_2 5 ++ both 3 2) ∷ reply_1 ∷ [])
+        ≡ Err (record { round = 2; reason = reasons.Root }) }
+    ensures entry { verdict_of ((entry_2 6 ++ both 3 1) ∷ reply_1 ∷ [])
+        ≡ Err (record { round = 2; reason = reasons.Root }) }
+    ensures zero { verdict_of ((entry_2 0 ++ both 3 1) ∷ reply_1 ∷ [])
+        ≡ Err (record { round = 0; reason = reasons.BadNumber }) }
 {}
 
 /// Replies that are cut short, and siblings that were not asked for.
 pub fn faults_have_their_rounds()
     ensures none { verdict_of ([] ∷ []) ≡ Err (record { round = 0; reason = reasons.Closed }) }
-    ensures cut { verdict_of (reply_0 ∷ (0x14 ∷ 0x00 ∷ []) ∷ []) ≡ Err (record { round = 1; reason = reasons.Closed }) }
-    ensures flags { verdict_of (reply_0 ∷ (0x14 ∷ 0x00 ∷ 0x09 ∷ 0x02 ∷ 0 ∷ 0 ∷ 0 ∷ 0 ∷ 0 ∷ 0 ∷ 0 ∷ 1 ∷ []) ∷ []) ≡ Err (record { round = 1; reason = reasons.BadFlags }) }
-    ensures kind { verdict_of ((0x11 ∷ 0x00 ∷ 0x08 ∷ []) ∷ []) ≡ Err (record { round = 0; reason = reasons.BadKind }) }
-    ensures length { verdict_of ((0x13 ∷ 0x00 ∷ 0x0d ∷ []) ∷ []) ≡ Err (record { round = 0; reason = reasons.BadLength }) }
-    ensures twice { verdict_of ((entry_2 5 ++ entry_2 5) ∷ []) ≡ Err (record { round = 0; reason = reasons.BadOrder }) }
-    ensures refused { verdict_of ((0x18 ∷ 0x00 ∷ 0x01 ∷ 0x01 ∷ []) ∷ []) ≡ Err (record { round = 0; reason = reasons.Refused 1 }) }
+    ensures cut { verdict_of (reply_0 ∷ (0x14 ∷ 0x00 ∷ []) ∷ [])
+        ≡ Err (record { round = 1; reason = reasons.Closed }) }
+    ensures flags { verdict_of
+        (reply_0 ∷ (0x14 ∷ 0x00 ∷ 0x09 ∷ 0x02 ∷ 0 ∷ 0 ∷ 0 ∷ 0 ∷ 0 ∷ 0 ∷ 0 ∷ 1 ∷ []) ∷ [])
+        ≡ Err (record { round = 1; reason = reasons.BadFlags }) }
+    ensures kind { verdict_of ((0x11 ∷ 0x00 ∷ 0x08 ∷ []) ∷ [])
+        ≡ Err (record { round = 0; reason = reasons.BadKind }) }
+    ensures length { verdict_of ((0x13 ∷ 0x00 ∷ 0x0d ∷ []) ∷ [])
+        ≡ Err (record { round = 0; reason = reasons.BadLength }) }
+    ensures twice { verdict_of ((entry_2 5 ++ entry_2 5) ∷ [])
+        ≡ Err (record { round = 0; reason = reasons.BadOrder }) }
+    ensures refused { verdict_of ((0x18 ∷ 0x00 ∷ 0x01 ∷ 0x01 ∷ []) ∷ [])
+        ≡ Err (record { round = 0; reason = reasons.Refused 1 }) }
 {}
 
 /// Folding keeps a weighted sum, in which each entry and each sibling is taken times its weight in the root. A level is
 /// folded with its own siblings and those of the levels above it to the one number that is its weighted sum and theirs;
 /// the level of the entries has their weighted sum. So what is stated gives the root exactly where its sum is the root.
 pub fn weighted_sums_are_folds()
-    ensures level { (p : ℕ) (challenges : List ℕ) (level lo hi : ℕ) (nodes : List ℕ) (ss : List Siblings)
+    ensures level { (p : ℕ) (challenges : List ℕ) (level lo hi : ℕ) (nodes : List ℕ)
+        (ss : List Siblings)
         → 0 < p → level + length ss ≡ length challenges → lo ≤ hi → hi < 2 ^ length ss
         → length nodes ≡ hi + 1 - lo → All (λ x. x < p) nodes → AreAsked lo hi ss
         → fold (next_level p) nodes (zip ss (drop level challenges))
@@ -50,10 +62,12 @@ pub fn weighted_sums_are_folds()
         → with_entries lo hi [] es ≡ Ok es
         → weighted_sum p challenges 0 lo (stated_level p lo hi es) ≡ entries_sum p challenges es }
     ensures whole { (p lo hi : ℕ) (challenges : List ℕ) → 0 < p → (s : Stated)
-        → lo ≤ hi → hi < 2 ^ length challenges → length s.siblings ≡ length challenges → HasPassed lo hi s
+        → lo ≤ hi → hi < 2 ^ length challenges → length s.siblings ≡ length challenges
+        → HasPassed lo hi s
         → folded p lo hi challenges s ≡ stated_sum p lo hi challenges s ∷ [] }
     ensures root { (p lo hi : ℕ) (challenges : List ℕ) → 0 < p → (root : ℕ) (s : Stated)
-        → lo ≤ hi → hi < 2 ^ length challenges → length s.siblings ≡ length challenges → HasPassed lo hi s
+        → lo ≤ hi → hi < 2 ^ length challenges → length s.siblings ≡ length challenges
+        → HasPassed lo hi s
         → gives_root p root lo hi challenges s ≡ (stated_sum p lo hi challenges s == root) }
 {}
 
@@ -63,7 +77,8 @@ pub fn entries_are_tested_in_pieces()
         → with_entries lo hi before es ≡ Ok taken
         → with_entries lo hi before (es ++ more) ≡ with_entries lo hi taken more }
     ensures refused { (lo hi : ℕ) (before es more : List AnyEntry) (reason : Reason)
-        → with_entries lo hi before es ≡ Err reason → with_entries lo hi before (es ++ more) ≡ Err reason }
+        → with_entries lo hi before es ≡ Err reason
+        → with_entries lo hi before (es ++ more) ≡ Err reason }
 {}
 
 /// The sum of the honest replies is the root, 5·10 + 3·1 + 1·20; that of the replies to a query for all is 3·1 + 5·10 +

@@ -20,7 +20,8 @@ pub fn roots_of_a_raised_entry()
         ≡ ((augroot p numbers challenges).hash + residue p delta * hash_weight p i challenges) % p }
     ensures count { (p : ℕ) (numbers : List ℤ) (challenges : List ℕ) (i : ℕ) (delta : ℤ)
         → 0 < p → length numbers ≡ 2 ^ length challenges → i < length numbers
-        → (augroot p (raised_numbers numbers i delta) challenges).count ≡ (augroot p numbers challenges).count +ℤ delta }
+        → (augroot p (raised_numbers numbers i delta) challenges).count
+        ≡ (augroot p numbers challenges).count +ℤ delta }
 {}
 
 /// The roots of zeros, however many, are 0.
@@ -59,19 +60,24 @@ pub fn folds_keep_weighted_sums()
 /// A side's vector is zeros before the stream. An update raises one entry of it, or none where it is of the other side.
 /// So a root that is fed with a side's updates stands for that side's vector.
 pub fn vectors_of_streams()
-    ensures empty { (depth : ℕ) (side : AnySide) → vector depth [] side ≡ replicate (2 ^ depth) (pos 0) }
+    ensures empty { (depth : ℕ) (side : AnySide)
+        → vector depth [] side ≡ replicate (2 ^ depth) (pos 0) }
     ensures raised { (depth : ℕ) (stream : List AnyUpdate) (u : AnyUpdate) (side : AnySide)
         → u.item < 2 ^ depth → same_side u.side side ≡ true
-        → vector depth (stream ++ u ∷ []) side ≡ raised_numbers (vector depth stream side) u.item u.delta }
+        → vector depth (stream ++ u ∷ []) side
+        ≡ raised_numbers (vector depth stream side) u.item u.delta }
     ensures kept { (depth : ℕ) (stream : List AnyUpdate) (u : AnyUpdate) (side : AnySide)
-        → same_side u.side side ≡ false → vector depth (stream ++ u ∷ []) side ≡ vector depth stream side }
+        → same_side u.side side ≡ false → vector depth (stream ++ u ∷ []) side
+        ≡ vector depth stream side }
 {}
 
 /// The weights in the tree of (3, 0, 5, 1) at the challenges (2, 10), worked out by hand: 3·1 + 5·10 + 1·20 is the
 /// root, 73, and 3·13 + 5·1300 + 1·2200 the hash, 8739.
 pub fn weights_by_hand()
-    ensures entries { map (weight_above m61_modulus (2 ∷ 10 ∷ []) 0) (0 ∷ 1 ∷ 2 ∷ 3 ∷ []) ≡ 1 ∷ 2 ∷ 10 ∷ 20 ∷ [] }
+    ensures entries { map (weight_above m61_modulus (2 ∷ 10 ∷ []) 0) (0 ∷ 1 ∷ 2 ∷ 3 ∷ [])
+        ≡ 1 ∷ 2 ∷ 10 ∷ 20 ∷ [] }
     ensures nodes { map (weight_above m61_modulus (2 ∷ 10 ∷ []) 1) (0 ∷ 1 ∷ []) ≡ 1 ∷ 10 ∷ [] }
     ensures top { weight_above m61_modulus (2 ∷ 10 ∷ []) 2 0 ≡ 1 }
-    ensures hash { map (λ i. hash_weight m61_modulus i (2 ∷ 10 ∷ [])) (0 ∷ 1 ∷ 2 ∷ 3 ∷ []) ≡ 13 ∷ 22 ∷ 1300 ∷ 2200 ∷ [] }
+    ensures hash { map (λ i. hash_weight m61_modulus i (2 ∷ 10 ∷ [])) (0 ∷ 1 ∷ 2 ∷ 3 ∷ [])
+        ≡ 13 ∷ 22 ∷ 1300 ∷ 2200 ∷ [] }
 {}

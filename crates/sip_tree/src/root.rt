@@ -22,7 +22,8 @@ impl<F: Field, const CAP: usize> Root<F, CAP> {
     pub fn new(seat: Seat<F, CAP>) -> Root<F, CAP>
         ensures seat { result.seat ≡ seat }
         ensures value { result.value ≡ 0 }
-        ensures stands { RootStandsFor F.MODULUS seat result.value (replicate (2 ^ length seat) (pos 0)) }
+        ensures stands { RootStandsFor F.MODULUS seat result.value (replicate (2 ^ length seat)
+            (pos 0)) }
     {
         Root { seat, value: 0 }
     }

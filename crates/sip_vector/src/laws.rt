@@ -22,18 +22,22 @@ ghost use Rattle.sip_vector.specs.declared.query.Query.TheVariants as queries;
 pub fn vectors_add_up()
     ensures nothing { (depth : ℕ) (side : Side) → side_vector depth [] side ≡ zero_vector depth }
     ensures update { (depth : ℕ) (stream : List Update) (u : Update) (side : Side)
-        → side_vector depth (stream ++ u ∷ []) side ≡ with_update side (side_vector depth stream side) u }
+        → side_vector depth (stream ++ u ∷ []) side
+        ≡ with_update side (side_vector depth stream side) u }
     ensures whole { (depth : ℕ) (stream : List Update) (side : Side)
         → fold (with_update side) (zero_vector depth) stream ≡ side_vector depth stream side }
     ensures total { (depth : ℕ) (stream : List Update) (side : Side)
-        → All (λ u. u.item < 2 ^ depth) stream → total stream side ≡ int_sum (vector depth stream side) }
+        → All (λ u. u.item < 2 ^ depth) stream
+        → total stream side ≡ int_sum (vector depth stream side) }
 {}
 
 /// The first entry that is not 0, and then those after it, are all of them: so a walk finds each.
 pub fn walks_find_each_entry()
-    ensures next { (lo hi : ℕ) (numbers : List ℤ) (e : Entry) → slice_get (nonzero_within lo hi numbers) 0 ≡ Some e
+    ensures next { (lo hi : ℕ) (numbers : List ℤ) (e : Entry)
+        → slice_get (nonzero_within lo hi numbers) 0 ≡ Some e
         → nonzero_within lo hi numbers ≡ e ∷ nonzero_within (e.index + 1) hi numbers }
-    ensures last { (lo hi : ℕ) (numbers : List ℤ) → slice_get (nonzero_within lo hi numbers) 0 ≡ None
+    ensures last { (lo hi : ℕ) (numbers : List ℤ)
+        → slice_get (nonzero_within lo hi numbers) 0 ≡ None
         → nonzero_within lo hi numbers ≡ [] }
 {}
 
@@ -50,7 +54,8 @@ pub fn tree_of_four()
 
 /// The augmented tree has the nodes (9, 3) and (27, 6), and the root (8739, 9).
 pub fn augmented_tree_of_four()
-    ensures first { augtree p four (2 ∷ []) ≡ record { hash = 9; count = pos 3 } ∷ record { hash = 27; count = pos 6 } ∷ [] }
+    ensures first { augtree p four (2 ∷ [])
+        ≡ record { hash = 9; count = pos 3 } ∷ record { hash = 27; count = pos 6 } ∷ [] }
     ensures top { augtree p four (2 ∷ 10 ∷ []) ≡ record { hash = 8739; count = pos 9 } ∷ [] }
 {}
 
@@ -63,9 +68,11 @@ pub fn extensions_of_four()
 
 /// What each query asks for.
 pub fn answers_of_four()
-    ensures sub { answer 2 stream (queries.Sub 1 2) ≡ pairs (record { index = 2; value = pos 5 } ∷ []) }
+    ensures sub { answer 2 stream (queries.Sub 1 2)
+        ≡ pairs (record { index = 2; value = pos 5 } ∷ []) }
     ensures range { answer 2 stream (queries.Range sides.First 1 3) ≡ number (pos 6) }
     ensures f2 { answer 2 stream (queries.F2 sides.First) ≡ number (pos 35) }
     ensures inner { answer 2 both_sides queries.Inner ≡ number (pos 11) }
-    ensures heavy { answer 2 stream (queries.Heavy sides.First 4) ≡ pairs (record { index = 2; value = pos 5 } ∷ []) }
+    ensures heavy { answer 2 stream (queries.Heavy sides.First 4)
+        ≡ pairs (record { index = 2; value = pos 5 } ∷ []) }
 {}

@@ -31,7 +31,8 @@ enum Rule {
 impl Rule {
     #[tactic(auto, using(sip_field::proofs::Residues::residues))]
     fn above<F: Field>(self, r: F, left: F, right: F) -> F
-        ensures { F.number result ≡ residue_above F.MODULUS self (F.number r) (F.number left) (F.number right) }
+        ensures { F.number result ≡ residue_above F.MODULUS self (F.number r) (F.number left)
+            (F.number right) }
     {
         match self {
             Rule::Tree => left.plus(r.times(right)),
@@ -66,7 +67,8 @@ impl<F: Field> Model for Level<F> {
 impl<F: Field> Level<F> {
     /// The residues of a vector's numbers. O(m) in time and memory.
     pub fn of(alloc: Global, vector: &Vector) -> Result<Level<F>, OutOfMemory>
-        ensures residues { IfOk result (λ level. level ≡ map (residue F.MODULUS) vector.now.numbers) }
+        ensures residues { IfOk result (λ level. level
+            ≡ map (residue F.MODULUS) vector.now.numbers) }
         ensures length { IfOk result (λ level. length level ≡ 2 ^ vector.now.depth) }
     {
         let mut spots = Vec::new(alloc);
@@ -135,7 +137,8 @@ impl<F: Field> Level<F> {
 
     /// The first node that is not 0, at `from` or after it. `None` where there is none. O(log m), without memory.
     pub fn next_nonzero(&self, from: u64) -> Option<Spot<F>>
-        ensures { option_map (index_and_residue F.number) result ≡ slice_get (nonzero_from from self.now) 0 }
+        ensures { option_map (index_and_residue F.number) result
+            ≡ slice_get (nonzero_from from self.now) 0 }
     {
         let at = self.spots.partition_point(|spot| spot.index < from);
         self.spots.get(at).copied()

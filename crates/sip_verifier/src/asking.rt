@@ -25,7 +25,8 @@ pub(crate) fn ask_seat<L: Link>(
     requires seat { IsTrue (is_seat (length (block_of seat.now)) seat.now) }
     requires room { IsTrue (has_room (length entries.old) seat.now.query) }
     ensures asks { (depth : ℕ) (stream : List AnyUpdate) → StandsFor depth stream seat.now
-        → Asks depth stream seat.now.query (block_of seat.now) (L.talk link.old) (L.talk link.new) (take (found_in (length entries.new) result) entries.new) (verdict_of result) }
+        → Asks depth stream seat.now.query (block_of seat.now) (L.talk link.old) (L.talk link.new)
+        (take (found_in (length entries.new) result) entries.new) (verdict_of result) }
     ensures places { length entries.new ≡ length entries.old }
     ensures lasts { Lasts L.faults L.is_sure link.old link.new }
     ensures cause { result ≡ Err AskStop.PeerFault → Rose (L.faults link.old) (L.faults link.new) }

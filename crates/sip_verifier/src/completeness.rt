@@ -19,8 +19,10 @@ ghost use Rattle.sip_verifier.specs.VerdictClause.{VerdictClause};
 
 /// Each call that keeps to the clauses of verdicts and of causes keeps to that of completeness, where its queries fit the depth.
 pub fn honest_helpers_are_accepted()
-    ensures { (task : Task) (x : Exchange) (before now : Counts) (status : Status) → 1 ≤ task.depth → task.depth ≤ 32 → All (Fits task.depth) task.queries.items
-        → VerdictClause task x status → CauseClause task x before now status → IsListed status → CompletenessClause task x before now status }
+    ensures { (task : Task) (x : Exchange) (before now : Counts) (status : Status) → 1 ≤ task.depth
+        → task.depth ≤ 32 → All (Fits task.depth) task.queries.items
+        → VerdictClause task x status → CauseClause task x before now status → IsListed status
+        → CompletenessClause task x before now status }
 {}
 
 /// What is heard of an honest helper about the entries 1 to 2 of (3, 0, 5, 1), and what is reported.

@@ -21,10 +21,13 @@ pub fn records_are_legal()
 
 /// Where a turn's replies are accepted and state an answer, that answer is counted.
 pub fn accepted_turns_are_counted()
-    ensures { (depth : ℕ) (stream : List Update) (t : Turn) (answer : Answer) → Fits depth t.query → IsLegal depth stream → Accepts depth stream t answer → CountsFor depth stream t answer }
+    ensures { (depth : ℕ) (stream : List Update) (t : Turn) (answer : Answer) → Fits depth t.query
+        → IsLegal depth stream → Accepts depth stream t answer → CountsFor depth stream t answer }
 {}
 
 /// Each report of a verifying command is counted, where its queries can be asked.
 pub fn reports_are_counted()
-    ensures { (task : Task) (x : Exchange) (status : Status) → All (CanBeAsked task.depth) task.queries.items → VerdictClause task x status → IsListed status → CountClause task x }
+    ensures { (task : Task) (x : Exchange) (status : Status)
+        → All (CanBeAsked task.depth) task.queries.items → VerdictClause task x status
+        → IsListed status → CountClause task x }
 {}

@@ -10,7 +10,8 @@ use sip_ports::PortStop;
 
 /// What a write to the report gave.
 pub(crate) fn on_report(written: Result<(), PortStop>) -> Result<(), Status>
-    ensures { MatchResult result (λ x. written ≡ Ok x) (λ status. (port : AnyPortStop) × (written ≡ Err port) × (status ≡ status_of_report port)) }
+    ensures { MatchResult result (λ x. written ≡ Ok x)
+        (λ status. (port : AnyPortStop) × (written ≡ Err port) × (status ≡ status_of_report port)) }
 {
     match written {
         Ok(()) => Ok(()),
@@ -21,7 +22,8 @@ pub(crate) fn on_report(written: Result<(), PortStop>) -> Result<(), Status>
 
 /// What sending on the link gave.
 pub(crate) fn on_link(sent: Result<(), PortStop>) -> Result<(), Status>
-    ensures { MatchResult result (λ x. sent ≡ Ok x) (λ status. (port : AnyPortStop) × (sent ≡ Err port) × (status ≡ status_of_link port)) }
+    ensures { MatchResult result (λ x. sent ≡ Ok x)
+        (λ status. (port : AnyPortStop) × (sent ≡ Err port) × (status ≡ status_of_link port)) }
 {
     match sent {
         Ok(()) => Ok(()),

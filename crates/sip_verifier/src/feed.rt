@@ -58,7 +58,8 @@ impl Feed {
     /// Those of the link, which a front of the opening has then reached that is shorter than it. The feed is then spent.
     pub fn begin<L: Link>(&mut self, link: &mut L, depth: Depth) -> Result<(), PortStop>
         requires { self.old.is_spent ≡ false }
-        ensures talk { SendsWhole (L.talk link.old) (L.talk link.new) result (spelling (messages.Open 1 depth)) }
+        ensures talk { SendsWhole (L.talk link.old)
+            (L.talk link.new) result (spelling (messages.Open 1 depth)) }
         ensures waiting { self.new.waiting ≡ self.old.waiting }
         ensures spent { self.new.is_spent ≡ is_err result }
         ensures cause { HasCause L.faults L.is_sure link.old link.new result }
@@ -81,8 +82,10 @@ impl Feed {
         requires unspent { self.old.is_spent ≡ false }
         requires item { update.now.item < 2 ^ 32 }
         requires delta { update.now.delta ≢ pos 0 }
-        ensures talk { SendsWhole (L.talk link.old) (L.talk link.new) result (due_with self.old.waiting update.now) }
-        ensures waiting { OnOk result (self.new.waiting ≡ waiting_with self.old.waiting update.now) }
+        ensures talk { SendsWhole (L.talk link.old)
+            (L.talk link.new) result (due_with self.old.waiting update.now) }
+        ensures waiting { OnOk result (self.new.waiting
+            ≡ waiting_with self.old.waiting update.now) }
         ensures spent { self.new.is_spent ≡ is_err result }
         ensures cause { HasCause L.faults L.is_sure link.old link.new result }
     {
@@ -105,7 +108,8 @@ impl Feed {
     /// spent.
     pub fn finish<L: Link>(&mut self, link: &mut L) -> Result<(), PortStop>
         requires { self.old.is_spent ≡ false }
-        ensures talk { SendsWhole (L.talk link.old) (L.talk link.new) result (due_at_end self.old.waiting) }
+        ensures talk { SendsWhole (L.talk link.old)
+            (L.talk link.new) result (due_at_end self.old.waiting) }
         ensures waiting { OnOk result (self.new.waiting ≡ []) }
         ensures spent { self.new.is_spent ≡ is_err result }
         ensures cause { HasCause L.faults L.is_sure link.old link.new result }
@@ -119,7 +123,8 @@ impl Feed {
 impl Feed {
     // Sends the updates that wait, where there are any, and the end of the stream.
     fn send_rest<L: Link>(&mut self, link: &mut L) -> Result<(), PortStop>
-        ensures talk { SendsWhole (L.talk link.old) (L.talk link.new) result (due_at_end self.old.waiting) }
+        ensures talk { SendsWhole (L.talk link.old)
+            (L.talk link.new) result (due_at_end self.old.waiting) }
         ensures waiting { OnOk result (self.new.waiting ≡ []) }
         ensures cause { HasCause L.faults L.is_sure link.old link.new result }
     {

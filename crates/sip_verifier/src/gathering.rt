@@ -22,7 +22,9 @@ use sip_vector::Update;
 
 /// What reading a record gave.
 fn on_stream(read: Result<Option<Update>, StreamFault>) -> Result<Option<Update>, Status>
-    ensures { MatchResult result (λ next. read ≡ Ok next) (λ status. (fault : AnyStreamFault) × (read ≡ Err fault) × (status ≡ status_of_stream fault)) }
+    ensures { MatchResult result (λ next. read ≡ Ok next)
+        (λ status. (fault : AnyStreamFault) × (read ≡ Err fault)
+        × (status ≡ status_of_stream fault)) }
 {
     match read {
         Ok(next) => Ok(next),
@@ -67,8 +69,10 @@ fn follow<A: Source, L: Link>(
     peer: &mut L,
 ) -> Result<Seats, Status>
     requires { AreOf task.now seats }
-    ensures gathers { (bytes seed : List ℕ) → A.left first.old ≡ Some bytes → HasDrawn task.now seed seats
-        → Gathers task.now bytes seed (A.left first.new) (L.talk peer.old) (L.talk peer.new) result }
+    ensures gathers { (bytes seed : List ℕ) → A.left first.old ≡ Some bytes
+        → HasDrawn task.now seed seats
+        → Gathers task.now bytes seed (A.left first.new) (L.talk peer.old)
+        (L.talk peer.new) result }
     ensures seats { IfOk result (AreOf task.now) }
     ensures fault { (second seconds report reports : ℕ) → Stops stops_gathering
         (counts (A.faults first.old) second (L.faults peer.old) report)
@@ -108,12 +112,15 @@ pub fn gather<A: Source, B: Source, L: Link, C: Sink>(
     keep: &mut C,
 ) -> Result<Seats, Status>
     requires { CanBeDone task.now }
-    ensures gathers { (bytes seed : List ℕ) → A.left first.old ≡ Some bytes → B.left second.old ≡ Some seed
-        → Gathers task.now bytes seed (A.left first.new) (L.talk peer.old) (L.talk peer.new) result }
+    ensures gathers { (bytes seed : List ℕ) → A.left first.old ≡ Some bytes
+        → B.left second.old ≡ Some seed
+        → Gathers task.now bytes seed (A.left first.new) (L.talk peer.old)
+        (L.talk peer.new) result }
     ensures fault { (report reports : ℕ) → Stops stops_gathering
         (counts (A.faults first.old) (B.faults second.old) (L.faults peer.old) report)
         (counts (A.faults first.new) (B.faults second.new) (L.faults peer.new) reports) result }
-    ensures seated { IfOk result (λ seats. length seats.seats.items ≡ length task.now.queries.items) }
+    ensures seated { IfOk result (λ seats. length seats.seats.items
+        ≡ length task.now.queries.items) }
     ensures told { IsSome (A.left first.old) → IsSome (A.left first.new) }
     ensures also_told { IsSome (B.left second.old) → IsSome (B.left second.new) }
     ensures seed { TakesAtMost 32 (B.left second.old) (B.left second.new) }

@@ -17,29 +17,38 @@ ghost use Rattle.sip_verifier.specs.Talks.{stream_sent, update_frames, whole_fra
 
 /// A whole talk of one query is these bytes in this order.
 pub fn talk_of_one_query()
-    ensures { stream_sent 2 stream ++ asked One (queries.Sub 1 2) (2 ∷ 10 ∷ []) (reply_0 ∷ reply_1 ∷ []) ++ bye_sent ≡ whole_talk }
+    ensures { stream_sent 2 stream ++ asked One (queries.Sub 1 2) (2 ∷ 10 ∷ [])
+        (reply_0 ∷ reply_1 ∷ []) ++ bye_sent ≡ whole_talk }
 {}
 
 /// An empty stream has no frame of updates, and 513 updates have two frames, of which one is whole.
 pub fn frames_of_updates()
     ensures none { update_frames [] ≡ [] }
-    ensures two { length (update_frames (replicate 513 (record { side = sides.First; item = 0; delta = pos 1 }))) ≡ 2 }
-    ensures whole { length (whole_frames (replicate 513 (record { side = sides.First; item = 0; delta = pos 1 }))) ≡ 512 }
+    ensures two { length (update_frames
+        (replicate 513 (record { side = sides.First; item = 0; delta = pos 1 }))) ≡ 2 }
+    ensures whole { length (whole_frames
+        (replicate 513 (record { side = sides.First; item = 0; delta = pos 1 }))) ≡ 512 }
 {}
 
 /// The lines of answers: pairs, a negative value, none, and a number.
 pub fn lines_of_answers()
-    ensures one { line (queries.Sub 1 2) (pairs (record { index = 2; value = pos 5 } ∷ [])) ≡ codes "sub:1:2 2:5" ++ 10 ∷ [] }
-    ensures two { line (queries.Sub 0 1) (pairs (record { index = 0; value = negsuc 1 } ∷ record { index = 1; value = pos 5 } ∷ [])) ≡ codes "sub:0:1 0:-2 1:5" ++ 10 ∷ [] }
+    ensures one { line (queries.Sub 1 2) (pairs (record { index = 2; value = pos 5 } ∷ []))
+        ≡ codes "sub:1:2 2:5" ++ 10 ∷ [] }
+    ensures two { line (queries.Sub 0 1)
+        (pairs (record { index = 0; value = negsuc 1 } ∷ record { index = 1; value = pos 5 } ∷ []))
+        ≡ codes "sub:0:1 0:-2 1:5" ++ 10 ∷ [] }
     ensures none { line (queries.Sub 0 3) (pairs []) ≡ codes "sub:0:3 none" ++ 10 ∷ [] }
-    ensures sum { line (queries.Range sides.First 1 3) (number (pos 6)) ≡ codes "range:0:1:3 6" ++ 10 ∷ [] }
+    ensures sum { line (queries.Range sides.First 1 3) (number (pos 6)) ≡ codes "range:0:1:3 6"
+        ++ 10 ∷ [] }
 {}
 
 /// The lines of rejections: a fault after the last reply, a refusal, and the end of the link.
 pub fn lines_of_rejections()
     ensures root { rejection 1 2 reasons.Root ≡ codes "rejected query 1 round 2 Root" ++ 10 ∷ [] }
-    ensures refused { rejection 4 0 (reasons.Refused 3) ≡ codes "rejected query 4 round 0 Refused(3)" ++ 10 ∷ [] }
-    ensures closed { rejection 16 31 reasons.Closed ≡ codes "rejected query 16 round 31 Closed" ++ 10 ∷ [] }
+    ensures refused { rejection 4 0 (reasons.Refused 3)
+        ≡ codes "rejected query 4 round 0 Refused(3)" ++ 10 ∷ [] }
+    ensures closed { rejection 16 31 reasons.Closed ≡ codes "rejected query 16 round 31 Closed"
+        ++ 10 ∷ [] }
 {}
 
 /// Each query has its own block of challenges.

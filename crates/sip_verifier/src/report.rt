@@ -107,7 +107,8 @@ fn make_room<K: Sink>(sink: &mut K, gathered: &mut ArrayVec<u8, ROOM>) -> Result
 ///
 /// Those of the sink, which a front of the line has then reached that is shorter than it.
 pub(crate) fn write_number<K: Sink>(sink: &mut K, query: &Query, value: i64) -> Result<(), PortStop>
-    ensures talk { SendsWhole (K.talk sink.old) (K.talk sink.new) result (line query.now (number value)) }
+    ensures talk { SendsWhole (K.talk sink.old)
+        (K.talk sink.new) result (line query.now (number value)) }
     ensures cause { HasCause K.faults K.is_sure sink.old sink.new result }
 {
     let mut digits = Buffer::new();
@@ -129,7 +130,8 @@ pub(crate) fn write_pairs<K: Sink>(
     query: &Query,
     entries: &[Entry],
 ) -> Result<(), PortStop>
-    ensures talk { SendsWhole (K.talk sink.old) (K.talk sink.new) result (line query.now (pairs entries.now)) }
+    ensures talk { SendsWhole (K.talk sink.old)
+        (K.talk sink.new) result (line query.now (pairs entries.now)) }
     ensures cause { HasCause K.faults K.is_sure sink.old sink.new result }
 {
     let mut gathered = begin(query);
@@ -200,7 +202,8 @@ pub(crate) fn write_rejection<K: Sink>(
     round: u8,
     reason: Reason,
 ) -> Result<(), PortStop>
-    ensures talk { SendsWhole (K.talk sink.old) (K.talk sink.new) result (rejection query round reason) }
+    ensures talk { SendsWhole (K.talk sink.old)
+        (K.talk sink.new) result (rejection query round reason) }
     ensures cause { HasCause K.faults K.is_sure sink.old sink.new result }
 {
     write_whole(sink, rejection_line(query, round, reason).as_slice())

@@ -45,7 +45,8 @@ impl QuerySeat {
         requires built { IsTrue (is_built query) }
         ensures query { result.query ≡ query }
         ensures block { block_of result ≡ block }
-        ensures stands { (depth : ℕ) → CanBeAsked depth query → length block ≡ depth → IsTrue (is_seat depth result) × StandsFor depth [] result }
+        ensures stands { (depth : ℕ) → CanBeAsked depth query → length block ≡ depth
+            → IsTrue (is_seat depth result) × StandsFor depth [] result }
     {
         let running = match query {
             Query::Sub { .. } => Running::Root(Root::new(block)),
@@ -68,7 +69,8 @@ impl QuerySeat {
         requires { update.now.item < 2 ^ length (block_of self.old) }
         ensures query { self.new.query ≡ self.old.query }
         ensures block { block_of self.new ≡ block_of self.old }
-        ensures stands { (depth : ℕ) (stream : List AnyUpdate) → StandsFor depth stream self.old → StandsFor depth (stream ++ update.now ∷ []) self.new }
+        ensures stands { (depth : ℕ) (stream : List AnyUpdate) → StandsFor depth stream self.old
+            → StandsFor depth (stream ++ update.now ∷ []) self.new }
     {
         match &mut self.running {
             Running::Root(root) => {

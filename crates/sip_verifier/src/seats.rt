@@ -81,7 +81,8 @@ impl Seats {
     pub fn update(&mut self, update: &Update)
         requires { update.now.item < 2 ^ self.old.depth }
         ensures depth { self.new.depth ≡ self.old.depth }
-        ensures stands { (depth : ℕ) (queries : List AnyQuery) (blocks : List (List ℕ)) (stream : List AnyUpdate)
+        ensures stands { (depth : ℕ) (queries : List AnyQuery) (blocks : List (List ℕ))
+            (stream : List AnyUpdate)
             → AreSeats depth queries blocks stream self.old
             → AreSeats depth queries blocks (stream ++ update.now ∷ []) self.new }
     {
@@ -96,7 +97,8 @@ impl Seats {
     ///
     /// Those of the sink, which a front of the head has then reached that is shorter than it.
     pub fn put_transcript_head<K: Sink>(&self, sink: &mut K) -> Result<(), PortStop>
-        ensures talk { (depth : ℕ) (queries : List AnyQuery) (blocks : List (List ℕ)) (stream : List AnyUpdate)
+        ensures talk { (depth : ℕ) (queries : List AnyQuery) (blocks : List (List ℕ))
+            (stream : List AnyUpdate)
             → AreSeats depth queries blocks stream self.now
             → SendsWhole (K.talk sink.old) (K.talk sink.new) result (head_of depth queries blocks) }
         ensures cause { HasCause K.faults K.is_sure sink.old sink.new result }

@@ -157,14 +157,18 @@ impl Session {
     fn judge<L: Link>(&mut self, link: &mut L) -> Result<Verdict, SessionFault>
         requires left { 0 < length self.old.left }
         requires live { self.old.spent ≡ false }
-        ensures asks { (stream : List AnyUpdate) (seat : AnySeat) (more : List AnySeat) → self.old.left ≡ seat ∷ more → StandsFor self.old.depth stream seat
-            → Asks self.old.depth stream seat.query (block_of seat) (L.talk link.old) (L.talk link.new) self.new.entries result }
-        ensures fits { (seat : AnySeat) (more : List AnySeat) → self.old.left ≡ seat ∷ more → Fits self.old.depth seat.query }
+        ensures asks { (stream : List AnyUpdate) (seat : AnySeat) (more : List AnySeat)
+            → self.old.left ≡ seat ∷ more → StandsFor self.old.depth stream seat
+            → Asks self.old.depth stream seat.query (block_of seat) (L.talk link.old)
+            (L.talk link.new) self.new.entries result }
+        ensures fits { (seat : AnySeat) (more : List AnySeat) → self.old.left ≡ seat ∷ more
+            → Fits self.old.depth seat.query }
         ensures next { self.new.left ≡ drop 1 self.old.left }
         ensures depth { self.new.depth ≡ self.old.depth }
         ensures spent { self.new.spent ≡ is_over result }
         ensures cleared { is_over result ≡ true → self.new.entries ≡ [] }
-        ensures cause { result ≡ Err SessionFault.PeerFault → Rose (L.faults link.old) (L.faults link.new) }
+        ensures cause { result ≡ Err SessionFault.PeerFault
+            → Rose (L.faults link.old) (L.faults link.new) }
         ensures no_keep { result ≢ Err SessionFault.KeepFault }
         ensures link { Lasts L.faults L.is_sure link.old link.new }
     {
@@ -195,16 +199,21 @@ impl Session {
     ) -> Result<Verdict, SessionFault>
         requires left { 0 < length self.old.left }
         requires live { self.old.spent ≡ false }
-        ensures asks { (stream : List AnyUpdate) (seat : AnySeat) (more : List AnySeat) → self.old.left ≡ seat ∷ more → StandsFor self.old.depth stream seat
-            → Asks self.old.depth stream seat.query (block_of seat) (L.talk link.old) (L.talk link.new) self.new.entries result }
-        ensures count { (stream : List AnyUpdate) (seat : AnySeat) (more : List AnySeat) → self.old.left ≡ seat ∷ more → StandsFor self.old.depth stream seat
+        ensures asks { (stream : List AnyUpdate) (seat : AnySeat) (more : List AnySeat)
+            → self.old.left ≡ seat ∷ more → StandsFor self.old.depth stream seat
+            → Asks self.old.depth stream seat.query (block_of seat) (L.talk link.old)
+            (L.talk link.new) self.new.entries result }
+        ensures count { (stream : List AnyUpdate) (seat : AnySeat) (more : List AnySeat)
+            → self.old.left ≡ seat ∷ more → StandsFor self.old.depth stream seat
             → IsLegal self.old.depth stream
-            → AnswersCount self.old.depth stream seat.query (block_of seat) (L.talk link.old) (L.talk link.new) self.new.entries result }
+            → AnswersCount self.old.depth stream seat.query (block_of seat) (L.talk link.old)
+            (L.talk link.new) self.new.entries result }
         ensures next { self.new.left ≡ drop 1 self.old.left }
         ensures depth { self.new.depth ≡ self.old.depth }
         ensures spent { self.new.spent ≡ is_over result }
         ensures cleared { is_over result ≡ true → self.new.entries ≡ [] }
-        ensures cause { result ≡ Err SessionFault.PeerFault → Rose (L.faults link.old) (L.faults link.new) }
+        ensures cause { result ≡ Err SessionFault.PeerFault
+            → Rose (L.faults link.old) (L.faults link.new) }
         ensures no_keep { result ≢ Err SessionFault.KeepFault }
         ensures link { Lasts L.faults L.is_sure link.old link.new }
         ensures kept { keep.new ≡ keep.old }

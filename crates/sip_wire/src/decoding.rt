@@ -52,7 +52,8 @@ fn message_in(kind: Kind, bytes: &[u8]) -> Result<Message, WireFault>
 /// link's, the frame was not received whole. Whatever the answer, `frame` shows what was received, and what follows is still on
 /// the link. No memory is taken.
 pub fn decode<L: Link>(link: &mut L, place: Place, frame: &mut Frame) -> Result<Message, WireFault>
-    ensures did { Decodes place (L.talk link.old) (L.talk link.new) (L.faults link.old) (L.faults link.new) (frame_bytes frame.new) result }
+    ensures did { Decodes place (L.talk link.old) (L.talk link.new) (L.faults link.old)
+        (L.faults link.new) (frame_bytes frame.new) result }
     ensures lasts { Lasts L.faults L.is_sure link.old link.new }
 {
     frame.clear();

@@ -56,8 +56,10 @@ impl Frame {
     pub(crate) fn receive<L: Link>(&mut self, link: &mut L, upto: usize) -> Result<(), WireFault>
         requires order { length (frame_bytes self.old) ≤ upto }
         requires room { upto ≤ longest_frame }
-        ensures heard { Receives (L.talk link.old) (L.talk link.new) (frame_bytes self.old) (frame_bytes self.new) upto result }
-        ensures failed { IsErrOf result WireFault.PeerFault → Rose (L.faults link.old) (L.faults link.new) }
+        ensures heard { Receives (L.talk link.old) (L.talk link.new) (frame_bytes self.old)
+            (frame_bytes self.new) upto result }
+        ensures failed { IsErrOf result WireFault.PeerFault
+            → Rose (L.faults link.old) (L.faults link.new) }
         ensures lasts { Lasts L.faults L.is_sure link.old link.new }
     {
         while self.taken < upto {

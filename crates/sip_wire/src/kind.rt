@@ -119,7 +119,8 @@ fn is_counted(length: usize, most: usize, row: usize) -> bool
     requires most { most < 2 ^ 16 }
     requires row { row < 2 ^ 16 }
     requires some { 0 < row }
-    ensures { result ≡ (nat_le (2 + row) length && nat_le length (2 + most * row) && ((length - 2) % row == 0)) }
+    ensures { result ≡ (nat_le (2 + row) length && nat_le length (2 + most * row) &&
+        ((length - 2) % row == 0)) }
 {
     length >= 2 + row && length <= 2 + most * row && (length - 2) % row == 0
 }

@@ -17,10 +17,13 @@ fn rows_of<T: Row + Drop, const CAP: usize>(count: usize, bytes: &[u8]) -> Optio
     requires room { count ≤ CAP }
     requires whole { length bytes.now ≡ size (repeat count T.layout) }
     ensures count { IfSome result (λ v. length v.items ≡ count) }
-    ensures said { IfSome result (λ v. flat_map T.said v.items ≡ numbers_in (repeat count T.layout) bytes.now) }
-    ensures some { IfSome result (λ v. all_hold (repeat count T.layout) (numbers_in (repeat count T.layout) bytes.now) ≡ true) }
+    ensures said { IfSome result (λ v. flat_map T.said v.items
+        ≡ numbers_in (repeat count T.layout) bytes.now) }
+    ensures some { IfSome result (λ v. all_hold (repeat count T.layout)
+        (numbers_in (repeat count T.layout) bytes.now) ≡ true) }
     ensures in_range { IfSome result (λ v. All T.in_range v.items) }
-    ensures none { IfNone result (all_hold (repeat count T.layout) (numbers_in (repeat count T.layout) bytes.now) ≡ false) }
+    ensures none { IfNone result (all_hold (repeat count T.layout)
+        (numbers_in (repeat count T.layout) bytes.now) ≡ false) }
 {
     let mut rows = ArrayVec::new();
     let mut rest = bytes;
@@ -81,7 +84,8 @@ pub fn put_counted<T: Row>(rows: &[T], out: &mut Bytes)
     requires fits { rooms T.said T.layout rows.now ≡ true }
     requires count { length rows.now ≤ most_rows }
     requires room { array_vec_len out.old + (2 + size (over T.layout rows.now)) ≤ longest_frame }
-    ensures { out.new.items ≡ out.old.items ++ (in_bytes 2 (length rows.now) ++ bytes T.said T.layout rows.now) }
+    ensures { out.new.items ≡ out.old.items ++ (in_bytes 2 (length rows.now)
+        ++ bytes T.said T.layout rows.now) }
 {
     put_u16(out, rows.len() as u16);
     put_rows(rows, out);

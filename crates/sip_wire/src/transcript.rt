@@ -21,7 +21,8 @@ const TRANSCRIPT_VERSION: u8 = 1;
 pub fn put_head<K: Sink>(depth: Depth, queries: u8, sink: &mut K) -> Result<(), PortStop>
     requires some { 1 ≤ queries }
     requires most { queries ≤ 16 }
-    ensures talk { SendsWhole (K.talk sink.old) (K.talk sink.new) result (head_bytes depth queries) }
+    ensures talk { SendsWhole (K.talk sink.old)
+        (K.talk sink.new) result (head_bytes depth queries) }
     ensures cause { HasCause K.faults K.is_sure sink.old sink.new result }
 {
     let head = [
@@ -39,7 +40,8 @@ pub fn put_head<K: Sink>(depth: Depth, queries: u8, sink: &mut K) -> Result<(), 
 /// Writes a query that was asked, and its challenges, at once. After an `Err` a part of it was written, and not all.
 pub fn put_ask<K: Sink>(query: &Query, seat: &Seat<M61, 32>, sink: &mut K) -> Result<(), PortStop>
     requires { Fits (length seat.now) query.now }
-    ensures talk { SendsWhole (K.talk sink.old) (K.talk sink.new) result (ask_bytes query.now seat.now) }
+    ensures talk { SendsWhole (K.talk sink.old)
+        (K.talk sink.new) result (ask_bytes query.now seat.now) }
     ensures cause { HasCause K.faults K.is_sure sink.old sink.new result }
 {
     let depth = seat.depth();

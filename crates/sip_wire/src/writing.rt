@@ -26,7 +26,8 @@ fn query_len(query: Query) -> usize
 
 /// How many bytes the body of a message has.
 pub fn body_len(message: &Message) -> usize
-    ensures exact { result ≡ (shape (kind_of message.now)).mark_width + size ((shape (kind_of message.now)).fields (mark_of message.now)) }
+    ensures exact { result ≡ (shape (kind_of message.now)).mark_width + size
+        ((shape (kind_of message.now)).fields (mark_of message.now)) }
     ensures room { result ≤ longest_body }
 {
     match message {
@@ -52,7 +53,8 @@ pub fn body_len(message: &Message) -> usize
 fn put_query(query: Query, out: &mut Bytes)
     requires fits { IsTrue (fits_shape query_shape (query_code query) (query_numbers query)) }
     requires room { array_vec_len out.old + 10 ≤ longest_frame }
-    ensures { out.new.items ≡ out.old.items ++ body_in query_shape (query_code query) (query_numbers query) }
+    ensures { out.new.items ≡ out.old.items ++ body_in query_shape (query_code query)
+        (query_numbers query) }
 {
     match query {
         Query::Sub { lo, hi } => {
@@ -82,7 +84,8 @@ fn put_query(query: Query, out: &mut Bytes)
 /// Appends flags and the siblings that are present.
 fn put_siblings(left: Option<u64>, right: Option<u64>, out: &mut Bytes)
     requires room { array_vec_len out.old + 17 ≤ longest_frame }
-    ensures { out.new.items ≡ out.old.items ++ body_in siblings_shape (flag left 1 + flag right 2) (present left ++ present right) }
+    ensures { out.new.items ≡ out.old.items ++ body_in siblings_shape (flag left 1 + flag right 2)
+        (present left ++ present right) }
 {
     match (left, right) {
         (None, None) => put_u8(out, 0),

@@ -19,8 +19,11 @@ pub fn made_from_7_and_0()
 
 /// A made stream is legal, and no entry of its vectors is negative. Its bytes are read as that stream, to their end.
 pub fn made_streams_are_legal()
-    ensures legal { (x count depth : ℕ) → 1 ≤ depth → count ≤ 10_000_000 → IsLegal depth (made x count depth) }
+    ensures legal { (x count depth : ℕ) → 1 ≤ depth → count ≤ 10_000_000
+        → IsLegal depth (made x count depth) }
     ensures read { (x count depth : ℕ) → 1 ≤ depth → depth ≤ 32 → count ≤ 10_000_000
-        → records depth Binary (made_bytes x count depth) ≡ record { legal = made x count depth; fault = None } }
-    ensures strict { (x count depth : ℕ) (side : AnySide) → IsStrict depth (made x count depth) side }
+        → records depth Binary (made_bytes x count depth)
+        ≡ record { legal = made x count depth; fault = None } }
+    ensures strict { (x count depth : ℕ) (side : AnySide)
+        → IsStrict depth (made x count depth) side }
 {}

@@ -15,20 +15,24 @@ ghost use Rattle.sip_stream.specs.Spellings.{line_bytes, record_bytes, spelled};
 pub fn records_of_two()
     ensures first { record_bytes (record { side = sides.First; item = 2; delta = pos 5 })
         ≡ 0 ∷ 0 ∷ 0 ∷ 0 ∷ 2 ∷ 0 ∷ 0 ∷ 0 ∷ 0 ∷ 0 ∷ 0 ∷ 0 ∷ 5 ∷ [] }
-    ensures second { record_bytes (record { side = sides.Second; item = 4_294_967_295; delta = negsuc 1 })
+    ensures second { record_bytes
+        (record { side = sides.Second; item = 4_294_967_295; delta = negsuc 1 })
         ≡ 1 ∷ 255 ∷ 255 ∷ 255 ∷ 255 ∷ 255 ∷ 255 ∷ 255 ∷ 255 ∷ 255 ∷ 255 ∷ 255 ∷ 254 ∷ [] }
 {}
 
 /// Two lines: of an update of either side, one of them with a negative delta.
 pub fn lines_of_two()
-    ensures first { line_bytes (record { side = sides.First; item = 532219; delta = pos 8 }) ≡ codes "0 532219 8" ++ 10 ∷ [] }
-    ensures second { line_bytes (record { side = sides.Second; item = 0; delta = negsuc 16 }) ≡ codes "1 0 -17" ++ 10 ∷ [] }
+    ensures first { line_bytes (record { side = sides.First; item = 532219; delta = pos 8 })
+        ≡ codes "0 532219 8" ++ 10 ∷ [] }
+    ensures second { line_bytes (record { side = sides.Second; item = 0; delta = negsuc 16 })
+        ≡ codes "1 0 -17" ++ 10 ∷ [] }
 {}
 
 /// A record has 13 bytes. A line has 34 at most, and its one line feed is its last byte.
 pub fn spellings_are_short()
     ensures records { (u : AnyUpdate) → length (record_bytes u) ≡ 13 }
-    ensures lines { (u : AnyUpdate) → u.item < 2 ^ 32 → FitsSigned w64 u.delta → length (line_bytes u) ≤ 34 }
+    ensures lines { (u : AnyUpdate) → u.item < 2 ^ 32 → FitsSigned w64 u.delta
+        → length (line_bytes u) ≤ 34 }
     ensures feed { (u : AnyUpdate) → u.item < 2 ^ 32 → FitsSigned w64 u.delta
         → (text : List ℕ) × (line_bytes u ≡ text ++ 10 ∷ []) × All (λ b. b ≢ 10) text }
 {}
@@ -38,15 +42,20 @@ pub fn spellings_are_short()
 pub fn spellings_are_read()
     ensures update { (form : AnyForm) (u : AnyUpdate) → u.item < 2 ^ 32 → FitsSigned w64 u.delta
         → update_at form (spelled form u) ≡ u }
-    ensures fault { (form : AnyForm) (depth : ℕ) (before : List AnyUpdate) (u : AnyUpdate) → u.item < 2 ^ 32 → FitsSigned w64 u.delta
+    ensures fault { (form : AnyForm) (depth : ℕ) (before : List AnyUpdate) (u : AnyUpdate)
+        → u.item < 2 ^ 32 → FitsSigned w64 u.delta
         → fault_at form depth before (spelled form u) ≡ update_fault depth before u }
-    ensures next { (depth : ℕ) (form : AnyForm) (before : List AnyUpdate) (u : AnyUpdate) (rest : List ℕ) → u.item < 2 ^ 32 → FitsSigned w64 u.delta
+    ensures next { (depth : ℕ) (form : AnyForm) (before : List AnyUpdate) (u : AnyUpdate)
+        (rest : List ℕ) → u.item < 2 ^ 32 → FitsSigned w64 u.delta
         → update_fault depth before u ≡ None
-        → records_from depth form before (spelled form u ++ rest) ≡ records_from depth form (before ++ u ∷ []) rest }
+        → records_from depth form before (spelled form u ++ rest)
+        ≡ records_from depth form (before ++ u ∷ []) rest }
 {}
 
 /// The spellings of a legal stream, one after the other, are read as that stream, to their end.
 pub fn streams_are_read()
-    ensures { (depth : ℕ) (form : AnyForm) (stream : List AnyUpdate) → depth ≤ 32 → IsLegal depth stream
-        → records depth form (flat_map (spelled form) stream) ≡ record { legal = stream; fault = None } }
+    ensures { (depth : ℕ) (form : AnyForm) (stream : List AnyUpdate) → depth ≤ 32
+        → IsLegal depth stream
+        → records depth form (flat_map (spelled form) stream)
+        ≡ record { legal = stream; fault = None } }
 {}
