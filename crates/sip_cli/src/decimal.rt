@@ -8,11 +8,5 @@ pub(crate) fn read_decimal(text: &str) -> Option<u64>
         ((n : ℕ) → n < 2 ^ 64 → text.now ≢ decimal n)
         (λ n. text.now ≡ decimal n) }
 {
-    if text.starts_with('+') {
-        return None;
-    }
-    if text.len() > 1 && text.starts_with('0') {
-        return None;
-    }
-    text.parse().ok()
+    sip_stream::read_decimal(text.as_bytes())
 }

@@ -8,9 +8,12 @@ ghost use Rattle.sip_cli.specs.StatusLine.{line_of_status, port_name, why_name};
 use arrayvec::ArrayVec;
 use sip_ports::{PortStop, Sink, write_whole};
 use sip_stream::Why;
+use sip_stream::text::{put, put_number};
 use sip_vector::Side;
-use sip_verifier::text::{ROOM, put, put_number};
 use sip_verifier::{Port, Status};
+
+/// No line of a status is longer.
+const ROOM: usize = 256;
 
 // Adds the name of why a record is not legal.
 fn put_why(gathered: &mut ArrayVec<u8, ROOM>, why: Why)

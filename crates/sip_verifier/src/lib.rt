@@ -43,7 +43,6 @@ mod seats;
 mod session;
 mod status;
 mod task;
-pub mod text;
 
 pub use checking::check_stream;
 pub use feed::Feed;

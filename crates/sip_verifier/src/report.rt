@@ -6,12 +6,16 @@ ghost use Rattle.sip_ports.specs.Ports.{GoesOn, HasCause, SendsWhole, outs};
 ghost use Rattle.sip_vector.specs.Answers.{pairs, number};
 ghost use Rattle.sip_verifier.specs.Reports.{line, pair_text, parameter, query_word, reason_name, rejection, side_parameter};
 
-use crate::text::{ROOM, put, put_number};
 use arrayvec::ArrayVec;
 use itoa::Buffer;
 use sip_ports::{PortStop, Sink, write_whole};
+use sip_stream::text::{put, put_number};
 use sip_vector::{Entry, Query, Side};
 use sip_wire::Reason;
+
+/// How many bytes of a line are gathered before they are written. Only a line of pairs may be longer, and is written in
+/// parts.
+const ROOM: usize = 1024;
 
 /// The most bytes of a pair and the space before it: two numbers of at most 20 bytes, a colon, a space.
 const MOST_PAIR: usize = 42;
