@@ -27,4 +27,4 @@ no_verb w Lines dash = λ e. let h : get_or w 0 0 ≡ 108 = ap (λ v. get_or v 0
 
 -- one word that begins with a dash is refused at once
 pub refused_alone : (words : List (List ℕ)) (w : List ℕ) → words ≡ w ∷ [] → get_or w 0 0 ≡ 45 → IsRefusedAt words 0
-refused_alone words w is dash = refused_verb words (λ verb some has same. no_verb w verb dash (sym (ap (λ ws. word ws 0) is) ∙ same))
+refused_alone words w is dash = refused_verb words (λ verb some same. no_verb w verb dash (sym (ap (λ ws. word ws 0) is) ∙ same))

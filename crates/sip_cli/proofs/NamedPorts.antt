@@ -26,7 +26,7 @@ stream_named words stream.File depth more names = (more, inl refl)
 
 -- all files of a command have their names
 pub opens_named : (words : List (List ℕ)) (c : Command) (plan : PortPlan) → Spells words c → Opens words c plan → HaveNames words plan
-opens_named some words (command.Verify task) plan spells (s, names, is) =
+opens_named words (command.Verify task) plan spells (s, names, is) =
     let least = spells.0.least in
     subst (HaveNames words) (sym is) (record {
       first = stream_named words s task.depth (omega arith) names;
@@ -35,7 +35,7 @@ opens_named some words (command.Verify task) plan spells (s, names, is) =
       to = file_named words 4 (omega arith);
       keep = tt;
     })
-opens_named some words command.Help plan spells is =
+opens_named words command.Help plan spells is =
     let least = spells.least in
     subst (HaveNames words) (sym is) (record {
       first = tt;
@@ -44,9 +44,9 @@ opens_named some words command.Help plan spells is =
       to = file_named words 2 (omega arith);
       keep = tt;
     })
-opens_named some words (command.Gen depth) plan spells (number, count, low, few, one, two, is) =
+opens_named words (command.Gen depth) plan spells (number, count, low, few, one, two, is) =
     subst (HaveNames words) (sym is) (record { first = tt; second = tt; from = tt; to = tt; keep = tt })
-opens_named some words (command.Lines form depth) plan spells (s, names, is) =
+opens_named words (command.Lines form depth) plan spells (s, names, is) =
     let least = spells.0.least in
     subst (HaveNames words) (sym is) (record {
       first = stream_named words s depth (omega arith) names;

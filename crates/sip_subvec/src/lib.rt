@@ -63,8 +63,3 @@ mod prover;
 pub use asking::SubAsking;
 pub use check::SubCheck;
 pub use prover::{SiblingPair, SubProver};
-
-#[cfg(test)]
-mod check_tests;
-#[cfg(test)]
-mod prover_tests;

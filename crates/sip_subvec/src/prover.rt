@@ -94,3 +94,6 @@ impl<F: Field> SubProver<F> {
         self.hi /= 2;
     }
 }
+
+#[cfg(test)]
+mod tests;

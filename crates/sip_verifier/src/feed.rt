@@ -146,3 +146,6 @@ impl Default for Feed {
         Feed::new()
     }
 }
+
+#[cfg(test)]
+mod tests;

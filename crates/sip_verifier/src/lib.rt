@@ -51,8 +51,3 @@ pub use seats::{MOST_QUERIES, Seats};
 pub use session::{Session, SessionFault, SessionStart, Verdict};
 pub use status::{Port, Status};
 pub use task::Task;
-
-#[cfg(test)]
-mod feed_tests;
-#[cfg(test)]
-mod seats_tests;

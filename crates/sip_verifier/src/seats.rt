@@ -110,3 +110,6 @@ impl Seats {
         Ok(())
     }
 }
+
+#[cfg(test)]
+mod tests;

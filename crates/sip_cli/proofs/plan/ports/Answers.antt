@@ -24,4 +24,4 @@ returns-in-Err-clause-counted c = λ number count depth is. made_never count (rw
 pub returns-in-Ok-clause-named : goal.returns-in-Ok-clause-named
 returns-in-Ok-clause-named c =
     let spells = c.in-Ok.ensures.command in
-    opens_named c.args.built c.args.words.now c.in-Ok.command c.of.result spells (c.of.ensures spells)
+    opens_named c.args.words.now c.in-Ok.command c.of.result spells (c.of.ensures spells)

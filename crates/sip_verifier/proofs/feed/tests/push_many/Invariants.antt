@@ -1,5 +1,5 @@
 use Rattle.std.proofs.Common.{◌≡◌, false}
-use Rattle.sip_verifier.proofs.feed_tests.push_many.Given as goal
+use Rattle.sip_verifier.proofs.feed.tests.push_many.Given as goal
 
 abbrev pub invariant-loop : goal.invariant-loop
 invariant-loop l = l.feed.is_spent ≡ false
