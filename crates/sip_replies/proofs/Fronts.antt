@@ -18,13 +18,16 @@ pub record Grows {X : Type 0} (less more : Result X Reason) : Type 0 where
   pub stays : (reason : Reason) → less ≡ Err reason → reason ≢ reasons.Closed → more ≡ Err reason
   pub full : (x : X) → less ≡ Ok x → more ≡ Err reasons.BadLength
 
-grows_closed : {X : Type 0} (more : Result X Reason) → Grows (Err reasons.Closed) more
+-- nothing is said of what has more to come
+pub grows_closed : {X : Type 0} (more : Result X Reason) → Grows (Err reasons.Closed) more
 grows_closed more = record { stays = λ reason e other. absurd (other (let same : Err reason ≡ Err reasons.Closed = sym e in cc)); full = λ x e. absurd cc }
 
-grows_fault : {X : Type 0} (reason : Reason) → Grows {X = X} (Err reason) (Err reason)
+-- a fault that stays
+pub grows_fault : {X : Type 0} (reason : Reason) → Grows {X = X} (Err reason) (Err reason)
 grows_fault reason = record { stays = λ other e no. e; full = λ x e. absurd cc }
 
-grows_end : {X : Type 0} (x : X) (rest : List ℕ) (byte : ℕ) (more : List ℕ) → Grows (at_end x rest) (at_end x (rest ++ byte ∷ more))
+-- what is whole at its last byte
+pub grows_end : {X : Type 0} (x : X) (rest : List ℕ) (byte : ℕ) (more : List ℕ) → Grows (at_end x rest) (at_end x (rest ++ byte ∷ more))
 grows_end x [] byte more = record { stays = λ reason e no. absurd cc; full = λ y e. refl }
 grows_end x (b ∷ rest) byte more = record { stays = λ reason e no. e; full = λ y e. absurd cc }
 
@@ -40,7 +43,8 @@ front_of (Err reason) more x grows whole = elim (closed_or_not reason) [
   | inr other ↦ absurd (let stays = grows.stays reason refl other in let both : Err reason ≡ Ok x = sym stays ∙ whole in cc)
 ]
 
-fault_or_not : (fault : WireFault) → (reason_of fault ≡ reasons.Closed) ⊎ (fault ≢ faults.Closed)
+-- a fault of a frame is read as the end of the link, or is not that it closed
+pub fault_or_not : (fault : WireFault) → (reason_of fault ≡ reasons.Closed) ⊎ (fault ≢ faults.Closed)
 fault_or_not faults.Closed = inl refl
 fault_or_not faults.PeerFault = inl refl
 fault_or_not faults.OutOfMemory = inl refl

@@ -75,7 +75,7 @@ Ready-later P query block old mid new before during count Stands going talk lt =
 
 -- ---- a reply that came
 
-same_fault : {X : Type 0} (a b : Fault) → ◌≡◌ {A = Result X Fault} (Err a) (Err b) → a ≡ b
+pub same_fault : {X : Type 0} (a b : Fault) → ◌≡◌ {A = Result X Fault} (Err a) (Err b) → a ≡ b
 same_fault a b e = cc
 
 verdict-fault : {S : Type 0} (P : Protocol S) (block : List ℕ) (replies : List (List ℕ)) (fault : Fault) → run P.rules block replies ≡ Err fault → verdict P block replies ≡ Err fault
