@@ -1,5 +1,5 @@
 -- A front of a reply that is read whole has no fault but that more is to come.
-use Rattle.std.proofs.Common.{◌≡◌, ◌≢◌, ◌⊎◌, ℕ, zero, suc, ◌≤◌, Result, Ok, Err, List, [], ◌∷◌, ◌++◌, length, inl, inr, refl, sym, ap, ◌∙◌, arith}
+use Rattle.std.proofs.Common.{◌≡◌, ℕ, zero, suc, ◌≤◌, Result, Ok, Err, List, ◌∷◌, ◌++◌, length, inl, inr, refl, arith}
 use Rattle.sip_vector.specs.declared.update.Entry.{Entry}
 use Rattle.sip_vector.specs.Steps.{◌>>=◌}
 use Rattle.sip_wire.specs.declared.kind.Place.TheVariants as places
@@ -8,55 +8,22 @@ use Rattle.sip_wire.specs.declared.message.Message.TheVariants as messages
 use Rattle.sip_wire.specs.declared.message.Reason.{Reason}
 use Rattle.sip_wire.specs.declared.message.Reason.TheVariants as reasons
 use Rattle.sip_wire.specs.declared.message.WireFault.{WireFault}
-use Rattle.sip_wire.specs.declared.message.WireFault.TheVariants as faults
 use Rattle.sip_wire.specs.Reading.{read_frame}
 use Rattle.sip_wire.proofs.ReadingLaws.{read_frame-append, read_frame-append_fault, read_frame-shrinks}
 use Rattle.sip_subvec.specs.AcceptsSub.{Siblings}
-use Rattle.sip_replies.specs.Replies.{reason_of, at_end}
+use Rattle.sip_replies.specs.Replies.{reason_of}
 use Rattle.sip_subvec.specs.Replies.{with_entries, asked_siblings, later_reply}
+use Rattle.sip_replies.proofs.Fronts.{Grows, grows_closed, grows_fault, grows_end, front_of, fault_or_not}
 use Rattle.sip_subvec.proofs.FirstReply.{read_first, message_says, read_first-fault, read_first-message}
 use Rattle.sip_subvec.proofs.LaterReply as later
 use Rattle.sip_subvec.proofs.LaterReply.{later_reply-fault, later_reply-message}
 
 -- ---- what more bytes do to an answer
 
--- an answer and the one with more bytes behind: a fault but Closed stays, and what was whole has too many bytes
-pub record Grows {X : Type 0} (less more : Result X Reason) : Type 0 where
-  pub stays : (reason : Reason) → less ≡ Err reason → reason ≢ reasons.Closed → more ≡ Err reason
-  pub full : (x : X) → less ≡ Ok x → more ≡ Err reasons.BadLength
-
-grows_closed : {X : Type 0} (more : Result X Reason) → Grows (Err reasons.Closed) more
-grows_closed more = record { stays = λ reason e other. absurd (other (let same : Err reason ≡ Err reasons.Closed = sym e in cc)); full = λ x e. absurd cc }
-
-grows_fault : {X : Type 0} (reason : Reason) → Grows {X = X} (Err reason) (Err reason)
-grows_fault reason = record { stays = λ other e no. e; full = λ x e. absurd cc }
-
-grows_end : {X : Type 0} (x : X) (rest : List ℕ) (byte : ℕ) (more : List ℕ) → Grows (at_end x rest) (at_end x (rest ++ byte ∷ more))
-grows_end x [] byte more = record { stays = λ reason e no. absurd cc; full = λ y e. refl }
-grows_end x (b ∷ rest) byte more = record { stays = λ reason e no. e; full = λ y e. absurd cc }
-
+-- an answer that goes on with another grows as that does
 grows_bind : {A X : Type 0} (r : Result A Reason) (f g : A → Result X Reason) → ((a : A) → Grows (f a) (g a)) → Grows (r >>= f) (r >>= g)
 grows_bind (Ok a) f g grows = grows a
 grows_bind (Err reason) f g grows = grows_fault reason
-
-closed_or_not : (reason : Reason) → (reason ≡ reasons.Closed) ⊎ (reason ≢ reasons.Closed)
-closed_or_not reasons.Closed = inl refl
-closed_or_not _ = inr (λ e. cc)
-
--- so a front of what is whole is not
-front_of : {X : Type 0} (less more : Result X Reason) (x : X) → Grows less more → more ≡ Ok x → less ≡ Err reasons.Closed
-front_of (Ok y) more x grows whole = absurd (let full = grows.full y refl in let both : Err reasons.BadLength ≡ Ok x = sym full ∙ whole in cc)
-front_of (Err reason) more x grows whole = elim (closed_or_not reason) [
-  | inl e ↦ ap (λ (r : Reason). Err r) e
-  | inr other ↦ absurd (let stays = grows.stays reason refl other in let both : Err reason ≡ Ok x = sym stays ∙ whole in cc)
-]
-
--- a fault of a frame
-fault_or_not : (fault : WireFault) → (reason_of fault ≡ reasons.Closed) ⊎ (fault ≢ faults.Closed)
-fault_or_not faults.Closed = inl refl
-fault_or_not faults.PeerFault = inl refl
-fault_or_not faults.OutOfMemory = inl refl
-fault_or_not _ = inr (λ e. cc)
 
 -- ---- reply 0
 

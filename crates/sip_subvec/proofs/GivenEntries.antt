@@ -11,6 +11,7 @@ use Rattle.sip_wire.specs.declared.message.Reason.{Reason}
 use Rattle.sip_wire.specs.declared.message.Reason.TheVariants as reasons
 use Rattle.sip_subvec.specs.Checking.{Kept, AnswersAs}
 use Rattle.sip_subvec.specs.Replies.{most_entries, with_entries}
+use Rattle.sip_subvec.specs.LawProofs.ReplyTests.{same_err}
 use Rattle.sip_subvec.proofs.StatedEntries.{rise-nil}
 use Rattle.sip_subvec.proofs.SaidReplies.{entries-taken}
 use Rattle.sip_subvec.proofs.TakingSteps.{in_pieces, first_piece}
@@ -31,9 +32,6 @@ answered_err (Ok x) HasMore check result reason answer is = let not = answer.0 i
 answered_err (Err other) HasMore check result reason answer is = let same = answer.0 in cc
 
 -- ---- a fault of entries is not the end of the link
-
-pub same_err : {X : Type 0} (a b : Reason) → ◌≡◌ {A = Result X Reason} (Err a) (Err b) → a ≡ b
-same_err a b e = cc
 
 not_end : (lo hi : ℕ) (before es : List Entry) (reason : Reason) → with_entries lo hi before es ≡ Err reason → ending reason ≡ []
 not_end lo hi before [] reason is = absurd cc

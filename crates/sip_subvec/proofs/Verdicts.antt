@@ -7,20 +7,11 @@ use Rattle.sip_wire.specs.declared.message.Reason.TheVariants as reasons
 use Rattle.sip_subvec.specs.AcceptsSub.{Siblings, Stated, gives_root}
 use Rattle.sip_replies.specs.Replies.{Fault, in_round}
 use Rattle.sip_subvec.specs.Replies.{later_reply, later_replies, stated, verdict, IsUnfinished, IsFaulty, IsAccepted}
+use Rattle.sip_replies.proofs.Ends.{snoc_same}
+use Rattle.sip_replies.proofs.Turns.{same_fault}
 use Rattle.sip_subvec.proofs.FirstReply.{read_first}
 
--- ---- lists and faults
-
--- two lists that are the same with one more at their end
-snoc_same : {A : Type 0} (a b : List A) (x y : A) → a ++ x ∷ [] ≡ b ++ y ∷ [] → (a ≡ b) × (x ≡ y)
-snoc_same [] [] x y e = (refl, cc)
-snoc_same [] (b ∷ ys) x y e = absurd (omega (arith, ap length e, length-append ys (y ∷ [])))
-snoc_same (a ∷ xs) [] x y e = absurd (omega (arith, ap length e, length-append xs (x ∷ [])))
-snoc_same (a ∷ xs) (b ∷ ys) x y e =
-    let tails : xs ++ x ∷ [] ≡ ys ++ y ∷ [] = cc in
-    let same = snoc_same xs ys x y tails in
-    let heads : a ≡ b = cc in
-    (rw (heads, same.0) refl, same.1)
+-- ---- lists
 
 length-snoc : {A : Type 0} (a : List A) (x : A) → length (a ++ x ∷ []) ≡ suc (length a)
 length-snoc a x = omega (arith, length-append a (x ∷ []))
@@ -164,9 +155,6 @@ IsUnfinished-passed lo hi challenges replies low high s passed le = record {
   few = le;
   passes = λ fault e. absurd (let is = stated-passed lo hi replies low high s passed in cc);
 }
-
-same_fault : {X : Type 0} (a b : Fault) → ◌≡◌ {A = Result X Fault} (Err a) (Err b) → a ≡ b
-same_fault a b e = cc
 
 -- the next reply has no fault so far, but that it may not be whole
 pub IsUnfinished-next : {X : Type 0} (lo hi : ℕ) (challenges : List ℕ) (replies : List (List ℕ)) (read : List ℕ → Result X Reason) (bytes : List ℕ) → Awaits lo hi replies read → length replies < length challenges → ((reason : Reason) → read bytes ≡ Err reason → reason ≡ reasons.Closed)

@@ -16,7 +16,7 @@ use Rattle.sip_subvec.specs.Protocol.{SubAsked, at_level, entries_step, sub_prot
 use Rattle.sip_subvec.specs.Replies.{with_entries, are_asked, most_entries}
 
 -- two refusals that are the same have the same reason
-same_err : {X : Type 0} (a b : Reason) → ◌≡◌ {A = Result X Reason} (Err a) (Err b) → a ≡ b
+pub same_err : {X : Type 0} (a b : Reason) → ◌≡◌ {A = Result X Reason} (Err a) (Err b) → a ≡ b
 same_err a b e = cc
 
 -- a frame of a wrong kind

@@ -5,14 +5,15 @@ use Rattle.sip_wire.specs.declared.message.Message.{Message}
 use Rattle.sip_wire.specs.Spelling.{fits}
 use Rattle.sip_wire.specs.Values.{InRange}
 use Rattle.sip_subvec.specs.Asking.{Asking, SubStands, Gives, IsTakenValue}
-use Rattle.sip_subvec.proofs.RoomForEntries.{values_taken, siblings_below}
+use Rattle.sip_wire.proofs.EntryValues.{values_spelled}
+use Rattle.sip_subvec.proofs.RoomForEntries.{siblings_below}
 use Rattle.sip_subvec.proofs.ProtocolSteps.{siblings_refused, siblings_taken, entries_fewer, some_entries}
 use Rattle.sip_subvec.proofs.asking.SubAskingCheck.take.Goals as goal
 
 pub give_entries-requires-clause-values : goal.give_entries-requires-clause-values
 give_entries-requires-clause-values c =
     subst (λ (l : List Entry). All IsTakenValue l) (sym c.deref.ensures.0)
-    (values_taken c.in-Entries.rows (subst (λ (m : Message). IsTrue
+    (values_spelled c.in-Entries.rows (subst (λ (m : Message). IsTrue
     (fits m)) c.in-Entries.is c.requires.fits)
     (subst (λ (m : Message). InRange m) c.in-Entries.is c.requires.range))
 
