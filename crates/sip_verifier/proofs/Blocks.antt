@@ -1,37 +1,26 @@
 -- Each query of a run has a block of as many challenges as the depth says.
-use Rattle.std.proofs.Common.{◌≡◌, ℕ, zero, suc, ◌+◌, ◌-◌, ◌*◌, ◌/◌, ◌<◌, ◌≤◌, Bool, true, false, Option, Some, None, List, [], ◌∷◌, length, take, drop, All, refl, ap, ◌∙◌, arith, length-drop, length-take-le, if◌then◌else◌}
+use Rattle.std.proofs.Common.{◌≡◌, ℕ, zero, suc, ◌+◌, ◌-◌, ◌*◌, ◌/◌, ◌<◌, ◌≤◌, Bool, true, false, Option, Some, None, List, length, take, drop, All, refl, ap, ◌∙◌, sym, arith, length-drop, length-take-le, if◌then◌else◌}
 use Rattle.std.specs.Prelude.{nat_lt}
 use Rattle.std.proofs.Math.Nat.{suc-mul, mul_comm, mul-add-div, div-eq_of_lt}
 use Rattle.std.proofs.lemmas.Bool.Decides.{nat_tests}
 use Rattle.std.proofs.lemmas.List.Elements.{All-cons, All-nil}
-use Rattle.rand_core.specs.Stream.{Stream}
-use Rattle.sip_field.specs.Draw.{before, draw_list, seed_words}
+use Rattle.sip_field.specs.Draw.{seed_words}
 use Rattle.sip_vector.specs.Pieces.{pieces}
 use Rattle.sip_verifier.specs.declared.task.Task.{Task}
 use Rattle.sip_verifier.specs.Draws.{challenges_of, challenge_count, drawn, blocks}
+use Rattle.sip_verifier.proofs.SeatsDrawn.{drawn-length}
 
 -- ---- what is drawn
 
-before-some : (a : Option ℕ) (b : Option (List ℕ)) (rs : List ℕ) → before a b ≡ Some rs → (r : ℕ) × (more : List ℕ) × (b ≡ Some more) × (rs ≡ r ∷ more)
-before-some (Some r) (Some more) rs e = (r, more, refl, cc)
-before-some (Some r) None rs e = absurd cc
-before-some None b rs e = absurd cc
-
--- as many challenges are drawn as were asked for
-length-draw_list : (n : ℕ) (words : Stream) (rs : List ℕ) → draw_list n words ≡ Some rs → length rs ≡ n
-unfolding draw_list
-length-draw_list zero words rs e = let same : rs ≡ [] = cc in ap length same
-length-draw_list (suc n) words rs e =
-    let parts = before-some _ _ rs e in
-    ap length parts.3 ∙ ap suc (length-draw_list n _ parts.1 parts.2)
-
+-- what is drawn where a seed is not too short is all there is
 long_enough : (short : Bool) (all : Option (List ℕ)) (rs : List ℕ) → (if short then None else all) ≡ Some rs → all ≡ Some rs
 long_enough true all rs e = absurd (cc)
 long_enough false all rs e = e
 
+-- as many challenges are drawn of a seed as were asked for
 length-challenges : (count : ℕ) (seed rs : List ℕ) → challenges_of count seed ≡ Some rs → length rs ≡ count
 unfolding challenges_of
-length-challenges count seed rs e = length-draw_list count (seed_words (take 32 seed)) rs (long_enough (nat_lt (length seed) 32) _ rs e)
+length-challenges count seed rs e = drawn-length count (seed_words (take 32 seed)) rs (sym (long_enough (nat_lt (length seed) 32) _ rs e))
 
 -- a seed that is too short gives none
 pub none_drawn : (count : ℕ) (seed : List ℕ) → length seed < 32 → challenges_of count seed ≡ None

@@ -3,13 +3,10 @@ use Rattle.std.proofs.Common.{◌≡◌, ◌+◌, ◌/◌, ◌<◌, List, [], �
 use Rattle.std.specs.List.{flat_map}
 use Rattle.sip_vector.specs.declared.update.Update.{Update}
 use Rattle.sip_vector.specs.Pieces.{pieces}
-use Rattle.sip_wire.specs.declared.message.Message.{Message}
 use Rattle.sip_wire.specs.declared.message.Message.TheVariants as messages
 use Rattle.sip_wire.specs.Spelling.{spelling}
 use Rattle.sip_verifier.specs.Feeding.{due_at_end}
-
-abbrev frame : List Update → Message
-frame us = messages.Updates (record { items = us })
+use Rattle.sip_verifier.proofs.StreamSent.{frame}
 
 -- where none waits, the end
 pub due-none : due_at_end [] ≡ spelling messages.EndStream

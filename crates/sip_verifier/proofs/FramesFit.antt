@@ -10,6 +10,7 @@ use Rattle.sip_vector.specs.declared.update.Side.{Side}
 use Rattle.sip_vector.specs.declared.update.Side.TheVariants.{First, Second}
 use Rattle.sip_vector.specs.declared.update.Update.{Update}
 use Rattle.sip_vector.specs.Answers.{is_zero}
+use Rattle.sip_vector.proofs.Kept.{is_zero-false}
 use Rattle.sip_wire.specs.declared.message.Message.TheVariants as messages
 use Rattle.sip_wire.specs.Table.{repeat, update_fields}
 use Rattle.sip_wire.specs.Spelling.{fits, has_room, all_hold, update_numbers, side_number}
@@ -72,16 +73,12 @@ pub spelled_more : (us : List Update) (u : Update) → list_all has_spelling us 
 spelled_more [] u all one = and_from _ _ one refl
 spelled_more (x ∷ us) u all one = let both = and_parts (has_spelling x) (list_all has_spelling us) all in and_from _ _ both.0 (spelled_more us u both.1 one)
 
-not_zero : (z : ℤ) → z ≢ pos 0 → is_zero z ≡ false
-not_zero (pos n) h = ne_eqb n 0 (λ e. h (ap pos e))
-not_zero (negsuc n) h = ne_eqb (nat_abs (negsuc n)) 0 (λ e. absurd (omega (arith, e)))
-
 -- a delta of its type
 bits_most : (z : ℤ) → FitsSigned w64 z → nat_abs z ≤ 2 ^ 63
 bits_most z fits = omega (arith, ints, fits)
 
 pub spelled_one : (u : Update) → u.item < 2 ^ 32 → u.delta ≢ pos 0 → FitsSigned w64 u.delta → has_spelling u ≡ true
-spelled_one u item some fits = and_from _ _ (and_from _ _ (lt-ltb u.item (2 ^ 32) item) (ap not (not_zero u.delta some))) (le-leb (nat_abs u.delta) (2 ^ 63) (bits_most u.delta fits))
+spelled_one u item some fits = and_from _ _ (and_from _ _ (lt-ltb u.item (2 ^ 32) item) (ap not (is_zero-false u.delta some))) (le-leb (nat_abs u.delta) (2 ^ 63) (bits_most u.delta fits))
 
 pub frame_fits : (us : List Update) → 0 < length us → length us ≤ 512 → list_all has_spelling us ≡ true → IsTrue (fits (messages.Updates (record { items = us })))
 unfolding fits

@@ -4,7 +4,7 @@ use Rattle.std.specs.Prelude.{flat_map}
 use Rattle.std.proofs.lemmas.List.Elements.{All-head, All-tail}
 use Rattle.sip_ports.specs.declared.port.TalkEvent.{TalkEvent}
 use Rattle.sip_ports.specs.Ports.{outs, ins, heard}
-use Rattle.sip_ports.proofs.TalkLemmas.{heard-append}
+use Rattle.sip_ports.proofs.TalkLemmas.{heard-append, heard-ins, heard-outs}
 use Rattle.sip_vector.specs.declared.query.Query.{Query}
 use Rattle.sip_vector.specs.declared.update.Update.{Update}
 use Rattle.sip_wire.specs.declared.message.Message.TheVariants as messages
@@ -15,15 +15,6 @@ use Rattle.sip_replies.specs.Talks.{sent, exchanged, asked}
 use Rattle.sip_verifier.specs.Talks.{stream_sent, opening_sent, update_frames}
 use Rattle.sip_verifier.specs.Turns.{Turn, said_in_turn}
 use Rattle.sip_replies.specs.Replies.{joined}
-
--- what was sent is not heard
-pub heard-outs : (bytes : List ℕ) → heard (outs bytes) ≡ []
-heard-outs [] = refl
-heard-outs (b ∷ bytes) = heard-outs bytes
-
-heard-ins : (bytes : List ℕ) → heard (ins bytes) ≡ bytes
-heard-ins [] = refl
-heard-ins (b ∷ bytes) = ap (λ l. b ∷ l) (heard-ins bytes)
 
 -- what follows something that was sent
 after_sent : (bytes : List ℕ) (talk : List TalkEvent) → heard (outs bytes ++ talk) ≡ heard talk

@@ -1,14 +1,14 @@
 -- The records that are read of bytes are a legal stream.
-use Rattle.std.proofs.Common.{◌≡◌, ◌≢◌, ℕ, ◌+◌, ◌^◌, ◌<◌, ◌≤◌, Bool, true, false, List, [], ◌∷◌, ◌++◌, length, pos, nat_abs, Option, Some, None, refl, ap, arith, if◌then◌else◌}
+use Rattle.std.proofs.Common.{◌≡◌, ◌≢◌, ℕ, ◌+◌, ◌^◌, ◌<◌, ◌≤◌, Bool, true, false, List, [], ◌∷◌, ◌++◌, length, pos, Option, Some, None, refl, ap, arith, if◌then◌else◌}
 use Rattle.std.specs.Prelude.{nat_le, nat_lt, slice_index, option_and_then}
 use Rattle.std.proofs.lemmas.Bool.Decides.{nat_tests}
-use Rattle.std.proofs.lemmas.List.Elements.{filter-append, All-append, All-cons, All-nil}
-use Rattle.std.proofs.lemmas.List.Sums.{sum_by-append}
+use Rattle.std.proofs.lemmas.List.Elements.{All-append, All-cons, All-nil}
 use Rattle.sip_vector.specs.declared.update.Side.{Side}
 use Rattle.sip_vector.specs.declared.update.Side.TheVariants.{First, Second}
 use Rattle.sip_vector.specs.declared.update.Update.{Update}
 use Rattle.sip_vector.specs.Answers.{is_zero}
-use Rattle.sip_vector.specs.Streams.{same_side, of_side, weight, most_weight, IsLegal}
+use Rattle.sip_vector.specs.Streams.{same_side, weight, most_weight, IsLegal}
+use Rattle.sip_vector.proofs.Sides.{weight-append, weight-one_other_side}
 use Rattle.sip_stream.specs.declared.form.Form.{Form}
 use Rattle.sip_stream.specs.declared.form.Form.TheVariants.{Binary, Text}
 use Rattle.sip_stream.specs.declared.why.Why.{Why}
@@ -23,20 +23,12 @@ passed : (test : Bool) (why : Why) (rest : Option Why) → (if test then Some wh
 passed true why rest e = absurd (cc)
 passed false why rest e = (refl, e)
 
-weight-append : (s t : List Update) (side : Side) → weight (s ++ t) side ≡ weight s side + weight t side
-weight-append s t side =
-    rw (filter-append (λ (u : Update). same_side u.side side) s t)
-    (sum_by-append (λ (u : Update). nat_abs u.delta) (of_side s side) (of_side t side))
-
-weight-other : (u : Update) (side : Side) → same_side u.side side ≡ false → weight (u ∷ []) side ≡ 0
-weight-other u side other = rw other refl
-
 -- a side's weight, once an update of this or the other side is added
 still_light : (before : List Update) (u : Update) (own side : Side) → u.side ≡ own → weight (before ++ u ∷ []) own ≤ most_weight → weight before side ≤ most_weight → weight (before ++ u ∷ []) side ≤ most_weight
 still_light before u First First is here old = here
 still_light before u Second Second is here old = here
-still_light before u First Second is here old = omega (arith, weight-append before (u ∷ []) Second, weight-other u Second (ap (λ s. same_side s Second) is))
-still_light before u Second First is here old = omega (arith, weight-append before (u ∷ []) First, weight-other u First (ap (λ s. same_side s First) is))
+still_light before u First Second is here old = omega (arith, weight-append before (u ∷ []) Second, weight-one_other_side u Second (ap (λ s. same_side s Second) is))
+still_light before u Second First is here old = omega (arith, weight-append before (u ∷ []) First, weight-one_other_side u First (ap (λ s. same_side s First) is))
 
 pub legal_next : (depth : ℕ) (before : List Update) (u : Update) → IsLegal depth before → update_fault depth before u ≡ None → IsLegal depth (before ++ u ∷ [])
 legal_next depth before u legal none =

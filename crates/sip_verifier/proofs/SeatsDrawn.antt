@@ -6,6 +6,7 @@ use Rattle.rand_core.specs.Stream.{Stream}
 use Rattle.sip_field.specs.Draw.{before, draw_list, seed_words}
 use Rattle.sip_verifier.specs.Draws.{challenges_of}
 
+-- where some were drawn, there is a first and there are the others
 before-some : (a : Option ℕ) (b : Option (List ℕ)) (rs : List ℕ) → before a b ≡ Some rs → (r : ℕ) × (more : List ℕ) × (b ≡ Some more) × (rs ≡ r ∷ more)
 before-some (Some r) (Some more) rs e = (r, more, refl, cc)
 before-some (Some r) None rs e = absurd cc

@@ -14,7 +14,9 @@ use Rattle.sip_replies.specs.Talks.{IsPrefix}
 use Rattle.sip_verifier.specs.Feeding.{fills, due_with, due_at_end, waiting_with}
 use Rattle.sip_verifier.specs.Sending.{IsSentBut, IsStopped, IsStoppedAtEnd}
 use Rattle.sip_verifier.specs.Talks.{whole_frames, opening_sent, stream_sent}
-use Rattle.sip_verifier.proofs.StreamSent.{IsPrefix-trans, frame, sent_front, sent-one, opening_sent-frame, opening_sent-front, stream_sent-rest}
+use Rattle.sip_wire.specs.declared.version.Version.TheVariants.{One}
+use Rattle.sip_replies.proofs.Saying.{sent-one}
+use Rattle.sip_verifier.proofs.StreamSent.{IsPrefix-trans, frame, sent_front, opening_sent-frame, opening_sent-front, stream_sent-rest}
 
 module _ (depth : ℕ) (start : Option (List TalkEvent)) where
   -- the opening was sent
@@ -24,7 +26,7 @@ module _ (depth : ℕ) (start : Option (List TalkEvent)) where
     order = refl;
     whole = refl;
     few = omega arith;
-    talk = subst (GoesOn start new) (sym (sent-one (messages.Open 1 depth))) went;
+    talk = subst (GoesOn start new) (sym (sent-one One (messages.Open 1 depth))) went;
   }
 
   -- the opening was cut short
@@ -32,7 +34,7 @@ module _ (depth : ℕ) (start : Option (List TalkEvent)) where
   stopped_in_opening new n went = record {
     said = outs (take n (spelling (messages.Open 1 depth)));
     talk = went;
-    order = subst (IsPrefix (outs (take n (spelling (messages.Open 1 depth))))) (sym (sent-one (messages.Open 1 depth))) (sent_front [] (spelling (messages.Open 1 depth)) n);
+    order = subst (IsPrefix (outs (take n (spelling (messages.Open 1 depth))))) (sym (sent-one One (messages.Open 1 depth))) (sent_front [] (spelling (messages.Open 1 depth)) n);
   }
 
   -- what waits stays behind

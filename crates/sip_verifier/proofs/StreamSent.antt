@@ -15,6 +15,7 @@ use Rattle.sip_wire.specs.declared.message.Message.TheVariants as messages
 use Rattle.sip_wire.specs.declared.version.Version.TheVariants.{One}
 use Rattle.sip_wire.specs.Spelling.{spelling}
 use Rattle.sip_replies.specs.Talks.{IsPrefix, sent}
+use Rattle.sip_replies.proofs.Saying.{sent-one}
 use Rattle.sip_verifier.specs.Feeding.{due_at_end}
 use Rattle.sip_verifier.specs.Talks.{update_frames, whole_frames, opening_sent, stream_sent}
 use Rattle.sip_verifier.proofs.FramesCut.{cut-append}
@@ -39,11 +40,9 @@ sent_front events bytes n = (
 sent-append : (ms ns : List Message) → sent One (ms ++ ns) ≡ sent One ms ++ sent One ns
 sent-append ms ns = ap outs (flat_map-append spelling ms ns) ∙ outs-append (flat_map spelling ms) (flat_map spelling ns)
 
+-- the frame of some updates
 abbrev pub frame : List Update → Message
 frame us = messages.Updates (record { items = us })
-
-pub sent-one : (m : Message) → sent One (m ∷ []) ≡ outs (spelling m)
-sent-one m = ap outs (append-nil (spelling m))
 
 -- whole frames, and what follows them
 opening_sent-append : (depth : ℕ) (xs ys : List Update) → length xs % 512 ≡ 0
@@ -59,7 +58,7 @@ pub opening_sent-frame : (depth : ℕ) (xs ys : List Update) → length xs % 512
 opening_sent-frame depth xs ys whole some most =
     opening_sent-append depth xs ys whole
     ∙ ap (λ l. opening_sent depth xs ++ sent One (map frame l)) (cut-one 512 ys some most)
-    ∙ ap (λ l. opening_sent depth xs ++ l) (sent-one (frame ys))
+    ∙ ap (λ l. opening_sent depth xs ++ l) (sent-one One (frame ys))
 
 -- whole frames, those that wait, and the end
 pub stream_sent-rest : (depth : ℕ) (xs ys : List Update) → length xs % 512 ≡ 0 → stream_sent depth (xs ++ ys) ≡ opening_sent depth xs ++ outs (due_at_end ys)
