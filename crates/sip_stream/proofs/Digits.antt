@@ -5,7 +5,7 @@ use Rattle.std.specs.Char.{digit_value, is_ascii_digit}
 use Rattle.std.specs.Str.{all_ascii_digits}
 use Rattle.std.specs.Str.Parse.{digits_value, digits_value_after}
 use Rattle.std.proofs.Math.Nat.{pow-succ', pow-le-pow_right}
-use Rattle.std.proofs.lemmas.Bool.{ne_eqb, cases_lt, ltb-true, lt-ltb, both_ways}
+use Rattle.std.proofs.lemmas.Bool.{and_parts, ne_eqb, cases_lt, ltb-true, lt-ltb, both_ways}
 use Rattle.std.proofs.lemmas.Fmt.{decimal_digit, decimal_nonempty, first_decimal, digits_decimal, digits_value-decimal, decimal-digits_value, length-decimal-le}
 use Rattle.std.proofs.lemmas.Str.Parse.{IsNumeralModel, numerals_by_value, tells_all_ascii_digits}
 use Rattle.sip_stream.specs.Lines.{decimal_at, item_at}
@@ -62,12 +62,9 @@ reads_number (b ∷ bs) n some alone all value =
 
 -- ---- a decimal number has one spelling
 
-model : IsNumeralModel (λ ds. all_ascii_digits ds ≡ true) (digits_value 10)
+-- digits and their value, in std's words
+pub model : IsNumeralModel (λ ds. all_ascii_digits ds ≡ true) (digits_value 10)
 model = numerals_by_value (λ ds. all_ascii_digits ds ≡ true) tells_all_ascii_digits
-
-both : (a b : Bool) → (a && b) ≡ true → (a ≡ true) × (b ≡ true)
-both true b e = (refl, e)
-both false b e = cc
 
 chosen_some : (text : List ℕ) (is : Bool) (n : ℕ) → chosen text is ≡ Some n → (is ≡ true) × (digits_value 10 text ≡ n)
 chosen_some text true n e = (refl, cc)
@@ -78,7 +75,7 @@ pub only_spelling : (text : List ℕ) (n : ℕ) → n < 2 ^ 64 → decimal_at te
 only_spelling [] n small e = cc
 only_spelling (b ∷ bs) n small e =
     let is = chosen_some (b ∷ bs) (all_ascii_digits (b ∷ bs) && (not (eqb b 48) || eqb (length bs) 0)) n e in
-    let parts = both (all_ascii_digits (b ∷ bs)) (not (eqb b 48) || eqb (length bs) 0) is.0 in
+    let parts = and_parts (all_ascii_digits (b ∷ bs)) (not (eqb b 48) || eqb (length bs) 0) is.0 in
     let fits : digits_value 10 (b ∷ bs) < 2 ^ 64 = omega (arith, is.1, small) in
     sym (decimal-digits_value model (b ∷ bs) parts.0 (omega arith) (alone parts.1) fits) ∙ ap decimal is.1
   where

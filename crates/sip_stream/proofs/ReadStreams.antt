@@ -13,10 +13,10 @@ use Rattle.sip_vector.specs.Streams.{same_side, weight, most_weight, IsLegal}
 use Rattle.sip_vector.proofs.Kept.{is_zero-false}
 use Rattle.sip_vector.proofs.Sides.{weight-append, weight-one}
 use Rattle.sip_stream.specs.declared.form.Form.{Form}
-use Rattle.sip_stream.specs.declared.form.Form.TheVariants.{Binary, Text}
 use Rattle.sip_stream.specs.Records.{update_fault, records_from, records}
 use Rattle.sip_stream.specs.Spellings.{spelled}
 use Rattle.sip_stream.proofs.ReadBack.{read_back}
+use Rattle.sip_stream.proofs.RecordsRead.{records_end}
 
 same_side-own : (s : Side) → same_side s s ≡ true
 same_side-own First = refl
@@ -69,13 +69,9 @@ no_fault depth before u legal =
     let light = not_lt most_weight (weight (before ++ u ∷ []) u.side) legal.weight in
     rw (item, delta, light) refl
 
-read_end : (depth : ℕ) (form : Form) (before : List Update) → records_from depth form before [] ≡ record { legal = before; fault = None }
-read_end depth Binary before = refl
-read_end depth Text before = refl
-
 read_from : (depth : ℕ) (form : Form) (before us : List Update) → depth ≤ 32 → IsLegal depth (before ++ us)
     → records_from depth form before (flat_map (spelled form) us) ≡ record { legal = before ++ us; fault = None }
-read_from depth form before [] most legal = read_end depth form before ∙ ap (λ l. record { legal = l; fault = None }) (sym (append-nil before))
+read_from depth form before [] most legal = records_end depth form before ∙ ap (λ l. record { legal = l; fault = None }) (sym (append-nil before))
 read_from depth form before (u ∷ us) most legal =
     let here = legal_at depth before u us legal in
     let power : 2 ^ depth ≤ 2 ^ 32 = pow-le-pow_right (omega arith) most in

@@ -3,21 +3,17 @@ use Rattle.std.proofs.Common.{◌≡◌, ◌≢◌, ℕ, suc, ◌+◌, ◌^◌, 
 use Rattle.std.specs.Prelude.{FitsSigned, decimal, nat_le, nat_lt, option_and_then, if◌then◌else◌}
 use Rattle.std.specs.Fmt.{signed_decimal}
 use Rattle.std.specs.Str.{all_ascii_digits}
-use Rattle.std.specs.Str.Parse.{digits_value}
 use Rattle.std.proofs.lemmas.Bool.{ne_eqb, lt-ltb, cases_lt}
 use Rattle.std.proofs.lemmas.Bool.Decides.{Decides-eqb, eqb_tells, nat_tests}
-use Rattle.std.proofs.lemmas.Fmt.{decimal_nonempty, decimal_digit, first_decimal, digits_decimal, digits_value-decimal, length-decimal-le, length_signed_le}
+use Rattle.std.proofs.lemmas.Fmt.{decimal_nonempty, decimal_digit, first_decimal, digits_decimal, length-decimal-le, length_signed_le}
 use Rattle.std.proofs.lemmas.List.Elements.{All-head, All-tail, All-append, All-cons, All-from_get_or}
-use Rattle.std.proofs.lemmas.Str.Parse.{IsNumeralModel, numerals_by_value, tells_all_ascii_digits, not_in_digits}
+use Rattle.std.proofs.lemmas.Str.Parse.{not_in_digits}
 use Rattle.sip_vector.specs.declared.update.Side.{Side}
 use Rattle.sip_vector.specs.declared.update.Side.TheVariants.{First, Second}
 use Rattle.sip_vector.specs.declared.update.Update.{Update}
 use Rattle.sip_stream.specs.Lines.{most_line, parts_at, is_decimal, decimal_at, item_at, above_zero, below_zero, delta_at, three, numbers_at, lines_from}
 use Rattle.sip_stream.specs.Spellings.{side_number, line_bytes}
-
--- digits and their value, in std's words
-digits : IsNumeralModel (λ ds. all_ascii_digits ds ≡ true) (digits_value 10)
-digits = numerals_by_value (λ ds. all_ascii_digits ds ≡ true) tells_all_ascii_digits
+use Rattle.sip_stream.proofs.Digits.{model, spelling_read}
 
 -- no byte of these is that one
 abbrev pub Lacks : ℕ → List ℕ → Type 0
@@ -25,7 +21,7 @@ Lacks mark bytes = All (λ b. b ≢ mark) bytes
 
 lacks-decimal : (mark n : ℕ) → mark < 48 → n < 2 ^ 64 → Lacks mark (decimal n)
 lacks-decimal mark n below small =
-    All-from_get_or (λ b. b ≢ mark) (decimal n) 0 (λ i lt. not_in_digits digits (decimal n) mark (digits_decimal digits n small) (λ range. omega (arith, range.0, below)) i lt)
+    All-from_get_or (λ b. b ≢ mark) (decimal n) 0 (λ i lt. not_in_digits model (decimal n) mark (digits_decimal model n small) (λ range. omega (arith, range.0, below)) i lt)
 
 lacks-signed : (mark : ℕ) (z : ℤ) → mark < 45 → FitsSigned w64 z → Lacks mark (signed_decimal z)
 lacks-signed mark (pos n) below fits = lacks-decimal mark n (omega arith) (omega (arith, fits.sfits))
@@ -69,14 +65,8 @@ is_decimal-from (b ∷ bs) all some alone =
       | inr t ↦ rw (all, t.0) refl
     ]
 
--- a decimal number says its number
-pub decimal_at-decimal : (n : ℕ) → n < 2 ^ 64 → decimal_at (decimal n) ≡ Some n
-decimal_at-decimal n small =
-    let is = is_decimal-from (decimal n) (digits_decimal digits n small) (decimal_nonempty n small) (begins_decimal n small) in
-    rw (is, digits_value-decimal digits n small) refl
-
 item_at-decimal : (n : ℕ) → n < 2 ^ 64 → item_at (decimal n) ≡ Some n
-item_at-decimal n small = ap (option_and_then (λ m. if nat_lt m (2 ^ 64) then Some m else None)) (decimal_at-decimal n small) ∙ rw (lt-ltb n (2 ^ 64) small) refl
+item_at-decimal n small = ap (option_and_then (λ m. if nat_lt m (2 ^ 64) then Some m else None)) (spelling_read n small) ∙ rw (lt-ltb n (2 ^ 64) small) refl
 
 delta_at-plain : (ds : List ℕ) → 0 < length ds → get_or ds 0 0 ≢ 45 → delta_at ds ≡ option_and_then above_zero (decimal_at ds)
 delta_at-plain [] some other = absurd (omega (arith, some))
@@ -93,9 +83,9 @@ delta_at-decimal (pos n) fits =
     let small : n < 2 ^ 64 = omega (arith, fits.sfits) in
     let some = decimal_nonempty n small in
     let plain = delta_at-plain (decimal n) some (lacks-decimal 45 n (omega arith) small 0 0 some) in
-    plain ∙ ap (option_and_then above_zero) (decimal_at-decimal n small) ∙ above_zero-is n (omega (arith, fits.sfits))
+    plain ∙ ap (option_and_then above_zero) (spelling_read n small) ∙ above_zero-is n (omega (arith, fits.sfits))
 delta_at-decimal (negsuc n) fits =
-    ap (option_and_then below_zero) (decimal_at-decimal (suc n) (omega (arith, fits.sfits))) ∙ below_zero-is n (omega (arith, fits.sfits))
+    ap (option_and_then below_zero) (spelling_read (suc n) (omega (arith, fits.sfits))) ∙ below_zero-is n (omega (arith, fits.sfits))
 
 -- the text of three numbers, without its line feed
 abbrev pub text_of : ℕ → ℕ → ℤ → List ℕ
@@ -110,7 +100,7 @@ numbers_at-text s i z side item fits =
     let rest = decimal i ++ 32 ∷ signed_decimal z in
     let first = parts_at-mark 32 (decimal s) rest (lacks-decimal 32 s (omega arith) side) in
     let second = parts_at-mark 32 (decimal i) (signed_decimal z) (lacks-decimal 32 i (omega arith) item) in
-    numbers_at-parts (text_of s i z) rest (decimal s) (decimal i) (signed_decimal z) s i z first second (decimal_at-decimal s side) (item_at-decimal i item) (delta_at-decimal z fits)
+    numbers_at-parts (text_of s i z) rest (decimal s) (decimal i) (signed_decimal z) s i z first second (spelling_read s side) (item_at-decimal i item) (delta_at-decimal z fits)
 
 lacks-text : (s i : ℕ) (z : ℤ) → s < 2 ^ 64 → i < 2 ^ 64 → FitsSigned w64 z → Lacks 10 (text_of s i z)
 lacks-text s i z side item fits =
