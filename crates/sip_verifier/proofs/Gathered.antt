@@ -13,21 +13,20 @@ use Rattle.sip_stream.specs.Reading.{Reading, IsAfter, Reads}
 use Rattle.sip_stream.specs.Records.{Records, records, records_from, pieces_of}
 use Rattle.sip_stream.proofs.Copies.{read_front}
 use Rattle.sip_stream.proofs.RecordsRead.{records_end}
-use Rattle.sip_verifier.specs.declared.seats.Seats.{Seats}
 use Rattle.sip_verifier.specs.declared.task.Task.{Task}
 use Rattle.sip_verifier.specs.Drawing.{HasDrawn}
 use Rattle.sip_verifier.specs.Draws.{blocks}
 use Rattle.sip_verifier.specs.Ending.{status_of_link, status_of_stream}
 use Rattle.sip_replies.specs.Talks.{IsPrefix}
 use Rattle.sip_verifier.specs.Gathering.{legal, before_end, IsGathered, IsCut, IsCutBefore, HasSeed, Gathers}
-use Rattle.sip_verifier.specs.Seats.{AreSeats}
+use Rattle.sip_verifier.specs.Seats.{AreSeats, Seating}
 use Rattle.sip_verifier.specs.Sending.{IsSentBut, IsStopped, IsStoppedAtEnd}
 use Rattle.sip_verifier.specs.Talks.{whole_frames, opening_sent, stream_sent}
 use Rattle.sip_verifier.proofs.StreamSending.{stopped}
 use Rattle.sip_verifier.proofs.StreamSent.{IsPrefix-trans, frames_front, stream_sent-front, whole_frames-waiting}
 
 -- The records read so far are this stream. The seats stand for it, and all but what waits was sent.
-pub record IsUnderway (task : Task) (bytes : List ℕ) (at_blocks : List (List ℕ)) (left : Option (List ℕ)) (start now : Option (List TalkEvent)) (reader : Reading) (seats : Seats) (waiting : List Update) : Type 0 where
+pub record IsUnderway (task : Task) (bytes : List ℕ) (at_blocks : List (List ℕ)) (left : Option (List ℕ)) (start now : Option (List TalkEvent)) (reader : Reading) (seats : Seating) (waiting : List Update) : Type 0 where
   pub rest : List ℕ
   pub to_come : left ≡ Some rest
   pub stream : List Update
@@ -36,7 +35,7 @@ pub record IsUnderway (task : Task) (bytes : List ℕ) (at_blocks : List (List �
   pub said : IsSentBut task.depth start now stream waiting
   pub stand : AreSeats task.depth task.queries.items at_blocks stream seats
 
-module _ (task : Task) (bytes seed : List ℕ) (start : Option (List TalkEvent)) (first : Seats) (has : HasDrawn task seed first) where
+module _ (task : Task) (bytes seed : List ℕ) (start : Option (List TalkEvent)) (first : Seating) (has : HasDrawn task seed first) where
   abbrev at_blocks : List (List ℕ)
   at_blocks = blocks task has.challenges
 
@@ -49,7 +48,7 @@ module _ (task : Task) (bytes seed : List ℕ) (start : Option (List TalkEvent))
   begins left now reader waiting all after said = record { rest = bytes; to_come = all; stream = []; after = after; ahead = refl; said = said; stand = has.stand }
 
   -- after one more record
-  pub goes_on : (left left' : Option (List ℕ)) (now now' : Option (List TalkEvent)) (reader reader' : Reading) (seats seats' : Seats) (waiting waiting' : List Update) (u : Update)
+  pub goes_on : (left left' : Option (List ℕ)) (now now' : Option (List TalkEvent)) (reader reader' : Reading) (seats seats' : Seating) (waiting waiting' : List Update) (u : Update)
       (so : IsUnderway task bytes at_blocks left start now reader seats waiting) → Reads task.depth task.form so.stream so.rest left' (Ok (Some u)) → IsAfter reader' (so.stream ++ u ∷ [])
       → IsSentBut task.depth start now' (so.stream ++ u ∷ []) waiting' → AreSeats task.depth task.queries.items at_blocks (so.stream ++ u ∷ []) seats' → IsUnderway task bytes at_blocks left' start now' reader' seats' waiting'
   goes_on left left' now now' reader reader' seats seats' waiting waiting' u so (piece, rest, told, split, same) after said stand = record {
@@ -87,18 +86,18 @@ module _ (task : Task) (bytes seed : List ℕ) (start : Option (List TalkEvent))
   stops_first now stop = cut_short now (cut_before now [] (legal task bytes seed, refl) stop)
 
   -- it stopped after one more record was read
-  pub stops_after : (left left' : Option (List ℕ)) (now now' : Option (List TalkEvent)) (reader : Reading) (seats : Seats) (waiting : List Update) (u : Update)
+  pub stops_after : (left left' : Option (List ℕ)) (now now' : Option (List TalkEvent)) (reader : Reading) (seats : Seating) (waiting : List Update) (u : Update)
       (so : IsUnderway task bytes at_blocks left start now reader seats waiting) → Reads task.depth task.form so.stream so.rest left' (Ok (Some u)) → IsStopped task.depth start now' (so.stream ++ u ∷ []) → IsCut task bytes seed start now'
   stops_after left left' now now' reader seats waiting u so (piece, rest, told, split, same) stop =
       cut_short now' (cut_before now' (so.stream ++ u ∷ []) (is_front (so.stream ++ u ∷ []) rest (so.ahead ∙ same)) stop)
 
   -- every record was legal
-  ended : (left left' : Option (List ℕ)) (now : Option (List TalkEvent)) (reader : Reading) (seats : Seats) (waiting : List Update)
+  ended : (left left' : Option (List ℕ)) (now : Option (List TalkEvent)) (reader : Reading) (seats : Seating) (waiting : List Update)
       (so : IsUnderway task bytes at_blocks left start now reader seats waiting) → Reads task.depth task.form so.stream so.rest left' (Ok None) → records task.depth task.form bytes ≡ record { legal = so.stream; fault = None }
   ended left left' now reader seats waiting so (told, none) = so.ahead ∙ ap (records_from task.depth task.form so.stream) none ∙ records_end task.depth task.form so.stream
 
   -- the rest or the end was cut short
-  pub stops_at_end : (left left' : Option (List ℕ)) (now new : Option (List TalkEvent)) (reader : Reading) (seats : Seats) (waiting : List Update)
+  pub stops_at_end : (left left' : Option (List ℕ)) (now new : Option (List TalkEvent)) (reader : Reading) (seats : Seating) (waiting : List Update)
       (so : IsUnderway task bytes at_blocks left start now reader seats waiting) → Reads task.depth task.form so.stream so.rest left' (Ok None) → IsStoppedAtEnd task.depth start new so.stream → IsCut task bytes seed start new
   stops_at_end left left' now new reader seats waiting so reads stop =
       let is = ended left left' now reader seats waiting so reads in
@@ -110,7 +109,7 @@ module _ (task : Task) (bytes seed : List ℕ) (start : Option (List TalkEvent))
       }
 
   -- the stream was read and sent whole
-  pub gathered : (left left' : Option (List ℕ)) (now new : Option (List TalkEvent)) (reader : Reading) (seats : Seats) (waiting : List Update)
+  pub gathered : (left left' : Option (List ℕ)) (now new : Option (List TalkEvent)) (reader : Reading) (seats : Seating) (waiting : List Update)
       (so : IsUnderway task bytes at_blocks left start now reader seats waiting) → Reads task.depth task.form so.stream so.rest left' (Ok None) → GoesOn start new (stream_sent task.depth so.stream) → IsGathered task bytes seed left' start new seats
   gathered left left' now new reader seats waiting so reads said =
       let is = ended left left' now reader seats waiting so reads in
@@ -131,11 +130,11 @@ module _ (task : Task) (bytes seed : List ℕ) (start : Option (List TalkEvent))
   link_stops left now ports.OutOfMemory cut = inr (gives, cut)
 
   -- it stopped between two records
-  stops_between : (left : Option (List ℕ)) (now : Option (List TalkEvent)) (reader : Reading) (seats : Seats) (waiting : List Update) → IsUnderway task bytes at_blocks left start now reader seats waiting → IsCutBefore task bytes seed start now
+  stops_between : (left : Option (List ℕ)) (now : Option (List TalkEvent)) (reader : Reading) (seats : Seating) (waiting : List Update) → IsUnderway task bytes at_blocks left start now reader seats waiting → IsCutBefore task bytes seed start now
   stops_between left now reader seats waiting so = cut_before now so.stream (is_front so.stream so.rest so.ahead) (stopped task.depth start now so.stream waiting so.said)
 
   -- no record was read: the next one is not legal, or the source stopped
-  pub reading_stops : (left left' : Option (List ℕ)) (now : Option (List TalkEvent)) (reader : Reading) (seats : Seats) (waiting : List Update) (fault : StreamFault)
+  pub reading_stops : (left left' : Option (List ℕ)) (now : Option (List TalkEvent)) (reader : Reading) (seats : Seating) (waiting : List Update) (fault : StreamFault)
       (so : IsUnderway task bytes at_blocks left start now reader seats waiting) → Reads task.depth task.form so.stream so.rest left' (Err fault) → Gathers task bytes seed left' start now (Err (status_of_stream fault))
   reading_stops left left' now reader seats waiting (faults.Bad at why) so (front, number, same) =
       let is : records task.depth task.form bytes ≡ record { legal = so.stream; fault = Some why } = so.ahead ∙ same in

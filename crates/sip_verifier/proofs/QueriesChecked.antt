@@ -17,7 +17,6 @@ use Rattle.sip_vector.specs.declared.update.Update.{Update}
 use Rattle.sip_vector.specs.Answers.{Answer}
 use Rattle.sip_wire.specs.declared.message.Reason.{Reason}
 use Rattle.sip_verifier.specs.declared.seat.QuerySeat.{QuerySeat}
-use Rattle.sip_verifier.specs.declared.seats.Seats.{Seats}
 use Rattle.sip_verifier.specs.declared.session.SessionFault.{SessionFault}
 use Rattle.sip_verifier.specs.declared.session.SessionFault.TheVariants as faults
 use Rattle.sip_verifier.specs.declared.status.Port.TheVariants as ports
@@ -31,7 +30,7 @@ use Rattle.sip_verifier.specs.Moments.{counts}
 use Rattle.sip_verifier.specs.Progress.{Checks, ChecksAll, Passes, PassesInPart, FailsInPart, AreFirst, PassedBy, EndsWith}
 use Rattle.sip_verifier.specs.QuerySeats.{StandsFor, block_of}
 use Rattle.sip_verifier.specs.Reports.{line, rejection}
-use Rattle.sip_verifier.specs.Seats.{AreSeats}
+use Rattle.sip_verifier.specs.Seats.{AreSeats, Seating}
 use Rattle.sip_verifier.specs.Statuses.{FaultClause}
 use Rattle.sip_verifier.specs.Turns.{Turn, Accepted, said_in_turn}
 
@@ -184,8 +183,8 @@ pub next_seat : (depth : ℕ) (stream : List Update) (seats : List QuerySeat) (q
 next_seat depth stream seats queries more count query same all from = next_seat_of depth stream seats (drop count seats) queries more count query refl same (All-drop (StandsFor depth stream) count seats all) from
 
 -- what came of all queries of a task, whose seats the session had
-pub all_checked : (task : Task) (stream : List Update) (challenges : List ℕ) (seats : Seats) (depth : ℕ) (left : List QuerySeat) (queries : List Query) (old new blank full : Option (List TalkEvent)) {r s : Result (Unit {0}) Status} → r ≡ s → depth ≡ seats.depth
-    → left ≡ seats.seats.items → queries ≡ task.queries.items → AreSeats task.depth task.queries.items (blocks task challenges) stream seats
+pub all_checked : (task : Task) (stream : List Update) (challenges : List ℕ) (seats : Seating) (depth : ℕ) (left : List QuerySeat) (queries : List Query) (old new blank full : Option (List TalkEvent)) {r s : Result (Unit {0}) Status} → r ≡ s → depth ≡ seats.depth
+    → left ≡ seats.seats → queries ≡ task.queries.items → AreSeats task.depth task.queries.items (blocks task challenges) stream seats
     → ((stream : List Update) → map (λ seat. seat.query) left ≡ queries → All (StandsFor depth stream) left → ChecksAll depth stream queries (map block_of left) old new blank full r)
     → ChecksAll task.depth stream task.queries.items (blocks task challenges) old new blank full s
 all_checked task stream challenges seats depth left queries old new blank full {r = r} {s = s} ends deep its same are came =

@@ -11,10 +11,9 @@ use Rattle.sip_vector.specs.declared.update.Update.{Update}
 use Rattle.sip_vector.specs.Answers.{Fits}
 use Rattle.sip_wire.specs.Transcript.{head_bytes, ask_bytes}
 use Rattle.sip_verifier.specs.QuerySeats.{block_of, is_seat, can_be_asked}
-use Rattle.sip_verifier.specs.Seats.{AreSeats}
+use Rattle.sip_verifier.specs.Seats.{AreSeats, Seating}
 use Rattle.sip_verifier.specs.Transcripts.{head_of}
 use Rattle.sip_verifier.specs.declared.seat.QuerySeat.{QuerySeat}
-use Rattle.sip_verifier.specs.declared.seats.Seats.{Seats}
 
 -- a seat's query and its challenges
 abbrev pub ask : QuerySeat → List ℕ
@@ -24,8 +23,8 @@ abbrev pub asks : List QuerySeat → List ℕ
 asks seats = flat_map ask seats
 
 -- what is written of these seats
-abbrev pub head_up_to : Seats → ℕ → List ℕ
-head_up_to s k = head_bytes s.depth (length s.seats.items) ++ asks (take k s.seats.items)
+abbrev pub head_up_to : Seating → ℕ → List ℕ
+head_up_to s k = head_bytes s.depth (length s.seats) ++ asks (take k s.seats)
 
 -- ---- the query of a seat fits its challenges
 
@@ -54,9 +53,9 @@ zip-asks [] = refl
 zip-asks (s ∷ seats) = ap (λ l. ask s ++ l) (zip-asks seats)
 
 -- the head is that of the seats
-pub head-whole : (depth : ℕ) (queries : List Query) (blocks : List (List ℕ)) (stream : List Update) (s : Seats) → AreSeats depth queries blocks stream s → head_of depth queries blocks ≡ head_bytes s.depth (length s.seats.items) ++ asks s.seats.items
+pub head-whole : (depth : ℕ) (queries : List Query) (blocks : List (List ℕ)) (stream : List Update) (s : Seating) → AreSeats depth queries blocks stream s → head_of depth queries blocks ≡ head_bytes s.depth (length s.seats) ++ asks s.seats
 head-whole depth queries blocks stream s are =
-    let seats = s.seats.items in
+    let seats = s.seats in
     ap (λ d. head_of d queries blocks) (sym are.levels)
     ∙ ap (λ q. head_of s.depth q blocks) (sym are.asked)
     ∙ ap (λ b. head_of s.depth (map (λ (x : QuerySeat). x.query) seats) b) (sym are.at_blocks)
@@ -64,10 +63,10 @@ head-whole depth queries blocks stream s are =
     ∙ ap (λ l. head_bytes s.depth (length seats) ++ l) (zip-asks seats)
 
 -- one more seat
-pub head-more : (s : Seats) (k : ℕ) (d : QuerySeat) → k < length s.seats.items → head_up_to s (k + 1) ≡ head_up_to s k ++ ask (get_or s.seats.items k d)
+pub head-more : (s : Seating) (k : ℕ) (d : QuerySeat) → k < length s.seats → head_up_to s (k + 1) ≡ head_up_to s k ++ ask (get_or s.seats k d)
 head-more s k d lt =
-    let head = head_bytes s.depth (length s.seats.items) in
-    let seats = s.seats.items in
+    let head = head_bytes s.depth (length s.seats) in
+    let seats = s.seats in
     let one = get_or seats k d in
     ap (λ l. head ++ asks l) (take_more seats k d lt)
     ∙ ap (λ l. head ++ l) (flat_map-append ask (take k seats) (one ∷ []))
@@ -78,13 +77,13 @@ asks-from : (k : ℕ) (seats : List QuerySeat) → asks seats ≡ asks (take k s
 asks-from k seats = ap asks (sym (take-append-drop k seats)) ∙ flat_map-append ask (take k seats) (drop k seats)
 
 -- the whole head is what is written so far, the next seat and the rest
-pub head-split : (s : Seats) (k : ℕ) (d : QuerySeat) → k < length s.seats.items
-    → head_bytes s.depth (length s.seats.items) ++ asks s.seats.items ≡ (head_up_to s k ++ ask (get_or s.seats.items k d)) ++ asks (drop (k + 1) s.seats.items)
+pub head-split : (s : Seating) (k : ℕ) (d : QuerySeat) → k < length s.seats
+    → head_bytes s.depth (length s.seats) ++ asks s.seats ≡ (head_up_to s k ++ ask (get_or s.seats k d)) ++ asks (drop (k + 1) s.seats)
 head-split s k d lt =
-    let head = head_bytes s.depth (length s.seats.items) in
-    let rest = asks (drop (k + 1) s.seats.items) in
-    ap (λ l. head ++ l) (asks-from (k + 1) s.seats.items) ∙ sym (append_assoc head (asks (take (k + 1) s.seats.items)) rest) ∙ ap (λ l. l ++ rest) (head-more s k d lt)
+    let head = head_bytes s.depth (length s.seats) in
+    let rest = asks (drop (k + 1) s.seats) in
+    ap (λ l. head ++ l) (asks-from (k + 1) s.seats) ∙ sym (append_assoc head (asks (take (k + 1) s.seats)) rest) ∙ ap (λ l. l ++ rest) (head-more s k d lt)
 
 -- all are written
-pub head-done : (s : Seats) (k : ℕ) → length s.seats.items ≤ k → head_up_to s k ≡ head_bytes s.depth (length s.seats.items) ++ asks s.seats.items
-head-done s k le = ap (λ l. head_bytes s.depth (length s.seats.items) ++ asks l) (take_all k s.seats.items le)
+pub head-done : (s : Seating) (k : ℕ) → length s.seats ≤ k → head_up_to s k ≡ head_bytes s.depth (length s.seats) ++ asks s.seats
+head-done s k le = ap (λ l. head_bytes s.depth (length s.seats) ++ asks l) (take_all k s.seats le)

@@ -1,7 +1,7 @@
 -- The promises where a run ends before its first query.
 use Rattle.std.proofs.Common.{◌≡◌, ◌≢◌, Err, Option, None, List, [], ◌++◌, refl, sym, ap, subst, ◌∙◌, inl, inr, append-nil}
 use Rattle.sip_ports.specs.declared.port.TalkEvent.{TalkEvent}
-use Rattle.sip_verifier.specs.declared.seats.Seats.{Seats}
+use Rattle.sip_verifier.specs.Seats.{Seating}
 use Rattle.sip_verifier.specs.declared.session.SessionStart.{SessionStart}
 use Rattle.sip_verifier.specs.declared.session.SessionStart.TheVariants as starts
 use Rattle.sip_verifier.specs.declared.status.Port.TheVariants as ports
@@ -112,6 +112,6 @@ module _ (task : Task) (x : Exchange) where
   }
 
 -- a session is not made only where there is no memory
-pub starts_short : (seats : Seats) (start : SessionStart) → Starts seats (Err start) → status_of_start start ≡ statuses.OutOfMemory
+pub starts_short : (seats : Seating) (start : SessionStart) → Starts seats (Err start) → status_of_start start ≡ statuses.OutOfMemory
 starts_short seats (starts.TooWide query) none = absurd none
 starts_short seats starts.OutOfMemory none = refl

@@ -1,28 +1,27 @@
 -- What a call that draws the challenges did, by the bytes that its port had.
 use Rattle.std.specs.Prelude.{◌≡◌, ◌<◌, ◌≤◌, ℕ, List, [], length, Some, None, Result, Ok, Err}
 use Rattle.sip_vector.specs.declared.update.Update.{Update}
-use Rattle.sip_verifier.specs.declared.seats.Seats.{Seats}
 use Rattle.sip_verifier.specs.declared.status.Port.TheVariants as ports
 use Rattle.sip_verifier.specs.declared.status.Status.{Status}
 use Rattle.sip_verifier.specs.declared.status.Status.TheVariants as statuses
 use Rattle.sip_verifier.specs.declared.task.Task.{Task}
 use Rattle.sip_verifier.specs.Draws.{drawn, blocks}
-use Rattle.sip_verifier.specs.Seats.{AreSeats}
+use Rattle.sip_verifier.specs.Seats.{AreSeats, Seating}
 
 -- the seed gives these challenges, and the seats have them, before any update
-pub record HasDrawn (task : Task) (seed : List ℕ) (seats : Seats) : Type 0 where
+pub record HasDrawn (task : Task) (seed : List ℕ) (seats : Seating) : Type 0 where
   pub challenges : List ℕ
   pub draws : drawn task seed ≡ Some challenges
   pub stand : AreSeats task.depth task.queries.items (blocks task challenges) [] seats
 
 -- the seats have the task's queries, each with some block of challenges, and stand for some stream
-pub record AreOf (task : Task) (seats : Seats) : Type 0 where
+pub record AreOf (task : Task) (seats : Seating) : Type 0 where
   pub at_blocks : List (List ℕ)
   pub stream : List Update
   pub stand : AreSeats task.depth task.queries.items at_blocks stream seats
 
 -- the seats are those of the seed's challenges; a seed that gives none is short, or its 32 bytes are spent
-abbrev pub Draws : Task → List ℕ → Result Seats Status → Type 0
+abbrev pub Draws : Task → List ℕ → Result Seating Status → Type 0
 Draws task seed (Ok seats) = HasDrawn task seed seats
 Draws task seed (Err statuses.BadSeed) = length seed < 32
 Draws task seed (Err statuses.SeedSpent) = (32 ≤ length seed) × (drawn task seed ≡ None)

@@ -4,14 +4,13 @@ use Rattle.sip_ports.specs.declared.port.TalkEvent.{TalkEvent}
 use Rattle.sip_ports.specs.Ports.{GoesOn}
 use Rattle.sip_vector.specs.declared.update.Update.{Update}
 use Rattle.sip_stream.specs.Records.{records}
-use Rattle.sip_verifier.specs.declared.seats.Seats.{Seats}
 use Rattle.sip_verifier.specs.declared.status.Port.TheVariants as ports
 use Rattle.sip_verifier.specs.declared.status.Status.{Status}
 use Rattle.sip_verifier.specs.declared.status.Status.TheVariants as statuses
 use Rattle.sip_verifier.specs.declared.task.Task.{Task}
 use Rattle.sip_verifier.specs.Draws.{drawn, blocks}
 use Rattle.sip_replies.specs.Talks.{IsPrefix}
-use Rattle.sip_verifier.specs.Seats.{AreSeats}
+use Rattle.sip_verifier.specs.Seats.{AreSeats, Seating}
 use Rattle.sip_verifier.specs.Talks.{whole_frames, opening_sent, stream_sent}
 
 module _ (task : Task) (bytes seed : List ℕ) where
@@ -27,7 +26,7 @@ module _ (task : Task) (bytes seed : List ℕ) where
   before_end = opening_sent task.depth (whole_frames legal)
 
   -- the seed gives these challenges, the stream was legal and was read to its end, all of it was sent, and the seats stand for it
-  pub record IsGathered (left : Option (List ℕ)) (old new : Option (List TalkEvent)) (seats : Seats) : Type 0 where
+  pub record IsGathered (left : Option (List ℕ)) (old new : Option (List TalkEvent)) (seats : Seating) : Type 0 where
     pub challenges : List ℕ
     pub draws : drawn task seed ≡ Some challenges
     pub to_end : EndsLegally
@@ -63,6 +62,6 @@ module _ (task : Task) (bytes seed : List ℕ) where
   Refuses old new statuses.OutOfMemory = (new ≡ old) ⊎ (HasSeed × IsCut old new)
   Refuses old new _ = ⊥
 
-  abbrev pub Gathers : Option (List ℕ) → Option (List TalkEvent) → Option (List TalkEvent) → Result Seats Status → Type 0
+  abbrev pub Gathers : Option (List ℕ) → Option (List TalkEvent) → Option (List TalkEvent) → Result Seating Status → Type 0
   Gathers left old new (Ok seats) = IsGathered left old new seats
   Gathers left old new (Err status) = Refuses old new status

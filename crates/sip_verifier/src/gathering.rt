@@ -119,7 +119,7 @@ pub fn gather<A: Source, B: Source, L: Link, C: Sink>(
     ensures fault { (report reports : ℕ) → Stops stops_gathering
         (counts (A.faults first.old) (B.faults second.old) (L.faults peer.old) report)
         (counts (A.faults first.new) (B.faults second.new) (L.faults peer.new) reports) result }
-    ensures seated { IfOk result (λ seats. length seats.seats.items
+    ensures seated { IfOk result (λ seats. length seats.seats
         ≡ length task.now.queries.items) }
     ensures told { IsSome (A.left first.old) → IsSome (A.left first.new) }
     ensures also_told { IsSome (B.left second.old) → IsSome (B.left second.new) }

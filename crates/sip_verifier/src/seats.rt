@@ -17,6 +17,7 @@ use sip_field::{M61, Seat, SeedSpent, draw_challenges};
 use sip_ports::{PortStop, Sink};
 use sip_vector::{Depth, Query, Update};
 use sip_wire::{put_ask, put_head};
+use std::marker::Model;
 
 /// How many queries a run has at most.
 pub const MOST_QUERIES: usize = 16;
@@ -28,10 +29,18 @@ const MOST_CHALLENGES: usize = 512;
 /// which stands for the stream so far. Beside these nothing of a stream is kept, and no call takes memory.
 #[derive(Drop)]
 pub struct Seats {
-    pub(crate) depth: Depth,
-    pub(crate) seats: ArrayVec<QuerySeat, MOST_QUERIES>,
-    pub(crate) ghost some: { 0 < array_vec_len seats },
-    pub(crate) ghost each: { IsTrue (list_all (is_seat depth) seats.items) },
+    depth: Depth,
+    seats: ArrayVec<QuerySeat, MOST_QUERIES>,
+    ghost some: { 0 < array_vec_len seats },
+    ghost each: { IsTrue (list_all (is_seat depth) seats.items) },
+}
+
+impl Model for Seats {
+    ghost use Rattle.sip_verifier.specs.Seats.{Seating};
+
+    ghost Value = { Seating };
+
+    ghost view = { λ s. record { depth = s.depth; seats = s.seats.items } };
 }
 
 impl Seats {
@@ -73,6 +82,14 @@ impl Seats {
             seats.push(QuerySeat::begin(*query, seat));
         }
         Seats { depth, seats }
+    }
+
+    /// The seats, in the order of the queries.
+    pub(crate) fn all(&self) -> &[QuerySeat]
+        ensures seats { result.now ≡ self.now.seats }
+        ensures each { IsTrue (list_all (is_seat self.now.depth) self.now.seats) }
+    {
+        &self.seats
     }
 
     /// Adds an update to each running number that it concerns.

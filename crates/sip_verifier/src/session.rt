@@ -67,9 +67,9 @@ pub struct Session {
     entries: Vec<Entry>,
     found: usize,
     is_spent: bool,
-    ghost within: { asked ≤ length seats.seats.items },
+    ghost within: { asked ≤ length seats.seats },
     ghost shown: { found ≤ vec_len entries },
-    ghost room: { IsTrue (list_all (λ s. has_room (vec_len entries) s.query) seats.seats.items) },
+    ghost room: { IsTrue (list_all (λ s. has_room (vec_len entries) s.query) seats.seats) },
 }
 
 impl Model for Session {
@@ -78,7 +78,7 @@ impl Model for Session {
 
     ghost Value = { Sitting };
 
-    ghost view = { λ s. record { depth = s.seats.depth; left = drop s.asked s.seats.seats.items; entries = take s.found s.entries.items; spent = s.is_spent } };
+    ghost view = { λ s. record { depth = s.seats.depth; left = drop s.asked s.seats.seats; entries = take s.found s.entries.items; spent = s.is_spent } };
 }
 
 /// How many entries an answer to this query may have.
@@ -125,7 +125,7 @@ impl Session {
         let Ok(frame) = Frame::new(alloc) else {
             return Err(SessionStart::OutOfMemory);
         };
-        let room = most_entries(&seats.seats);
+        let room = most_entries(seats.all());
         let Ok(entries) = vec![in alloc; Entry { index: 0, value: 0 }; room] else {
             return Err(SessionStart::OutOfMemory);
         };
@@ -143,7 +143,7 @@ impl Session {
     pub fn left(&self) -> usize
         ensures { result ≡ length self.now.left }
     {
-        self.seats.seats.len() - self.asked
+        self.seats.all().len() - self.asked
     }
 
     /// The pairs of the last verdict of pairs, rising.
@@ -172,8 +172,8 @@ impl Session {
         ensures no_keep { result ≢ Err SessionFault.KeepFault }
         ensures link { Lasts L.faults L.is_sure link.old link.new }
     {
-        let seats = &self.seats;
-        let seat = &seats.seats[self.asked];
+        let seats = self.seats.all();
+        let seat = &seats[self.asked];
         let asked = ask_seat(seat, &mut self.entries, &mut self.frame, link);
         self.asked += 1;
         self.found = found_in(self.entries.len(), &asked);

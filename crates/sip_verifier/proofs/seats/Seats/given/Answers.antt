@@ -44,7 +44,7 @@ pub invariant_of-result : goal.invariant_of-result
 invariant_of-result c =
     let all : c.loop-index.index ≡ length c.args.queries.now = omega arith in
     let count = given-count _ _ _ _ _ _ c.loop-index.invariant (omega arith) in
-    record { some = omega (arith, count, c.requires.some); each = c.loop-index.invariant.each }
+    (omega (arith, count, c.requires.some), (c.loop-index.invariant.each, tt))
 
 pub returns : goal.returns
 returns c =

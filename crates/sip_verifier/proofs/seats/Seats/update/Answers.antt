@@ -3,42 +3,50 @@ use Rattle.std.proofs.Common.{◌≡◌, ◌<◌, ◌≤◌, ◌∙◌, List, []
 use Rattle.std.specs.Prelude.{IsTrue}
 use Rattle.std.specs.List.{list_all}
 use Rattle.sip_verifier.specs.QuerySeats.{StandsFor, block_of, is_seat}
+use Rattle.sip_verifier.specs.Seats.{AreSeats, Seating}
 use Rattle.sip_verifier.specs.declared.seat.QuerySeat.{QuerySeat}
-use Rattle.sip_verifier.proofs.SeatsRaised.{raised-more, raised-queries, raised-blocks, raised-seats, raised-stand, refilled, seat-levels}
+use Rattle.sip_verifier.proofs.SeatsRaised.{RaisedTo, raised-more, raised-queries, raised-blocks, raised-seats, raised-stand, refilled, seat-levels}
 use Rattle.sip_verifier.proofs.seats.Seats.update.Goals as goal
 
 pub update-requires : goal.update-requires
 update-requires c =
-    let all = raised-seats c.args.update.now c.args.self.now.depth _ _ _ c.loop-seat.invariant c.args.self.now.each in
+    let depth = c.self.inside.depth in
+    let items = ap (λ (s : Seating). s.seats) c.self.view_is in
+    let each = subst (λ (l : List QuerySeat). IsTrue (list_all (is_seat depth) l)) items c.self.inside.each in
+    let all = raised-seats c.args.update.now depth _ _ _ c.loop-seat.invariant each in
     let inside : c.loop-seat.seat-index < length c.loop-seat.seat-items = omega arith in
-    let levels = seat-levels c.args.self.now.depth c.loop-seat.seat-index c.loop-seat.seat-items c.seat-item.result all inside in
-    rw levels c.requires
+    let levels = seat-levels depth c.loop-seat.seat-index c.loop-seat.seat-items c.seat-item.result all inside in
+    rw (levels, ap (λ (s : Seating). s.depth) c.self.view_is) c.requires
 
 pub loop-seat-preserved : goal.loop-seat-preserved
 loop-seat-preserved c =
     let inside : c.loop-seat.seat-index < length c.loop-seat.seat-items = omega arith in
-    raised-more c.args.update.now c.loop-seat.seat-index c.args.self.now.seats.items c.loop-seat.seat-items c.seat-item.result c.update.new.self c.loop-seat.invariant inside
+    raised-more c.args.update.now c.loop-seat.seat-index c.args.self.now.seats c.loop-seat.seat-items c.seat-item.result c.update.new.self c.loop-seat.invariant inside
     (record { query = c.update.ensures.query; block = c.update.ensures.block; stands = c.update.ensures.stands })
 
-pub invariant_of-self : goal.invariant_of-self
-invariant_of-self c =
-    let old = c.args.self.now.seats.items in
+pub invariant_of-self-inside : goal.invariant_of-self-inside
+invariant_of-self-inside c =
+    let old = c.self.inside.seats.items in
+    let items = ap (λ (s : Seating). s.seats) c.self.view_is in
+    let raised = subst (λ (l : List QuerySeat). RaisedTo c.args.update.now c.loop-seat.seat-index l c.loop-seat.seat-items) (sym items) c.loop-seat.invariant in
     let len : length c.loop-seat.seat-items ≡ length old = c.loop-seat.auto.seat-items ∙ ap length c.deref_mut-seat-items.ensures.value in
-    let same = refilled old c.loop-seat.seat-items len in
-    record {
-      some = subst (λ (l : List QuerySeat). 0 < length l) (sym same) (omega (arith, len, c.args.self.now.some));
-      each = subst (λ l. IsTrue (list_all (is_seat c.args.self.now.depth) l)) (sym same) (raised-seats c.args.update.now c.args.self.now.depth _ old c.loop-seat.seat-items c.loop-seat.invariant c.args.self.now.each);
-    }
+    let same = refilled old c.loop-seat.seat-items len in (
+      subst (λ (l : List QuerySeat). 0 < length l) (sym same) (omega (arith, len, c.self.inside.some)),
+      (subst (λ l. IsTrue (list_all (is_seat c.self.inside.depth) l)) (sym same) (raised-seats c.args.update.now c.self.inside.depth _ old c.loop-seat.seat-items raised c.self.inside.each), tt),
+    )
 
 pub returns-clause-stands : goal.returns-clause-stands
-returns-clause-stands c = λ depth queries blocks stream are.
-    let old = c.args.self.now.seats.items in
+returns-clause-stands c = λ depth queries blocks stream seen.
+    let old = c.self.inside.seats.items in
+    let items = ap (λ (s : Seating). s.seats) c.self.view_is in
+    let are = subst (AreSeats depth queries blocks stream) (sym c.self.view_is) seen in
+    let raised = subst (λ (l : List QuerySeat). RaisedTo c.args.update.now c.loop-seat.seat-index l c.loop-seat.seat-items) (sym items) c.loop-seat.invariant in
     let len : length c.loop-seat.seat-items ≡ length old = c.loop-seat.auto.seat-items ∙ ap length c.deref_mut-seat-items.ensures.value in
     let end : length old ≤ c.loop-seat.seat-index = omega (arith, ap length c.deref_mut-seat-items.ensures.value) in
     let same = refilled old c.loop-seat.seat-items len in
     record {
       levels = are.levels;
-      asked = ap (λ (l : List QuerySeat). map (λ (s : QuerySeat). s.query) l) same ∙ raised-queries c.args.update.now _ old c.loop-seat.seat-items c.loop-seat.invariant ∙ are.asked;
-      at_blocks = ap (λ (l : List QuerySeat). map block_of l) same ∙ raised-blocks c.args.update.now _ old c.loop-seat.seat-items c.loop-seat.invariant ∙ are.at_blocks;
-      stand = subst (All (StandsFor depth (stream ++ c.args.update.now ∷ []))) (sym same) (raised-stand c.args.update.now _ old c.loop-seat.seat-items depth stream c.loop-seat.invariant end are.stand);
+      asked = ap (λ (l : List QuerySeat). map (λ (s : QuerySeat). s.query) l) same ∙ raised-queries c.args.update.now _ old c.loop-seat.seat-items raised ∙ are.asked;
+      at_blocks = ap (λ (l : List QuerySeat). map block_of l) same ∙ raised-blocks c.args.update.now _ old c.loop-seat.seat-items raised ∙ are.at_blocks;
+      stand = subst (All (StandsFor depth (stream ++ c.args.update.now ∷ []))) (sym same) (raised-stand c.args.update.now _ old c.loop-seat.seat-items depth stream raised end are.stand);
     }
