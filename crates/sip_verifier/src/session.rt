@@ -3,13 +3,15 @@
 ghost use Rattle.std.specs.Prelude.{◌≡◌, ◌≢◌, ◌<◌, ◌≤◌, ◌^◌, ℕ, List, [], ◌∷◌, true, false, length, drop, vec_len, IsTrue};
 ghost use Rattle.std.specs.List.{list_all};
 ghost use Rattle.sip_ports.specs.Ports.{Lasts, Rose};
+ghost use Rattle.sip_vector.specs.declared.query.Query.{Query as AnyQuery};
 ghost use Rattle.sip_vector.specs.declared.update.Update.{Update as AnyUpdate};
 ghost use Rattle.sip_vector.specs.Answers.{Fits};
 ghost use Rattle.sip_vector.specs.Streams.{IsLegal};
 ghost use Rattle.sip_verifier.specs.Asking.{AnswersCount, Asks};
 ghost use Rattle.sip_verifier.specs.Questions.{has_room};
 ghost use Rattle.sip_verifier.specs.declared.seat.QuerySeat.{QuerySeat as AnySeat};
-ghost use Rattle.sip_verifier.specs.QuerySeats.{StandsFor, block_of};
+ghost use Rattle.sip_verifier.specs.NextSeat.{IsNext};
+ghost use Rattle.sip_verifier.specs.QuerySeats.{block_of};
 ghost use Rattle.sip_verifier.specs.Sittings.{Starts, is_over};
 
 use crate::Seats;
@@ -157,9 +159,9 @@ impl Session {
     fn judge<L: Link>(&mut self, link: &mut L) -> Result<Verdict, SessionFault>
         requires left { 0 < length self.old.left }
         requires live { self.old.spent ≡ false }
-        ensures asks { (stream : List AnyUpdate) (seat : AnySeat) (more : List AnySeat)
-            → self.old.left ≡ seat ∷ more → StandsFor self.old.depth stream seat
-            → Asks self.old.depth stream seat.query (block_of seat) (L.talk link.old)
+        ensures asks { (stream : List AnyUpdate) (query : AnyQuery) (seat : AnySeat)
+            → IsNext self.old.depth stream self.old.left query seat
+            → Asks self.old.depth stream query (block_of seat) (L.talk link.old)
             (L.talk link.new) self.new.entries result }
         ensures fits { (seat : AnySeat) (more : List AnySeat) → self.old.left ≡ seat ∷ more
             → Fits self.old.depth seat.query }
@@ -199,14 +201,14 @@ impl Session {
     ) -> Result<Verdict, SessionFault>
         requires left { 0 < length self.old.left }
         requires live { self.old.spent ≡ false }
-        ensures asks { (stream : List AnyUpdate) (seat : AnySeat) (more : List AnySeat)
-            → self.old.left ≡ seat ∷ more → StandsFor self.old.depth stream seat
-            → Asks self.old.depth stream seat.query (block_of seat) (L.talk link.old)
+        ensures asks { (stream : List AnyUpdate) (query : AnyQuery) (seat : AnySeat)
+            → IsNext self.old.depth stream self.old.left query seat
+            → Asks self.old.depth stream query (block_of seat) (L.talk link.old)
             (L.talk link.new) self.new.entries result }
-        ensures count { (stream : List AnyUpdate) (seat : AnySeat) (more : List AnySeat)
-            → self.old.left ≡ seat ∷ more → StandsFor self.old.depth stream seat
+        ensures count { (stream : List AnyUpdate) (query : AnyQuery) (seat : AnySeat)
+            → IsNext self.old.depth stream self.old.left query seat
             → IsLegal self.old.depth stream
-            → AnswersCount self.old.depth stream seat.query (block_of seat) (L.talk link.old)
+            → AnswersCount self.old.depth stream query (block_of seat) (L.talk link.old)
             (L.talk link.new) self.new.entries result }
         ensures next { self.new.left ≡ drop 1 self.old.left }
         ensures depth { self.new.depth ≡ self.old.depth }

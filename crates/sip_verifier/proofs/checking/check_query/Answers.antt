@@ -1,5 +1,5 @@
--- A line that could not be written whole, and the line of an answer.
-use Rattle.std.proofs.Common.{rules, ◌≡◌, w64, to_z, of_z, FitsSigned}
+-- A line that could not be written whole, that of a rejection, and the line of an answer.
+use Rattle.std.proofs.Common.{refl, rules, ◌≡◌, w64, to_z, of_z, FitsSigned}
 use Rattle.std.proofs.lemmas.Int.{to_z-of_z}
 use Rattle.std.proofs.lemmas.Result.{err_from_is_err_and}
 use Rattle.sip_verifier.proofs.QueriesChecked.{fault_checked, line_checked, rejection_cut}
@@ -8,20 +8,27 @@ use Rattle.sip_verifier.proofs.checking.check_query.Goals as goal
 pub returns-in_err-on_report-in-Ok-Rejected-clause-checks :
     goal.returns-in_err-on_report-in-Ok-Rejected-clause-checks
 returns-in_err-on_report-in-Ok-Rejected-clause-checks g c = λ stream seat next.
-    let asks = rw (next.asks, c.in-Ok-Rejected.is, c.in-Ok-Rejected.field-0-is) at (c.ask.ensures.asks stream seat next.more next.first next.stands) in
+    let asks = rw (c.in-Ok-Rejected.is, c.in-Ok-Rejected.field-0-is) at (c.ask.ensures.asks stream _ seat next) in
     let p = err_from_is_err_and c.from_residual.result c.from_residual.ensures.1 in
     let on = rw c.in_err-on_report-in-Ok-Rejected.was at c.on_report-in-Ok-Rejected.ensures in
     rw (p.1, p.2) (rejection_cut _ _ _ _ _ _ _ _ _ c.in-Ok-Rejected.round c.in-Ok-Rejected.reason c.write_rejection.result c.in_err-on_report-in-Ok-Rejected.field-0.0 asks c.write_rejection.ensures.talk on)
 
+pub returns-in_ok-on_report-in-Ok-Rejected-clause-checks :
+    goal.returns-in_ok-on_report-in-Ok-Rejected-clause-checks
+returns-in_ok-on_report-in-Ok-Rejected-clause-checks g c = λ stream seat next.
+    let asks = rw (c.in-Ok-Rejected.is, c.in-Ok-Rejected.field-0-is) at (c.ask.ensures.asks stream _ seat next) in
+    let wrote = rw c.in_ok-on_report-in-Ok-Rejected.ensures at c.write_rejection.ensures.talk in
+    (refl, record { rejected = asks; wrote = wrote })
+
 pub returns-in-Ok-Pairs-clause-checks : goal.returns-in-Ok-Pairs-clause-checks
 returns-in-Ok-Pairs-clause-checks g c = λ stream seat next.
-    let asks = rw (next.asks, c.in-Ok-Pairs.is, c.in-Ok-Pairs.field-0-is, ← c.entries.ensures) at (c.ask.ensures.asks stream seat next.more next.first next.stands) in
+    let asks = rw (c.in-Ok-Pairs.is, c.in-Ok-Pairs.field-0-is, ← c.entries.ensures) at (c.ask.ensures.asks stream _ seat next) in
     line_checked _ _ _ _ _ _ _ _ _ _ c.write_pairs.result c.on_report.result asks c.write_pairs.ensures.talk c.on_report.ensures
 
 pub returns-in-Ok-Number-clause-checks : goal.returns-in-Ok-Number-clause-checks
 returns-in-Ok-Number-clause-checks g c = λ stream seat next.
-    let asks = rw (next.asks, c.in-Ok-Number.is, c.in-Ok-Number.field-0-is) at
-    (c.ask.ensures.asks stream seat next.more next.first next.stands) in
+    let asks = rw (c.in-Ok-Number.is, c.in-Ok-Number.field-0-is) at
+    (c.ask.ensures.asks stream _ seat next) in
     let fits : FitsSigned w64 c.in-Ok-Number.value = search rules in
     let kept : to_z w64 (of_z w64 c.in-Ok-Number.value)
     ≡ c.in-Ok-Number.value = to_z-of_z w64 c.in-Ok-Number.value fits in
@@ -30,5 +37,5 @@ returns-in-Ok-Number-clause-checks g c = λ stream seat next.
 
 pub returns-in-Err-clause-checks : goal.returns-in-Err-clause-checks
 returns-in-Err-clause-checks g c = λ stream seat next.
-    let asks = rw (next.asks, c.in-Err.is) at (c.ask.ensures.asks stream seat next.more next.first next.stands) in
+    let asks = rw (c.in-Err.is) at (c.ask.ensures.asks stream _ seat next) in
     rw c.status_of_fault.ensures (fault_checked _ _ _ _ _ _ _ _ c.ask.new.self.entries c.in-Err.fault asks)
