@@ -15,7 +15,7 @@ use Rattle.sip_cli.specs.declared.verb.Verb.TheVariants.{Verify}
 use Rattle.sip_cli.specs.Shapes.{IsOf, IsDepth, Asks}
 use Rattle.sip_cli.specs.Verbs.{verb_word, shapes, least_asked, most_asked, most_queries}
 use Rattle.sip_cli.specs.Words.{word, IsWhole, IsRefusedAt}
-use Rattle.sip_cli.specs.Progress.{HaveShapes, StopsInShapes, Fitted, AreAsked, StopsInQueries}
+use Rattle.sip_cli.specs.inside.Progress.{HaveShapes, StopsInShapes, Fitted, AreAsked, StopsInQueries}
 use Rattle.sip_cli.proofs.Beginning.{Begun, refused}
 
 -- a word has one depth

@@ -1,7 +1,6 @@
 pub mod Words
 pub mod Shapes
 pub mod Verbs
-pub mod Progress
 pub mod Plan
 pub mod Pages
 pub mod Exit
@@ -10,3 +9,4 @@ pub mod CopyClause
 pub mod HelpClause
 pub mod Statuses
 pub mod CommandClause
+pub mod inside

@@ -4,7 +4,7 @@ ghost use Rattle.std.specs.Prelude.{◌≡◌, ◌≢◌, ℕ, ◌+◌, ◌<◌,
 ghost use Rattle.sip_cli.specs.Shapes.{IsDepth, HasForm};
 ghost use Rattle.sip_cli.specs.Words.{Spells, IsRefusedAt, word};
 ghost use Rattle.sip_cli.specs.Verbs.{verb_word, most_queries};
-ghost use Rattle.sip_cli.specs.Progress.{Fitted, HaveShapes, AreAsked, StopsInShapes, StopsInQueries};
+ghost use Rattle.sip_cli.specs.inside.Progress.{Fitted, HaveShapes, AreAsked, StopsInShapes, StopsInQueries};
 ghost use Rattle.sip_cli.specs.declared.verb.Verb.{Verb as AnyVerb};
 
 use crate::decimal::read_decimal;

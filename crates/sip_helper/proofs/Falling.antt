@@ -23,7 +23,7 @@ use Rattle.sip_helper.specs.declared.heard.Heard.{Heard}
 use Rattle.sip_helper.specs.declared.heard.Heard.TheVariants.{Nothing, Part, Whole}
 use Rattle.sip_helper.specs.declared.vectors.Vectors.{Vectors}
 use Rattle.sip_helper.specs.Kinds.{is_below}
-use Rattle.sip_helper.specs.Measures.{stream_left, challenges_left, turns_left}
+use Rattle.sip_helper.specs.inside.Measures.{stream_left, challenges_left, turns_left}
 use Rattle.sip_helper.specs.Serving.{IsTurn, Turn, after_turn}
 use Rattle.sip_helper.specs.Turns.{HelperState, OpenQuery, after_answer, after_reply, depth_of, is_allowed, is_light, is_refused, most_queries, step, weights_after, with_challenge}
 use Rattle.sip_helper.proofs.LegalUpdates.{light_parts}

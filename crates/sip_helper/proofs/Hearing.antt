@@ -19,11 +19,11 @@ use Rattle.sip_helper.specs.declared.asked.Asked.{Asked}
 use Rattle.sip_helper.specs.declared.heard.Heard.{Heard}
 use Rattle.sip_helper.specs.declared.vectors.Vectors.{Vectors}
 use Rattle.sip_helper.specs.declared.vectors.Weights.{Weights}
-use Rattle.sip_helper.specs.Answering.{Stands}
-use Rattle.sip_helper.specs.Keeping.{IsKept}
+use Rattle.sip_helper.specs.inside.Answering.{Stands}
+use Rattle.sip_helper.specs.inside.Keeping.{IsKept}
 use Rattle.sip_helper.specs.declared.heard.Heard.TheVariants.{Nothing, Part, Whole}
 use Rattle.sip_helper.specs.Kinds.{is_below}
-use Rattle.sip_helper.specs.Legal.{AreOf, legal_weights}
+use Rattle.sip_helper.specs.inside.Legal.{AreOf, legal_weights}
 use Rattle.sip_helper.specs.Turns.{HelperState, depth_of, is_allowed, is_light, most_queries, part_of, stays_legal, weights_after, whole_of, with_updates}
 use Rattle.sip_helper.proofs.EachKind.{fits_below}
 use Rattle.sip_helper.proofs.LegalUpdates.{are_after, none_or_some, same_some}

@@ -14,7 +14,7 @@ use Rattle.sip_vector.proofs.Sides.{weight-append, weight-one, weight-one_other_
 use Rattle.sip_helper.specs.declared.vectors.Vectors.{Vectors}
 use Rattle.sip_helper.specs.declared.vectors.Weights.{Weights}
 use Rattle.sip_helper.specs.Turns.{with_updates, weights_after, is_light, stays_legal}
-use Rattle.sip_helper.specs.Legal.{AreOf, weights_of, legal_weights}
+use Rattle.sip_helper.specs.inside.Legal.{AreOf, weights_of, legal_weights}
 
 -- a delta that is not too heavy is passed on as it is
 pub as_given : (z : ℤ) → nat_abs z ≤ most_weight → to_z w64 (of_z w64 z) ≡ z

@@ -6,7 +6,7 @@ use Rattle.sip_helper.specs.declared.asked.Answerer.TheVariants.{Honest}
 use Rattle.sip_helper.specs.declared.asked.Asked.{Asked}
 use Rattle.sip_helper.specs.declared.kinds.KindProver.{KindProver}
 use Rattle.sip_helper.specs.declared.vectors.Vectors.{Vectors}
-use Rattle.sip_helper.specs.Answering.{IsReady, Stands}
+use Rattle.sip_helper.specs.inside.Answering.{IsReady, Stands}
 use Rattle.sip_helper.specs.Kinds.{HasLearnt, query_proved, row_of}
 
 -- a prover that is at hand stands for the vectors that are kept

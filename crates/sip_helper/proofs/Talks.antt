@@ -11,8 +11,8 @@ use Rattle.sip_wire.proofs.ReadingLaws.{asked-least, read_frame-closed}
 use Rattle.sip_helper.specs.declared.status.HelpStatus.TheVariants.{OutOfMemory}
 use Rattle.sip_wire.proofs.Longest.{spelling_at_most}
 use Rattle.sip_helper.specs.declared.status.HelpStatus.{HelpStatus}
-use Rattle.sip_helper.specs.Measures.{turns_left}
-use Rattle.sip_helper.specs.OneTurn.{Stopped, Taken}
+use Rattle.sip_helper.specs.inside.Measures.{turns_left}
+use Rattle.sip_helper.specs.inside.OneTurn.{Stopped, Taken}
 use Rattle.sip_helper.specs.Serving.{AreTurns, EndsBy, IsTurn, Serves, Turn, after_turn, heard_in, state_after, turn_talk, turns_talk}
 use Rattle.sip_helper.specs.Turns.{HelperState, depth_of, fresh, owed, step}
 use Rattle.sip_helper.proofs.Falling.{turn_left}

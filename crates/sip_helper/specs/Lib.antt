@@ -1,12 +1,7 @@
-pub mod Answering
-pub mod Keeping
 pub mod KindRows
 pub mod Kinds
-pub mod Legal
-pub mod Measures
-pub mod OneTurn
 pub mod Serving
-pub mod Starting
 pub mod Statuses
 pub mod SubVectors
 pub mod Turns
+pub mod inside

@@ -9,8 +9,8 @@ ghost use Rattle.sip_vector.specs.Answers.{Fits};
 ghost use Rattle.sip_wire.specs.Spelling.{spelling};
 ghost use Rattle.sip_helper.specs.declared.vectors.Vectors.{Vectors as AnyVectors};
 ghost use Rattle.sip_helper.specs.Turns.{after_reply, is_known, may_reveal, reply_to, with_challenge};
-ghost use Rattle.sip_helper.specs.Answering.{query_of, open_of, IsReady, Stands};
-ghost use Rattle.sip_helper.specs.Legal.{HaveDepth};
+ghost use Rattle.sip_helper.specs.inside.Answering.{query_of, open_of, IsReady, Stands};
+ghost use Rattle.sip_helper.specs.inside.Legal.{HaveDepth};
 
 use crate::OutOfTurn;
 use crate::kinds::KindProver;

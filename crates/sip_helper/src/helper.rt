@@ -40,8 +40,8 @@ pub struct HelperCore {
 impl Model for HelperCore {
     ghost use Rattle.std.specs.Option.{option_map};
     ghost use Rattle.sip_helper.specs.Turns.{HelperState};
-    ghost use Rattle.sip_helper.specs.Answering.{open_of};
-    ghost use Rattle.sip_helper.specs.Keeping.{IsKept};
+    ghost use Rattle.sip_helper.specs.inside.Answering.{open_of};
+    ghost use Rattle.sip_helper.specs.inside.Keeping.{IsKept};
 
     ghost Value = { HelperState };
 

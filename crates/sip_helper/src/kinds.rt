@@ -3,7 +3,7 @@
 ghost use Rattle.std.specs.Prelude.{◌≡◌};
 ghost use Rattle.sip_vector.specs.Answers.{Fits};
 ghost use Rattle.sip_helper.specs.Kinds.{HasLearnt, query_proved};
-ghost use Rattle.sip_helper.specs.Starting.{Starts};
+ghost use Rattle.sip_helper.specs.inside.Starting.{Starts};
 
 use crate::prover::{NotStarted, Prover};
 use crate::refusal::OUT_OF_TURN;

@@ -9,7 +9,7 @@ ghost use Rattle.sip_wire.specs.Spelling.{spelling};
 ghost use Rattle.sip_helper.specs.declared.prover.NotStarted.TheVariants.{NoMemory};
 ghost use Rattle.sip_helper.specs.declared.vectors.Vectors.{Vectors as AnyVectors};
 ghost use Rattle.sip_helper.specs.Kinds.{row_of};
-ghost use Rattle.sip_helper.specs.Legal.{HaveDepth};
+ghost use Rattle.sip_helper.specs.inside.Legal.{HaveDepth};
 
 use crate::vectors::Vectors;
 use sip_field::OutOfMemory;

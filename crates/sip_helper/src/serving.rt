@@ -3,7 +3,7 @@
 ghost use Rattle.std.specs.Prelude.{◌≡◌, ◌≢◌, false, true, Err};
 ghost use Rattle.sip_ports.specs.Ports.{Lasts, Rose};
 ghost use Rattle.sip_wire.specs.Frames.{frame_bytes};
-ghost use Rattle.sip_helper.specs.OneTurn.{TakesTurn};
+ghost use Rattle.sip_helper.specs.inside.OneTurn.{TakesTurn};
 ghost use Rattle.sip_helper.specs.Serving.{Serves};
 
 use crate::asked::is_known;

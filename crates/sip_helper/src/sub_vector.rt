@@ -6,7 +6,7 @@ ghost use Rattle.sip_ports.specs.Ports.{HasCause, SendsWhole};
 ghost use Rattle.sip_vector.specs.declared.query.Query.TheVariants as queries;
 ghost use Rattle.sip_wire.specs.Spelling.{fits};
 ghost use Rattle.sip_subvec.specs.Honest.{honest_reply, its_siblings, proving, siblings_message};
-ghost use Rattle.sip_helper.specs.Starting.{Starts};
+ghost use Rattle.sip_helper.specs.inside.Starting.{Starts};
 ghost use Rattle.sip_helper.specs.SubVectors.{HasLevel, sub_query};
 
 use crate::entries::put_entries;

@@ -3,7 +3,7 @@
 ghost use Rattle.std.specs.Prelude.{◌≡◌, ◌∷◌, [], Bool, IfOk, IfSome, IsTrue, if◌then◌else◌};
 ghost use Rattle.std.specs.Option.{option_map};
 ghost use Rattle.sip_helper.specs.Turns.{is_light, stays_legal, zero_vectors, with_updates};
-ghost use Rattle.sip_helper.specs.Legal.{weights_of, legal_weights};
+ghost use Rattle.sip_helper.specs.inside.Legal.{weights_of, legal_weights};
 
 use sip_field::OutOfMemory;
 use sip_vector::{Depth, Side, Update, Vector};

@@ -25,9 +25,9 @@ use Rattle.sip_verifier.specs.declared.status.Status.TheVariants as statuses
 use Rattle.sip_verifier.specs.declared.task.Task.{Task}
 use Rattle.sip_verifier.specs.Asking.{Asks, IsAnswered, IsRejected, turn_of}
 use Rattle.sip_verifier.specs.Draws.{blocks}
-use Rattle.sip_verifier.specs.Ending.{status_of_fault, status_of_report}
+use Rattle.sip_verifier.specs.inside.Ending.{status_of_fault, status_of_report}
 use Rattle.sip_verifier.specs.Moments.{counts}
-use Rattle.sip_verifier.specs.Progress.{Checks, ChecksAll, Passes, PassesInPart, FailsInPart, AreFirst, PassedBy, EndsWith}
+use Rattle.sip_verifier.specs.inside.Progress.{Checks, ChecksAll, Passes, PassesInPart, FailsInPart, AreFirst, PassedBy, EndsWith}
 use Rattle.sip_verifier.specs.QuerySeats.{StandsFor, block_of}
 use Rattle.sip_verifier.specs.Reports.{line, rejection}
 use Rattle.sip_verifier.specs.Seats.{AreSeats, Seating}

@@ -17,7 +17,7 @@ use Rattle.sip_replies.specs.Replies as replied
 use Rattle.sip_replies.specs.Replies.{Fault}
 use Rattle.sip_replies.specs.Talks.{IsPrefix, asked, asked_unless, ending}
 use Rattle.sip_verifier.specs.Asking.{turn_of, IsAnswered, IsRejected, IsInterrupted, Asks}
-use Rattle.sip_verifier.specs.Questions.{found_in, verdict_of}
+use Rattle.sip_verifier.specs.inside.Questions.{found_in, verdict_of}
 use Rattle.sip_verifier.specs.Turns.{Accepts, IsDue, IsFaulty, IsWaiting, said_in_turn}
 
 -- no more are shown than there are

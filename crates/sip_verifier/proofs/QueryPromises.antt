@@ -22,12 +22,12 @@ use Rattle.sip_verifier.specs.declared.status.Status.TheVariants as statuses
 use Rattle.sip_verifier.specs.declared.task.Task.{Task}
 use Rattle.sip_verifier.specs.Asking.{turn_of}
 use Rattle.sip_verifier.specs.Draws.{drawn, blocks}
-use Rattle.sip_verifier.specs.Ending.{status_of_link}
+use Rattle.sip_verifier.specs.inside.Ending.{status_of_link}
 use Rattle.sip_replies.specs.Talks.{IsPrefix, ending}
 use Rattle.sip_verifier.specs.Exchanges.{Exchange}
 use Rattle.sip_verifier.specs.Kinds.{Row, built, missing, row_of, Holds}
 use Rattle.sip_verifier.specs.Moments.{Counts}
-use Rattle.sip_verifier.specs.Progress.{Fails, PassesInPart, FailsInPart, HasNone, AreFirst, Passed, PassedBy, EndsWith, Ended, status_of}
+use Rattle.sip_verifier.specs.inside.Progress.{Fails, PassesInPart, FailsInPart, HasNone, AreFirst, Passed, PassedBy, EndsWith, Ended, status_of}
 use Rattle.sip_verifier.specs.Reports.{line, rejection}
 use Rattle.sip_verifier.specs.Statuses.{FaultClause, IsListed}
 use Rattle.sip_verifier.specs.Talks.{stream_sent, bye_sent}

@@ -7,7 +7,7 @@ use Rattle.std.proofs.lemmas.List.{take_more}
 use Rattle.std.proofs.lemmas.List.Folds.{list_all-append}
 use Rattle.sip_vector.specs.declared.query.Query.{Query}
 use Rattle.sip_vector.specs.declared.query.Query.TheVariants.{Sub, Range, F2, Inner, Heavy}
-use Rattle.sip_verifier.specs.Questions.{has_room}
+use Rattle.sip_verifier.specs.inside.Questions.{has_room}
 use Rattle.sip_subvec.specs.Asking.{most_answer}
 use Rattle.sip_verifier.specs.declared.seat.QuerySeat.{QuerySeat}
 

@@ -15,7 +15,7 @@ use Rattle.sip_replies.specs.Talks.{IsPrefix}
 use Rattle.sip_verifier.specs.Exchanges.{Exchange, Tells}
 use Rattle.sip_verifier.specs.Gathering.{Refuses}
 use Rattle.sip_verifier.specs.Moments.{Moment, IsTold}
-use Rattle.sip_verifier.specs.Progress.{Checks, PassesInPart, FailsInPart, PassedBy, EndsWith}
+use Rattle.sip_verifier.specs.inside.Progress.{Checks, PassesInPart, FailsInPart, PassedBy, EndsWith}
 use Rattle.sip_verifier.specs.Reports.{line, rejection}
 use Rattle.sip_verifier.specs.Turns.{Accepted}
 

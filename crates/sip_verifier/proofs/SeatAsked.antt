@@ -24,8 +24,8 @@ use Rattle.sip_verifier.specs.declared.seat.QuerySeat.{QuerySeat}
 use Rattle.sip_verifier.specs.declared.seat.Running.{Running}
 use Rattle.sip_verifier.specs.declared.seat.Running.TheVariants.{Root}
 use Rattle.sip_verifier.specs.Asking.{Asks}
-use Rattle.sip_verifier.specs.Questions as questions
-use Rattle.sip_verifier.specs.Questions.{found_in, verdict_of}
+use Rattle.sip_verifier.specs.inside.Questions as questions
+use Rattle.sip_verifier.specs.inside.Questions.{found_in, verdict_of}
 use Rattle.sip_verifier.specs.QuerySeats.{RunsOn, StandsFor, block_of, can_be_asked, is_seat}
 use Rattle.sip_verifier.proofs.QueryAsked.{IsProtocol, asks}
 use Rattle.sip_verifier.proofs.Seating.{Has}

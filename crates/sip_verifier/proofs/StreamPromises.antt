@@ -9,12 +9,12 @@ use Rattle.sip_verifier.specs.declared.status.Status.{Status}
 use Rattle.sip_verifier.specs.declared.status.Status.TheVariants as statuses
 use Rattle.sip_verifier.specs.declared.task.Task.{Task}
 use Rattle.sip_verifier.specs.Draws.{drawn}
-use Rattle.sip_verifier.specs.Ending.{status_of_start}
+use Rattle.sip_verifier.specs.inside.Ending.{status_of_start}
 use Rattle.sip_replies.specs.Talks.{IsPrefix}
 use Rattle.sip_verifier.specs.Exchanges.{Exchange}
 use Rattle.sip_verifier.specs.Gathering.{Refuses, HasSeed, IsCut}
 use Rattle.sip_verifier.specs.Moments.{Counts}
-use Rattle.sip_verifier.specs.Progress.{Ended}
+use Rattle.sip_verifier.specs.inside.Progress.{Ended}
 use Rattle.sip_verifier.specs.Sittings.{Starts}
 use Rattle.sip_verifier.specs.Statuses.{FaultClause}
 use Rattle.sip_verifier.specs.Talks.{stream_sent}

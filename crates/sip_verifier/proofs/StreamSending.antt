@@ -12,7 +12,7 @@ use Rattle.sip_wire.specs.declared.message.Message.TheVariants as messages
 use Rattle.sip_wire.specs.Spelling.{spelling}
 use Rattle.sip_replies.specs.Talks.{IsPrefix}
 use Rattle.sip_verifier.specs.Feeding.{fills, due_with, due_at_end, waiting_with}
-use Rattle.sip_verifier.specs.Sending.{IsSentBut, IsStopped, IsStoppedAtEnd}
+use Rattle.sip_verifier.specs.inside.Sending.{IsSentBut, IsStopped, IsStoppedAtEnd}
 use Rattle.sip_verifier.specs.Talks.{whole_frames, opening_sent, stream_sent}
 use Rattle.sip_wire.specs.declared.version.Version.TheVariants.{One}
 use Rattle.sip_replies.proofs.Saying.{sent-one}

@@ -17,14 +17,10 @@ pub mod Feeding
 pub mod Gathering
 pub mod Sittings
 pub mod Asking
-pub mod Questions
-pub mod Ending
 pub mod Transcripts
-pub mod Drawing
-pub mod Sending
-pub mod Progress
 pub mod CountClause
 pub mod CompletenessClause
 pub mod Promises
 pub mod RunClause
 pub mod NextSeat
+pub mod inside

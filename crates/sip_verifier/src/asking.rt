@@ -4,7 +4,7 @@ ghost use Rattle.std.specs.Prelude.{◌≡◌, ◌≢◌, ◌≤◌, ℕ, List, 
 ghost use Rattle.sip_ports.specs.Ports.{Lasts, Rose};
 ghost use Rattle.sip_vector.specs.declared.update.Update.{Update as AnyUpdate};
 ghost use Rattle.sip_verifier.specs.Asking.{Asks};
-ghost use Rattle.sip_verifier.specs.Questions.{found_in, has_room, verdict_of};
+ghost use Rattle.sip_verifier.specs.inside.Questions.{found_in, has_room, verdict_of};
 ghost use Rattle.sip_verifier.specs.QuerySeats.{StandsFor, block_of, is_seat};
 
 use crate::seat::{QuerySeat, Running};

@@ -7,7 +7,7 @@ ghost use Rattle.sip_verifier.specs.declared.seat.QuerySeat.{QuerySeat as AnySea
 ghost use Rattle.sip_verifier.specs.Exchanges.{TakesAtMost};
 ghost use Rattle.sip_verifier.specs.Moments.{counts, moment};
 ghost use Rattle.sip_verifier.specs.NextSeat.{IsNext};
-ghost use Rattle.sip_verifier.specs.Progress.{Checks, ChecksAll, status_of};
+ghost use Rattle.sip_verifier.specs.inside.Progress.{Checks, ChecksAll, status_of};
 ghost use Rattle.sip_verifier.specs.QuerySeats.{StandsFor, block_of};
 ghost use Rattle.sip_verifier.specs.RunClause.{RunClause};
 ghost use Rattle.sip_verifier.specs.Statuses.{Stops, stops_asking};

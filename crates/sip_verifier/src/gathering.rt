@@ -3,8 +3,8 @@
 ghost use Rattle.std.specs.Prelude.{◌≡◌, ℕ, List, length, Some, Ok, Err, IsSome, IfOk, MatchResult};
 ghost use Rattle.sip_ports.specs.Ports.{Lasts};
 ghost use Rattle.sip_stream.specs.declared.fault.StreamFault.{StreamFault as AnyStreamFault};
-ghost use Rattle.sip_verifier.specs.Drawing.{AreOf, Draws, HasDrawn};
-ghost use Rattle.sip_verifier.specs.Ending.{status_of_stream};
+ghost use Rattle.sip_verifier.specs.inside.Drawing.{AreOf, Draws, HasDrawn};
+ghost use Rattle.sip_verifier.specs.inside.Ending.{status_of_stream};
 ghost use Rattle.sip_verifier.specs.Exchanges.{TakesAtMost};
 ghost use Rattle.sip_verifier.specs.Gathering.{Gathers};
 ghost use Rattle.sip_verifier.specs.Moments.{counts};

@@ -23,7 +23,7 @@
 //! | `Gathering` | what a call did that reads the stream |
 //! | `Sittings`, `Asking` | what is seen of a session, and what a call did that asks a query |
 //!
-//! The other files there say what one private part of a run did: `Drawing`, `Sending`, `Questions`, `Ending`, `Progress`.
+//! `specs/inside/` says what one private part of a run did. No promise rests on a reading of it.
 //!
 //! [`check_stream`] is a whole run: [`gather`], then a [`Session`] that asks the queries. It carries
 //! the five clauses, as one `RunClause`.

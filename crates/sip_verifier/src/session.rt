@@ -8,7 +8,7 @@ ghost use Rattle.sip_vector.specs.declared.update.Update.{Update as AnyUpdate};
 ghost use Rattle.sip_vector.specs.Answers.{Fits};
 ghost use Rattle.sip_vector.specs.Streams.{IsLegal};
 ghost use Rattle.sip_verifier.specs.Asking.{AnswersCount, Asks};
-ghost use Rattle.sip_verifier.specs.Questions.{has_room};
+ghost use Rattle.sip_verifier.specs.inside.Questions.{has_room};
 ghost use Rattle.sip_verifier.specs.declared.seat.QuerySeat.{QuerySeat as AnySeat};
 ghost use Rattle.sip_verifier.specs.NextSeat.{IsNext};
 ghost use Rattle.sip_verifier.specs.QuerySeats.{block_of};

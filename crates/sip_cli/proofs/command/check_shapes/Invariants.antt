@@ -1,4 +1,4 @@
-use Rattle.sip_cli.specs.Progress.{HaveShapes}
+use Rattle.sip_cli.specs.inside.Progress.{HaveShapes}
 use Rattle.sip_cli.proofs.command.check_shapes.Given as goal
 
 abbrev pub invariant-loop-index : goal.invariant-loop-index

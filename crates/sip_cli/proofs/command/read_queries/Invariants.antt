@@ -1,4 +1,4 @@
-use Rattle.sip_cli.specs.Progress.{AreAsked}
+use Rattle.sip_cli.specs.inside.Progress.{AreAsked}
 use Rattle.sip_cli.proofs.command.read_queries.Given as goal
 
 abbrev pub invariant-loop-number : goal.invariant-loop-number

@@ -1,7 +1,7 @@
 use Rattle.std.proofs.Common.{subst}
 use Rattle.std.proofs.lemmas.Result.{err_from_is_err_and}
 use Rattle.sip_cli.specs.declared.verb.Verb.TheVariants.{Verify, Help, Gen, Lines}
-use Rattle.sip_cli.specs.Progress.{StopsInShapes}
+use Rattle.sip_cli.specs.inside.Progress.{StopsInShapes}
 use Rattle.sip_cli.proofs.Beginning.{refused_verb}
 use Rattle.sip_cli.proofs.Stopping.{refused_shape, fitted_by, refused_by}
 use Rattle.sip_cli.proofs.command.read_words.Goals as goal

@@ -1,6 +1,6 @@
 -- The talk is under way, and each turn leaves fewer.
 use Rattle.sip_ports.specs.Ports.{Lasts}
-use Rattle.sip_helper.specs.Measures.{turns_left}
+use Rattle.sip_helper.specs.inside.Measures.{turns_left}
 use Rattle.sip_helper.proofs.Talks.{UnderWay}
 use Rattle.sip_helper.proofs.serving.serve.Given as goal
 

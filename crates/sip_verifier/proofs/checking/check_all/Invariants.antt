@@ -3,7 +3,7 @@ use Rattle.std.proofs.Common.{◌≡◌, List, drop, false}
 use Rattle.std.specs.Prelude.{map, All}
 use Rattle.sip_ports.specs.Ports.{Lasts}
 use Rattle.sip_vector.specs.declared.update.Update.{Update}
-use Rattle.sip_verifier.specs.Progress.{PassedBy}
+use Rattle.sip_verifier.specs.inside.Progress.{PassedBy}
 use Rattle.sip_verifier.specs.QuerySeats.{StandsFor, block_of}
 use Rattle.sip_verifier.proofs.checking.check_all.Given as goal
 

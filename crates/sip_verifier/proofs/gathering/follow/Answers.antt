@@ -1,7 +1,7 @@
 -- What holds at each exit follows from how far the stream was read, sent and added to the seats.
 use Rattle.std.proofs.Common.{◌∷◌, ◌++◌, [], rules, subst, sym}
 use Rattle.std.proofs.lemmas.Result.{err_from_is_err_and}
-use Rattle.sip_verifier.specs.Sending.{IsSentBut}
+use Rattle.sip_verifier.specs.inside.Sending.{IsSentBut}
 use Rattle.sip_verifier.proofs.Gathered.{goes_on, stops_first, stops_after, stops_at_end, gathered, link_stops, reading_stops}
 use Rattle.sip_verifier.proofs.StreamSending.{stopped_in_opening, one_more, at_end}
 use Rattle.sip_verifier.proofs.gathering.follow.Goals as goal

@@ -3,7 +3,7 @@ use Rattle.std.proofs.Common.{◌≡◌, ℕ, List, Some, false}
 use Rattle.std.specs.Prelude.{IsSome}
 use Rattle.sip_ports.specs.Ports.{Lasts}
 use Rattle.sip_stream.specs.Reading.{room}
-use Rattle.sip_verifier.specs.Drawing.{AreOf, HasDrawn}
+use Rattle.sip_verifier.specs.inside.Drawing.{AreOf, HasDrawn}
 use Rattle.sip_verifier.specs.Draws.{blocks}
 use Rattle.sip_verifier.proofs.Gathered.{IsUnderway}
 use Rattle.sip_verifier.proofs.gathering.follow.Given as goal

@@ -1,7 +1,7 @@
 use Rattle.std.proofs.Common.{subst}
 use Rattle.std.specs.Prelude.{IsTrue}
 use Rattle.sip_verifier.specs.declared.seat.QuerySeat.{QuerySeat}
-use Rattle.sip_verifier.specs.Questions.{has_room}
+use Rattle.sip_verifier.specs.inside.Questions.{has_room}
 use Rattle.sip_verifier.proofs.RoomForAnswers.{room-snoc}
 use Rattle.sip_verifier.proofs.session.most_entries.Goals as goal
 

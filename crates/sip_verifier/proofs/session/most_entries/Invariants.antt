@@ -1,7 +1,7 @@
 use Rattle.std.proofs.Common.{take}
 use Rattle.std.specs.Prelude.{IsTrue}
 use Rattle.std.specs.List.{list_all}
-use Rattle.sip_verifier.specs.Questions.{has_room}
+use Rattle.sip_verifier.specs.inside.Questions.{has_room}
 use Rattle.sip_verifier.proofs.session.most_entries.Given as goal
 
 abbrev pub invariant-loop-seat : goal.invariant-loop-seat

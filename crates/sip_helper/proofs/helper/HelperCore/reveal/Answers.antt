@@ -1,5 +1,5 @@
 use Rattle.std.proofs.Common.{subst, sym}
-use Rattle.sip_helper.specs.Answering.{Stands}
+use Rattle.sip_helper.specs.inside.Answering.{Stands}
 use Rattle.sip_helper.proofs.Hearing.{kept_with}
 use Rattle.sip_helper.proofs.helper.HelperCore.reveal.Goals as goal
 use Rattle.sip_helper.proofs.helper.HelperCore.reveal.Goals.{in-Some, in-None}

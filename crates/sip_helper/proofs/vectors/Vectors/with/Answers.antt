@@ -7,7 +7,7 @@ use Rattle.sip_vector.specs.declared.update.Update.{Update}
 use Rattle.sip_vector.specs.Vectors.{SideVector, with_added}
 use Rattle.sip_helper.specs.declared.vectors.Vectors.{Vectors}
 use Rattle.sip_helper.specs.Turns.{stays_legal, with_updates}
-use Rattle.sip_helper.specs.Legal.{weights_of}
+use Rattle.sip_helper.specs.inside.Legal.{weights_of}
 use Rattle.sip_helper.proofs.LegalUpdates.{as_given, with_first, with_second, follows_first, follows_second}
 use Rattle.sip_helper.proofs.vectors.Vectors.with.Goals as goal
 use Rattle.sip_helper.proofs.vectors.Vectors.with.Goals.{in-First+in_ok-add-in-First, in-Second+in_ok-add-in-Second}

@@ -2,7 +2,7 @@
 use Rattle.std.proofs.Common.{◌≡◌, drop}
 use Rattle.std.specs.Prelude.{IsTrue}
 use Rattle.sip_helper.specs.Turns.{stays_legal, with_updates}
-use Rattle.sip_helper.specs.Legal.{weights_of}
+use Rattle.sip_helper.specs.inside.Legal.{weights_of}
 use Rattle.sip_helper.proofs.vectors.Vectors.with.Given as goal
 
 abbrev pub invariant-loop-update : goal.invariant-loop-update

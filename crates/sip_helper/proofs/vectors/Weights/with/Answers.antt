@@ -3,7 +3,7 @@ use Rattle.std.proofs.Common.{◌+◌, drop, get_or, pos, sym, ◌∙◌}
 use Rattle.std.proofs.lemmas.List.{at_drop_more}
 use Rattle.sip_vector.specs.declared.update.Side.TheVariants.{First}
 use Rattle.sip_vector.specs.declared.update.Update.{Update}
-use Rattle.sip_helper.specs.Legal.{legal_weights}
+use Rattle.sip_helper.specs.inside.Legal.{legal_weights}
 use Rattle.sip_helper.proofs.LegalUpdates.{judged}
 use Rattle.sip_helper.proofs.vectors.Weights.with.Goals as goal
 

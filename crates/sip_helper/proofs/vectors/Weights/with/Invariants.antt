@@ -2,7 +2,7 @@
 use Rattle.std.proofs.Common.{◌≡◌, drop}
 use Rattle.std.specs.Prelude.{IsTrue}
 use Rattle.sip_helper.specs.Turns.{is_light}
-use Rattle.sip_helper.specs.Legal.{legal_weights}
+use Rattle.sip_helper.specs.inside.Legal.{legal_weights}
 use Rattle.sip_helper.proofs.vectors.Weights.with.Given as goal
 
 abbrev pub invariant-loop-update : goal.invariant-loop-update

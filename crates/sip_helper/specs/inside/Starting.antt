@@ -5,7 +5,7 @@ use Rattle.sip_helper.specs.declared.prover.NotStarted.{NotStarted}
 use Rattle.sip_helper.specs.declared.prover.NotStarted.TheVariants.{NoMemory, Refused}
 use Rattle.sip_helper.specs.declared.vectors.Vectors.{Vectors}
 use Rattle.sip_helper.specs.Kinds.{row_of}
-use Rattle.sip_helper.specs.Legal.{HaveDepth}
+use Rattle.sip_helper.specs.inside.Legal.{HaveDepth}
 
 -- It starts where the query is not refused over the vectors: then it stands for the query and for
 -- them, and has learnt nothing yet. Else the code is the row's, or memory was refused.

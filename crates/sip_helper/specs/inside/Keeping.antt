@@ -5,8 +5,8 @@ use Rattle.sip_helper.specs.declared.heard.Heard.{Heard}
 use Rattle.sip_helper.specs.declared.heard.Heard.TheVariants.{Nothing, Whole}
 use Rattle.sip_helper.specs.declared.vectors.Vectors.{Vectors}
 use Rattle.sip_helper.specs.declared.vectors.Weights.{Weights}
-use Rattle.sip_helper.specs.Answering.{Stands}
-use Rattle.sip_helper.specs.Legal.{AreOf}
+use Rattle.sip_helper.specs.inside.Answering.{Stands}
+use Rattle.sip_helper.specs.inside.Legal.{AreOf}
 use Rattle.sip_helper.specs.Turns.{depth_of, is_light, most_queries, no_weight}
 
 -- No side is too heavy, the vectors are those of the depth and the weights, and a query is open only behind the stream.

@@ -1,0 +1,7 @@
+-- What only the contracts of private functions cite: no promise rests on a reading of it.
+pub mod Answering
+pub mod Keeping
+pub mod Legal
+pub mod Measures
+pub mod OneTurn
+pub mod Starting
