@@ -105,21 +105,15 @@ honest_elements p level lo hi small below = (left (lo % 2 == 1), right (hi % 2 =
     right true = node (hi + 1)
     right false = tt
 
-residues_below : (p : ℕ) (numbers : List ℤ) → 0 < p → AreBelow p (map (residue p) numbers)
-unfolding AreBelow
-residues_below p [] some i = some
-residues_below p (x ∷ numbers) some zero = residue_below p x some
-residues_below p (x ∷ numbers) some (suc i) = residues_below p numbers some i
-
-up_below : (p r : ℕ) (level : List ℕ) → 0 < p → AreBelow p (up p level r)
-unfolding AreBelow
-up_below p r [] some i = some
-up_below p r (u ∷ []) some i = some
-up_below p r (u ∷ w ∷ level) some zero = mod-lt (u + r * w) some
-up_below p r (u ∷ w ∷ level) some (suc i) = up_below p r level some i
-
 pub lowest_below : (p : ℕ) (numbers : List ℤ) → 0 < p → AreBelow p (map (residue p) numbers)
-lowest_below p numbers some = residues_below p numbers some
+unfolding AreBelow
+lowest_below p [] some i = some
+lowest_below p (x ∷ numbers) some zero = residue_below p x some
+lowest_below p (x ∷ numbers) some (suc i) = lowest_below p numbers some i
 
 pub above_below : (p r : ℕ) (level : List ℕ) → 0 < p → AreBelow p (up p level r)
-above_below p r level some = up_below p r level some
+unfolding AreBelow
+above_below p r [] some i = some
+above_below p r (u ∷ []) some i = some
+above_below p r (u ∷ w ∷ level) some zero = mod-lt (u + r * w) some
+above_below p r (u ∷ w ∷ level) some (suc i) = above_below p r level some i

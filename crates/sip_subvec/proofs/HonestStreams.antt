@@ -75,7 +75,8 @@ part_light p (u ∷ s) side =
       ]
     ]
 
-frequency_light : (s : List Update) (side : Side) (item : ℕ) → nat_abs (frequency s side item) ≤ weight s side
+-- no entry is heavier than its side
+pub frequency_light : (s : List Update) (side : Side) (item : ℕ) → nat_abs (frequency s side item) ≤ weight s side
 frequency_light s side item =
     omega (arith, sum_small (of_side (filter (λ (u : Update). u.item == item) s) side), part_light (λ (u : Update). u.item == item) s side)
 

@@ -62,7 +62,8 @@ rise-nil lo hi = refl
 value-here : (e : Entry) (es : List Entry) (i : ℕ) → e.index ≡ i → stated_value (e ∷ es) i ≡ e.value
 value-here e es i is = rw (eq-eqb e.index i is) refl
 
-value-there : (e : Entry) (es : List Entry) (i : ℕ) → (e.index ≡ i → ⊥) → stated_value (e ∷ es) i ≡ stated_value es i
+-- an entry at another index states nothing here
+pub value-there : (e : Entry) (es : List Entry) (i : ℕ) → (e.index ≡ i → ⊥) → stated_value (e ∷ es) i ≡ stated_value es i
 value-there e es i other = rw (ne_eqb e.index i other) refl
 
 -- nothing is stated before the first index

@@ -21,6 +21,7 @@ use Rattle.sip_subvec.specs.AcceptsSub.{Stated, stated_value, stated_level, fold
 use Rattle.sip_subvec.specs.Replies.{with_entries}
 use Rattle.sip_subvec.specs.Checking.{entries_sum, siblings_sum, stated_sum, HasPassed}
 use Rattle.sip_subvec.proofs.WeightedFolds.{fold_of_level}
+use Rattle.sip_subvec.proofs.StatedEntries.{value-there}
 
 -- ---- sums along indices
 
@@ -96,9 +97,6 @@ unstated least hi (e ∷ es) i rise before =
 value_here : (e : Entry) (es : List Entry) → stated_value (e ∷ es) e.index ≡ e.value
 value_here e es = rw (eq-eqb e.index e.index refl)
 
-value_elsewhere : (e : Entry) (es : List Entry) (i : ℕ) → (e.index ≡ i → ⊥) → stated_value (e ∷ es) i ≡ stated_value es i
-value_elsewhere e es i other = rw (ne_eqb e.index i other)
-
 module _ (p lo hi : ℕ) (challenges : List ℕ) (some : 0 < p) where
   -- a value at an index, times its weight
   abbrev term : ℤ → ℕ → ℕ
@@ -114,7 +112,7 @@ module _ (p lo hi : ℕ) (challenges : List ℕ) (some : 0 < p) where
       let high : e.index < lo + (hi + 1 - lo) = omega (arith, rise.1) in
       let none : stated_value es e.index ≡ pos 0 = unstated (e.index + 1) hi es e.index rise.2 (omega arith) in
       along_point (λ i. term (stated_value (e ∷ es) i) i) (λ i. term (stated_value es i) i) e.index lo (hi + 1 - lo) low high
-      (λ i other. ap (λ v. term v i) (value_elsewhere e es i other)) (term_of_zero (stated_value es e.index) e.index none)
+      (λ i other. ap (λ v. term v i) (value-there e es i other)) (term_of_zero (stated_value es e.index) e.index none)
       ∙ ap (λ v. term v e.index + sum_along (λ i. term (stated_value es i) i) lo (hi + 1 - lo)) (value_here e es)
       ∙ ap (λ k. term e.value e.index + k) (entries_along (e.index + 1) es (omega arith) rise.2)
       ∙ sym (sum_by-cons (λ (x : Entry). residue p x.value * weight_above p challenges 0 x.index) e es)

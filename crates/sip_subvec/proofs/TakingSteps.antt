@@ -22,9 +22,6 @@ use Rattle.sip_subvec.specs.Checking.{Kept, HasTaken, nothing, AreAsked, Answers
 use Rattle.sip_subvec.proofs.Halvings.{whole, halved, halved_last}
 use Rattle.sip_subvec.proofs.StatedSums.{root_is_sum}
 
-length-snoc : {A : Type 0} (xs : List A) (x : A) → length (xs ++ x ∷ []) ≡ suc (length xs)
-length-snoc xs x = omega (arith, length-append xs (x ∷ []))
-
 -- ---- siblings of one level more
 
 asked_more : (lo hi : ℕ) (ss : List Siblings) (s : Siblings) → AreAsked lo hi ss → are_asked (lo / 2 ^ length ss) (hi / 2 ^ length ss) s ≡ true → AreAsked lo hi (ss ++ s ∷ [])
@@ -145,7 +142,7 @@ module _ (p root lo hi : ℕ) (challenges : List ℕ) (s : Stated) (old : Kept) 
           last = λ i.
               list_all-append (λ (x : Entry). nat_lt x.index i) s.entries (e ∷ [])
               ∙ ap (λ b. b && (nat_lt e.index i && true)) (taken.last i) ∙ above_next old.last e.index i above.1;
-          count = omega (arith, taken.count, length-snoc s.entries e);
+          count = omega (arith, taken.count, length-append s.entries (e ∷ []));
         }
 
     pub entry_taken : (sum : ℕ) → entry_test old e.index ≡ Ok tt → sum ≡ (old.sum + residue p e.value * weight_above p old.challenges 0 e.index) % p
@@ -170,7 +167,7 @@ module _ (p root lo hi : ℕ) (challenges : List ℕ) (s : Stated) (old : Kept) 
 
     HasTaken-siblings : are_asked old.lo old.hi x ≡ true → HasTaken p root lo hi challenges (record s { siblings = s.siblings ++ x ∷ [] }) (with_siblings p old x)
     HasTaken-siblings asked =
-        let size : length (s.siblings ++ x ∷ []) ≡ suc (length s.siblings) = length-snoc s.siblings x in
+        let size : length (s.siblings ++ x ∷ []) ≡ suc (length s.siblings) = omega (arith, length-append s.siblings (x ∷ [])) in
         let term : ℕ = level_sum p challenges (length s.siblings) (lo / 2 ^ length s.siblings) (hi / 2 ^ length s.siblings) x in
         let here : level_sum p old.challenges old.level old.lo old.hi x ≡ term = rw (taken.at_challenges, taken.replies, taken.from_lo, taken.to_hi) in
         let entries : ℕ = entries_sum p challenges s.entries in

@@ -50,11 +50,11 @@ module _ (p : ℕ) (challenges : List ℕ) (level lo : ℕ) (nodes : List ℕ) w
       weighted_sum_push p challenges level lo nodes x ∙ ap (λ i. weighted_sum p challenges level lo nodes + x * weight_above p challenges level i) long
 
 -- a sibling that is present is one number, and one that is not is none
-by_some : (o : Option ℕ) → is_some o ≡ true → length (option_to_list o) ≡ 1
+pub by_some : (o : Option ℕ) → is_some o ≡ true → length (option_to_list o) ≡ 1
 by_some None e = absurd cc
 by_some (Some x) e = refl
 
-by_none : (o : Option ℕ) → is_none o ≡ true → length (option_to_list o) ≡ 0
+pub by_none : (o : Option ℕ) → is_none o ≡ true → length (option_to_list o) ≡ 0
 by_none None e = refl
 by_none (Some x) e = absurd cc
 

@@ -1,18 +1,15 @@
 -- A written answer that is wrong makes its challenges counted; and the numbers of a legal stream are small.
-use Rattle.std.proofs.Common.{◌≡◌, ◌≢◌, ℕ, ◌+◌, ◌-◌, ◌/◌, ◌≤◌, ◌^◌, true, false, eqb, is_ok, Some, Ok, List, [], ◌∷◌, length, get_or, map, All, ℤ, ◌+ℤ◌, nat_abs, refl, ap, sym, ◌∙◌, arith, inl, inr}
+use Rattle.std.proofs.Common.{◌≡◌, ◌≢◌, ℕ, ◌-◌, ◌/◌, ◌≤◌, ◌^◌, true, eqb, is_ok, Some, Ok, List, length, get_or, map, All, ℤ, nat_abs, ap, sym, ◌∙◌, arith}
 use Rattle.std.specs.List.{range_with_len}
-use Rattle.std.proofs.lemmas.Bool.{cases_Bool, and_from, eq-eqb, false_from_ne_true}
+use Rattle.std.proofs.lemmas.Bool.{and_from, eq-eqb, false_from_ne_true}
 use Rattle.std.proofs.lemmas.List.Elements.{All-map, All-from_get_or}
-use Rattle.std.proofs.lemmas.List.Sums.{sum_by-cons}
 use Rattle.sip_field.specs.Moduli.{m61_modulus}
-use Rattle.sip_vector.specs.declared.update.Side.{Side}
 use Rattle.sip_vector.specs.declared.update.Side.TheVariants.{First}
 use Rattle.sip_vector.specs.declared.update.Update.{Update}
 use Rattle.sip_vector.specs.declared.update.Entry.{Entry}
 use Rattle.sip_vector.specs.Steps.{◌>>=◌, needs}
-use Rattle.sip_vector.specs.Streams.{same_side, of_side, weight, most_weight, frequency, vector, IsLegal}
+use Rattle.sip_vector.specs.Streams.{most_weight, frequency, vector, IsLegal}
 use Rattle.sip_vector.specs.Vectors.{nonzero_within}
-use Rattle.sip_vector.proofs.Sums.{nat_abs-add-le}
 use Rattle.sip_wire.specs.declared.message.Reason.TheVariants as reasons
 use Rattle.sip_counts.specs.Strategies.{Strategy, replies, takes_wrong}
 use Rattle.sip_counts.proofs.Talks.{takes_wrong-at}
@@ -22,47 +19,17 @@ use Rattle.sip_subvec.specs.Replies.{stated, verdict, accepts, IsAccepted}
 use Rattle.sip_subvec.specs.Counting.{said, entries_of, is_right}
 use Rattle.sip_subvec.proofs.SaidReplies.{step_passed, test_passed, same_ok}
 use Rattle.sip_subvec.proofs.FewFooled.{same_entries}
+use Rattle.sip_subvec.proofs.HonestStreams.{frequency_light}
 
 -- ---- streams
 
--- an update that isn't of this side, or of this item, changes nothing
-frequency-other : (u : Update) (s : List Update) (side : Side) (item : ℕ) → (eqb u.item item ≡ false) → frequency (u ∷ s) side item ≡ frequency s side item
-frequency-other u s side item e = rw e refl
-
-frequency-side : (u : Update) (s : List Update) (side : Side) (item : ℕ) → eqb u.item item ≡ true → same_side u.side side ≡ false → frequency (u ∷ s) side item ≡ frequency s side item
-frequency-side u s side item e f = rw (e, f) refl
-
-frequency-more : (u : Update) (s : List Update) (side : Side) (item : ℕ) → eqb u.item item ≡ true → same_side u.side side ≡ true → frequency (u ∷ s) side item ≡ u.delta +ℤ frequency s side item
-frequency-more u s side item e f = rw (e, f) refl
-
-weight-more : (u : Update) (s : List Update) (side : Side) → same_side u.side side ≡ true → weight (u ∷ s) side ≡ nat_abs u.delta + weight s side
-weight-more u s side f = rw f (sum_by-cons (λ (x : Update). nat_abs x.delta) u (of_side s side))
-
-weight-side : (u : Update) (s : List Update) (side : Side) → same_side u.side side ≡ false → weight (u ∷ s) side ≡ weight s side
-weight-side u s side f = rw f refl
-
--- no entry is heavier than its side
-frequency-light : (stream : List Update) (side : Side) (item : ℕ) → nat_abs (frequency stream side item) ≤ weight stream side
-frequency-light [] side item = omega arith
-frequency-light (u ∷ s) side item =
-    let ih = frequency-light s side item in
-    elim (cases_Bool (same_side u.side side)) [
-      | inr f ↦ elim (cases_Bool (eqb u.item item)) [
-        | inl e ↦ rw (frequency-side u s side item e f, weight-side u s side f) ih
-        | inr e ↦ rw (frequency-other u s side item e, weight-side u s side f) ih
-      ]
-      | inl f ↦ elim (cases_Bool (eqb u.item item)) [
-        | inl e ↦ rw (frequency-more u s side item e f, weight-more u s side f) (omega (arith, nat_abs-add-le u.delta (frequency s side item)))
-        | inr e ↦ rw (frequency-other u s side item e, weight-more u s side f) (omega arith)
-      ]
-    ]
-
+-- the numbers of a legal stream's vector are small
 pub vector-small : (d : ℕ) (stream : List Update) → IsLegal d stream → All (λ a. nat_abs a ≤ (m61_modulus - 1) / 2) (vector d stream First)
 vector-small d stream legal =
     let room : most_weight ≤ (m61_modulus - 1) / 2 = omega arith in
     All-map (λ (a : ℤ). nat_abs a ≤ (m61_modulus - 1) / 2) (frequency stream First) (range_with_len 0 (2 ^ d))
     (All-from_get_or (λ (i : ℕ). nat_abs (frequency stream First i) ≤ (m61_modulus - 1) / 2) (range_with_len 0 (2 ^ d)) 0
-    (λ i _. omega (arith, frequency-light stream First (get_or (range_with_len 0 (2 ^ d)) i 0), legal.first)))
+    (λ i _. omega (arith, frequency_light stream First (get_or (range_with_len 0 (2 ^ d)) i 0), legal.first)))
 
 -- ---- answers
 

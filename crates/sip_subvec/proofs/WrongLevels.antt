@@ -1,5 +1,5 @@
 -- Levels that are stated wrong stay wrong for all but one challenge.
-use Rattle.std.proofs.Common.{◌≡◌, ℕ, zero, suc, ◌+◌, ◌*◌, ◌-◌, ◌/◌, ◌%◌, ◌<◌, ◌≤◌, ◌^◌, Bool, true, false, eqb, cond, ◌&&◌, Option, Some, None, List, [], ◌∷◌, ◌++◌, length, take, drop, refl, ap, sym, ◌∙◌, arith, inl, inr, length-append, length-take, length-drop, append_assoc}
+use Rattle.std.proofs.Common.{◌≡◌, ℕ, zero, suc, ◌+◌, ◌*◌, ◌-◌, ◌/◌, ◌%◌, ◌<◌, ◌≤◌, ◌^◌, Bool, true, false, eqb, cond, ◌&&◌, Option, List, [], ◌∷◌, ◌++◌, length, take, drop, refl, ap, sym, ◌∙◌, arith, inl, inr, length-append, length-take, length-drop, append_assoc}
 use Rattle.std.specs.Prelude.{is_some, is_none, option_to_list, fold, zip}
 use Rattle.std.proofs.Math.Nat.{pow-suc}
 use Rattle.std.proofs.lemmas.Bool.{cases_Bool, and_parts, and_from, and_left, both_ways, false_from_ne_true}
@@ -14,6 +14,7 @@ use Rattle.sip_counts.proofs.Talks.{replies-more}
 use Rattle.sip_subvec.specs.AcceptsSub.{Siblings, widened, next_level}
 use Rattle.sip_subvec.specs.Replies.{are_asked}
 use Rattle.sip_subvec.specs.Counting.{are_all_asked}
+use Rattle.sip_subvec.proofs.WeightedFolds.{by_some, by_none}
 use Rattle.sip_subvec.proofs.Stretches.{agree, window, agree-inside, few_ups, window-up}
 
 -- After these challenges the siblings of each level so far are those asked for, and the known level agrees with the true one.
@@ -24,17 +25,9 @@ agrees p siblings lo hi known level (x ∷ v) =
 
 -- ---- lengths
 
-one_if_some : (o : Option ℕ) → is_some o ≡ true → length (option_to_list o) ≡ 1
-one_if_some None h = absurd cc
-one_if_some (Some x) h = refl
-
-none_if_none : (o : Option ℕ) → is_none o ≡ true → length (option_to_list o) ≡ 0
-none_if_none None h = refl
-none_if_none (Some x) h = absurd cc
-
 by_test : (b : Bool) (o : Option ℕ) → (cond b (is_some o) (is_none o)) ≡ true → length (option_to_list o) ≡ cond b 1 0
-by_test true o h = one_if_some o h
-by_test false o h = none_if_none o h
+by_test true o h = by_some o h
+by_test false o h = by_none o h
 
 asked_lengths : (lo hi : ℕ) (s : Siblings) → are_asked lo hi s ≡ true → (length (option_to_list s.left) ≡ lo % 2) × (length (option_to_list s.right) ≡ 1 - hi % 2)
 asked_lengths lo hi s h =
