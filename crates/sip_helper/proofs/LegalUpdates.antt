@@ -1,9 +1,8 @@
 -- Updates are legal and are added one after another.
-use Rattle.std.proofs.Common.{◌≡◌, ℕ, ◌+◌, ◌^◌, ◌<◌, ◌≤◌, Bool, true, false, ◌&&◌, cond, nat_lt, nat_le, List, [], ◌∷◌, Option, Some, None, ℤ, nat_abs, to_z, of_z, w64, refl, sym, ap, subst, ◌∙◌, inl, inr, arith}
+use Rattle.std.proofs.Common.{◌≡◌, ℕ, ◌+◌, ◌^◌, ◌<◌, ◌≤◌, Bool, true, false, ◌&&◌, cond, nat_lt, nat_le, List, [], ◌∷◌, Option, Some, None, nat_abs, refl, sym, ap, subst, ◌∙◌, inl, inr, arith}
 use Rattle.std.specs.Prelude.{IsTrue}
 use Rattle.std.specs.List.{fold, list_all}
 use Rattle.std.proofs.lemmas.Bool.{and_from, and_parts, both_ways, ltb-true, leb-true, le-leb}
-use Rattle.std.proofs.lemmas.Int.{fits_signed_from_abs, to_z-of_z}
 use Rattle.sip_vector.specs.declared.update.Side.{Side}
 use Rattle.sip_vector.specs.declared.update.Side.TheVariants.{First, Second}
 use Rattle.sip_vector.specs.declared.update.Update.{Update}
@@ -15,10 +14,6 @@ use Rattle.sip_helper.specs.declared.vectors.Vectors.{Vectors}
 use Rattle.sip_helper.specs.declared.vectors.Weights.{Weights}
 use Rattle.sip_helper.specs.Turns.{with_updates, weights_after, is_light, stays_legal}
 use Rattle.sip_helper.specs.inside.Legal.{AreOf, weights_of, legal_weights}
-
--- a delta that is not too heavy is passed on as it is
-pub as_given : (z : ℤ) → nat_abs z ≤ most_weight → to_z w64 (of_z w64 z) ≡ z
-as_given z light = to_z-of_z w64 z (fits_signed_from_abs w64 z (omega arith))
 
 -- ---- weights
 

@@ -1,15 +1,15 @@
 -- The levels of a sub-vector's prover, and the bytes of an honest reply.
-use Rattle.std.proofs.Common.{◌≡◌, ℕ, zero, suc, ◌+◌, ◌-◌, ◌*◌, ◌^◌, ◌<◌, ◌≤◌, ◌%◌, Option, Some, None, List, [], ◌∷◌, ◌++◌, length, sym, ap, ◌∙◌, arith, append-nil}
+use Rattle.std.proofs.Common.{◌≡◌, ℕ, suc, ◌+◌, ◌-◌, ◌*◌, ◌^◌, ◌<◌, ◌≤◌, ◌%◌, Option, Some, None, List, [], ◌∷◌, ◌++◌, length, sym, ap, ◌∙◌, arith, append-nil}
 use Rattle.std.specs.Prelude.{ℤ}
 use Rattle.std.specs.Option.{option_map}
 use Rattle.std.proofs.Math.Nat.{pow-succ', mod-eq_of_lt}
-use Rattle.std.proofs.lemmas.Nat.{pow_pos}
 use Rattle.std.proofs.lemmas.List.{length_push}
 use Rattle.std.proofs.lemmas.List.Concat.{flat_map-append}
 use Rattle.sip_field.specs.Moduli.{m61_modulus}
 use Rattle.sip_field.specs.Elements.{m61_number}
 use Rattle.sip_field.specs.declared.mersenne.M61.{M61}
 use Rattle.sip_vector.specs.Vectors.{nonzero_within}
+use Rattle.sip_vector.proofs.Folds.{folds_left-two}
 use Rattle.sip_wire.specs.Spelling.{spelling}
 use Rattle.sip_subvec.specs.Honest.{Proving, proving, learnt, its_siblings, siblings_message, honest_messages, honest_reply}
 use Rattle.sip_wire.proofs.SiblingElements.{HasElement}
@@ -21,13 +21,9 @@ use Rattle.sip_helper.proofs.Rows.{framed}
 
 -- ---- levels
 
-two_le : (k : ℕ) → 0 < k → 2 ≤ 2 ^ k
-two_le zero some = absurd (omega (arith, some))
-two_le (suc k) some = omega (arith, pow-succ' 2 k, pow_pos k)
-
 -- a level that may still be folded has two nodes
 pub tall : (depth n : ℕ) (level : List ℕ) → length level ≡ 2 ^ (depth - n) → n < depth → 2 ≤ length level
-tall depth n level height less = omega (arith, two_le (depth - n) (omega arith), height)
+tall depth n level height less = omega (arith, folds_left-two (depth - n) (omega arith), height)
 
 half_of : (depth n size half : ℕ) → 2 * half ≡ size → size ≡ 2 ^ (depth - n) → n + 1 < depth → half ≡ 2 ^ (depth - (n + 1))
 half_of depth n size half twice is less =

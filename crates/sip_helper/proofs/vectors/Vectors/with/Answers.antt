@@ -5,10 +5,11 @@ use Rattle.std.proofs.lemmas.List.{at_drop_more, drop_more}
 use Rattle.sip_vector.specs.declared.update.Side.TheVariants.{First}
 use Rattle.sip_vector.specs.declared.update.Update.{Update}
 use Rattle.sip_vector.specs.Vectors.{SideVector, with_added}
+use Rattle.sip_vector.proofs.Kept.{same_z}
 use Rattle.sip_helper.specs.declared.vectors.Vectors.{Vectors}
 use Rattle.sip_helper.specs.Turns.{stays_legal, with_updates}
 use Rattle.sip_helper.specs.inside.Legal.{weights_of}
-use Rattle.sip_helper.proofs.LegalUpdates.{as_given, with_first, with_second, follows_first, follows_second}
+use Rattle.sip_helper.proofs.LegalUpdates.{with_first, with_second, follows_first, follows_second}
 use Rattle.sip_helper.proofs.vectors.Vectors.with.Goals as goal
 use Rattle.sip_helper.proofs.vectors.Vectors.with.Goals.{in-First+in_ok-add-in-First, in-Second+in_ok-add-in-Second}
 
@@ -28,10 +29,10 @@ loop-update-preserved c =
     elim c.match-update.branch [
       | in-First+in_ok-add-in-First w ↦
           let next = follows_first v u rest w.in-First.is here in
-          let same : c.match-update.vectors ≡ with_first v u = w.vectors-is ∙ ap (λ (x : SideVector). record { first = x; second = v.second }) (w.in_ok-add-in-First.ensures.ok ∙ ap (λ (z : ℤ). with_added v.first u.item z) (as_given u.delta (omega (arith, next.1)))) in
+          let same : c.match-update.vectors ≡ with_first v u = w.vectors-is ∙ ap (λ (x : SideVector). record { first = x; second = v.second }) (w.in_ok-add-in-First.ensures.ok ∙ ap (λ (z : ℤ). with_added v.first u.item z) (same_z u.delta (omega (arith, next.1)))) in
           rw same (record { legal = next.0.legal; depths = c.loop-update.invariant.depths; rest = sym next.0.all ∙ before })
       | in-Second+in_ok-add-in-Second w ↦
           let next = follows_second v u rest w.in-Second.is here in
-          let same : c.match-update.vectors ≡ with_second v u = w.vectors-is ∙ ap (λ (x : SideVector). record { first = v.first; second = x }) (w.in_ok-add-in-Second.ensures.ok ∙ ap (λ (z : ℤ). with_added v.second u.item z) (as_given u.delta (omega (arith, next.1)))) in
+          let same : c.match-update.vectors ≡ with_second v u = w.vectors-is ∙ ap (λ (x : SideVector). record { first = v.first; second = x }) (w.in_ok-add-in-Second.ensures.ok ∙ ap (λ (z : ℤ). with_added v.second u.item z) (same_z u.delta (omega (arith, next.1)))) in
           rw same (record { legal = next.0.legal; depths = c.loop-update.invariant.depths; rest = sym next.0.all ∙ before })
     ]
