@@ -1,5 +1,5 @@
 -- A line that is written in parts: what has gone out, what is gathered, and what is to come.
-use Rattle.std.proofs.Common.{◌≡◌, ℕ, ◌+◌, ◌<◌, ◌==◌, Bool, true, false, List, [], ◌∷◌, ◌++◌, length, take, drop, get_or, if◌then◌else◌, None, Some, Option, Result, Ok, Err, IsErr, MatchResult, refl, sym, ap, ◌∙◌, append_assoc, append-nil, arith}
+use Rattle.std.proofs.Common.{◌≡◌, ℕ, ◌+◌, ◌<◌, ◌==◌, Bool, true, false, List, [], ◌∷◌, ◌++◌, length, take, drop, get_or, if◌then◌else◌, Option, Result, Ok, Err, IsErr, MatchResult, refl, sym, ap, ◌∙◌, append_assoc, append-nil, arith}
 use Rattle.std.specs.Prelude.{codes}
 use Rattle.std.specs.List.{flat_map}
 use Rattle.std.proofs.lemmas.Bool.Decides.{Decides-eqb}
@@ -9,26 +9,15 @@ use Rattle.sip_ports.specs.declared.port.PortStop.{PortStop}
 use Rattle.sip_ports.specs.declared.port.TalkEvent.{TalkEvent}
 use Rattle.sip_ports.specs.declared.port.TalkEvent.TheVariants.{Out}
 use Rattle.sip_ports.specs.Ports.{GoesOn, SendsWhole, outs}
+use Rattle.sip_ports.proofs.TalkLemmas.{GoesOn-trans}
 use Rattle.sip_vector.specs.declared.update.Entry.{Entry}
 use Rattle.sip_vector.specs.declared.query.Query.{Query}
 use Rattle.sip_vector.specs.Answers.{pairs}
 use Rattle.sip_verifier.specs.Reports.{answer_text, line, pair_text, query_word}
 
--- a talk that goes on twice goes on by both
-pub goes_on : (a b c : Option (List TalkEvent)) (es fs : List TalkEvent) → GoesOn a b es → GoesOn b c fs → GoesOn a c (es ++ fs)
-goes_on None b c es fs first second = tt
-goes_on (Some x) None c es fs first second = absurd first
-goes_on (Some x) (Some y) None es fs first second = absurd second
-goes_on (Some x) (Some y) (Some z) es fs first second = second ∙ ap (λ talk. talk ++ fs) first ∙ append_assoc x es fs
-
--- a talk to which nothing was added
-pub stays : (a : Option (List TalkEvent)) → GoesOn a a []
-stays None = tt
-stays (Some talk) = sym (append-nil talk)
-
 -- bytes that are sent one part after another
 pub sent_more : (a b c : Option (List TalkEvent)) (sent more : List ℕ) → GoesOn a b (outs sent) → GoesOn b c (outs more) → GoesOn a c (outs (sent ++ more))
-sent_more a b c sent more first second = rw (map-append Out sent more) (goes_on a b c (outs sent) (outs more) first second)
+sent_more a b c sent more first second = rw (map-append Out sent more) (GoesOn-trans a b c (outs sent) (outs more) first second)
 
 -- the second part of the first list moved to the second list
 regroup : {A : Type 0} (h a b t : List A) → (h ++ (a ++ b)) ++ t ≡ (h ++ a) ++ (b ++ t)

@@ -53,10 +53,6 @@ nothing_reported old report told = written_is old old [] report (GoesOn-refl old
 pub front_before : {X : Type 0} (xs ys zs : List X) → IsPrefix xs ys → IsPrefix xs (ys ++ zs)
 front_before xs ys zs p = (p.0 ++ zs, ap (λ l. l ++ zs) p.1 ∙ append_assoc xs p.0 zs)
 
--- a front of a front
-pub front_of_front : {X : Type 0} (xs ys zs : List X) → IsPrefix xs ys → IsPrefix ys zs → IsPrefix xs zs
-front_of_front xs ys zs p q = (p.0 ++ q.0, q.1 ∙ ap (λ l. l ++ q.0) p.1 ∙ append_assoc xs p.0 q.0)
-
 -- ---- ports that tell go on telling
 
 pub some_value : {X : Type 0} (o : Option X) → IsSome o → (v : X) × (o ≡ Some v)

@@ -21,8 +21,8 @@ use Rattle.sip_verifier.specs.Talks.{stream_sent}
 use Rattle.sip_verifier.specs.TalkClause.{IsUnderWay, before_end}
 use Rattle.sip_verifier.specs.Turns.{updates, IsLegalToEnd, farewell, AreTurns}
 use Rattle.sip_verifier.specs.VerdictClause.{NoneLeft}
-use Rattle.sip_verifier.proofs.RunTalks.{Adds, said_is, nothing_new, front_before, front_of_front}
-use Rattle.sip_verifier.proofs.StreamSent.{stream_sent-front}
+use Rattle.sip_verifier.proofs.RunTalks.{Adds, said_is, nothing_new, front_before}
+use Rattle.sip_verifier.proofs.StreamSent.{IsPrefix-trans, stream_sent-front}
 
 module _ (task : Task) (x : Exchange) where
   abbrev streamed : List TalkEvent
@@ -88,7 +88,7 @@ module _ (task : Task) (x : Exchange) where
       record { verdict = blank; talk = said_is old new _ x.talk went told; cause = (is_drawn seed, at_is, fault) }
   after_gather before now (statuses.ReadFault ports.First) old new told blank (seed, cut) cause =
       let front : IsPrefix x.talk (before_end task x) = fronts (said_is old new cut.said x.talk cut.talk told) cut.order in
-      record { verdict = blank; talk = (in_stream seed (front_of_front x.talk (before_end task x) streamed front (stream_sent-front task.depth (updates task x))) (λ _. front), front); cause = (is_drawn seed, cause) }
+      record { verdict = blank; talk = (in_stream seed (IsPrefix-trans x.talk (before_end task x) streamed front (stream_sent-front task.depth (updates task x))) (λ _. front), front); cause = (is_drawn seed, cause) }
   after_gather before now (statuses.ReadFault ports.Second) old new told blank same cause = record { verdict = blank; talk = nothing_new old new x.talk same told; cause = cause }
   after_gather before now (statuses.ReadFault ports.Report) old new told blank refuses cause = absurd refuses
   after_gather before now (statuses.ReadFault ports.Keep) old new told blank refuses cause = absurd refuses

@@ -2,7 +2,8 @@ use Rattle.std.proofs.Common.{◌≡◌, ◌++◌, ◌∷◌, [], length, sym, a
 use Rattle.sip_vector.specs.Answers.{pairs}
 use Rattle.std.specs.Prelude.{codes}
 use Rattle.sip_verifier.specs.Reports.{line, query_word}
-use Rattle.sip_verifier.proofs.Lines.{in_parts, none_if, at_err, grown, none_is, stays, front_sent, whole_sent, sent_more, so_far_more, line_is}
+use Rattle.sip_ports.proofs.TalkLemmas.{GoesOn-refl}
+use Rattle.sip_verifier.proofs.Lines.{in_parts, none_if, at_err, grown, none_is, front_sent, whole_sent, sent_more, so_far_more, line_is}
 use Rattle.sip_verifier.proofs.report.write_pairs.Goals as goal
 use Rattle.sip_verifier.proofs.report.write_pairs.Goals.{then-is_empty, else-is_empty}
 use Rattle.sip_verifier.proofs.report.write_pairs.Given as given
@@ -25,7 +26,7 @@ begun g c = elim c.if-is_empty.branch [
 pub loop-entry-init : goal.loop-entry-init
 loop-entry-init g c =
     let (items, few) = begun g c in
-    (([], append-nil _ ∙ sym items, stays _), few, omega arith, λ sure. sure)
+    (([], append-nil _ ∙ sym items, GoesOn-refl _), few, omega arith, λ sure. sure)
 
 pub returns-in_err-make_room-clause-talk : goal.returns-in_err-make_room-clause-talk
 returns-in_err-make_room-clause-talk g c =
