@@ -51,7 +51,8 @@ frequency-one_other_item u side item other = rw other refl
 frequency-one : (u : Update) (side : Side) (item : ℕ) → same_side u.side side ≡ true → eqb u.item item ≡ true → frequency (u ∷ []) side item ≡ u.delta
 frequency-one u side item same here = rw here (rw same (omega (arith, ints)))
 
-vector-other_side : (depth : ℕ) (s : List Update) (u : Update) (side : Side) → same_side u.side side ≡ false → vector depth (s ++ u ∷ []) side ≡ vector depth s side
+-- an update of the other side leaves the numbers
+pub vector-other_side : (depth : ℕ) (s : List Update) (u : Update) (side : Side) → same_side u.side side ≡ false → vector depth (s ++ u ∷ []) side ≡ vector depth s side
 vector-other_side depth s u side other =
     let len = length-vector depth s side in
     let len_more = length-vector depth (s ++ u ∷ []) side in
@@ -61,7 +62,8 @@ vector-other_side depth s u side other =
     ∙ rw (frequency-one_other_side u side i other) (let e : frequency s side i +ℤ pos 0 ≡ frequency s side i = omega (arith, ints) in e)
     ∙ sym (number_at-vector depth s side i (omega arith)))
 
-vector-same_side : (depth : ℕ) (s : List Update) (u : Update) (side : Side) → same_side u.side side ≡ true
+-- one of the side raises the number at its item
+pub vector-same_side : (depth : ℕ) (s : List Update) (u : Update) (side : Side) → same_side u.side side ≡ true
     → vector depth (s ++ u ∷ []) side ≡ set (vector depth s side) u.item (number_at (vector depth s side) u.item +ℤ u.delta)
 vector-same_side depth s u side same =
     let xs = vector depth s side in
@@ -103,9 +105,13 @@ map-zero : (f : ℕ → ℤ) (a n : ℕ) → ((i : ℕ) → f i ≡ pos 0) → m
 map-zero f a zero e = refl
 map-zero f a (suc n) e = rw (e a) (ap (λ xs. pos 0 ∷ xs) (map-zero f (a + 1) n e))
 
+-- before the stream there is nothing
+pub vector-nil : (depth : ℕ) (side : Side) → vector depth [] side ≡ replicate (2 ^ depth) (pos 0)
+vector-nil depth side = map-zero (frequency [] side) 0 (2 ^ depth) (λ i. refl)
+
 pub side_vector-nil : (depth : ℕ) (side : Side) → side_vector depth [] side ≡ zero_vector depth
 unfolding zeros
-side_vector-nil depth side = same_parts depth _ _ 0 0 (map-zero (frequency [] side) 0 (2 ^ depth) (λ i. refl)) refl
+side_vector-nil depth side = same_parts depth _ _ 0 0 (vector-nil depth side) refl
 
 pub side_vector-push : (depth : ℕ) (s : List Update) (u : Update) (side : Side) → side_vector depth (s ++ u ∷ []) side ≡ with_update side (side_vector depth s side) u
 side_vector-push depth s u side = elim (cases_Bool (same_side u.side side)) [
@@ -150,4 +156,4 @@ total-from depth s (u ∷ t) side below e =
 
 -- the sum of a side's deltas is the sum of its vector
 pub total-is : (depth : ℕ) (stream : List Update) (side : Side) → All (λ (u : Update). u.item < 2 ^ depth) stream → total stream side ≡ int_sum (vector depth stream side)
-total-is depth stream side below = total-from depth [] stream side below (sym (rw (map-zero (frequency [] side) 0 (2 ^ depth) (λ i. refl)) (int_sum-zeros (2 ^ depth))))
+total-is depth stream side below = total-from depth [] stream side below (sym (rw (vector-nil depth side) (int_sum-zeros (2 ^ depth))))

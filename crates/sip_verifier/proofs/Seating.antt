@@ -9,7 +9,8 @@ use Rattle.sip_vector.specs.declared.update.Side.TheVariants.{First}
 use Rattle.sip_vector.specs.declared.update.Update.{Update}
 use Rattle.sip_vector.specs.Streams.{same_side, frequency, vector}
 use Rattle.sip_vector.specs.Weights.{raised_numbers}
-use Rattle.sip_vector.proofs.TreeStreams.{vector_raised, vector_kept}
+use Rattle.sip_vector.proofs.TreeStreams.{vector_raised}
+use Rattle.sip_vector.proofs.Sides.{vector-other_side}
 use Rattle.sip_verifier.specs.QuerySeats.{RunsOn}
 use Rattle.sip_verifier.specs.declared.seat.Running.{Running}
 use Rattle.sip_verifier.specs.declared.seat.Running.TheVariants.{Root}
@@ -38,7 +39,7 @@ runs_further depth stream u (Heavy side least) old new seat seat' value value' h
 -- it is of the other one
 pub runs_on : (depth : ℕ) (stream : List Update) (u : Update) (query : Query) (running : Running) → same_side u.side First ≡ false
     → RunsOn depth stream query running → RunsOn depth (stream ++ u ∷ []) query running
-runs_on depth stream u (Sub lo hi) (Root root) other stands = subst (RootStandsFor m61_modulus root.seat root.value) (sym (vector_kept depth stream u First other)) stands
+runs_on depth stream u (Sub lo hi) (Root root) other stands = subst (RootStandsFor m61_modulus root.seat root.value) (sym (vector-other_side depth stream u First other)) stands
 runs_on depth stream u (Range side lo hi) running other stands = absurd stands
 runs_on depth stream u (F2 side) running other stands = absurd stands
 runs_on depth stream u Inner running other stands = absurd stands

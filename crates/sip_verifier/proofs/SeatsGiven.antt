@@ -13,7 +13,7 @@ use Rattle.sip_vector.specs.declared.query.Query.{Query}
 use Rattle.sip_vector.specs.declared.query.Query.TheVariants.{Sub, Range, F2, Inner, Heavy}
 use Rattle.sip_vector.specs.declared.update.Side.TheVariants.{First}
 use Rattle.sip_vector.specs.Pieces.{pieces, cut}
-use Rattle.sip_vector.proofs.TreeStreams.{vector_of_nothing}
+use Rattle.sip_vector.proofs.Sides.{vector-nil}
 use Rattle.sip_verifier.specs.QuerySeats.{RunsOn, StandsFor, block_of, is_seat}
 use Rattle.sip_verifier.specs.Tasks.{CanBeAsked}
 use Rattle.sip_verifier.specs.declared.seat.QuerySeat.{QuerySeat}
@@ -30,7 +30,7 @@ new-running depth (Sub lo hi) (Root root) seat value can has size stands =
     let ends = and_from _ _ (le-leb lo hi can.1.0) (lt-ltb hi (2 ^ depth) can.1.1) in
     let levels : length root.seat ≡ depth = ap length has.0 ∙ size in
     let zeros = subst (λ n. RootStandsFor m61_modulus seat value (replicate (2 ^ n) (pos 0))) size stands in
-    (and_from _ _ ends (eq-eqb (length root.seat) depth levels), rw (has.0, has.1, vector_of_nothing depth First) zeros)
+    (and_from _ _ ends (eq-eqb (length root.seat) depth levels), rw (has.0, has.1, vector-nil depth First) zeros)
 new-running depth (Range side lo hi) running seat value can has size stands = absurd (let no = can.0 in cc)
 new-running depth (F2 side) running seat value can has size stands = absurd (let no = can.0 in cc)
 new-running depth Inner running seat value can has size stands = absurd (let no = can.0 in cc)
