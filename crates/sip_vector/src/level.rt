@@ -5,6 +5,7 @@ ghost use Rattle.std.specs.Option.{option_map};
 ghost use Rattle.sip_field.specs.Residue.{residue};
 ghost use Rattle.sip_vector.specs.Trees.{up};
 ghost use Rattle.sip_vector.specs.Extensions.{line};
+ghost use Rattle.sip_vector.specs.Limits.{most_depth};
 ghost use Rattle.sip_vector.specs.Levels.{index_and_residue, nonzero_from, level_above, residue_above, before, begins_with_pair, folded};
 
 use crate::Vector;
@@ -53,6 +54,7 @@ pub struct Level<F: Field> {
 
 impl<F: Field> Model for Level<F> {
     ghost use Rattle.std.specs.Prelude.{ℕ, List, ◌^◌, ◌≤◌, map};
+    ghost use Rattle.sip_vector.specs.Limits.{most_depth};
     ghost use Rattle.sip_vector.specs.Sparse.{dense, IsSparse};
 
     ghost Value = { List ℕ };
@@ -61,7 +63,8 @@ impl<F: Field> Model for Level<F> {
 
     ghost view = { λ l. dense 0 (2 ^ l.folds_left) (map (index_and_residue F.number) l.spots.items) };
 
-    ghost invariant = { λ l. (l.folds_left ≤ 32) × IsSparse 0 0 (2 ^ l.folds_left) (map (index_and_residue F.number) l.spots.items) };
+    ghost invariant = { λ l. (l.folds_left ≤ most_depth) × IsSparse 0 0 (2 ^ l.folds_left)
+        (map (index_and_residue F.number) l.spots.items) };
 }
 
 impl<F: Field> Level<F> {
@@ -110,7 +113,7 @@ impl<F: Field> Level<F> {
     pub fn folds_left(&self) -> u8
         ensures exact { length self.now ≡ 2 ^ result }
         ensures some { (0 < result) ↔ (2 ≤ length self.now) }
-        ensures most { result ≤ 32 }
+        ensures most { result ≤ most_depth }
     {
         self.folds_left
     }
@@ -149,7 +152,8 @@ impl<F: Field> Level<F> {
 // still to be read.
 fn fold_spots<F: Field>(spots: &mut Vec<Spot<F>>, rule: Rule, r: F)
     ensures { map (index_and_residue F.number) spots.new.items
-        ≡ folded (residue_above F.MODULUS rule (F.number r)) (map (index_and_residue F.number) spots.old.items) }
+        ≡ folded (residue_above F.MODULUS rule (F.number r))
+        (map (index_and_residue F.number) spots.old.items) }
 {
     let mut written = 0;
     let mut read = 0;
@@ -171,7 +175,8 @@ fn spot_above<F: Field>(spots: &[Spot<F>], rule: Rule, r: F) -> (Spot<F>, usize)
     ensures within { result.1 ≤ length spots.now }
     ensures above { let join = residue_above F.MODULUS rule (F.number r) in
         let entries = map (index_and_residue F.number) spots.now in
-        folded join entries ≡ before result.0.index (F.number result.0.value) (folded join (drop result.1 entries)) }
+        folded join entries ≡ before result.0.index (F.number result.0.value)
+        (folded join (drop result.1 entries)) }
 {
     let first = spots[0];
     let index = first.index / 2;
