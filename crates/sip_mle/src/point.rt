@@ -37,7 +37,8 @@ impl<F: Field, const CAP: usize> Point<F, CAP> {
         requires { index < 2 ^ length self.old.seat }
         ensures seat { self.new.seat ≡ self.old.seat }
         ensures value { self.new.value
-            ≡ (self.old.value + residue F.MODULUS delta * chi F.MODULUS index self.old.seat) % F.MODULUS }
+            ≡ (self.old.value + residue F.MODULUS delta * chi F.MODULUS index self.old.seat)
+            % F.MODULUS }
         ensures stands { (numbers : List ℤ)
             → PointStandsFor F.MODULUS self.old.seat self.old.value numbers
             → PointStandsFor F.MODULUS self.new.seat self.new.value

@@ -74,7 +74,8 @@ impl<F: Field, const CAP: usize> AugRoot<F, CAP> {
 
 /// The root of zeros at the default seat.
 impl<F: Field, const CAP: usize> Default for AugRoot<F, CAP> {
-    ghost is_default = { λ root. (root.seat ≡ replicate (min 1 CAP) 0) × (root.hash ≡ 0) × (root.total ≡ pos 0) };
+    ghost is_default = { λ root. (root.seat ≡ replicate (min 1 CAP) 0) × (root.hash ≡ 0)
+        × (root.total ≡ pos 0) };
 
     fn default() -> AugRoot<F, CAP> {
         AugRoot::new(Seat::default())

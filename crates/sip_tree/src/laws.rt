@@ -48,13 +48,16 @@ pub fn folds_keep_weighted_sums()
     ensures folded { (p : ℕ) (challenges : List ℕ) (level first n : ℕ) (nodes : List ℕ)
         → level < length challenges → length nodes ≡ 2 * n
         → weighted_sum p challenges level (2 * first) nodes % p
-        ≡ weighted_sum p challenges (level + 1) first (up p nodes (slice_index challenges level)) % p }
+        ≡ weighted_sum p challenges (level + 1) first
+        (up p nodes (slice_index challenges level)) % p }
     ensures front { (p : ℕ) (challenges : List ℕ) (level first x : ℕ) (nodes : List ℕ)
         → weighted_sum p challenges level first (x ∷ nodes)
-        ≡ x * weight_above p challenges level first + weighted_sum p challenges level (first + 1) nodes }
+        ≡ x * weight_above p challenges level first
+        + weighted_sum p challenges level (first + 1) nodes }
     ensures back { (p : ℕ) (challenges : List ℕ) (level first : ℕ) (nodes : List ℕ) (x : ℕ)
         → weighted_sum p challenges level first (nodes ++ x ∷ [])
-        ≡ weighted_sum p challenges level first nodes + x * weight_above p challenges level (first + length nodes) }
+        ≡ weighted_sum p challenges level first nodes
+        + x * weight_above p challenges level (first + length nodes) }
 {}
 
 /// A side's vector is zeros before the stream. An update raises one entry of it, or none where it is of the other side.
