@@ -100,7 +100,8 @@ impl Field for M61 {
 
     ghost equal_is_same = { λ x y. (eqb-true _ _, eq-eqb _ _) };
 
-    ghost ring = { residue_ring m61_modulus m61_number m61_element (lit≤ tt) (λ x. x.below) m61_distinguishes (λ n. refl) };
+    ghost ring = { residue_ring m61_modulus m61_number m61_element (lit≤ tt) (λ x. x.below)
+        m61_distinguishes (λ n. refl) };
 }
 
 impl PrimeField for M61 {

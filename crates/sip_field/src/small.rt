@@ -84,7 +84,8 @@ impl Field for F31 {
 
     ghost equal_is_same = { λ x y. (eqb-true _ _, eq-eqb _ _) };
 
-    ghost ring = { residue_ring f31_modulus f31_number f31_element (lit≤ tt) (λ x. x.below) f31_distinguishes (λ n. refl) };
+    ghost ring = { residue_ring f31_modulus f31_number f31_element (lit≤ tt) (λ x. x.below)
+        f31_distinguishes (λ n. refl) };
 }
 
 impl PrimeField for F31 {

@@ -70,9 +70,11 @@ impl Source for MemorySource {
 
     ghost is_sure = { source_is_sure };
 
-    ghost faults_fit = { λ source. failed_of-fits (source_fails source) (source_calls source) source.calls.counted };
+    ghost faults_fit = { λ source. failed_of-fits (source_fails source) (source_calls source)
+        source.calls.counted };
 
-    ghost sure_counts = { λ source sure. failed_of-sure (source_fails source) (source_calls source) sure };
+    ghost sure_counts = { λ source sure. failed_of-sure (source_fails source) (source_calls source)
+        sure };
 
     fn read(&mut self, buf: &mut [u8]) -> Result<usize, PortStop>
         ensures bound { ReadsAtMost result buf.new }
@@ -140,7 +142,8 @@ impl Sink for MemorySink {
 
     ghost is_sure = { sink_is_sure };
 
-    ghost faults_fit = { λ sink. failed_of-fits (sink_fails sink) (sink_calls sink) sink.calls.counted };
+    ghost faults_fit = { λ sink. failed_of-fits (sink_fails sink) (sink_calls sink)
+        sink.calls.counted };
 
     ghost sure_counts = { λ sink sure. failed_of-sure (sink_fails sink) (sink_calls sink) sure };
 
@@ -219,7 +222,8 @@ impl Sink for MemoryLink {
 
     ghost is_sure = { link_is_sure };
 
-    ghost faults_fit = { λ link. failed_of-fits (link_fails link) (link_calls link) link.calls.counted };
+    ghost faults_fit = { λ link. failed_of-fits (link_fails link) (link_calls link)
+        link.calls.counted };
 
     ghost sure_counts = { λ link sure. failed_of-sure (link_fails link) (link_calls link) sure };
 
