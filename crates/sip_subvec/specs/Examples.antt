@@ -1,8 +1,8 @@
 -- The example that the laws work out: the entries 1 to 2 of (3, 0, 5, 1) at the challenges (2, 10).
-use Rattle.std.specs.Prelude.{ℕ, ◌+◌, ◌%◌, Some, None, List, [], ◌∷◌, Result, replicate, ◌++◌}
+use Rattle.std.specs.Prelude.{ℕ, ◌+◌, ◌%◌, pos, Some, None, List, [], ◌∷◌, Result, replicate, ◌++◌}
 use Rattle.sip_field.specs.Moduli.{m61_modulus}
 use Rattle.sip_vector.specs.declared.update.Entry.{Entry}
-use Rattle.sip_subvec.specs.AcceptsSub.{Siblings}
+use Rattle.sip_subvec.specs.AcceptsSub.{Siblings, Stated}
 use Rattle.sip_replies.specs.Replies.{Fault}
 use Rattle.sip_subvec.specs.Replies.{verdict}
 
@@ -33,6 +33,33 @@ entry_2 v = 0x13 ∷ 0x00 ∷ 0x0e ∷ 0x00 ∷ 0x01 ∷ 0x00 ∷ 0x00 ∷ 0x00 
 -- what these replies to `sub:1:2` give
 abbrev pub verdict_of : List (List ℕ) → Result (List Entry) Fault
 verdict_of replies = verdict m61_modulus 73 1 2 (2 ∷ 10 ∷ []) replies
+
+-- no sibling on either side
+abbrev pub neither : Siblings
+neither = record { left = None; right = None }
+
+-- what the honest replies to `sub:1:2` state
+abbrev pub stated_inner : Stated
+stated_inner = record {
+  entries = record { index = 2; value = pos 5 } ∷ [];
+  siblings = record { left = Some 3; right = Some 1 } ∷ neither ∷ [];
+}
+
+-- what those to `sub:0:3` state
+abbrev pub stated_whole : Stated
+stated_whole = record {
+  entries =
+      record { index = 0; value = pos 3 } ∷ record { index = 2; value = pos 5 }
+      ∷ record { index = 3; value = pos 1 } ∷ [];
+  siblings = neither ∷ neither ∷ [];
+}
+
+-- the entry (0, v), with these siblings
+abbrev pub states_first : ℕ → List Siblings → Stated
+states_first v siblings = record {
+  entries = record { index = 0; value = pos v } ∷ [];
+  siblings = siblings;
+}
 
 -- the right sibling 4, whatever is revealed
 abbrev pub guessed_sibling : List ℕ → Siblings

@@ -61,7 +61,8 @@ impl<F: Field, const CAP: usize> Model for SubCheck<F, CAP> {
       spent = c.spent;
     } };
 
-    ghost invariant = { λ c. (c.level ≤ length c.root.seat) × (c.lo ≤ c.hi) × (c.hi < 2 ^ (length c.root.seat - c.level)) };
+    ghost invariant = { λ c. (c.level ≤ length c.root.seat) × (c.lo ≤ c.hi)
+        × (c.hi < 2 ^ (length c.root.seat - c.level)) };
 }
 
 impl<F: Field, const CAP: usize> SubCheck<F, CAP> {
@@ -111,7 +112,8 @@ impl<F: Field, const CAP: usize> SubCheck<F, CAP> {
             → HasTaken F.MODULUS root lo hi challenges s self.old
             → AnswersAs
             (with_entries lo hi s.entries (record { index = index; value = value } ∷ []))
-            (λ entries. HasTaken F.MODULUS root lo hi challenges (record s { entries = entries }) self.new)
+            (λ entries. HasTaken F.MODULUS root lo hi challenges
+            (record s { entries = entries }) self.new)
             self.new result }
         ensures advances { Advances self.old self.new 0 0 }
         ensures spent { self.new.spent ≡ is_err result }
@@ -142,7 +144,8 @@ impl<F: Field, const CAP: usize> SubCheck<F, CAP> {
 
     // Whether an index is in the interval and above the last one.
     fn is_in_order(&self, index: u64) -> bool
-        ensures { result ≡ (is_within self.now.lo self.now.hi index && is_above self.now.last index) }
+        ensures { result
+            ≡ (is_within self.now.lo self.now.hi index && is_above self.now.last index) }
     {
         self.lo <= index && index <= self.hi && is_above(self.last, index)
     }
@@ -159,7 +162,8 @@ impl<F: Field, const CAP: usize> SubCheck<F, CAP> {
             → HasTaken F.MODULUS root lo hi challenges s self.old
             → AnswersAs (asked_siblings (lo / 2 ^ self.old.level) (hi / 2 ^ self.old.level)
             (record { left = option_map F.number left; right = option_map F.number right }))
-            (λ x. HasTaken F.MODULUS root lo hi challenges (record s { siblings = s.siblings ++ x ∷ [] }) self.new)
+            (λ x. HasTaken F.MODULUS root lo hi challenges
+            (record s { siblings = s.siblings ++ x ∷ [] }) self.new)
             self.new result }
         ensures advances { IfOk result (λ _. Advances self.old self.new 1 0) }
         ensures spent { self.new.spent ≡ is_err result }
@@ -194,7 +198,8 @@ impl<F: Field, const CAP: usize> SubCheck<F, CAP> {
         requires left { self.now.level < length self.now.challenges }
         ensures { F.number result
             ≡ level_sum F.MODULUS self.now.challenges self.now.level self.now.lo self.now.hi
-            (record { left = option_map F.number left; right = option_map F.number right }) % F.MODULUS }
+            (record { left = option_map F.number left; right = option_map F.number right })
+            % F.MODULUS }
     {
         let before = self.left_term(left);
         let behind = self.right_term(right);
@@ -205,7 +210,8 @@ impl<F: Field, const CAP: usize> SubCheck<F, CAP> {
     fn left_term(&self, left: Option<F>) -> F
         requires { IsTrue (is_some left) → self.now.lo % 2 ≡ 1 }
         ensures { F.number result
-            ≡ sibling_term F.MODULUS self.now.challenges self.now.level (option_map F.number left) (self.now.lo - 1) % F.MODULUS }
+            ≡ sibling_term F.MODULUS self.now.challenges self.now.level
+            (option_map F.number left) (self.now.lo - 1) % F.MODULUS }
     {
         match left {
             Some(node) => node.times(self.root.weight_above(self.level, self.lo - 1)),
@@ -218,7 +224,8 @@ impl<F: Field, const CAP: usize> SubCheck<F, CAP> {
         requires asked { IsTrue (is_some right) → self.now.hi % 2 ≡ 0 }
         requires left { self.now.level < length self.now.challenges }
         ensures { F.number result
-            ≡ sibling_term F.MODULUS self.now.challenges self.now.level (option_map F.number right) (self.now.hi + 1) % F.MODULUS }
+            ≡ sibling_term F.MODULUS self.now.challenges self.now.level
+            (option_map F.number right) (self.now.hi + 1) % F.MODULUS }
     {
         match right {
             Some(node) => node.times(self.root.weight_above(self.level, self.hi + 1)),

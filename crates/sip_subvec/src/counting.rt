@@ -15,7 +15,7 @@ ghost use Rattle.sip_counts.specs.Strategies.{Strategy, IsOfBytes, replies, fool
 ghost use Rattle.sip_subvec.specs.AcceptsSub.{Siblings};
 ghost use Rattle.sip_subvec.specs.Replies.{accepts, IsAccepted};
 ghost use Rattle.sip_subvec.specs.Counting.{accepts_stated, accepts_small, is_right, said, SubCountClause};
-ghost use Rattle.sip_subvec.specs.Examples.{guessed_sibling, two_siblings};
+ghost use Rattle.sip_subvec.specs.Examples.{guessed_sibling, two_siblings, states_first};
 
 /// Over every prime modulus, entries that are not those of the numbers are accepted at no more than d·p^(d - 1) of the
 /// p^d vectors of challenges, whatever siblings are stated, each of which may depend on the challenges before it. The
@@ -68,9 +68,9 @@ pub fn right_replies_say_the_entries()
 /// most that can be, and that is 1.
 pub fn one_challenge_of_31()
     ensures count { counted 31 (λ r. accepts_stated 31 (root 31 (pos 3 ∷ pos 5 ∷ []) r) 0 0 r
-        (record { entries = record { index = 0; value = pos 4 } ∷ []; siblings = replies guessed_sibling r })) 1 ≡ 1 }
+        (states_first 4 (replies guessed_sibling r))) 1 ≡ 1 }
     ensures which { accepts_stated 31 (root 31 (pos 3 ∷ pos 5 ∷ []) (1 ∷ [])) 0 0 (1 ∷ [])
-        (record { entries = record { index = 0; value = pos 4 } ∷ []; siblings = replies guessed_sibling (1 ∷ []) }) ≡ true }
+        (states_first 4 (replies guessed_sibling (1 ∷ []))) ≡ true }
 {}
 
 /// Over 31, for four zeros and the entries 0 to 0: the entry (0, 1) with the right siblings 30 and r_1 - 1 is accepted
@@ -78,5 +78,5 @@ pub fn one_challenge_of_31()
 pub fn sixty_one_of_961()
     ensures { counted 31 (λ r. accepts_stated 31 (root 31
         (pos 0 ∷ pos 0 ∷ pos 0 ∷ pos 0 ∷ []) r) 0 0 r
-        (record { entries = record { index = 0; value = pos 1 } ∷ []; siblings = replies two_siblings r })) 2 ≡ 61 }
+        (states_first 1 (replies two_siblings r))) 2 ≡ 61 }
 {}

@@ -2,8 +2,8 @@
 //! fact that holds.
 #![tactic(auto, unfolding(crate::specs::Replies::verdict, crate::specs::Replies::stated, crate::specs::Replies::first_reply, crate::specs::Replies::later_reply, crate::specs::Replies::later_replies, sip_wire::specs::Reading::read_frame, sip_wire::specs::Spelling::frame_fault, sip_wire::specs::Spelling::kind_fault, sip_wire::specs::Spelling::body_fault, sip_wire::specs::Spelling::asked, sip_wire::specs::Spelling::numbers_in, sip_wire::specs::Spelling::all_hold))]
 
-ghost use Rattle.std.specs.Prelude.{◌≡◌, ℕ, ◌+◌, ◌-◌, ◌%◌, ◌^◌, ◌<◌, ◌≤◌, ◌==◌, All, List, [], ◌∷◌, ◌++◌, length, drop, fold, zip, Ok, Err, None, Some, pos};
-ghost use Rattle.sip_subvec.specs.Examples.{reply_0, reply_1, both, entry_2, verdict_of};
+ghost use Rattle.std.specs.Prelude.{◌≡◌, ℕ, ◌+◌, ◌-◌, ◌%◌, ◌^◌, ◌<◌, ◌≤◌, ◌==◌, All, List, [], ◌∷◌, ◌++◌, length, drop, fold, zip, Ok, Err, pos};
+ghost use Rattle.sip_subvec.specs.Examples.{reply_0, reply_1, both, entry_2, verdict_of, stated_inner, stated_whole};
 ghost use Rattle.sip_field.specs.Moduli.{m61_modulus};
 ghost use Rattle.sip_vector.specs.Weights.{weighted_sum};
 ghost use Rattle.sip_vector.specs.declared.update.Entry.{Entry as AnyEntry};
@@ -57,7 +57,8 @@ pub fn weighted_sums_are_folds()
         → 0 < p → level + length ss ≡ length challenges → lo ≤ hi → hi < 2 ^ length ss
         → length nodes ≡ hi + 1 - lo → All (λ x. x < p) nodes → AreAsked lo hi ss
         → fold (next_level p) nodes (zip ss (drop level challenges))
-        ≡ ((weighted_sum p challenges level lo nodes + siblings_sum p challenges level lo hi ss) % p) ∷ [] }
+        ≡ ((weighted_sum p challenges level lo nodes
+        + siblings_sum p challenges level lo hi ss) % p) ∷ [] }
     ensures entries { (p lo hi : ℕ) (challenges : List ℕ) → 0 < p → (es : List AnyEntry)
         → with_entries lo hi [] es ≡ Ok es
         → weighted_sum p challenges 0 lo (stated_level p lo hi es) ≡ entries_sum p challenges es }
@@ -84,12 +85,6 @@ pub fn entries_are_tested_in_pieces()
 /// The sum of the honest replies is the root, 5·10 + 3·1 + 1·20; that of the replies to a query for all is 3·1 + 5·10 +
 /// 1·20.
 pub fn sums_by_hand()
-    ensures inner { stated_sum m61_modulus 1 2 (2 ∷ 10 ∷ []) (record {
-      entries = record { index = 2; value = pos 5 } ∷ [];
-      siblings = record { left = Some 3; right = Some 1 } ∷ record { left = None; right = None } ∷ [];
-    }) ≡ 73 }
-    ensures whole { stated_sum m61_modulus 0 3 (2 ∷ 10 ∷ []) (record {
-      entries = record { index = 0; value = pos 3 } ∷ record { index = 2; value = pos 5 } ∷ record { index = 3; value = pos 1 } ∷ [];
-      siblings = record { left = None; right = None } ∷ record { left = None; right = None } ∷ [];
-    }) ≡ 73 }
+    ensures inner { stated_sum m61_modulus 1 2 (2 ∷ 10 ∷ []) stated_inner ≡ 73 }
+    ensures whole { stated_sum m61_modulus 0 3 (2 ∷ 10 ∷ []) stated_whole ≡ 73 }
 {}
