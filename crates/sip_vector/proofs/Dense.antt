@@ -1,14 +1,8 @@
--- What lists that are kept by their entries show: after an entry is put or taken out, at a place, and by their filters.
-use Rattle.std.proofs.Common.{◌≡◌, ◌≢◌, ℕ, zero, suc, ◌+◌, ◌<◌, ◌≤◌, Bool, true, false, cond, List, [], ◌∷◌, length, get_or, set, replicate, filter, unwrap_or, Some, refl, sym, ap, ◌∙◌, inl, inr, arith}
-use Rattle.std.specs.declared.cmp.Ordering.{Ordering}
-use Rattle.std.specs.declared.cmp.Ordering.TheVariants.{Less, Equal, Greater}
-use Rattle.std.specs.Ordering.{nat_cmp, is_eq, match_ordering, MatchOrdering}
+-- What lists that are kept by their entries show: at a place, and by their filters.
+use Rattle.std.proofs.Common.{◌≡◌, ◌≢◌, ℕ, zero, suc, ◌+◌, ◌<◌, ◌≤◌, Bool, true, false, List, [], ◌∷◌, length, get_or, set, replicate, filter, refl, sym, ap, ◌∙◌, inl, inr, arith}
 use Rattle.std.specs.List.{enumerate_from}
-use Rattle.std.specs.Map.{lookup, remove_entry}
-use Rattle.std.specs.BTreeMap.{insert_entry, is_at}
 use Rattle.std.proofs.lemmas.Bool.{cases_lt}
-use Rattle.std.proofs.lemmas.Cmp.{ranked}
-use Rattle.std.proofs.lemmas.List.{length-set, length-replicate, get_or-replicate, get_or_past, get_or-set_same, get_or-set_other, set-set, set_comm, set-get_or}
+use Rattle.std.proofs.lemmas.List.{length-set, length-replicate, get_or-replicate, get_or_past, get_or-set_other, set-get_or}
 use Rattle.sip_vector.specs.Sparse.{dense, IsSparse}
 
 -- to write what is there changes nothing
@@ -38,86 +32,6 @@ unfolding dense
 get_or-dense_below z least n i [] h lt = get_or-zeros z n i
 get_or-dense_below z least n i (e ∷ es) h lt =
     get_or-set_other (dense z n es) e.0 i e.1 z (omega (arith, h.0)) ∙ get_or-dense_below z (suc e.0) n i es h.3 (omega (arith, h.0))
-
--- ---- an entry is put
-
-dense-insert_by : {X : Type 0} (z : X) (n : ℕ) (e : ℕ × X) (es : List (ℕ × X)) (k : ℕ) (v : X) (o : Ordering) → MatchOrdering o (k < e.0) (k ≡ e.0) (e.0 < k)
-    → dense z n (insert_entry nat_cmp es k v) ≡ set (dense z n es) k v
-    → dense z n (match_ordering o ((k, v) ∷ e ∷ es) ((e.0, v) ∷ es) (e ∷ insert_entry nat_cmp es k v)) ≡ set (dense z n (e ∷ es)) k v
-unfolding dense
-dense-insert_by z n e es k v Less lt tail = refl
-dense-insert_by z n e es k v Equal same tail = rw same (sym (set-set (dense z n es) e.0 e.1 v))
-dense-insert_by z n e es k v Greater gt tail =
-    ap (λ d. set d e.0 e.1) tail ∙ set_comm (dense z n es) k e.0 v e.1 (omega arith)
-
-pub dense-insert_entry : {X : Type 0} (zero : X) (n : ℕ) (es : List (ℕ × X)) (k : ℕ) (v : X) → dense zero n (insert_entry nat_cmp es k v) ≡ set (dense zero n es) k v
-unfolding dense
-dense-insert_entry z n [] k v = refl
-dense-insert_entry z n (e ∷ es) k v =
-    dense-insert_by z n e es k v (nat_cmp k e.0) (ranked k e.0 _ refl) (dense-insert_entry z n es k v)
-
-IsSparse-insert_by : {X : Type 0} (z : X) (least n : ℕ) (e : ℕ × X) (es : List (ℕ × X)) (k : ℕ) (v : X) (o : Ordering) → MatchOrdering o (k < e.0) (k ≡ e.0) (e.0 < k)
-    → least ≤ k → k < n → v ≢ z → IsSparse z least n (e ∷ es)
-    → (suc e.0 ≤ k → IsSparse z (suc e.0) n (insert_entry nat_cmp es k v))
-    → IsSparse z least n (match_ordering o ((k, v) ∷ e ∷ es) ((e.0, v) ∷ es) (e ∷ insert_entry nat_cmp es k v))
-IsSparse-insert_by z least n e es k v Less lt le below some h tail = (le, below, some, (omega arith, h.1, h.2, h.3))
-IsSparse-insert_by z least n e es k v Equal same le below some h tail = (h.0, h.1, some, h.3)
-IsSparse-insert_by z least n e es k v Greater gt le below some h tail = (h.0, h.1, h.2, tail (omega arith))
-
-pub IsSparse-insert_entry : {X : Type 0} (zero : X) (least n : ℕ) (es : List (ℕ × X)) (k : ℕ) (v : X) → least ≤ k → k < n → v ≢ zero → IsSparse zero least n es → IsSparse zero least n (insert_entry nat_cmp es k v)
-IsSparse-insert_entry z least n [] k v le below some h = (le, below, some, tt)
-IsSparse-insert_entry z least n (e ∷ es) k v le below some h =
-    IsSparse-insert_by z least n e es k v (nat_cmp k e.0) (ranked k e.0 _ refl) le below some h (λ later. IsSparse-insert_entry z (suc e.0) n es k v later below some h.3)
-
--- ---- an entry is taken out
-
-dense-remove_by : {X : Type 0} (z : X) (least n : ℕ) (e : ℕ × X) (es : List (ℕ × X)) (k : ℕ) (o : Ordering) → MatchOrdering o (k < e.0) (k ≡ e.0) (e.0 < k)
-    → IsSparse z least n (e ∷ es)
-    → dense z n (remove_entry (is_at (nat_cmp k)) es) ≡ set (dense z n es) k z
-    → dense z n (cond (is_eq o) es (e ∷ remove_entry (is_at (nat_cmp k)) es)) ≡ set (dense z n (e ∷ es)) k z
-unfolding dense
-dense-remove_by z least n e es k Less lt h tail =
-    ap (λ d. set d e.0 e.1) tail ∙ set_comm (dense z n es) k e.0 z e.1 (omega arith)
-dense-remove_by z least n e es k Equal same h tail =
-    rw same (sym (set-set (dense z n es) e.0 e.1 z ∙ set_same (dense z n es) e.0 z (get_or-dense_below z (suc e.0) n e.0 es h.3 (omega arith))))
-dense-remove_by z least n e es k Greater gt h tail =
-    ap (λ d. set d e.0 e.1) tail ∙ set_comm (dense z n es) k e.0 z e.1 (omega arith)
-
-pub dense-remove_entry : {X : Type 0} (zero : X) (least n : ℕ) (es : List (ℕ × X)) (k : ℕ) → IsSparse zero least n es → dense zero n (remove_entry (is_at (nat_cmp k)) es) ≡ set (dense zero n es) k zero
-unfolding dense
-dense-remove_entry z least n [] k h = sym (set_same (replicate n z) k z (get_or-zeros z n k))
-dense-remove_entry z least n (e ∷ es) k h =
-    dense-remove_by z least n e es k (nat_cmp k e.0) (ranked k e.0 _ refl) h (dense-remove_entry z (suc e.0) n es k h.3)
-
-IsSparse-remove_by : {X : Type 0} (z : X) (least n : ℕ) (e : ℕ × X) (es rest : List (ℕ × X)) (o : Ordering)
-    → IsSparse z least n (e ∷ es) → IsSparse z (suc e.0) n rest → IsSparse z least n (cond (is_eq o) es (e ∷ rest))
-IsSparse-remove_by z least n e es rest Less h tail = (h.0, h.1, h.2, tail)
-IsSparse-remove_by z least n e es rest Equal h tail = IsSparse-earlier z least (suc e.0) n es (omega (arith, h.0)) h.3
-IsSparse-remove_by z least n e es rest Greater h tail = (h.0, h.1, h.2, tail)
-
-pub IsSparse-remove_entry : {X : Type 0} (zero : X) (least n : ℕ) (es : List (ℕ × X)) (k : ℕ) → IsSparse zero least n es → IsSparse zero least n (remove_entry (is_at (nat_cmp k)) es)
-IsSparse-remove_entry z least n [] k h = tt
-IsSparse-remove_entry z least n (e ∷ es) k h =
-    IsSparse-remove_by z least n e es _ (nat_cmp k e.0) h (IsSparse-remove_entry z (suc e.0) n es k h.3)
-
--- ---- a look-up
-
-get_or-dense_by : {X : Type 0} (z : X) (n : ℕ) (e : ℕ × X) (es : List (ℕ × X)) (k : ℕ) (o : Ordering) → MatchOrdering o (k < e.0) (k ≡ e.0) (e.0 < k) → k < n
-    → get_or (dense z n es) k z ≡ unwrap_or (lookup (is_at (nat_cmp k)) es) z
-    → get_or (dense z n (e ∷ es)) k z ≡ unwrap_or (cond (is_eq o) (Some e.1) (lookup (is_at (nat_cmp k)) es)) z
-unfolding dense
-get_or-dense_by z n e es k Less lt below tail = get_or-set_other (dense z n es) e.0 k e.1 z (omega arith) ∙ tail
-get_or-dense_by z n e es k Equal same below tail =
-    let len = length-dense z n es in
-    rw same (get_or-set_same (dense z n es) e.0 e.1 z (omega arith))
-get_or-dense_by z n e es k Greater gt below tail = get_or-set_other (dense z n es) e.0 k e.1 z (omega arith) ∙ tail
-
--- the element at an index is what a look-up finds, or zero
-pub get_or-dense : {X : Type 0} (zero : X) (n : ℕ) (es : List (ℕ × X)) (k : ℕ) → k < n → get_or (dense zero n es) k zero ≡ unwrap_or (lookup (is_at (nat_cmp k)) es) zero
-unfolding dense
-get_or-dense z n [] k below = get_or-zeros z n k
-get_or-dense z n (e ∷ es) k below =
-    get_or-dense_by z n e es k (nat_cmp k e.0) (ranked k e.0 _ refl) below (get_or-dense z n es k below)
 
 -- ---- the entries that are not zero
 

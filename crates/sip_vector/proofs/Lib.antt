@@ -1,4 +1,7 @@
 pub mod Dense
+pub mod Merges
+pub mod Gathers
+pub mod Finds
 pub mod Folds
 pub mod Sums
 pub mod Products

@@ -11,3 +11,4 @@ pub mod Examples
 pub mod Pieces
 pub mod Steps
 pub mod Weights
+pub mod inside

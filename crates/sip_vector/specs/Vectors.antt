@@ -1,14 +1,11 @@
 -- What a vector shows, and how it stands for one side of a stream.
-use Rattle.std.specs.Prelude.{◌≡◌, ℕ, ◌+◌, ◌^◌, ◌≤◌, ℤ, pos, ◌+ℤ◌, nat_abs, Bool, not, ◌&&◌, List, replicate, unwrap_or, sum_by, filter, slice_set, slice_index_or, if◌then◌else◌}
-use Rattle.std.specs.BTreeMap.{insert_entry, is_at}
-use Rattle.std.specs.Map.{lookup, remove_entry}
-use Rattle.std.specs.Ordering.{nat_cmp}
+use Rattle.std.specs.Prelude.{ℕ, ◌+◌, ◌^◌, ℤ, pos, ◌+ℤ◌, nat_abs, Bool, not, ◌&&◌, List, replicate, filter, slice_set, slice_index_or, if◌then◌else◌}
 use Rattle.sip_vector.specs.declared.update.Side.{Side}
 use Rattle.sip_vector.specs.declared.update.Update.{Update}
 use Rattle.sip_vector.specs.declared.update.Entry.{Entry}
 use Rattle.sip_vector.specs.Answers.{entries, is_within, is_zero}
-use Rattle.sip_vector.specs.Sparse.{dense, IsSparse}
-use Rattle.sip_vector.specs.Streams.{int_sum, same_side, vector, weight, most_weight}
+use Rattle.sip_vector.specs.Sparse.{dense}
+use Rattle.sip_vector.specs.Streams.{same_side, vector, weight}
 
 -- the 2 ^ depth numbers of a vector, and the sum of the absolute values of what was added to them
 pub record SideVector : Type 0 where
@@ -52,22 +49,10 @@ is_nonzero_within lo hi e = is_within lo hi e.index && not (is_zero e.value)
 abbrev pub nonzero_within : ℕ → ℕ → List ℤ → List Entry
 nonzero_within lo hi numbers = filter (is_nonzero_within lo hi) (entries numbers)
 
+-- all entries that are not 0
+abbrev pub nonzero : List ℤ → List Entry
+nonzero numbers = filter (λ e. not (is_zero e.value)) (entries numbers)
+
 -- the numbers of which these are the entries that are not 0
 abbrev pub numbers_of : ℕ → List (ℕ × ℤ) → List ℤ
 numbers_of depth kept = dense (pos 0) (2 ^ depth) kept
-
--- the value that is kept at an index, or 0
-abbrev pub kept_value : List (ℕ × ℤ) → ℕ → ℤ
-kept_value kept index = unwrap_or (lookup (is_at (nat_cmp index)) kept) (pos 0)
-
--- the entries with this value at an index, where 0 is not kept
-abbrev pub kept_with : List (ℕ × ℤ) → ℕ → ℤ → List (ℕ × ℤ)
-kept_with kept index value =
-    if is_zero value then remove_entry (is_at (nat_cmp index)) kept else insert_entry nat_cmp kept index value
-
--- entries that are not 0, with their sum and a weight that bounds them
-pub record IsKept (depth : ℕ) (kept : List (ℕ × ℤ)) (total : ℤ) (weight : ℕ) : Type 0 where
-  pub sparse : IsSparse (pos 0) 0 (2 ^ depth) kept
-  pub sums : total ≡ int_sum (numbers_of depth kept)
-  pub light : sum_by nat_abs (numbers_of depth kept) ≤ weight
-  pub most : weight ≤ most_weight

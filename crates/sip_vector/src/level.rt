@@ -1,14 +1,18 @@
 //! The nodes of one height over a vector, kept by those that are not 0.
 
-ghost use Rattle.std.specs.Prelude.{◌≡◌, ◌*◌, ◌^◌, ◌<◌, ◌≤◌, ◌↔◌, length, map, drop, slice_get, slice_index, IfOk, IsTrue};
+ghost use Rattle.std.specs.Prelude.{◌≡◌, ◌*◌, ◌^◌, ◌<◌, ◌≤◌, ◌↔◌, pos, length, map, drop, slice_get, slice_index, IfOk, IsTrue};
 ghost use Rattle.std.specs.Option.{option_map};
 ghost use Rattle.sip_field.specs.Residue.{residue};
 ghost use Rattle.sip_vector.specs.Trees.{up};
 ghost use Rattle.sip_vector.specs.Extensions.{line};
 ghost use Rattle.sip_vector.specs.Limits.{most_depth};
+ghost use Rattle.sip_vector.specs.Sparse.{IsSparse};
+ghost use Rattle.sip_vector.specs.Streams.{most_weight};
+ghost use Rattle.sip_vector.specs.Vectors.{numbers_of};
+ghost use Rattle.sip_vector.specs.inside.Gathered.{as_pair, abs_sum};
 ghost use Rattle.sip_vector.specs.Levels.{index_and_residue, nonzero_from, level_above, residue_above, before, begins_with_pair, folded};
 
-use crate::Vector;
+use crate::{Depth, Entry, Vector};
 use sip_field::{Field, OutOfMemory};
 use std::alloc::Global;
 use std::marker::Model;
@@ -68,24 +72,42 @@ impl<F: Field> Model for Level<F> {
 }
 
 impl<F: Field> Level<F> {
-    /// The residues of a vector's numbers. O(m) in time and memory.
+    /// The residues of a vector's numbers. O(m) in time and memory. Where additions are pending in the vector they are
+    /// sorted and merged in a copy first.
     pub fn of(alloc: Global, vector: &Vector) -> Result<Level<F>, OutOfMemory>
         ensures residues { IfOk result (λ level. level
             ≡ map (residue F.MODULUS) vector.now.numbers) }
         ensures length { IfOk result (λ level. length level ≡ 2 ^ vector.now.depth) }
     {
-        let mut spots = Vec::new(alloc);
-        for (index, value) in &vector.entries {
-            let value = F::of_signed(*value);
-            if value.number() != 0 {
-                spots.push(Spot {
-                    index: *index,
-                    value,
-                })?;
+        let depth = vector.depth();
+        if let Some(list) = vector.settled_list() {
+            return Level::of_list(alloc, depth, list);
+        }
+        let list = vector.merged_list(alloc)?;
+        Level::of_list(alloc, depth, &list)
+    }
+
+    // The residues of the numbers of a rising list without 0.
+    fn of_list(alloc: Global, depth: Depth, list: &[Entry]) -> Result<Level<F>, OutOfMemory>
+        requires sparse { IsSparse (pos 0) 0 (2 ^ depth) (map as_pair list.now) }
+        requires light { abs_sum list.now ≤ most_weight }
+        ensures residues { IfOk result (λ level. level
+            ≡ map (residue F.MODULUS) (numbers_of depth (map as_pair list.now))) }
+        ensures length { IfOk result (λ level. length level ≡ 2 ^ depth) }
+    {
+        let mut spots = Vec::with_capacity(alloc, list.len())?;
+        for entry in list {
+            let value = F::of_signed(entry.value);
+            if value.number() == 0 {
+                continue;
             }
+            spots.push(Spot {
+                index: entry.index,
+                value,
+            })?;
         }
         Ok(Level {
-            folds_left: vector.depth().get(),
+            folds_left: depth.get(),
             spots,
         })
     }

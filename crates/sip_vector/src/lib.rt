@@ -25,15 +25,17 @@
 //!
 //! # Cost
 //!
-//! In these m is the number of entries, or nodes, that are not 0.
+//! In these m is the number of entries, or nodes, that are not 0, and p the number of additions to a vector that are pending:
+//! none after `Vector::settle`, and else at most 65,536 or m, whichever is more.
 //!
 //! | Call | Time | Memory |
 //! |---|---|---|
-//! | `Vector::add` | O(log m) | one entry |
-//! | `Vector::get`, `Vector::next_entry` | O(log m) | none |
-//! | `Vector::count_in` | O(log m), and the number that is counted | none |
-//! | `Vector::is_strict` | O(m) | none |
-//! | `Level::of` | O(m) | one spot for each node that is not 0 |
+//! | `Vector::add` | O(log p) over many calls | one entry; once in a while as `settle` |
+//! | `Vector::settle` | O(m + p log p) | as many entries as m + p |
+//! | `Vector::get` | O(log m + p) | none |
+//! | `Vector::next_entry`, `Vector::count_in` | O(log m); with p above 0 O(log m + p) for each index tried | none |
+//! | `Vector::is_strict` | O(m log m); with p above 0 O(log m + p) for each index tried | none |
+//! | `Level::of` | O(m), and O(p log p) | one spot for each entry; with p above 0 the list of entries too |
 //! | `Level::fold_tree`, `Level::fold_line` | O(m), one `times` for each node above | none |
 //! | `Level::at`, `Level::next_nonzero` | O(log m) | none |
 //!
@@ -41,8 +43,10 @@
 #![tactic(auto)]
 
 mod depth;
+mod finding;
 pub mod laws;
 mod level;
+mod merging;
 mod query;
 mod update;
 mod vector;
@@ -55,3 +59,5 @@ pub use vector::Vector;
 
 #[cfg(test)]
 mod tests;
+#[cfg(test)]
+mod vector_tests;

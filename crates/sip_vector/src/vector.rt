@@ -1,37 +1,54 @@
 //! One side's vector, kept by its entries that are not 0.
 
-ghost use Rattle.std.specs.Prelude.{◌≡◌, ◌+◌, ◌^◌, ◌<◌, ◌≤◌, ◌↔◌, pos, ◌≤ℤ◌, nat_abs, length, sum_by, All, slice_get, IfOk, OnOk, OnErr, IsTrue};
+ghost use Rattle.std.specs.Prelude.{ℕ, ◌≡◌, ◌+◌, ◌^◌, ◌<◌, ◌≤◌, ◌↔◌, pos, ◌≤ℤ◌, nat_abs, length, sum_by, All, slice_get, IfOk, IfSome, OnOk, OnErr, IsTrue};
 ghost use Rattle.sip_vector.specs.Streams.{int_sum, most_weight};
-ghost use Rattle.sip_vector.specs.Vectors.{number_at, zero_vector, with_added, nonzero_within, kept_value, kept_with};
+ghost use Rattle.sip_vector.specs.Vectors.{number_at, zero_vector, with_added, nonzero, nonzero_within};
+ghost use Rattle.sip_vector.specs.inside.Gathered.{IsListOf, IsFirstOf};
 
+use crate::finding::{
+    count_between, first_within, has_no_negative, next_in_list, next_of, sum_of, value_in,
+};
+use crate::merging::settled;
 use crate::{Depth, Entry};
 use sip_field::OutOfMemory;
 use std::alloc::Global;
-use std::collections::BTreeMap;
 use std::marker::Model;
+
+// As many additions may wait in any vector. In one with a longer list as many may wait as the list has entries, so that a
+// merge is paid by the additions before it.
+const MOST_PENDING: usize = 65_536;
 
 /// The vector that one side's updates add up to: `2^depth` numbers.
 ///
 /// A contract sees the list of these numbers, and the weight: the sum of the absolute values of all that was added. A
 /// weight is at most 2^30 - 1, so no sum over the numbers overflows.
 ///
-/// Only the entries that are not 0 take memory, and no call goes over the others. In the costs below m is their number.
+/// Only the entries that are not 0 take memory, as a list that rises, and the additions that are pending, in the order in
+/// which they came. Every call is right while additions are pending, and quick where none is, as after `settle`. In the
+/// costs below m is the number of entries that are not 0 and p the number of additions that are pending, which is at most
+/// 65,536 or m, whichever is more.
 #[derive(Drop)]
 pub struct Vector {
     depth: Depth,
-    pub(crate) entries: BTreeMap<u64, i64>,
+    list: Vec<Entry>,
+    pending: Vec<Entry>,
     total: i64,
     weight: u64,
 }
 
 impl Model for Vector {
-    ghost use Rattle.sip_vector.specs.Vectors.{SideVector, numbers_of, IsKept};
+    ghost use Rattle.sip_vector.specs.Vectors.{SideVector};
+    ghost use Rattle.sip_vector.specs.inside.Gathered.{gathered, IsGathered};
 
     ghost Value = { SideVector };
 
-    ghost view = { λ v. record { depth = v.depth; numbers = numbers_of v.depth v.entries.entries; weight = v.weight } };
+    ghost view = { λ v. record {
+      depth = v.depth;
+      numbers = gathered v.depth v.list.items v.pending.items;
+      weight = v.weight;
+    } };
 
-    ghost invariant = { λ v. IsKept v.depth v.entries.entries v.total v.weight };
+    ghost invariant = { λ v. IsGathered v.depth v.list.items v.pending.items v.total v.weight };
 }
 
 impl Vector {
@@ -41,24 +58,84 @@ impl Vector {
     {
         Ok(Vector {
             depth,
-            entries: BTreeMap::new(alloc),
+            list: Vec::new(alloc),
+            pending: Vec::new(alloc),
             total: 0,
             weight: 0,
         })
     }
 
-    /// Adds `delta` to the entry at `index`. Want of memory leaves the vector as it was. O(log m).
+    /// Adds `delta` to the entry at `index`. Want of memory leaves the vector as it was. O(log p) over many calls; one call
+    /// in many merges what is pending.
     pub fn add(&mut self, index: u64, delta: i64) -> Result<(), OutOfMemory>
         requires within { index < 2 ^ self.old.depth }
         requires light { self.old.weight + nat_abs delta ≤ most_weight }
         ensures ok { OnOk result (self.new ≡ with_added self.old index delta) }
         ensures err { OnErr result (self.new ≡ self.old) }
     {
-        let value = value_at(&self.entries, index) + delta;
-        set_value(&mut self.entries, index, value)?;
+        if self.pending.len() >= MOST_PENDING && self.pending.len() >= self.list.len() {
+            self.settle()?;
+        }
+        self.put(index, delta)
+    }
+
+    // Lets an addition wait.
+    fn put(&mut self, index: u64, delta: i64) -> Result<(), OutOfMemory>
+        requires within { index < 2 ^ self.old.depth }
+        requires light { self.old.weight + nat_abs delta ≤ most_weight }
+        ensures ok { OnOk result (self.new ≡ with_added self.old index delta) }
+        ensures err { OnErr result (self.new ≡ self.old) }
+    {
+        let entry = Entry {
+            index,
+            value: delta,
+        };
+        self.pending.push(entry)?;
         self.total += delta;
         self.weight += delta.unsigned_abs();
         Ok(())
+    }
+
+    /// Merges what is pending into the list of entries. The numbers stay the same, also where memory is wanted; then what
+    /// was pending still is. O(m + p log p), and memory for m + p entries. To be called at the end of a stream.
+    pub fn settle(&mut self) -> Result<(), OutOfMemory>
+        ensures { self.new ≡ self.old }
+    {
+        if self.pending.is_empty() {
+            return Ok(());
+        }
+        let alloc = *self.list.allocator();
+        self.list = settled(alloc, &self.list, &mut self.pending)?;
+        self.pending = Vec::new(alloc);
+        Ok(())
+    }
+
+    /// The entries that are not 0, in the order of their indices; `None` where additions are pending, as is never so after
+    /// a `settle` that gave `Ok`.
+    pub fn entries(&self) -> Option<&[Entry]>
+        ensures { IfSome result (λ entries. entries.now ≡ nonzero self.now.numbers) }
+    {
+        self.settled_list()
+    }
+
+    // The list, where nothing is pending.
+    pub(crate) fn settled_list(&self) -> Option<&[Entry]>
+        ensures { IfSome result (λ list. IsListOf self.now list.now) }
+    {
+        if self.pending.is_empty() {
+            Some(&self.list)
+        } else {
+            None
+        }
+    }
+
+    // The list that `settle` would make.
+    pub(crate) fn merged_list(&self, alloc: Global) -> Result<Vec<Entry>, OutOfMemory>
+        ensures { IfOk result (λ list. IsListOf self.now list.items) }
+    {
+        let mut pending = Vec::new(alloc);
+        pending.extend_from_slice(&self.pending)?;
+        settled(alloc, &self.list, &mut pending)
     }
 
     /// The depth that was given to `new`.
@@ -69,13 +146,13 @@ impl Vector {
         self.depth
     }
 
-    /// The entry at `index`. O(log m).
+    /// The entry at `index`. O(log m + p).
     pub fn get(&self, index: u64) -> i64
         requires { index < 2 ^ self.now.depth }
         ensures same { result ≡ number_at self.now.numbers index }
         ensures light { nat_abs result ≤ self.now.weight }
     {
-        value_at(&self.entries, index)
+        value_in(&self.list, index) + sum_of(&self.pending, index)
     }
 
     /// The sum of the numbers.
@@ -95,55 +172,115 @@ impl Vector {
         self.weight
     }
 
-    /// Whether no number is negative. O(m).
+    /// Whether no number is negative. O(m) where nothing is pending, and else O(log m + p) for each index at which something
+    /// was added.
     pub fn is_strict(&self) -> bool
         ensures { IsTrue result ↔ All (λ a. pos 0 ≤ℤ a) self.now.numbers }
     {
-        self.entries.values().all(|value| *value >= 0)
+        if let Some(list) = self.settled_list() {
+            return has_no_negative(list);
+        }
+        let items = 1u64 << self.depth().get();
+        self.is_strict_to(items - 1)
+    }
+
+    // Whether no number up to `hi` is negative.
+    fn is_strict_to(&self, hi: u64) -> bool
+        requires { hi < 2 ^ self.now.depth }
+        ensures { IsTrue result
+            ↔ ((k : ℕ) → k ≤ hi → pos 0 ≤ℤ number_at self.now.numbers k) }
+    {
+        let _ = self.depth();
+        let _ = self.weight();
+        let mut at = 0;
+        while let Some(entry) = self.first_nonzero(at, hi) {
+            if entry.value < 0 {
+                return false;
+            }
+            if entry.index == hi {
+                return true;
+            }
+            at = entry.index + 1;
+        }
+        true
     }
 
     /// The first entry that is not 0 at an index from `from` to `hi`. `None` where there is none, also where `from` is
-    /// above `hi`. O(log m), without memory.
+    /// above `hi`. O(log m) where nothing is pending, and else O(log m + p) for each index that is tried; without memory.
     pub fn next_entry(&self, from: u64, hi: u64) -> Option<Entry>
         requires { hi < 2 ^ self.now.depth }
         ensures { result ≡ slice_get (nonzero_within from hi self.now.numbers) 0 }
     {
-        if from > hi {
-            return None;
+        let _ = self.depth();
+        if let Some(list) = self.settled_list() {
+            return first_within(list, from, hi);
         }
-        let (index, value) = self.entries.range(from..=hi).next()?;
-        Some(Entry {
-            index: *index,
-            value: *value,
-        })
+        self.first_nonzero(from, hi)
     }
 
-    /// How many entries from `lo` to `hi` are not 0. O(log m) and the time to count them, without memory.
+    /// How many entries from `lo` to `hi` are not 0. O(log m) where nothing is pending, and else O(log m + p) for each index
+    /// that is tried; without memory.
     pub fn count_in(&self, lo: u64, hi: u64) -> u64
         requires order { lo ≤ hi }
         requires within { hi < 2 ^ self.now.depth }
         ensures { result ≡ length (nonzero_within lo hi self.now.numbers) }
     {
-        self.entries.range(lo..=hi).count() as u64
+        if let Some(list) = self.settled_list() {
+            return count_between(list, lo, hi);
+        }
+        self.count_by_walk(lo, hi)
     }
-}
 
-// The value that is kept at an index, or 0.
-fn value_at(entries: &BTreeMap<u64, i64>, index: u64) -> i64
-    ensures { result ≡ kept_value entries.now.entries index }
-{
-    entries.get(&index).copied().unwrap_or(0)
-}
-
-// Keeps a value at an index; 0 is not kept.
-fn set_value(entries: &mut BTreeMap<u64, i64>, index: u64, value: i64) -> Result<(), OutOfMemory>
-    ensures ok { OnOk result (entries.new.entries ≡ kept_with entries.old.entries index value) }
-    ensures err { OnErr result (entries.new.entries ≡ entries.old.entries) }
-{
-    if value == 0 {
-        entries.remove(&index);
-    } else {
-        entries.insert(index, value)?;
+    // The same by a walk over the entries.
+    fn count_by_walk(&self, lo: u64, hi: u64) -> u64
+        requires order { lo ≤ hi }
+        requires within { hi < 2 ^ self.now.depth }
+        ensures { result ≡ length (nonzero_within lo hi self.now.numbers) }
+    {
+        let _ = self.depth().get();
+        let mut count = 0;
+        let mut at = lo;
+        while let Some(entry) = self.next_entry(at, hi) {
+            count += 1;
+            if entry.index == hi {
+                return count;
+            }
+            at = entry.index + 1;
+        }
+        count
     }
-    Ok(())
+
+    // The first number that is not 0, from index to index at which something was added.
+    fn first_nonzero(&self, from: u64, hi: u64) -> Option<Entry>
+        requires { hi < 2 ^ self.now.depth }
+        ensures { IsFirstOf self.now.numbers from hi result }
+    {
+        let _ = &self.list;
+        let mut at = from;
+        while at <= hi {
+            let index = self.next_index(at, hi);
+            let value = self.get(index);
+            if value != 0 {
+                return Some(Entry { index, value });
+            }
+            if index == hi {
+                return None;
+            }
+            at = index + 1;
+        }
+        None
+    }
+
+    // The lowest index from `from` on at which something was added, or `end` where that is lower.
+    fn next_index(&self, from: u64, end: u64) -> u64
+        requires order { from ≤ end }
+        requires within { end < 2 ^ self.now.depth }
+        ensures from { from ≤ result }
+        ensures end { result ≤ end }
+        ensures zeros { (k : ℕ) → from ≤ k → k < result
+            → number_at self.now.numbers k ≡ pos 0 }
+    {
+        let first = next_in_list(&self.list, from, end);
+        next_of(&self.pending, from, first)
+    }
 }

@@ -1,10 +1,20 @@
-use Rattle.std.proofs.Common.{◌↔◌, IsTrue, All, pos, ◌≤ℤ◌, rules}
-use Rattle.std.specs.Map.{values_of}
-use Rattle.sip_vector.proofs.Filters.{not_negative-is}
+use Rattle.std.proofs.Common.{◌≡◌, ◌*◌, ◌%◌, ◌^◌, ◌<◌, ◌≤◌, ℤ, pos, ◌≤ℤ◌, length, sym, ap, ◌∙◌, arith}
+use Rattle.std.proofs.Math.Nat.{mod-eq_of_lt, pow-le-pow_right}
+use Rattle.std.proofs.lemmas.List.Elements.{All-get_or, All-from_get_or}
+use Rattle.std.proofs.lemmas.Nat.{pow_pos}
 use Rattle.sip_vector.proofs.vector.Vector.is_strict.Goals as goal
+
+abbrev NotNegative : ℤ → Type 0
+NotNegative a = pos 0 ≤ℤ a
 
 pub returns : goal.returns
 returns c =
-    let h : IsTrue c.all.result ↔ All (λ a. pos 0 ≤ℤ a) (values_of c.self.inside.entries.entries) = search rules in
-    let k = not_negative-is c.self.inside.depth c.self.inside.entries.entries c.self.invariant.sparse in
-    rw (← c.self.view_is) (λ t. k.0 (h.0 t), λ all. h.1 (k.1 all))
+    let numbers = c.args.self.now.numbers in
+    let d = c.get.result in
+    let most : 2 ^ d ≤ 2 ^ 48 = (let two : 0 < 2 = omega arith in pow-le-pow_right two c.get.ensures.most) in
+    let some = pow_pos d in
+    let whole : 1 * 2 ^ d % 18446744073709551616 ≡ 1 * 2 ^ d = mod-eq_of_lt (omega (arith, most)) in
+    let len : length numbers ≡ 2 ^ d = c.depth.ensures.numbers ∙ ap (λ n. 2 ^ n) (sym c.get.ensures.same) in (
+      λ t. All-from_get_or NotNegative numbers (pos 0) (λ k below. c.is_strict_to.ensures.0 t k (omega (arith, whole, below, len))),
+      λ all. c.is_strict_to.ensures.1 (λ k below. All-get_or NotNegative numbers k (pos 0) (omega (arith, whole, below, len, some)) all),
+    )

@@ -1,0 +1,177 @@
+use crate::{Depth, Entry, Level, Vector};
+use sip_field::{Field, M61, OutOfMemory};
+use std::alloc::Global;
+use std::process::Abort;
+use std::test::Fail;
+
+const MOST_WEIGHT: u64 = (1 << 30) - 1;
+
+// Eight numbers, as they are and in a vector to which the same was added.
+#[derive(Drop)]
+struct Pair {
+    vector: Vector,
+    numbers: [i64; 8],
+    state: u64,
+}
+
+impl Pair {
+    fn new(alloc: Global) -> Result<Pair, Fail> {
+        let depth = Depth::new(3).ok_or(())?;
+        Ok(Pair {
+            vector: Vector::new(alloc, depth)?,
+            numbers: [0; 8],
+            state: 1,
+        })
+    }
+
+    // Adds -3 to 3 to one of the numbers, by the linear congruential generator of Knuth's MMIX. Where memory is refused the
+    // vector must be as it was, and take the addition then.
+    fn add(&mut self, rt: &impl Abort) -> Result<(), Fail> {
+        self.state = self
+            .state
+            .wrapping_mul(6_364_136_223_846_793_005)
+            .wrapping_add(1_442_695_040_888_963_407);
+        let index = self.state >> 61;
+        let delta = (self.state >> 32) as i64 % 4;
+        assert!(rt; index < 1 << self.vector.depth().get());
+        assert!(rt; self.vector.weight() + delta.unsigned_abs() <= MOST_WEIGHT);
+        if self.vector.add(index, delta).is_err() {
+            self.shows(rt)?;
+            assert!(rt; index < 1 << self.vector.depth().get());
+            assert!(rt; self.vector.weight() + delta.unsigned_abs() <= MOST_WEIGHT);
+            self.vector.add(index, delta)?;
+        }
+        if let Some(number) = self.numbers.get_mut(index as usize) {
+            *number = number.wrapping_add(delta);
+        }
+        Ok(())
+    }
+
+    // The same for what is pending.
+    fn settle(&mut self, rt: &impl Abort) -> Result<(), Fail> {
+        if self.vector.settle().is_err() {
+            self.shows(rt)?;
+            self.vector.settle()?;
+        }
+        Ok(())
+    }
+
+    // The first number that is not 0 from one index to another, and how many there are.
+    fn found(&self, from: u64, hi: u64) -> (Option<Entry>, u64) {
+        let mut first = None;
+        let mut count = 0u64;
+        let mut index = 0u64;
+        for number in &self.numbers {
+            if from <= index && index <= hi && *number != 0 {
+                count = count.wrapping_add(1);
+                if first.is_none() {
+                    first = Some(Entry {
+                        index,
+                        value: *number,
+                    });
+                }
+            }
+            index = index.wrapping_add(1);
+        }
+        (first, count)
+    }
+
+    // Each call that takes no memory.
+    fn shows(&self, rt: &impl Abort) -> Result<(), Fail> {
+        let mut total = 0i64;
+        let mut is_strict = true;
+        let mut index = 0u64;
+        for number in &self.numbers {
+            assert!(rt; index < 1 << self.vector.depth().get());
+            assert_eq!(rt; self.vector.get(index), *number, "at {index}");
+            total = total.wrapping_add(*number);
+            is_strict = is_strict && *number >= 0;
+            index = index.wrapping_add(1);
+        }
+        assert_eq!(rt;
+            (self.vector.total(), self.vector.is_strict()),
+            (total, is_strict)
+        );
+        for from in 0..8u64 {
+            for hi in 0..8u64 {
+                assert!(rt; hi < 1 << self.vector.depth().get());
+                let (first, count) = self.found(from, hi);
+                assert_eq!(rt;
+                    self.vector.next_entry(from, hi),
+                    first,
+                    "from {from} to {hi}"
+                );
+                if from <= hi {
+                    assert_eq!(rt;
+                        self.vector.count_in(from, hi),
+                        count,
+                        "from {from} to {hi}"
+                    );
+                }
+            }
+        }
+        Ok(())
+    }
+
+    // The residues are those of the numbers.
+    fn has_level(&self, rt: &impl Abort, alloc: Global) -> Result<(), Fail> {
+        let level = Level::<M61>::of(alloc, &self.vector)?;
+        let mut index = 0u64;
+        for number in &self.numbers {
+            assert!(rt; index < 1 << self.vector.depth().get());
+            assert_eq!(rt; level.at(index), M61::of_signed(*number), "at {index}");
+            index = index.wrapping_add(1);
+        }
+        Ok(())
+    }
+
+    // A settled vector lends the numbers that are not 0.
+    fn lends(&self, rt: &impl Abort) -> Result<(), Fail> {
+        let entries = self.vector.entries().ok_or(())?;
+        let mut index = 0;
+        let mut count = 0usize;
+        for number in &self.numbers {
+            if *number != 0 {
+                let entry = Entry {
+                    index,
+                    value: *number,
+                };
+                assert_eq!(rt; entries.get(count).copied(), Some(entry));
+                count = count.wrapping_add(1);
+            }
+            index = index.wrapping_add(1);
+        }
+        assert_eq!(rt; entries.len(), count);
+        Ok(())
+    }
+}
+
+#[test]
+fn each_call_sees_what_is_pending(rt: HostRuntime) -> Result<(), Fail> {
+    let mut pair = Pair::new(rt.alloc())?;
+    for round in 0..200 {
+        pair.add(&rt)?;
+        assert!(rt; pair.vector.entries().is_none());
+        pair.shows(&rt)?;
+        pair.has_level(&rt, rt.alloc())?;
+        if round % 5 == 0 {
+            pair.settle(&rt)?;
+            pair.shows(&rt)?;
+            pair.has_level(&rt, rt.alloc())?;
+            pair.lends(&rt)?;
+        }
+    }
+    Ok(())
+}
+
+#[test]
+fn want_of_memory_leaves_a_vector_as_it_was(rt: HostRuntime) -> Result<(), Fail> {
+    let mut pair = Pair::new(rt.alloc())?;
+    for _ in 0..140_000 {
+        pair.add(&rt)?;
+    }
+    pair.shows(&rt)?;
+    pair.settle(&rt)?;
+    pair.shows(&rt)?;
+    pair.lends(&rt)
+}
