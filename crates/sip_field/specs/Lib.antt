@@ -5,5 +5,6 @@ pub mod Ring
 pub mod Prime
 pub mod Polynomial
 pub mod Challenges
+pub mod Products
 pub mod Draw
 pub mod LawProofs

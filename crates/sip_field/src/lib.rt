@@ -4,7 +4,8 @@
 //!   [`M61`], modulo 2^61 - 1, is the field of every run. [`F31`], modulo 31, is for tests that try all challenges.
 //! - [`horner`] is the value of a polynomial.
 //! - [`draw_one`] draws a challenge from a generator's words, and [`draw_challenges`] draws the first ones of a seed.
-//! - [`Seat`] keeps the challenges of one query.
+//! - [`Seat`] keeps the challenges of one query. [`fill_tables`] makes tables of products of them, and [`by_tables`]
+//!   looks a product up in these, seven challenges at a time.
 //!
 //! No call takes memory. [`OutOfMemory`] stands here for the crates above.
 //!
@@ -21,6 +22,7 @@
 //! | `Polynomial` | the value of a polynomial |
 //! | `Draw` | how challenges come from words, one and several, and the words of a seed |
 //! | `Challenges` | which lists are the challenges of a seat |
+//! | `Products` | the product of what the challenges count for the bits of an index, and tables of such products |
 //!
 //! # The laws, and how a proof above uses them
 //!
@@ -47,17 +49,20 @@
 //!
 //! | Call | `times` | Beside it, for `M61` |
 //! |---|---|---|
-//! | `of`, `number`, `plus`, `minus` | 0 | a few additions |
+//! | `of`, `of_number`, `number`, `plus`, `minus` | 0 | a few additions |
 //! | `of_signed` | 0 | one remainder of 64 bits |
 //! | `horner` of n coefficients | n | n `plus` |
 //! | `draw_one` | 0 | one word, and another for each that gives no challenge, eight at most |
 //! | `draw_challenges` of n | 0 | n times `draw_one` |
 //! | `Seat::of` of n challenges | 0 | n copies |
-//! | `Seat::depth`, `Seat::at` | 0 | one `of` in `at` |
+//! | `Seat::depth`, `Seat::at` | 0 | |
+//! | `fill_tables` | 127 for each seven challenges | as many `minus` for `Factors::Extension` |
+//! | `by_tables` of n tables | n | n look-ups |
 #![tactic(auto)]
 
 mod arithmetic;
 mod drawing;
+mod factors;
 pub mod laws;
 mod memory;
 mod mersenne;
@@ -67,6 +72,7 @@ mod small;
 
 pub use arithmetic::{Field, PrimeField};
 pub use drawing::{SeedSpent, draw_challenges, draw_one};
+pub use factors::{Factors, by_tables, fill_tables};
 pub use memory::OutOfMemory;
 pub use mersenne::M61;
 pub use polynomial::horner;

@@ -59,6 +59,10 @@ impl Field for M61 {
         reduced_once((x & P) + (x >> 61))
     }
 
+    fn of_number(x: u64) -> M61 {
+        M61 { value: x }
+    }
+
     fn of_signed(x: i64) -> M61 {
         M61 {
             value: x.rem_euclid(P as i64) as u64,

@@ -60,7 +60,7 @@ impl<F: Field, const CAP: usize> Seat<F, CAP> {
         requires last { level ≤ length self.now }
         ensures { F.number result ≡ slice_index self.now (level - 1) }
     {
-        F::of(self.challenges[level - 1])
+        F::of_number(self.challenges[level - 1])
     }
 }
 

@@ -46,6 +46,10 @@ impl Field for F31 {
         F31 { value: x % P }
     }
 
+    fn of_number(x: u64) -> F31 {
+        F31 { value: x }
+    }
+
     fn of_signed(x: i64) -> F31 {
         F31 {
             value: x.rem_euclid(P as i64) as u64,

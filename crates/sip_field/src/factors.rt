@@ -1,0 +1,92 @@
+//! Products of a seat's challenges, made once for many indices.
+ghost use Rattle.std.specs.Prelude.{◌≡◌, ℕ, List, ◌+◌, ◌*◌, ◌/◌, ◌%◌, ◌^◌, ◌<◌, ◌≤◌, All, length, take, drop};
+ghost use Rattle.sip_field.specs.Products.{zero_factor, bits_product, HasProducts, AreTables};
+
+use crate::arithmetic::Field;
+use crate::seats::Seat;
+
+/// What a challenge r counts in a product over the bits of an index: r where its bit is 1.
+#[derive(Clone, Copy, PartialEq, Eq, Debug)]
+pub enum Factors {
+    /// And 1 where its bit is 0: what a leaf weighs in a tree of nodes `left + r * right`.
+    Tree,
+    /// And 1 - r where its bit is 0: what an entry weighs in a multilinear extension.
+    Extension,
+}
+
+/// The products for at most seven challenges, those of the levels above `from`. Entry e is that of the index e, the lowest
+/// bit first, for each e below 2^n, where there are n challenges.
+///
+/// 2^n - 1 `times`: each challenge doubles what there is, by one for each pair.
+pub(crate) fn products<F: Field, const CAP: usize>(
+    seat: &Seat<F, CAP>,
+    from: usize,
+    factors: Factors,
+) -> [u64; 128]
+    requires { from ≤ length seat.now }
+    ensures products { HasProducts F.MODULUS (zero_factor F.MODULUS factors)
+        (take 7 (drop from seat.now)) result }
+    ensures below { All (λ x. x < F.MODULUS) result }
+{
+    let mut table = [1; 128];
+    let mut filled = 1;
+    let left = seat.depth() - from;
+    let levels = if left < 7 { left } else { 7 };
+    for level in 0..levels {
+        let challenge = seat.at(from + level + 1);
+        for entry in 0..filled {
+            let whole = F::of_number(table[entry]);
+            let one = whole.times(challenge);
+            let zero = match factors {
+                Factors::Tree => whole,
+                Factors::Extension => whole.minus(one),
+            };
+            table[filled + entry] = one.number();
+            table[entry] = zero.number();
+        }
+        filled *= 2;
+    }
+    table
+}
+
+/// Makes the tables of all challenges of a seat, and says how many they are: table g is that of the seven challenges above
+/// level 7·g, or of those that are left. The tables behind them are left as they are.
+///
+/// 127 `times` for a table of seven challenges.
+pub fn fill_tables<F: Field, const CAP: usize>(
+    tables: &mut [[u64; 128]; 7],
+    seat: &Seat<F, CAP>,
+    factors: Factors,
+) -> usize
+    requires { length seat.now ≤ 49 }
+    ensures count { result ≤ 7 }
+    ensures all { length seat.now ≤ 7 * result }
+    ensures below { All (All (λ x. x < F.MODULUS)) (take result tables.new) }
+    ensures tables { AreTables F.MODULUS (zero_factor F.MODULUS factors) seat.now
+        (take result tables.new) }
+{
+    let count = (seat.depth() + 6) / 7;
+    for group in 0..count {
+        tables[group] = products(seat, 7 * group, factors);
+    }
+    count
+}
+
+/// `start` times the product of an index, by the tables of all challenges: table g is that of the seven above level 7·g.
+///
+/// One `times` for each table.
+pub fn by_tables<F: Field>(start: F, tables: &[[u64; 128]], index: u64) -> F
+    requires { All (All (λ x. x < F.MODULUS)) tables.now }
+    ensures { (zero : ℕ → ℕ) (challenges : List ℕ) → AreTables F.MODULUS zero challenges tables.now
+        → length challenges ≤ 7 * length tables.now → index < 2 ^ length challenges
+        → F.number result
+        ≡ (F.number start * bits_product F.MODULUS zero index challenges) % F.MODULUS }
+{
+    let mut product = start;
+    let mut path = index;
+    for table in tables {
+        product = product.times(F::of_number(table[(path % 128) as usize]));
+        path /= 128;
+    }
+    product
+}
