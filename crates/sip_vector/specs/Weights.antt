@@ -1,10 +1,15 @@
 -- What a root is raised by where a number below it is raised by 1 (Cormode, Thaler, Yi, PVLDB 5(1), section 4).
-use Rattle.std.specs.Prelude.{ℕ, ◌+◌, ◌*◌, ◌/◌, ◌%◌, ◌^◌, ◌==◌, ℤ, pos, ◌+ℤ◌, List, [], ◌∷◌, drop, slice_index_or, slice_set, sum_by, if◌then◌else◌}
+use Rattle.std.specs.Prelude.{ℕ, ◌+◌, ◌*◌, ◌/◌, ◌%◌, ◌^◌, ◌==◌, ℤ, pos, ◌+ℤ◌, List, [], ◌∷◌, drop, fold, slice_index_or, slice_set, sum_by, if◌then◌else◌}
 use Rattle.std.specs.List.{enumerate_from}
+use Rattle.sip_vector.specs.declared.update.Update.{Update}
 
 -- these numbers with one of them raised
 abbrev pub raised_numbers : List ℤ → ℕ → ℤ → List ℤ
 raised_numbers numbers i delta = slice_set numbers i (slice_index_or numbers i (pos 0) +ℤ delta)
+
+-- these numbers after updates, whatever their sides
+abbrev pub numbers_after : List ℤ → List Update → List ℤ
+numbers_after numbers updates = fold (λ ns u. raised_numbers ns u.item u.delta) numbers updates
 
 -- the product of the challenges above a node for which its index has the bit 1, the lowest bit first
 abbrev pub node_weight : ℕ → ℕ → List ℕ → ℕ

@@ -5,8 +5,9 @@
 
 ghost use Rattle.std.specs.Prelude.{◌≡◌, ℕ, ◌+◌, ◌-◌, ◌^◌, ◌<◌, List, [], ◌∷◌, ◌++◌, pos, ℤ, Some, None, slice_get, fold, All};
 ghost use Rattle.sip_field.specs.Moduli.{m61_modulus as p};
-ghost use Rattle.sip_vector.specs.Streams.{vector, total, int_sum};
+ghost use Rattle.sip_vector.specs.Streams.{vector, total, int_sum, of_side};
 ghost use Rattle.sip_vector.specs.Vectors.{side_vector, zero_vector, with_update, nonzero_within};
+ghost use Rattle.sip_vector.specs.Weights.{numbers_after};
 ghost use Rattle.sip_vector.specs.declared.update.Entry.{Entry};
 ghost use Rattle.sip_vector.specs.declared.update.Side.{Side};
 ghost use Rattle.sip_vector.specs.declared.update.Update.{Update};
@@ -29,6 +30,13 @@ pub fn vectors_add_up()
     ensures total { (depth : ℕ) (stream : List Update) (side : Side)
         → All (λ u. u.item < 2 ^ depth) stream
         → total stream side ≡ int_sum (vector depth stream side) }
+{}
+
+/// More of a stream raises the entries of a side's vector by the updates of that side, one after another.
+pub fn vectors_go_on()
+    ensures { (depth : ℕ) (stream updates : List Update) (side : Side)
+        → vector depth (stream ++ updates) side
+        ≡ numbers_after (vector depth stream side) (of_side updates side) }
 {}
 
 /// The first entry that is not 0, and then those after it, are all of them: so a walk finds each.
