@@ -1,3 +1,4 @@
 pub mod WeightSteps
 pub mod FoldSteps
 pub mod StandsLemmas
+pub mod Blocks

@@ -1,1 +1,2 @@
 pub mod StandsFor
+pub mod Blocks

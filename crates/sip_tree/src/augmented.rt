@@ -52,7 +52,7 @@ impl<F: Field, const CAP: usize> AugRoot<F, CAP> {
             (raised_numbers numbers index delta) }
     {
         let term = F::of_signed(delta).times(hash_weight(&self.seat, index));
-        self.hash = F::of(self.hash).plus(term).number();
+        self.hash = F::of_number(self.hash).plus(term).number();
         self.total += delta;
     }
 
@@ -60,7 +60,7 @@ impl<F: Field, const CAP: usize> AugRoot<F, CAP> {
     pub fn hash(&self) -> F
         ensures { F.number result ≡ self.now.hash }
     {
-        F::of(self.hash)
+        F::of_number(self.hash)
     }
 
     /// The sum of the numbers.

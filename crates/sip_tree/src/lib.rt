@@ -21,14 +21,15 @@
 //!
 //! # Cost
 //!
-//! No call takes memory: a root is its seat and 8 or 16 bytes, and `up` works in the list that its caller made. The unit of
+//! No call takes memory: a root is its seat and 8 or 16 bytes, and `up` works in the list that its caller made. `update_all`
+//! has its tables on the stack for one call, 7 KB. The unit of
 //! time is one `Field::times`. The bits are those of the index, d is the depth, and a list has n nodes.
 //!
 //! | Call | `times` | Beside it |
 //! |---|---|---|
-//! | `Root::new`, `AugRoot::new`, `AugRoot::total` | 0 | |
-//! | `Root::value`, `AugRoot::hash` | 0 | one `of` |
+//! | `Root::new`, `Root::value`, `AugRoot::new`, `AugRoot::hash`, `AugRoot::total` | 0 | |
 //! | `Root::update` | one for each bit that is 1, d at most | d steps along the bits, one `of_signed` and one `plus` |
+//! | `Root::update_all` of 64 and more | one for an update and 7 challenges, and 127 for 7 challenges | an `of_signed` and a `plus` for an update |
 //! | `Root::weight_above` | one for each bit that is 1, d - level at most | d - level steps along the bits |
 //! | `AugRoot::update` | two for each bit that is 1, and one: 2d + 1 at most | d steps along the bits, each with one `plus`; one `of_signed` |
 //! | `up` | n / 2 | n / 2 `plus` |

@@ -1,11 +1,17 @@
 //! The root of a vector's tree, as a running number.
-ghost use Rattle.std.specs.Prelude.{◌≡◌, ◌+◌, ◌-◌, ◌*◌, ◌%◌, ◌^◌, ◌<◌, ◌≤◌, ℤ, pos, List, length, min, replicate};
+ghost use Rattle.std.specs.Prelude.{◌≡◌, ◌+◌, ◌-◌, ◌*◌, ◌%◌, ◌^◌, ◌<◌, ◌≤◌, ℤ, pos, List, All, length, min, replicate};
 ghost use Rattle.sip_field.specs.Residue.{residue};
+ghost use Rattle.sip_tree.specs.Blocks.{root_after};
 ghost use Rattle.sip_tree.specs.StandsFor.{RootStandsFor};
-ghost use Rattle.sip_vector.specs.Weights.{raised_numbers, node_weight, weight_above};
+ghost use Rattle.sip_vector.specs.Limits.{most_depth};
+ghost use Rattle.sip_vector.specs.Weights.{raised_numbers, numbers_after, node_weight, weight_above};
 
 use crate::weight::weighted;
-use sip_field::{Field, Seat};
+use sip_field::{Factors, Field, Seat, by_tables, fill_tables};
+use sip_vector::Update;
+
+/// The shortest block for which tables are made: below it they cost more than they save.
+const BLOCK: usize = 64;
 
 /// The root of a vector of 2^d numbers, for the d challenges of a seat.
 #[derive(Drop)]
@@ -42,14 +48,45 @@ impl<F: Field, const CAP: usize> Root<F, CAP> {
             (raised_numbers numbers index delta) }
     {
         let term = weighted(F::of_signed(delta), &self.seat, 0, index);
-        self.value = F::of(self.value).plus(term).number();
+        self.value = F::of_number(self.value).plus(term).number();
+    }
+
+    /// The root after each of these updates, whatever their sides.
+    ///
+    /// One `times` for an update and seven challenges, and 127 for seven challenges, whose table of products is on the stack
+    /// for this call. A block of less than 64 updates is `update` for each.
+    pub fn update_all(&mut self, updates: &[Update])
+        requires depth { length self.old.seat ≤ most_depth }
+        requires items { All (λ u. u.item < 2 ^ length self.old.seat) updates.now }
+        ensures seat { self.new.seat ≡ self.old.seat }
+        ensures value { self.new.value
+            ≡ root_after F.MODULUS self.old.seat self.old.value updates.now }
+        ensures stands { (numbers : List ℤ)
+            → RootStandsFor F.MODULUS self.old.seat self.old.value numbers
+            → RootStandsFor F.MODULUS self.new.seat self.new.value
+            (numbers_after numbers updates.now) }
+    {
+        if updates.len() < BLOCK {
+            for update in updates {
+                self.update(update.item, update.delta);
+            }
+        } else {
+            let mut tables = [[1; 128]; 7];
+            let count = fill_tables(&mut tables, &self.seat, Factors::Tree);
+            let mut sum = F::of_number(self.value);
+            for update in updates {
+                let delta = F::of_signed(update.delta);
+                sum = sum.plus(by_tables(delta, &tables[..count], update.item));
+            }
+            self.value = sum.number();
+        }
     }
 
     /// The root.
     pub fn value(&self) -> F
         ensures { F.number result ≡ self.now.value }
     {
-        F::of(self.value)
+        F::of_number(self.value)
     }
 
     /// The factor of a node of this level in the root: the product of the challenges of the levels above for which the

@@ -1,0 +1,38 @@
+-- Blocks of updates: the weights that tables of products give, and what a root stands for after each update.
+use Rattle.std.proofs.Common.{◌≡◌, ℕ, ◌+◌, ◌*◌, ◌/◌, ◌%◌, ◌^◌, ◌<◌, ◌==◌, if◌then◌else◌, ℤ, ◌+ℤ◌, List, [], ◌∷◌, length, get_or, take, refl, sym, ◌∙◌, ap, subst}
+use Rattle.std.specs.Prelude.{All}
+use Rattle.std.proofs.lemmas.List.Elements.{All-head, All-tail}
+use Rattle.std.proofs.lemmas.List.Sums.{fold_more}
+use Rattle.sip_field.specs.Residue.{residue}
+use Rattle.sip_field.specs.Products.{zero_factor, bits_product}
+use Rattle.sip_field.specs.declared.factors.Factors.TheVariants.{Tree}
+use Rattle.sip_vector.specs.Weights.{raised_numbers, numbers_after, node_weight, hash_weight}
+use Rattle.sip_vector.specs.declared.update.Update.{Update}
+use Rattle.sip_tree.specs.Blocks.{root_after, hash_after, total_after}
+use Rattle.sip_tree.specs.StandsFor.{RootStandsFor, AugRootStandsFor}
+use Rattle.sip_tree.proofs.StandsLemmas.{root_stands, augroot_stands}
+
+-- a node's weight is a product over the bits of its index
+pub weight_is_product : (p i : ℕ) (challenges : List ℕ) → bits_product p (zero_factor p Tree) i challenges ≡ node_weight p i challenges
+weight_is_product p i [] = refl
+weight_is_product p i (r ∷ challenges) = ap (λ w. ((if i % 2 == 1 then r else 1) * w) % p) (weight_is_product p (i / 2) challenges)
+
+module _ (p : ℕ) (challenges : List ℕ) where
+  -- a root stands for the numbers after the updates that it got
+  pub root_stands_after : 0 < p → (updates : List Update) (old new : ℕ) (numbers : List ℤ) → All (λ u. u.item < 2 ^ length challenges) updates →
+      new ≡ root_after p challenges old updates → RootStandsFor p challenges old numbers → RootStandsFor p challenges new (numbers_after numbers updates)
+  root_stands_after some [] old new numbers within is h = subst (λ v. RootStandsFor p challenges v numbers) (sym is) h
+  root_stands_after some (u ∷ updates) old new numbers within is h =
+      let next : ℕ = (old + residue p u.delta * node_weight p u.item challenges) % p in
+      root_stands_after some updates next new (raised_numbers numbers u.item u.delta)
+      (All-tail (λ v. v.item < 2 ^ length challenges) u updates within) is
+      (root_stands p challenges u.item u.delta some (All-head (λ v. v.item < 2 ^ length challenges) u updates within) old next numbers refl h)
+
+  -- one update more
+  pub one_root : (value : ℕ) (updates : List Update) (k : ℕ) (d : Update) (sum new : ℕ) → k < length updates →
+      sum ≡ root_after p challenges value (take k updates) →
+      new ≡ (sum + residue p (get_or updates k d).delta * node_weight p (get_or updates k d).item challenges) % p →
+      new ≡ root_after p challenges value (take (k + 1) updates)
+  one_root value updates k d sum new within before is =
+      let add : ℕ → Update → ℕ = λ v u. (v + residue p u.delta * node_weight p u.item challenges) % p in
+      is ∙ ap (λ v. add v (get_or updates k d)) before ∙ sym (fold_more add value updates k d within)
