@@ -3,3 +3,4 @@ pub mod Weighing
 pub mod Folding
 pub mod IntervalLemmas
 pub mod IntervalSums
+pub mod Blocks

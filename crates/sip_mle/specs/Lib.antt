@@ -1,2 +1,3 @@
 pub mod StandsFor
 pub mod Intervals
+pub mod Blocks

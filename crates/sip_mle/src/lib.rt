@@ -7,7 +7,7 @@
 //! - [`IntervalFold`] is that list itself, folded by one challenge after another.
 //!
 //! No call takes memory: a point is a seat and one number, and an interval is two values and two indexes, however long
-//! its list is.
+//! its list is. `Point::update_all` has its tables on the stack for one call, 7 KB.
 //!
 //! # What the contracts say
 //!
@@ -26,6 +26,7 @@
 //! | `chi` | d |
 //! | `Point::new`, `Point::value` | 0 |
 //! | `Point::update` | d |
+//! | `Point::update_all` of n, 64 and more | n for each 7 challenges, and 127 for their table |
 //! | `interval_at` | 2d |
 //! | `IntervalFold::new`, `IntervalFold::at` | 0 |
 //! | `IntervalFold::fold` | 2 |

@@ -1,12 +1,18 @@
 //! The extension of a vector at the challenges of a seat, as a running number.
-ghost use Rattle.std.specs.Prelude.{◌≡◌, ◌+◌, ◌*◌, ◌%◌, ◌^◌, ◌<◌, ℤ, pos, List, length, min, replicate};
+ghost use Rattle.std.specs.Prelude.{◌≡◌, ◌+◌, ◌*◌, ◌%◌, ◌^◌, ◌<◌, ◌≤◌, ℤ, pos, List, All, length, min, replicate};
 ghost use Rattle.sip_field.specs.Residue.{residue};
+ghost use Rattle.sip_mle.specs.Blocks.{point_after};
 ghost use Rattle.sip_mle.specs.StandsFor.{PointStandsFor};
-ghost use Rattle.sip_vector.specs.Weights.{raised_numbers};
+ghost use Rattle.sip_vector.specs.Weights.{raised_numbers, numbers_after};
+ghost use Rattle.sip_vector.specs.Limits.{most_depth};
 ghost use Rattle.sip_vector.specs.Extensions.{chi};
 
 use crate::factor::times_chi;
-use sip_field::{Field, Seat};
+use sip_field::{Factors, Field, Seat, by_tables, fill_tables};
+use sip_vector::Update;
+
+/// The shortest block for which tables are made: below it they cost more than they save.
+const BLOCK: usize = 64;
 
 /// The extension of a vector of 2^d numbers, at the d challenges of a seat.
 #[derive(Drop)]
@@ -45,14 +51,45 @@ impl<F: Field, const CAP: usize> Point<F, CAP> {
             (raised_numbers numbers index delta) }
     {
         let term = times_chi(F::of_signed(delta), &self.seat, index);
-        self.value = F::of(self.value).plus(term).number();
+        self.value = F::of_number(self.value).plus(term).number();
+    }
+
+    /// The extension after each of these updates, whatever their sides.
+    ///
+    /// One `times` for an update and seven challenges, and 127 for seven challenges, whose table of products is on the stack
+    /// for this call. A block of less than 64 updates is `update` for each.
+    pub fn update_all(&mut self, updates: &[Update])
+        requires depth { length self.old.seat ≤ most_depth }
+        requires items { All (λ u. u.item < 2 ^ length self.old.seat) updates.now }
+        ensures seat { self.new.seat ≡ self.old.seat }
+        ensures value { self.new.value
+            ≡ point_after F.MODULUS self.old.seat self.old.value updates.now }
+        ensures stands { (numbers : List ℤ)
+            → PointStandsFor F.MODULUS self.old.seat self.old.value numbers
+            → PointStandsFor F.MODULUS self.new.seat self.new.value
+            (numbers_after numbers updates.now) }
+    {
+        if updates.len() < BLOCK {
+            for update in updates {
+                self.update(update.item, update.delta);
+            }
+        } else {
+            let mut tables = [[1; 128]; 7];
+            let count = fill_tables(&mut tables, &self.seat, Factors::Extension);
+            let mut sum = F::of_number(self.value);
+            for update in updates {
+                let delta = F::of_signed(update.delta);
+                sum = sum.plus(by_tables(delta, &tables[..count], update.item));
+            }
+            self.value = sum.number();
+        }
     }
 
     /// The extension.
     pub fn value(&self) -> F
         ensures { F.number result ≡ self.now.value }
     {
-        F::of(self.value)
+        F::of_number(self.value)
     }
 }
 

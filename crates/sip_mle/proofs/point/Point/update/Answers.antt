@@ -8,7 +8,7 @@ use Rattle.sip_mle.proofs.point.Point.update.Goals as goal
 pub returns-clause-value : goal.returns-clause-value
 returns-clause-value g c =
     let kept : to_z w64 (of_z w64 c.args.delta) ≡ c.args.delta = to_z-of_z w64 c.args.delta c.ranges.delta in
-    rw (c.number-self.ensures, c.plus.ensures, c.of.ensures, c.times_chi-term.ensures, c.of_signed.ensures, kept) (simp (mod-add-mod, add-mod-mod))
+    rw (c.number-self.ensures, c.plus.ensures, c.of_number.ensures, c.times_chi-term.ensures, c.of_signed.ensures, kept) (simp (mod-add-mod, add-mod-mod))
 
 pub returns-clause-stands : goal.returns-clause-stands
 returns-clause-stands g c numbers stands =

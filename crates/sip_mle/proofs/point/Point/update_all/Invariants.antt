@@ -1,0 +1,16 @@
+use Rattle.std.proofs.Common.{◌≡◌, take}
+use Rattle.sip_mle.specs.Blocks.{point_after}
+use Rattle.sip_mle.proofs.point.Point.update_all.Given as goal
+
+-- the extension is that after the first updates
+abbrev pub invariant-loop-update : goal.invariant-loop-update
+invariant-loop-update g l = record {
+  seat : l.self.seat ≡ l.fn.self.seat;
+  value : l.self.value ≡ point_after g.F.Field.MODULUS l.fn.self.seat l.fn.self.value (take l.update-index l.updates);
+}
+
+-- and so is the sum
+abbrev pub invariant-loop-update-else-updates-lt-BLOCK :
+    goal.invariant-loop-update-else-updates-lt-BLOCK
+invariant-loop-update-else-updates-lt-BLOCK g l =
+    g.F.Field.number l.sum ≡ point_after g.F.Field.MODULUS l.fn.self.seat l.fn.self.value (take l.update-index l.updates)
