@@ -1,6 +1,5 @@
 -- What a copy of a stream writes: its legal records, each in the spelling of the form that is asked for.
 use Rattle.std.specs.Prelude.{◌≡◌, ℕ, List, [], length, take, Option, Some, None, Result, Ok, Err}
-use Rattle.std.specs.List.{flat_map}
 use Rattle.sip_ports.specs.declared.port.PortStop.{PortStop}
 use Rattle.sip_ports.specs.declared.port.PortStop.TheVariants as ports
 use Rattle.sip_ports.specs.declared.port.TalkEvent.{TalkEvent}
@@ -12,11 +11,7 @@ use Rattle.sip_stream.specs.declared.fault.StreamFault.{StreamFault}
 use Rattle.sip_stream.specs.declared.fault.StreamFault.TheVariants as faults
 use Rattle.sip_stream.specs.declared.form.Form.{Form}
 use Rattle.sip_stream.specs.Records.{records}
-use Rattle.sip_stream.specs.Spellings.{spelled}
-
--- updates in the spelling of a form, one after another
-abbrev pub all_spelled : Form → List Update → List ℕ
-all_spelled to us = flat_map (spelled to) us
+use Rattle.sip_stream.specs.Spellings.{all_spelled}
 
 -- the legal records that bytes begin with
 abbrev pub copied : ℕ → Form → Form → List ℕ → List ℕ
