@@ -16,6 +16,7 @@ use Rattle.sip_vector.proofs.Filters.{as_entry}
 use Rattle.sip_vector.proofs.Kept.{not_is_zero}
 use Rattle.sip_vector.proofs.Sides.{length-vector}
 use Rattle.std.specs.List.{range_with_len}
+use Rattle.sip_wire.specs.declared.version.Version.{Version}
 use Rattle.sip_wire.specs.Table.{most_claim, most_depth}
 use Rattle.sip_subvec.specs.Honest.{CanBeShown}
 use Rattle.sip_subvec.specs.Replies.{most_entries}
@@ -42,8 +43,8 @@ found_rows lo hi k (x ∷ xs) room small =
       | inr t ↦ subst (All IsRow) (sym (found-cons lo hi k x xs false t)) later
     ]
 
-pub shown_rows : (p depth lo hi : ℕ) (numbers : List ℤ) → CanBeShown p depth lo hi numbers → All IsRow (nonzero_within lo hi numbers)
-shown_rows p depth lo hi numbers shown =
+pub shown_rows : (version : Version) (p depth lo hi : ℕ) (numbers : List ℤ) → CanBeShown version p depth lo hi numbers → All IsRow (nonzero_within lo hi numbers)
+shown_rows version p depth lo hi numbers shown =
     let powers : 2 ^ depth ≤ 2 ^ 32 = pow-le-pow_right {n = 2} (omega arith) shown.indices in
     found_rows lo hi 0 numbers (omega (arith, shown.size)) shown.small
 
@@ -85,9 +86,9 @@ all_of P [] h = All-nil P
 all_of P (x ∷ xs) h = All-cons P x xs (h x) (all_of P xs h)
 
 -- an interval of a legal stream's vector can be shown, where it does not have too many entries
-pub legal_shown : (depth lo hi : ℕ) (stream : List Update) → IsLegal depth stream → 1 ≤ depth → depth ≤ most_depth → lo ≤ hi → hi < 2 ^ depth → length (nonzero_within lo hi (vector depth stream First)) ≤ most_entries
-    → CanBeShown m61_modulus depth lo hi (vector depth stream First)
-legal_shown depth lo hi stream legal levels indices order within few = record {
+pub legal_shown : (version : Version) (depth lo hi : ℕ) (stream : List Update) → IsLegal depth stream → 1 ≤ depth → depth ≤ most_depth → lo ≤ hi → hi < 2 ^ depth → length (nonzero_within lo hi (vector depth stream First)) ≤ most_entries
+    → CanBeShown version m61_modulus depth lo hi (vector depth stream First)
+legal_shown version depth lo hi stream legal levels indices order within few = record {
   some = omega arith;
   elements = omega arith;
   levels = levels;

@@ -15,7 +15,8 @@ use Rattle.sip_wire.specs.Spelling.{all_hold, has_room, fits}
 use Rattle.sip_subvec.specs.Counting.{rise_within}
 use Rattle.sip_subvec.specs.Replies.{most_entries, with_entries}
 use Rattle.sip_subvec.proofs.StatedEntries.{rise-nil, rise-parts}
-use Rattle.sip_subvec.proofs.SaidReplies.{entries-taken, test_passed}
+use Rattle.sip_subvec.proofs.Passing.{test_passed}
+use Rattle.sip_subvec.proofs.RisingEntries.{entries-taken}
 use Rattle.sip_subvec.specs.Asking.{most_answer}
 
 -- ---- how many entries there is room for

@@ -1,10 +1,11 @@
 -- The example that the laws work out: the entries 1 to 2 of (3, 0, 5, 1) at the challenges (2, 10).
 use Rattle.std.specs.Prelude.{ℕ, ◌+◌, ◌%◌, pos, Some, None, List, [], ◌∷◌, Result, replicate, ◌++◌}
 use Rattle.sip_field.specs.Moduli.{m61_modulus}
-use Rattle.sip_vector.specs.declared.update.Entry.{Entry}
+use Rattle.sip_vector.specs.Answers.{Answer}
+use Rattle.sip_wire.specs.declared.version.Version.{Version}
+use Rattle.sip_replies.specs.Replies.{Fault, verdict}
 use Rattle.sip_subvec.specs.AcceptsSub.{Siblings, Stated}
-use Rattle.sip_replies.specs.Replies.{Fault}
-use Rattle.sip_subvec.specs.Replies.{verdict}
+use Rattle.sip_subvec.specs.Protocol.{sub_asked, sub_protocol}
 
 -- Entries (2, 5), then Siblings 3 and 1
 abbrev pub reply_0 : List ℕ
@@ -31,8 +32,9 @@ abbrev pub entry_2 : ℕ → List ℕ
 entry_2 v = 0x13 ∷ 0x00 ∷ 0x0e ∷ 0x00 ∷ 0x01 ∷ 0x00 ∷ 0x00 ∷ 0x00 ∷ 0x02 ∷ replicate 7 0 ++ v ∷ []
 
 -- what these replies to `sub:1:2` give
-abbrev pub verdict_of : List (List ℕ) → Result (List Entry) Fault
-verdict_of replies = verdict m61_modulus 73 1 2 (2 ∷ 10 ∷ []) replies
+abbrev pub verdict_of : Version → List (List ℕ) → Result Answer Fault
+verdict_of version replies =
+    verdict (sub_protocol (sub_asked version m61_modulus 73 1 2 (2 ∷ 10 ∷ []))) (2 ∷ 10 ∷ []) replies
 
 -- no sibling on either side
 abbrev pub neither : Siblings

@@ -4,6 +4,7 @@ ghost use Rattle.std.specs.Option.{option_map};
 ghost use Rattle.sip_field.specs.Elements.{m61_number};
 ghost use Rattle.sip_field.specs.Moduli.{m61_modulus};
 ghost use Rattle.sip_vector.specs.declared.update.Entry.{Entry as AnyEntry};
+ghost use Rattle.sip_wire.specs.declared.version.Version.{Version};
 ghost use Rattle.sip_replies.specs.Protocols.{Begins};
 ghost use Rattle.sip_subvec.specs.AcceptsSub.{Stated};
 ghost use Rattle.sip_subvec.specs.Asking.{Gives, HasEntries, IsTakenValue, SubStands, most_answer, phase_of};
@@ -42,14 +43,16 @@ impl Model for SubAsking {
 }
 
 impl SubAsking {
-    /// The check of the entries from `lo` to `hi`, both included, of the vector that has this root.
+    /// The check of the entries from `lo` to `hi`, both included, of the vector that has this root,
+    /// whatever the version of the replies.
     ///
     /// No `times`: one copy of the challenges.
     pub fn start(root: &Root<M61, 32>, lo: u64, hi: u64) -> SubAsking
         requires order { lo ≤ hi }
         requires item { hi < 2 ^ length root.now.seat }
-        ensures stands { (places : List AnyEntry) → most_answer lo hi ≤ length places
-            → SubStands (sub_asked m61_modulus root.now.value lo hi root.now.seat) nothing
+        ensures stands { (version : Version) (places : List AnyEntry)
+            → most_answer lo hi ≤ length places
+            → SubStands (sub_asked version m61_modulus root.now.value lo hi root.now.seat) nothing
             result places }
         ensures begins { Begins (phase_of result) }
         ensures block { (phase_of result).block ≡ root.now.seat }
