@@ -104,5 +104,5 @@ fn main(rt: HostRuntime) -> ExitCode {
         },
         Err(error) => status_without_words(&error),
     };
-    ExitCode::from(finish(&status, &mut StderrSink::new(rt.stderr())))
+    ExitCode::from(finish(&status, &mut StderrSink::new(rt.stderr())).code)
 }

@@ -1,13 +1,13 @@
-//! The exit code of the program.
+//! How the program ends: its exit code, and the line of its status.
 
-ghost use Rattle.std.specs.Prelude.{◌≡◌, ◌≢◌, ℕ, take};
+ghost use Rattle.std.specs.Prelude.{◌≡◌, ◌≢◌};
 ghost use Rattle.std.specs.IoError.{error_kind};
-ghost use Rattle.sip_ports.specs.Ports.{GoesOn, Lasts, outs};
+ghost use Rattle.sip_ports.specs.Ports.{HasCause, SendsWhole};
 ghost use Rattle.sip_cli.specs.Exit.{code_of};
 ghost use Rattle.sip_cli.specs.StatusLine.{line_of_status};
 
 use crate::status_line;
-use sip_ports::Sink;
+use sip_ports::{PortStop, Sink};
 use sip_verifier::Status;
 use std::io::{Error, ErrorKind};
 
@@ -45,17 +45,26 @@ pub fn status_without_words(error: &Error) -> Status
     }
 }
 
-/// Ends a run: writes the line of its status, and answers the code that the program ends with, which is the status's
-/// own whatever became of the line.
-pub fn finish<K: Sink>(status: &Status, errors: &mut K) -> u8
-    ensures code { result ≡ code_of status.now }
-    ensures line { (n : ℕ) × GoesOn (K.talk errors.old) (K.talk errors.new)
-        (outs (take n (line_of_status status.now))) }
-    ensures errors { Lasts K.faults K.is_sure errors.old errors.new }
+/// How a run ends.
+#[derive(Clone, Copy, Debug, PartialEq, Eq)]
+pub struct Ending {
+    /// The code that the program ends with: its status's own, whatever became of the line.
+    pub code: u8,
+    /// Whether the line of the status was written.
+    pub line: Result<(), PortStop>,
+}
+
+/// Ends a run: writes the line of its status, if it has one, and answers the code that the program ends with.
+pub fn finish<K: Sink>(status: &Status, errors: &mut K) -> Ending
+    ensures code { result.code ≡ code_of status.now }
+    ensures line { SendsWhole (K.talk errors.old)
+        (K.talk errors.new) result.line (line_of_status status.now) }
+    ensures cause { HasCause K.faults K.is_sure errors.old errors.new result.line }
 {
-    // The code tells the status where the line cannot be written.
-    let _ = status_line(status, errors);
-    exit_code(status)
+    Ending {
+        code: exit_code(status),
+        line: status_line(status, errors),
+    }
 }
 
 #[cfg(test)]

@@ -17,7 +17,7 @@ mod verb;
 mod words;
 
 pub use command::{Command, read_words};
-pub use exit::{exit_code, finish, status_without_words};
+pub use exit::{Ending, exit_code, finish, status_without_words};
 pub use page::{HELP, VERSION, page_of, write_page};
 pub use plan::{LinkOrder, Opening, PortPlan, ports};
 pub use status_text::status_line;

@@ -1,5 +1,5 @@
 use super::finish;
-use sip_ports::MemorySink;
+use sip_ports::{MemorySink, PortStop};
 use sip_stream::Why;
 use sip_vector::Side;
 use sip_verifier::{Port, Status};
@@ -130,7 +130,9 @@ fn each_status_has_its_line_and_code(rt: HostRuntime) -> Result<(), Fail> {
     let alloc = rt.alloc();
     for (status, code, line) in &ROWS {
         let mut sink = MemorySink::new(alloc, 4096, Vec::new(alloc));
-        assert_eq!(rt; finish(status, &mut sink), *code);
+        let ending = finish(status, &mut sink);
+        assert_eq!(rt; ending.code, *code);
+        assert_eq!(rt; ending.line, Ok(()));
         assert_eq!(rt; sink.bytes(), *line);
     }
     Ok(())
@@ -141,8 +143,9 @@ fn each_status_has_its_line_and_code(rt: HostRuntime) -> Result<(), Fail> {
 fn a_failing_write_leaves_a_front_of_the_line_and_the_code(rt: HostRuntime) -> Result<(), Fail> {
     let alloc = rt.alloc();
     let mut sink = MemorySink::new(alloc, 1, vec![in alloc; 6]?);
-    let code = finish(&Status::BadSeed, &mut sink);
-    assert_eq!(rt; code, 3);
+    let ending = finish(&Status::BadSeed, &mut sink);
+    assert_eq!(rt; ending.code, 3);
+    assert_eq!(rt; ending.line, Err(PortStop::Failed));
     assert_eq!(rt; sink.bytes(), b"sip: ".as_slice());
     Ok(())
 }
