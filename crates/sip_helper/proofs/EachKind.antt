@@ -10,7 +10,7 @@ use Rattle.sip_vector.specs.Built.{is_built}
 use Rattle.sip_wire.specs.declared.message.Message.TheVariants as messages
 use Rattle.sip_wire.specs.Spelling.{fits, has_room, all_hold}
 use Rattle.sip_helper.specs.declared.vectors.Vectors.{Vectors}
-use Rattle.sip_helper.specs.Kinds.{is_below, row_of}
+use Rattle.sip_helper.specs.Kinds.{is_below, help_row}
 use Rattle.sip_helper.specs.KindRows.{out_of_turn, too_many, want_of_memory}
 use Rattle.sip_helper.specs.SubVectors.{is_too_long}
 
@@ -26,7 +26,7 @@ fits_below depth (Heavy side at_least) h below = (grind (arith, nat_tests), grin
 -- ---- rows
 
 -- the refusal of a kind that is built lies between that for want of memory and that of a message out of turn
-pub built_row : (q : Query) (v : Vectors) → IsTrue (is_built q) → IfSome ((row_of q).refused_by v) (λ code. (want_of_memory < code) × (code < out_of_turn))
+pub built_row : (q : Query) (v : Vectors) → IsTrue (is_built q) → IfSome ((help_row q).refused_by v) (λ code. (want_of_memory < code) × (code < out_of_turn))
 built_row (Sub lo hi) v is = by_length (is_too_long lo hi v)
   where
     by_length : (long : Bool) → IfSome (if long then Some too_many else None) (λ code. (want_of_memory < code) × (code < out_of_turn))
@@ -38,7 +38,7 @@ built_row Inner v is = absurd cc
 built_row (Heavy _ _) v is = absurd cc
 
 -- a kind that is not built is out of turn
-pub other_row : (q : Query) (v : Vectors) → is_built q ≡ false → (row_of q).refused_by v ≡ Some out_of_turn
+pub other_row : (q : Query) (v : Vectors) → is_built q ≡ false → (help_row q).refused_by v ≡ Some out_of_turn
 other_row (Sub lo hi) v is = absurd cc
 other_row (Range _ _ _) v is = refl
 other_row (F2 _) v is = refl

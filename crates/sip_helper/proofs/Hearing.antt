@@ -19,11 +19,11 @@ use Rattle.sip_helper.specs.declared.asked.Asked.{Asked}
 use Rattle.sip_helper.specs.declared.heard.Heard.{Heard}
 use Rattle.sip_helper.specs.declared.vectors.Vectors.{Vectors}
 use Rattle.sip_helper.specs.declared.vectors.Weights.{Weights}
-use Rattle.sip_helper.specs.inside.Answering.{Stands}
-use Rattle.sip_helper.specs.inside.Keeping.{IsKept}
+use Rattle.sip_helper.specs.inside.Answering.{CanReply}
+use Rattle.sip_helper.specs.inside.Keeping.{IsCoherent}
 use Rattle.sip_helper.specs.declared.heard.Heard.TheVariants.{Nothing, Part, Whole}
 use Rattle.sip_helper.specs.Kinds.{is_below}
-use Rattle.sip_helper.specs.inside.Legal.{AreOf, legal_weights}
+use Rattle.sip_helper.specs.inside.Legal.{HaveWeights, legal_weights}
 use Rattle.sip_helper.specs.Turns.{HelperState, depth_of, is_allowed, is_light, most_queries, part_of, stays_legal, weights_after, whole_of, with_updates}
 use Rattle.sip_helper.proofs.EachKind.{fits_below}
 use Rattle.sip_helper.proofs.LegalUpdates.{are_after, none_or_some, same_some}
@@ -85,9 +85,9 @@ others_out s (messages.Refuse _) a b c d e f = refl
 
 -- the open query changed, and still stands
 pub kept_with : (heard : Heard) (weights : Weights) (vectors : Option Vectors) (queries : ℕ) (asked : Option Asked) (old new : Asked)
-    → IsKept heard weights vectors queries asked → asked ≡ Some old → (Stands (depth_of heard) vectors old → Stands (depth_of heard) vectors new) → IsKept heard weights vectors queries (Some new)
+    → IsCoherent heard weights vectors queries asked → asked ≡ Some old → (CanReply (depth_of heard) vectors old → CanReply (depth_of heard) vectors new) → IsCoherent heard weights vectors queries (Some new)
 kept_with heard weights vectors queries asked old new kept is still =
-    let was = subst (IsKept heard weights vectors queries) is kept in
+    let was = subst (IsCoherent heard weights vectors queries) is kept in
     record { deep = was.deep; light = was.light; none = was.none; are = was.are; few = was.few; behind = was.behind; stands = still was.stands }
 
 -- ---- updates
@@ -102,13 +102,13 @@ legal_tells depth w next us e = elim (cases_Bool (stays_legal depth w us)) [
 ]
 
 -- the vectors that are left, once updates were added or memory was refused
-are_grown : (depth : ℕ) (w : Weights) (us : List Update) (vectors grown : Option Vectors) (refused : Bool) → IfSome vectors (AreOf depth w)
-    → grown ≡ (if refused then None else option_map (λ v. with_updates v us) vectors) → IfSome grown (AreOf depth (weights_after w us))
-are_grown depth w us vectors grown true are is = subst (λ (x : Option Vectors). IfSome x (AreOf depth (weights_after w us))) (sym is) tt
-are_grown depth w us None grown false are is = subst (λ (x : Option Vectors). IfSome x (AreOf depth (weights_after w us))) (sym is) tt
-are_grown depth w us (Some v) grown false are is = subst (λ (x : Option Vectors). IfSome x (AreOf depth (weights_after w us))) (sym is) (are_after depth w v us are)
+are_grown : (depth : ℕ) (w : Weights) (us : List Update) (vectors grown : Option Vectors) (refused : Bool) → IfSome vectors (HaveWeights depth w)
+    → grown ≡ (if refused then None else option_map (λ v. with_updates v us) vectors) → IfSome grown (HaveWeights depth (weights_after w us))
+are_grown depth w us vectors grown true are is = subst (λ (x : Option Vectors). IfSome x (HaveWeights depth (weights_after w us))) (sym is) tt
+are_grown depth w us None grown false are is = subst (λ (x : Option Vectors). IfSome x (HaveWeights depth (weights_after w us))) (sym is) tt
+are_grown depth w us (Some v) grown false are is = subst (λ (x : Option Vectors). IfSome x (HaveWeights depth (weights_after w us))) (sym is) (are_after depth w v us are)
 
-none_behind : (d : ℕ) (vectors : Option Vectors) (asked : Option Asked) → IfSome asked (λ _. Part d ≡ Whole d) → IfSome asked (Stands d vectors)
+none_behind : (d : ℕ) (vectors : Option Vectors) (asked : Option Asked) → IfSome asked (λ _. Part d ≡ Whole d) → IfSome asked (CanReply d vectors)
 none_behind d vectors None h = tt
 none_behind d vectors (Some a) h = absurd (part_or_whole d h)
   where
@@ -117,8 +117,8 @@ none_behind d vectors (Some a) h = absurd (part_or_whole d h)
 
 -- updates were heard: there is no open query, and the vectors have the new weights
 pub kept_grown : (heard : Heard) (weights : Weights) (vectors : Option Vectors) (queries : ℕ) (asked : Option Asked) (depth : ℕ) (us : List Update) (next : Weights) (grown : Option Vectors)
-    → IsKept heard weights vectors queries asked → part_of heard ≡ Some depth → legal_weights depth weights us ≡ Some next
-    → ((refused : Bool) × (grown ≡ (if refused then None else option_map (λ v. with_updates v us) vectors))) → IsKept heard next grown queries asked
+    → IsCoherent heard weights vectors queries asked → part_of heard ≡ Some depth → legal_weights depth weights us ≡ Some next
+    → ((refused : Bool) × (grown ≡ (if refused then None else option_map (λ v. with_updates v us) vectors))) → IsCoherent heard next grown queries asked
 kept_grown Nothing weights vectors queries asked depth us next grown kept part legal more = absurd cc
 kept_grown (Whole d) weights vectors queries asked depth us next grown kept part legal more = absurd cc
 kept_grown (Part d) weights vectors queries asked depth us next grown kept part legal more =
@@ -127,7 +127,7 @@ kept_grown (Part d) weights vectors queries asked depth us next grown kept part 
       deep = kept.deep;
       light = tells.1;
       none = λ e. absurd (part_or_nothing d e);
-      are = subst (λ (x : Weights). IfSome grown (AreOf d x)) (sym tells.0) (are_grown d weights us vectors grown more.0 kept.are more.1);
+      are = subst (λ (x : Weights). IfSome grown (HaveWeights d x)) (sym tells.0) (are_grown d weights us vectors grown more.0 kept.are more.1);
       few = kept.few;
       behind = kept.behind;
       stands = none_behind d grown asked kept.behind;

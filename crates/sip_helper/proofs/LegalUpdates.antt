@@ -13,7 +13,7 @@ use Rattle.sip_vector.proofs.Sides.{weight-append, weight-one, weight-one_other_
 use Rattle.sip_helper.specs.declared.vectors.Vectors.{Vectors}
 use Rattle.sip_helper.specs.declared.vectors.Weights.{Weights}
 use Rattle.sip_helper.specs.Turns.{with_updates, weights_after, is_light, stays_legal}
-use Rattle.sip_helper.specs.inside.Legal.{AreOf, weights_of, legal_weights}
+use Rattle.sip_helper.specs.inside.Legal.{HaveWeights, weights_of, legal_weights}
 
 -- ---- weights
 
@@ -165,7 +165,7 @@ kept_by side v (u ∷ us) =
     ]
 
 -- the vectors have their depth and the new weights
-pub are_after : (depth : ℕ) (w : Weights) (v : Vectors) (us : List Update) → AreOf depth w v → AreOf depth (weights_after w us) (with_updates v us)
+pub are_after : (depth : ℕ) (w : Weights) (v : Vectors) (us : List Update) → HaveWeights depth w v → HaveWeights depth (weights_after w us) (with_updates v us)
 are_after depth w v us are =
     let one = kept_by First v.first us in
     let two = kept_by Second v.second us in

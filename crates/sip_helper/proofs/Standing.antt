@@ -6,11 +6,11 @@ use Rattle.sip_helper.specs.declared.asked.Answerer.TheVariants.{Honest}
 use Rattle.sip_helper.specs.declared.asked.Asked.{Asked}
 use Rattle.sip_helper.specs.declared.kinds.KindProver.{KindProver}
 use Rattle.sip_helper.specs.declared.vectors.Vectors.{Vectors}
-use Rattle.sip_helper.specs.inside.Answering.{IsReady, Stands}
-use Rattle.sip_helper.specs.Kinds.{HasLearnt, query_proved, row_of}
+use Rattle.sip_helper.specs.inside.Answering.{IsReady, CanReply}
+use Rattle.sip_helper.specs.Kinds.{HasLearnt, query_proved, help_row}
 
 -- a prover that is at hand stands for the vectors that are kept
-pub at_hand : (depth : ℕ) (vectors : Option Vectors) (a : Asked) (prover : KindProver) → a.answerer ≡ Honest prover → Stands depth vectors a → (v : Vectors) × HasLearnt depth v a.revealed.items prover
+pub at_hand : (depth : ℕ) (vectors : Option Vectors) (a : Asked) (prover : KindProver) → a.answerer ≡ Honest prover → CanReply depth vectors a → (v : Vectors) × HasLearnt depth v a.revealed.items prover
 at_hand depth vectors a prover is stands = by_vectors vectors (subst (IsReady depth vectors a.revealed.items a.given) is stands.ready)
   where
     by_vectors : (vectors : Option Vectors) → IsReady depth vectors a.revealed.items a.given (Honest prover) → (v : Vectors) × HasLearnt depth v a.revealed.items prover
@@ -19,8 +19,8 @@ at_hand depth vectors a prover is stands = by_vectors vectors (subst (IsReady de
 
 -- a prover that learns a challenge stands for them behind it
 pub stands_higher : (depth : ℕ) (vectors : Option Vectors) (a b : Asked) (prover next : KindProver) (r : ℕ)
-    → Stands depth vectors a → a.answerer ≡ Honest prover → b.answerer ≡ Honest next → b.revealed.items ≡ a.revealed.items ++ r ∷ [] → query_proved next ≡ query_proved prover
-    → ((v : Vectors) → HasLearnt depth v a.revealed.items prover → HasLearnt depth v (a.revealed.items ++ r ∷ []) next) → length a.revealed.items + 1 < depth → Stands depth vectors b
+    → CanReply depth vectors a → a.answerer ≡ Honest prover → b.answerer ≡ Honest next → b.revealed.items ≡ a.revealed.items ++ r ∷ [] → query_proved next ≡ query_proved prover
+    → ((v : Vectors) → HasLearnt depth v a.revealed.items prover → HasLearnt depth v (a.revealed.items ++ r ∷ []) next) → length a.revealed.items + 1 < depth → CanReply depth vectors b
 stands_higher depth vectors a b prover next r stands was is more same learnt less =
     let count : length b.revealed.items ≡ length a.revealed.items + 1 = ap length more ∙ length_push a.revealed.items r in
     record {
@@ -30,7 +30,7 @@ stands_higher depth vectors a b prover next r stands was is more same learnt les
   where
     by_vectors : (vectors : Option Vectors) → IsReady depth vectors a.revealed.items a.given (Honest prover) → IsReady depth vectors b.revealed.items b.given (Honest next)
     by_vectors (Some v) ready = (
-      ap (λ (q : Query). (row_of q).refused_by v) same ∙ ready.0,
+      ap (λ (q : Query). (help_row q).refused_by v) same ∙ ready.0,
       subst (λ (l : List ℕ). HasLearnt depth v l next) (sym more) (learnt v ready.1),
     )
     by_vectors None ready = absurd ready

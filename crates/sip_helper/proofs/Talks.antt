@@ -12,7 +12,7 @@ use Rattle.sip_helper.specs.declared.status.HelpStatus.TheVariants.{OutOfMemory}
 use Rattle.sip_wire.proofs.Longest.{spelling_at_most}
 use Rattle.sip_helper.specs.declared.status.HelpStatus.{HelpStatus}
 use Rattle.sip_helper.specs.inside.Measures.{turns_left}
-use Rattle.sip_helper.specs.inside.OneTurn.{Stopped, Taken}
+use Rattle.sip_helper.specs.inside.OneTurn.{StopsTurn, Taken}
 use Rattle.sip_helper.specs.Serving.{AreTurns, EndsBy, IsTurn, Serves, Turn, after_turn, heard_in, state_after, turn_talk, turns_talk}
 use Rattle.sip_helper.specs.Turns.{HelperState, depth_of, fresh, owed, step}
 use Rattle.sip_helper.proofs.Falling.{turn_left}
@@ -120,7 +120,7 @@ module _ (start now new : Option (List TalkEvent)) (s : HelperState) (offset : �
       }
 
   -- the talk ends
-  pub ends : (status : HelpStatus) → Stopped now new s offset status → Serves start new status
+  pub ends : (status : HelpStatus) → StopsTurn now new s offset status → Serves start new status
   ends status stop = record {
     turns = so.turns;
     are = so.are;

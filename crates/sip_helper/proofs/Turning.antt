@@ -19,7 +19,7 @@ use Rattle.sip_wire.specs.Faults.{IsOfBytes}
 use Rattle.sip_wire.specs.Reading.{read_frame}
 use Rattle.sip_wire.specs.Spelling.{spelling}
 use Rattle.sip_helper.specs.declared.status.HelpStatus.TheVariants.{Served, BadFrame, PeerFault}
-use Rattle.sip_helper.specs.inside.OneTurn.{Stopped, Taken}
+use Rattle.sip_helper.specs.inside.OneTurn.{StopsTurn, Taken}
 use Rattle.sip_helper.specs.KindRows.{out_of_turn}
 use Rattle.sip_helper.specs.Serving.{IsMessage, IsTurn, Turn, heard_in}
 use Rattle.sip_helper.specs.Statuses.{status_of_fault, status_of_stop}
@@ -28,14 +28,14 @@ use Rattle.sip_helper.specs.Turns.{HelperState, OpenQuery, after_answer, after_r
 module _ (old mid : Option (List TalkEvent)) (before now : ℕ) (got : List ℕ) where
   -- ---- no message came
 
-  shown : (s : HelperState) (at : ℕ) (f : WireFault) → Decodes places.ToHelper old mid before now got (Err f) → GoesOn old mid (ins got ++ []) → IsOfBytes f → read_frame places.ToHelper got ≡ Err f → Stopped old mid s at (BadFrame at)
+  shown : (s : HelperState) (at : ℕ) (f : WireFault) → Decodes places.ToHelper old mid before now got (Err f) → GoesOn old mid (ins got ++ []) → IsOfBytes f → read_frame places.ToHelper got ≡ Err f → StopsTurn old mid s at (BadFrame at)
   shown s at f did talk bytes read = record {
     rest = ins got ++ [];
     talk = talk;
     ends = (refl, inl (record { got = got; fault = f; shown = bytes; read = read; shortest = did.short; said = append-nil (ins got) }));
   }
 
-  pub no_message : (s : HelperState) (at : ℕ) (f : WireFault) → Decodes places.ToHelper old mid before now got (Err f) → Stopped old mid s at (status_of_fault f at)
+  pub no_message : (s : HelperState) (at : ℕ) (f : WireFault) → Decodes places.ToHelper old mid before now got (Err f) → StopsTurn old mid s at (status_of_fault f at)
   no_message s at faults.Closed did = record { rest = _; talk = did.heard; ends = record { got = got; read = did.answer; said = refl } }
   no_message s at faults.BadKind did = shown s at faults.BadKind did did.heard tt did.answer
   no_message s at faults.BadLength did = shown s at faults.BadLength did did.heard tt did.answer
@@ -64,7 +64,7 @@ module _ (old mid : Option (List TalkEvent)) (before now : ℕ) (got : List ℕ)
     received = subst (GoesOn old mid) (append-nil (ins got) ∙ ap ins did.answer.spelled) did.heard
 
     -- it is a query that is not answered
-    pub unknown : (s : HelperState) (at : ℕ) → is_known m ≡ false → Stopped old mid s at (BadFrame at)
+    pub unknown : (s : HelperState) (at : ℕ) → is_known m ≡ false → StopsTurn old mid s at (BadFrame at)
     unknown s at out = record {
       rest = ins (spelling m);
       talk = received;
@@ -72,7 +72,7 @@ module _ (old mid : Option (List TalkEvent)) (before now : ℕ) (got : List ℕ)
     }
 
     -- it may not come, and the refusal went out
-    pub refused : (new : Option (List TalkEvent)) (s : HelperState) (at : ℕ) → IsTrue (is_known m) → is_allowed s m ≡ false → GoesOn mid new (outs (spelling (messages.Refuse out_of_turn))) → Stopped old new s at (BadFrame at)
+    pub refused : (new : Option (List TalkEvent)) (s : HelperState) (at : ℕ) → IsTrue (is_known m) → is_allowed s m ≡ false → GoesOn mid new (outs (spelling (messages.Refuse out_of_turn))) → StopsTurn old new s at (BadFrame at)
     refused new s at known out went = record {
       rest = ins (spelling m) ++ outs (spelling (messages.Refuse out_of_turn));
       talk = GoesOn-trans old mid new _ _ received went;
@@ -80,10 +80,10 @@ module _ (old mid : Option (List TalkEvent)) (before now : ℕ) (got : List ℕ)
     }
 
     -- a part of it went out
-    pub refusal_cut : (new : Option (List TalkEvent)) (s : HelperState) (at : ℕ) (stop : PortStop) → IsTrue (is_known m) → is_allowed s m ≡ false → SendsWhole {T = Unit {0}} mid new (Err stop) (spelling (messages.Refuse out_of_turn)) → Stopped old new s at (status_of_stop stop)
+    pub refusal_cut : (new : Option (List TalkEvent)) (s : HelperState) (at : ℕ) (stop : PortStop) → IsTrue (is_known m) → is_allowed s m ≡ false → SendsWhole {T = Unit {0}} mid new (Err stop) (spelling (messages.Refuse out_of_turn)) → StopsTurn old new s at (status_of_stop stop)
     refusal_cut new s at stop known out went = by_stop stop
       where
-        by_stop : (stop : PortStop) → Stopped old new s at (status_of_stop stop)
+        by_stop : (stop : PortStop) → StopsTurn old new s at (status_of_stop stop)
         by_stop stops.Failed = record { rest = _; talk = GoesOn-trans old mid new _ _ received went.2; ends = inr (inr (record { message = m; is = came; known = known; out = out; sent = went.0; short = went.1; said = refl })) }
         by_stop stops.OutOfMemory = record { rest = _; talk = GoesOn-trans old mid new _ _ received went.2; ends = inr (inr (record { message = m; is = came; known = known; out = out; sent = went.0; short = went.1; said = refl })) }
 
@@ -96,14 +96,14 @@ module _ (old mid : Option (List TalkEvent)) (before now : ℕ) (got : List ℕ)
       is_turn = record { message = came; allowed = allowed }
 
       -- it is a farewell
-      pub farewell : (at : ℕ) → m ≡ messages.Bye → Stopped old mid s at Served
+      pub farewell : (at : ℕ) → m ≡ messages.Bye → StopsTurn old mid s at Served
       farewell at bye = record { rest = _; talk = received; ends = ap (λ (x : Message). ins (spelling x)) bye }
 
       -- its reply was cut short
-      pub reply_cut : (new : Option (List TalkEvent)) (at : ℕ) (stop : PortStop) → SendsWhole {T = Unit {0}} mid new (Err stop) (owed (heard_in s turn)) → Stopped old new s at (status_of_stop stop)
+      pub reply_cut : (new : Option (List TalkEvent)) (at : ℕ) (stop : PortStop) → SendsWhole {T = Unit {0}} mid new (Err stop) (owed (heard_in s turn)) → StopsTurn old new s at (status_of_stop stop)
       reply_cut new at stop went = by_stop stop
         where
-          by_stop : (stop : PortStop) → Stopped old new s at (status_of_stop stop)
+          by_stop : (stop : PortStop) → StopsTurn old new s at (status_of_stop stop)
           by_stop stops.Failed = record { rest = _; talk = GoesOn-trans old mid new _ _ received went.2; ends = inr (inl (record { turn = turn; is = is_turn; sent = went.0; short = went.1; said = refl })) }
           by_stop stops.OutOfMemory = record { rest = _; talk = GoesOn-trans old mid new _ _ received went.2; ends = inr (inl (record { turn = turn; is = is_turn; sent = went.0; short = went.1; said = refl })) }
 

@@ -21,14 +21,14 @@ refusal code = messages.Refuse code ∷ []
 
 -- A row: the code by which the query is refused over the two vectors, if it is, and the messages of
 -- the honest reply over them, once these challenges are revealed.
-pub record Row : Type 0 where
+pub record HelpRow : Type 0 where
   pub refused_by : Vectors → Option ℕ
   pub honest : Vectors → List ℕ → List Message
 
 -- a kind that is not built is always refused: its query is out of turn
-abbrev pub unbuilt : Row
+abbrev pub unbuilt : HelpRow
 unbuilt = record { refused_by = λ v. Some out_of_turn; honest = λ v revealed. refusal out_of_turn }
 
 -- the messages of a reply by a row
-abbrev pub reply_by : Row → Vectors → List ℕ → List Message
+abbrev pub reply_by : HelpRow → Vectors → List ℕ → List Message
 reply_by row v revealed = elim (row.refused_by v) [ Some code ↦ refusal code | None ↦ row.honest v revealed ]

@@ -5,7 +5,7 @@ use Rattle.sip_vector.specs.declared.query.Query.TheVariants.{Sub, Range, F2, In
 use Rattle.sip_helper.specs.declared.kinds.KindProver.{KindProver}
 use Rattle.sip_helper.specs.declared.kinds.KindProver.TheVariants as provers
 use Rattle.sip_helper.specs.declared.vectors.Vectors.{Vectors}
-use Rattle.sip_helper.specs.KindRows.{Row, unbuilt}
+use Rattle.sip_helper.specs.KindRows.{HelpRow, unbuilt}
 use Rattle.sip_helper.specs.SubVectors.{HasLevel, sub_query, sub_row}
 
 -- the query's items are below 2 ^ depth
@@ -17,12 +17,12 @@ is_below depth Inner = true
 is_below depth (Heavy _ _) = true
 
 -- the row of a query
-abbrev pub row_of : Query → Row
-row_of (Sub lo hi) = sub_row lo hi
-row_of (Range _ _ _) = unbuilt
-row_of (F2 _) = unbuilt
-row_of Inner = unbuilt
-row_of (Heavy _ _) = unbuilt
+abbrev pub help_row : Query → HelpRow
+help_row (Sub lo hi) = sub_row lo hi
+help_row (Range _ _ _) = unbuilt
+help_row (F2 _) = unbuilt
+help_row Inner = unbuilt
+help_row (Heavy _ _) = unbuilt
 
 -- the query of a prover
 abbrev pub query_proved : KindProver → Query

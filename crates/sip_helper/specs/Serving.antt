@@ -93,7 +93,7 @@ pub record IsRefused (s : HelperState) (rest : List TalkEvent) : Type 0 where
   pub said : rest ≡ ins (spelling message) ++ outs (spelling (messages.Refuse out_of_turn))
 
 -- a frame that is not whole, and then these events
-pub record IsPart (end rest : List TalkEvent) : Type 0 where
+pub record IsFramePart (end rest : List TalkEvent) : Type 0 where
   pub got : List ℕ
   pub read : read_frame places.ToHelper got ≡ Err faults.Closed
   pub said : rest ≡ ins got ++ end
@@ -118,13 +118,13 @@ pub record IsRefusalCut (s : HelperState) (rest : List TalkEvent) : Type 0 where
 
 -- what was under way is cut short
 abbrev pub IsCutShort : HelperState → List TalkEvent → Type 0
-IsCutShort s rest = IsPart [] rest ⊎ IsReplyCut s rest ⊎ IsRefusalCut s rest
+IsCutShort s rest = IsFramePart [] rest ⊎ IsReplyCut s rest ⊎ IsRefusalCut s rest
 
 -- `at` is how many bytes were received in the turns
 abbrev pub EndsBy : HelperState → ℕ → List TalkEvent → HelpStatus → Type 0
 EndsBy s at rest Served = rest ≡ ins (spelling messages.Bye)
 EndsBy s at rest (BadFrame offset) = (offset ≡ at) × (IsNoFrame rest ⊎ IsUnknown rest ⊎ IsRefused s rest)
-EndsBy s at rest PeerClosed = IsPart (Ended ∷ []) rest
+EndsBy s at rest PeerClosed = IsFramePart (Ended ∷ []) rest
 EndsBy s at rest PeerFault = IsCutShort s rest
 EndsBy s at rest OutOfMemory = IsCutShort s rest
 

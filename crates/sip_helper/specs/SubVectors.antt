@@ -8,14 +8,14 @@ use Rattle.sip_subvec.specs.Honest.{honest_messages, proving}
 use Rattle.sip_subvec.specs.Replies.{most_entries}
 use Rattle.sip_helper.specs.declared.sub_vector.SubVectorProver.{SubVectorProver}
 use Rattle.sip_helper.specs.declared.vectors.Vectors.{Vectors}
-use Rattle.sip_helper.specs.KindRows.{Row, too_many}
+use Rattle.sip_helper.specs.KindRows.{HelpRow, too_many}
 
 -- more of the first side's entries are not 0 than an answer may have
 abbrev pub is_too_long : ℕ → ℕ → Vectors → Bool
 is_too_long lo hi v = nat_lt most_entries (length (nonzero_within lo hi v.first.numbers))
 
 -- its row: the entries and then siblings, over the first vector alone
-abbrev pub sub_row : ℕ → ℕ → Row
+abbrev pub sub_row : ℕ → ℕ → HelpRow
 sub_row lo hi = record {
   refused_by = λ v. if is_too_long lo hi v then Some too_many else None;
   honest = λ v revealed. honest_messages m61_modulus v.first.numbers lo hi revealed;

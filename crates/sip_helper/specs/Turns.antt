@@ -18,7 +18,7 @@ use Rattle.sip_helper.specs.declared.heard.Heard.{Heard}
 use Rattle.sip_helper.specs.declared.heard.Heard.TheVariants.{Nothing, Part, Whole}
 use Rattle.sip_helper.specs.declared.vectors.Vectors.{Vectors}
 use Rattle.sip_helper.specs.declared.vectors.Weights.{Weights}
-use Rattle.sip_helper.specs.Kinds.{is_below, row_of}
+use Rattle.sip_helper.specs.Kinds.{is_below, help_row}
 use Rattle.sip_helper.specs.KindRows.{refusal, reply_by, want_of_memory}
 
 -- ---- the state
@@ -115,8 +115,8 @@ is_allowed s _ = false
 
 -- ---- what it does
 
-abbrev pub asked : Query → Bool → OpenQuery
-asked q refused = record { query = q; revealed = []; given = false; refused = refused }
+abbrev pub newly_asked : Query → Bool → OpenQuery
+newly_asked q refused = record { query = q; revealed = []; given = false; refused = refused }
 
 abbrev pub with_challenge : ℕ → OpenQuery → OpenQuery
 with_challenge r o = record o { revealed = o.revealed ++ r ∷ []; given = false }
@@ -126,7 +126,7 @@ abbrev pub step : HelperState → Bool → Message → HelperState
 step s refused (messages.Open version depth) = record s { heard = Part depth; vectors = if refused then None else Some (zero_vectors depth) }
 step s refused (messages.Updates us) = record s { weights = weights_after s.weights us.items; vectors = if refused then None else option_map (λ v. with_updates v us.items) s.vectors }
 step s refused messages.EndStream = record s { heard = Whole (depth_of s.heard) }
-step s refused (messages.Query q) = record s { queries = s.queries + 1; open_query = Some (asked q refused) }
+step s refused (messages.Query q) = record s { queries = s.queries + 1; open_query = Some (newly_asked q refused) }
 step s refused (messages.Reveal r) = record s { open_query = option_map (with_challenge r) s.open_query }
 step s refused messages.Bye = record s { done = true }
 step s refused _ = s
@@ -137,12 +137,12 @@ step s refused _ = s
 -- else the honest ones
 abbrev pub reply_to : Option Vectors → OpenQuery → List Message
 reply_to None o = refusal want_of_memory
-reply_to (Some v) o = if o.refused then refusal want_of_memory else reply_by (row_of o.query) v o.revealed
+reply_to (Some v) o = if o.refused then refusal want_of_memory else reply_by (help_row o.query) v o.revealed
 
 -- that reply is a refusal
 abbrev pub is_refused : Option Vectors → OpenQuery → Bool
 is_refused None o = true
-is_refused (Some v) o = o.refused || is_some ((row_of o.query).refused_by v)
+is_refused (Some v) o = o.refused || is_some ((help_row o.query).refused_by v)
 
 -- a reply is owed
 abbrev pub owes : HelperState → Bool

@@ -9,7 +9,7 @@ ghost use Rattle.sip_vector.specs.Answers.{Fits};
 ghost use Rattle.sip_wire.specs.Spelling.{spelling};
 ghost use Rattle.sip_helper.specs.declared.vectors.Vectors.{Vectors as AnyVectors};
 ghost use Rattle.sip_helper.specs.Turns.{after_reply, is_known, may_reveal, reply_to, with_challenge};
-ghost use Rattle.sip_helper.specs.inside.Answering.{query_of, open_of, IsReady, Stands};
+ghost use Rattle.sip_helper.specs.inside.Answering.{query_of, open_of, IsReady, CanReply};
 ghost use Rattle.sip_helper.specs.inside.Legal.{HaveDepth};
 
 use crate::OutOfTurn;
@@ -85,12 +85,12 @@ impl Asked {
     pub(crate) fn reveal(&mut self, depth: u8, challenge: u64) -> Result<(), OutOfTurn>
         requires deep { depth ≤ 32 }
         requires element { challenge < m61_modulus }
-        requires stands { (vectors : Option AnyVectors) × Stands depth vectors self.old }
+        requires stands { (vectors : Option AnyVectors) × CanReply depth vectors self.old }
         ensures turn { IsOk result ↔ IsTrue (may_reveal depth (open_of self.old)) }
         ensures revealed { OnOk result (open_of self.new
             ≡ with_challenge challenge (open_of self.old)) }
-        ensures stands { (vectors : Option AnyVectors) → Stands depth vectors self.old
-            → Stands depth vectors self.new }
+        ensures stands { (vectors : Option AnyVectors) → CanReply depth vectors self.old
+            → CanReply depth vectors self.new }
         ensures same { OnErr result (self.new ≡ self.old) }
     {
         if !self.given || self.revealed.len() + 1 >= depth as usize {
@@ -111,7 +111,7 @@ impl Asked {
         out: &mut K,
     ) -> Result<(), PortStop>
         requires stands { (depth : ℕ) × (depth ≤ 32) × IfSome vectors.now (HaveDepth depth)
-            × Stands depth vectors.now self.now }
+            × CanReply depth vectors.now self.now }
         ensures talk { SendsWhole (K.talk out.old)
             (K.talk out.new) result (flat_map spelling (reply_to vectors.now (open_of self.now))) }
         ensures cause { HasCause K.faults K.is_sure out.old out.new result }
@@ -129,10 +129,10 @@ impl Asked {
     /// The query once its reply was given; `None` where that was a refusal or the last one.
     pub(crate) fn after_reply(self, depth: u8) -> Option<Asked>
         requires owed { self.given ≡ false }
-        ensures after { (vectors : Option AnyVectors) → Stands depth vectors self
+        ensures after { (vectors : Option AnyVectors) → CanReply depth vectors self
             → option_map open_of result ≡ after_reply depth vectors (open_of self) }
-        ensures stands { (vectors : Option AnyVectors) → Stands depth vectors self
-            → IfSome result (Stands depth vectors) }
+        ensures stands { (vectors : Option AnyVectors) → CanReply depth vectors self
+            → IfSome result (CanReply depth vectors) }
     {
         let Answerer::Honest(_) = &self.answerer else {
             return None;

@@ -41,13 +41,21 @@ impl Model for HelperCore {
     ghost use Rattle.std.specs.Option.{option_map};
     ghost use Rattle.sip_helper.specs.Turns.{HelperState};
     ghost use Rattle.sip_helper.specs.inside.Answering.{open_of};
-    ghost use Rattle.sip_helper.specs.inside.Keeping.{IsKept};
+    ghost use Rattle.sip_helper.specs.inside.Keeping.{IsCoherent};
 
     ghost Value = { HelperState };
 
-    ghost view = { λ h. record { heard = h.heard; vectors = h.vectors; weights = h.weights; queries = h.queries; open_query = option_map open_of h.asked; done = h.done; spent = h.spent } };
+    ghost view = { λ h. record {
+      heard = h.heard;
+      vectors = h.vectors;
+      weights = h.weights;
+      queries = h.queries;
+      open_query = option_map open_of h.asked;
+      done = h.done;
+      spent = h.spent;
+    } };
 
-    ghost invariant = { λ h. IsKept h.heard h.weights h.vectors h.queries h.asked };
+    ghost invariant = { λ h. IsCoherent h.heard h.weights h.vectors h.queries h.asked };
 }
 
 impl HelperCore {

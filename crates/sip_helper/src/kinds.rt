@@ -3,7 +3,7 @@
 ghost use Rattle.std.specs.Prelude.{◌≡◌};
 ghost use Rattle.sip_vector.specs.Answers.{Fits};
 ghost use Rattle.sip_helper.specs.Kinds.{HasLearnt, query_proved};
-ghost use Rattle.sip_helper.specs.inside.Starting.{Starts};
+ghost use Rattle.sip_helper.specs.inside.Starting.{StartsProver};
 
 use crate::prover::{NotStarted, Prover};
 use crate::refusal::OUT_OF_TURN;
@@ -29,7 +29,7 @@ impl KindProver {
     ) -> Result<KindProver, NotStarted>
         requires depths { vectors.now.second.depth ≡ vectors.now.first.depth }
         requires fits { Fits vectors.now.first.depth query }
-        ensures { Starts query_proved HasLearnt vectors.now query result }
+        ensures { StartsProver query_proved HasLearnt vectors.now query result }
     {
         match query {
             Query::Sub { lo, hi } => {

@@ -27,7 +27,7 @@
 //! # How a kind is added
 //!
 //! A file of `specs/` has its row and what its prover stands for. A file of `src/` has the prover, an
-//! `impl` of the trait `Prover`, and a `start` that `Starts` describes. A line for it stands in each
+//! `impl` of the trait `Prover`, and a `start` that `StartsProver` describes. A line for it stands in each
 //! definition of `specs/Kinds.antt`, each `match` of `src/kinds.rt` and each lemma of
 //! `proofs/EachKind.antt`. The turns, and the calls that answer, name no kind.
 #![tactic(auto)]

@@ -8,7 +8,7 @@ ghost use Rattle.sip_vector.specs.declared.query.Query.{Query as AnyQuery};
 ghost use Rattle.sip_wire.specs.Spelling.{spelling};
 ghost use Rattle.sip_helper.specs.declared.prover.NotStarted.TheVariants.{NoMemory};
 ghost use Rattle.sip_helper.specs.declared.vectors.Vectors.{Vectors as AnyVectors};
-ghost use Rattle.sip_helper.specs.Kinds.{row_of};
+ghost use Rattle.sip_helper.specs.Kinds.{help_row};
 ghost use Rattle.sip_helper.specs.inside.Legal.{HaveDepth};
 
 use crate::vectors::Vectors;
@@ -61,6 +61,6 @@ pub(crate) trait Prover {
         requires stands { (depth : ℕ) × (depth ≤ 32) × HaveDepth depth vectors.now
             × (length revealed.now < depth) × has_learnt depth vectors.now revealed.now self.now }
         ensures talk { SendsWhole (K.talk out.old) (K.talk out.new) result
-            (flat_map spelling ((row_of (query self.now)).honest vectors.now revealed.now)) }
+            (flat_map spelling ((help_row (query self.now)).honest vectors.now revealed.now)) }
         ensures cause { HasCause K.faults K.is_sure out.old out.new result };
 }

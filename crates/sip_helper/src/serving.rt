@@ -57,7 +57,8 @@ fn take_turn<L: Link>(
 /// challenges each.
 pub fn serve<L: Link>(alloc: Global, link: &mut L) -> HelpStatus
     ensures serves { Serves (L.talk link.old) (L.talk link.new) result }
-    ensures cause { result ≡ HelpStatus.PeerFault → Rose (L.faults link.old) (L.faults link.new) }
+    ensures cause { result ≡ HelpStatus.PeerFault
+        → Rose (L.faults link.old) (L.faults link.new) }
     ensures lasts { Lasts L.faults L.is_sure link.old link.new }
 {
     let Ok(mut frame) = Frame::new(alloc) else {

@@ -6,7 +6,7 @@ ghost use Rattle.sip_ports.specs.Ports.{HasCause, SendsWhole};
 ghost use Rattle.sip_vector.specs.declared.query.Query.TheVariants as queries;
 ghost use Rattle.sip_wire.specs.Spelling.{fits};
 ghost use Rattle.sip_subvec.specs.Honest.{honest_reply, its_siblings, proving, siblings_message};
-ghost use Rattle.sip_helper.specs.inside.Starting.{Starts};
+ghost use Rattle.sip_helper.specs.inside.Starting.{StartsProver};
 ghost use Rattle.sip_helper.specs.SubVectors.{HasLevel, sub_query};
 
 use crate::entries::put_entries;
@@ -41,7 +41,7 @@ impl SubVectorProver {
     ) -> Result<SubVectorProver, NotStarted>
         requires order { lo ≤ hi }
         requires within { hi < 2 ^ vectors.now.first.depth }
-        ensures { Starts sub_query HasLevel vectors.now (queries.Sub lo hi) result }
+        ensures { StartsProver sub_query HasLevel vectors.now (queries.Sub lo hi) result }
     {
         if vectors.first.count_in(lo, hi) > MOST_ENTRIES {
             return Err(NotStarted::Refused(TOO_MANY));

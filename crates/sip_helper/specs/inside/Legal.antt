@@ -19,7 +19,7 @@ pub record HaveDepth (depth : ℕ) (v : Vectors) : Type 0 where
   pub second : v.second.depth ≡ depth
 
 -- the vectors have this depth and these weights
-pub record AreOf (depth : ℕ) (w : Weights) (v : Vectors) : Type 0 where
+pub record HaveWeights (depth : ℕ) (w : Weights) (v : Vectors) : Type 0 where
   pub first : v.first.depth ≡ depth
   pub second : v.second.depth ≡ depth
   pub weights : weights_of v ≡ w

@@ -17,11 +17,11 @@ pub record Taken (old new : Option (List TalkEvent)) (s next : HelperState) (got
   pub whole : got ≡ spelling turn.message
 
 -- nothing more is taken
-pub record Stopped (old new : Option (List TalkEvent)) (s : HelperState) (at : ℕ) (status : HelpStatus) : Type 0 where
+pub record StopsTurn (old new : Option (List TalkEvent)) (s : HelperState) (at : ℕ) (status : HelpStatus) : Type 0 where
   pub rest : List TalkEvent
   pub talk : GoesOn old new rest
   pub ends : EndsBy s at rest status
 
 abbrev pub TakesTurn : Option (List TalkEvent) → Option (List TalkEvent) → HelperState → HelperState → ℕ → List ℕ → Result Unit HelpStatus → Type 0
 TakesTurn old new s next at got (Ok _) = Taken old new s next got
-TakesTurn old new s next at got (Err status) = Stopped old new s at status
+TakesTurn old new s next at got (Err status) = StopsTurn old new s at status
