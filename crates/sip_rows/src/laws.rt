@@ -11,6 +11,6 @@ pub fn held_bytes_tell_what_moved()
     ensures { (x : Exchange)
         → Moves (held (1 ∷ 2 ∷ []) (0 ∷ []) (In 3 ∷ []) (7 ∷ []))
         (held (2 ∷ []) [] (In 3 ∷ Out 4 ∷ []) (7 ∷ 8 ∷ [])) x
-        → (x.stream ≡ 1 ∷ 2 ∷ []) × (x.unread ≡ 2 ∷ []) × (x.seed ≡ 0 ∷ []) × (x.talk ≡ Out 4 ∷ [])
-        × (x.report ≡ 8 ∷ []) }
+        → (x.stream ≡ 1 ∷ 2 ∷ []) × (x.unread ≡ 2 ∷ []) × (x.seed ≡ 0 ∷ [])
+        × (x.talk ≡ Out 4 ∷ []) × (x.report ≡ 8 ∷ []) }
 {}

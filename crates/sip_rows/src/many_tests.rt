@@ -1,8 +1,9 @@
 // Answers of 65,536 entries, the most that one may have, and of one more: items from 0 on at depth 17, with the number 1 each.
 
+use crate::case::Case;
 use crate::frames::*;
 use crate::ones::{pairs_of_ones, rows_of_ones};
-use crate::row::{Given, Row, Said};
+use crate::row::{Given, Row, Said, bytes_of};
 use sip_verifier::Status;
 use sip_wire::Reason;
 use std::alloc::Global;
@@ -31,23 +32,25 @@ const REFUSE_2: [u8; 4] = [0x18, 0, 1, 2];
 
 // Helps with the updates that are given, behind which one more may stand, and shows this answer. The verifier leaves then.
 fn check_help(rt: &impl Abort, alloc: Global, one_more: &[u8], answer: &[u8]) -> Result<(), Fail> {
-    let mut heard = OPEN_17.to_vec(alloc)?;
-    heard.extend_from_slice(&rows_of_ones(alloc, MOST_ENTRIES, &UPDATES_OF_512, &[0])?)?;
-    heard.extend_from_slice(one_more)?;
-    heard.extend_from_slice(&END_STREAM)?;
-    heard.extend_from_slice(&SUB_0_131071)?;
+    let updates = rows_of_ones(alloc, MOST_ENTRIES, &UPDATES_OF_512, &[0])?;
     let row = Row {
         name: "the whole interval",
         given: Given {
             words: "help from to",
             stream: &[],
             seed: &[],
-            replies: &[&heard],
+            replies: &[&OPEN_17, &updates, one_more, &END_STREAM, &SUB_0_131071],
         },
         status: Status::PeerClosed,
         code: 4,
         report: "",
-        sent: &[Said::In(&heard)],
+        sent: &[
+            Said::In(&OPEN_17),
+            Said::In(&updates),
+            Said::In(one_more),
+            Said::In(&END_STREAM),
+            Said::In(&SUB_0_131071),
+        ],
         then: &[Said::Out(answer), Said::Ended],
     };
     row.check_in(rt, alloc, 10_000)
@@ -57,10 +60,19 @@ fn check_help(rt: &impl Abort, alloc: Global, one_more: &[u8], answer: &[u8]) ->
 #[test]
 fn help_gives_the_most_entries_and_refuses_one_more(rt: HostRuntime) -> Result<(), Fail> {
     let alloc = rt.alloc();
-    let mut entries = rows_of_ones(alloc, MOST_ENTRIES, &ENTRIES_OF_512, &[])?;
-    entries.extend_from_slice(&NO_SIBLINGS)?;
+    let rows = rows_of_ones(alloc, MOST_ENTRIES, &ENTRIES_OF_512, &[])?;
+    let entries = bytes_of(alloc, &[&rows, &NO_SIBLINGS])?;
     check_help(&rt, alloc, &[], &entries)?;
     check_help(&rt, alloc, &UPDATE_65536, &REFUSE_2)
+}
+
+// The line of the whole interval.
+fn line_of_most(alloc: Global) -> Result<String, Fail> {
+    let pairs = pairs_of_ones(alloc, MOST_ENTRIES)?;
+    let mut line = String::from_str(alloc, "sub:0:131071")?;
+    line.push_str(&pairs)?;
+    line.push('\n')?;
+    Ok(line)
 }
 
 // Each entry is a pair of the line.
@@ -68,22 +80,25 @@ fn help_gives_the_most_entries_and_refuses_one_more(rt: HostRuntime) -> Result<(
 fn verify_writes_the_most_entries(rt: HostRuntime) -> Result<(), Fail> {
     let alloc = rt.alloc();
     let stream = rows_of_ones(alloc, MOST_ENTRIES, &[], &[0])?;
-    let mut replies = rows_of_ones(alloc, MOST_ENTRIES, &ENTRIES_OF_512, &[])?;
-    for _ in 0..17 {
-        replies.extend_from_slice(&NO_SIBLINGS)?;
-    }
-    let mut line = String::from_str(alloc, "sub:0:131071")?;
-    line.push_str(&pairs_of_ones(alloc, MOST_ENTRIES)?)?;
-    line.push('\n')?;
+    let entries = rows_of_ones(alloc, MOST_ENTRIES, &ENTRIES_OF_512, &[])?;
+    let line = line_of_most(alloc)?;
+    let none: &[u8] = &NO_SIBLINGS;
     let given = Given {
         words: "verify s seed a b - 17 sub:0:131071",
         stream: &stream,
         seed: &ZERO_SEED,
-        replies: &[&replies],
+        replies: &[
+            &entries, none, none, none, none, none, none, none, none, none, none, none, none, none,
+            none, none, none, none,
+        ],
     };
     let shown = given.run(alloc, 10_000, None)?;
-    assert_eq!(rt; shown.status, Status::Accepted);
-    assert_eq!(rt; shown.report.bytes(), line.as_bytes());
+    let case = Case {
+        name: "the most entries",
+        number: 10_000,
+    };
+    case.ends(&rt, shown.status, Status::Accepted);
+    case.writes(&rt, shown.report.bytes(), line.as_bytes());
     Ok(())
 }
 
@@ -91,24 +106,17 @@ fn verify_writes_the_most_entries(rt: HostRuntime) -> Result<(), Fail> {
 #[test]
 fn verify_rejects_one_entry_more(rt: HostRuntime) -> Result<(), Fail> {
     let alloc = rt.alloc();
-    let mut stream = rows_of_ones(alloc, MOST_ENTRIES, &[], &[0])?;
-    stream.extend_from_slice(&UPDATE_65536[5..])?;
-    let mut asked = OPEN_17.to_vec(alloc)?;
-    asked.extend_from_slice(&rows_of_ones(alloc, MOST_ENTRIES, &UPDATES_OF_512, &[0])?)?;
-    asked.extend_from_slice(&UPDATE_65536)?;
-    asked.extend_from_slice(&END_STREAM)?;
-    asked.extend_from_slice(&SUB_0_131071)?;
-    let mut taken = rows_of_ones(alloc, MOST_ENTRIES, &ENTRIES_OF_512, &[])?;
-    taken.extend_from_slice(&ENTRY_65536)?;
-    let mut replies = taken.clone()?;
-    replies.extend_from_slice(&NO_SIBLINGS)?;
+    let records = rows_of_ones(alloc, MOST_ENTRIES, &[], &[0])?;
+    let stream = bytes_of(alloc, &[&records, &UPDATE_65536[5..]])?;
+    let updates = rows_of_ones(alloc, MOST_ENTRIES, &UPDATES_OF_512, &[0])?;
+    let entries = rows_of_ones(alloc, MOST_ENTRIES, &ENTRIES_OF_512, &[])?;
     let row = Row {
         name: "one entry more",
         given: Given {
             words: "verify s seed a b - 17 sub:0:131071",
             stream: &stream,
             seed: &ZERO_SEED,
-            replies: &[&replies],
+            replies: &[&entries, &ENTRY_65536, &NO_SIBLINGS],
         },
         status: Status::Rejected {
             query: 1,
@@ -117,8 +125,14 @@ fn verify_rejects_one_entry_more(rt: HostRuntime) -> Result<(), Fail> {
         },
         code: 1,
         report: "rejected query 1 round 0 TooMany\n",
-        sent: &[Said::Out(&asked)],
-        then: &[Said::In(&taken)],
+        sent: &[
+            Said::Out(&OPEN_17),
+            Said::Out(&updates),
+            Said::Out(&UPDATE_65536),
+            Said::Out(&END_STREAM),
+            Said::Out(&SUB_0_131071),
+        ],
+        then: &[Said::In(&entries), Said::In(&ENTRY_65536)],
     };
     row.check_in(&rt, alloc, 10_000)
 }

@@ -44,10 +44,12 @@ pub fn run_in_memory(
     // A copy is written to the report, and a talk is served on the link.
     ensures made { (depth : ℕ) → Spells words.now (Gen depth)
         → CopyClause depth Binary Binary (source_left first.old)
-        (Some (source_left first.new)) (Some (outs (sink_bytes report.old))) (Some (outs (sink_bytes report.new))) result }
+        (Some (source_left first.new)) (Some (outs (sink_bytes report.old)))
+        (Some (outs (sink_bytes report.new))) result }
     ensures lines { (form : Form) (depth : ℕ) → Spells words.now (Lines form depth)
         → CopyClause depth form Text (source_left first.old)
-        (Some (source_left first.new)) (Some (outs (sink_bytes report.old))) (Some (outs (sink_bytes report.new))) result }
+        (Some (source_left first.new)) (Some (outs (sink_bytes report.old)))
+        (Some (outs (sink_bytes report.new))) result }
     ensures help { Spells words.now Help → HelpClause (Some (link_talk peer.old))
         (Some (link_talk peer.new)) result }
 
