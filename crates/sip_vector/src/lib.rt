@@ -25,8 +25,8 @@
 //!
 //! # Cost
 //!
-//! In these m is the number of entries, or nodes, that are not 0, and p the number of additions to a vector that are pending:
-//! none after `Vector::settle`, and else at most 65,536 or m, whichever is more.
+//! In these m is the length of the list of entries, or of nodes, that are not 0, and p the number of additions to a vector
+//! that are pending: none after `Vector::settle`, and else at most 65,536 or m, whichever is more.
 //!
 //! | Call | Time | Memory |
 //! |---|---|---|
@@ -34,7 +34,7 @@
 //! | `Vector::settle` | O(m + p log p) | as many entries as m + p |
 //! | `Vector::get` | O(log m + p) | none |
 //! | `Vector::next_entry`, `Vector::count_in` | O(log m); with p above 0 O(log m + p) for each index tried | none |
-//! | `Vector::is_strict` | O(m log m); with p above 0 O(log m + p) for each index tried | none |
+//! | `Vector::is_strict` | O(m); with p above 0 O(log m + p) for each index tried | none |
 //! | `Level::of` | O(m), and O(p log p) | one spot for each entry; with p above 0 the list of entries too |
 //! | `Level::fold_tree`, `Level::fold_line` | O(m), one `times` for each node above | none |
 //! | `Level::at`, `Level::next_nonzero` | O(log m) | none |

@@ -25,8 +25,8 @@ const MOST_PENDING: usize = 65_536;
 ///
 /// Only the entries that are not 0 take memory, as a list that rises, and the additions that are pending, in the order in
 /// which they came. Every call is right while additions are pending, and quick where none is, as after `settle`. In the
-/// costs below m is the number of entries that are not 0 and p the number of additions that are pending, which is at most
-/// 65,536 or m, whichever is more.
+/// costs below m is the length of the list and p the number of additions that are pending: none after `settle`, and else
+/// at most 65,536 or m, whichever is more.
 #[derive(Drop)]
 pub struct Vector {
     depth: Depth,
@@ -190,6 +190,7 @@ impl Vector {
         ensures { IsTrue result
             ↔ ((k : ℕ) → k ≤ hi → pos 0 ≤ℤ number_at self.now.numbers k) }
     {
+        // The proof wants the length of the numbers and their bound.
         let _ = self.depth();
         let _ = self.weight();
         let mut at = 0;
@@ -211,6 +212,7 @@ impl Vector {
         requires { hi < 2 ^ self.now.depth }
         ensures { result ≡ slice_get (nonzero_within from hi self.now.numbers) 0 }
     {
+        // The proof wants the length of the numbers.
         let _ = self.depth();
         if let Some(list) = self.settled_list() {
             return first_within(list, from, hi);
@@ -237,6 +239,7 @@ impl Vector {
         requires within { hi < 2 ^ self.now.depth }
         ensures { result ≡ length (nonzero_within lo hi self.now.numbers) }
     {
+        // The proof wants the bound of the depth.
         let _ = self.depth().get();
         let mut count = 0;
         let mut at = lo;
@@ -255,6 +258,7 @@ impl Vector {
         requires { hi < 2 ^ self.now.depth }
         ensures { IsFirstOf self.now.numbers from hi result }
     {
+        // The proof wants the invariant.
         let _ = &self.list;
         let mut at = from;
         while at <= hi {
