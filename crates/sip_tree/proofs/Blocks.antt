@@ -36,3 +36,29 @@ module _ (p : ℕ) (challenges : List ℕ) where
   one_root value updates k d sum new within before is =
       let add : ℕ → Update → ℕ = λ v u. (v + residue p u.delta * node_weight p u.item challenges) % p in
       is ∙ ap (λ v. add v (get_or updates k d)) before ∙ sym (fold_more add value updates k d within)
+
+  -- likewise for an augmented root
+  pub augroot_stands_after : 0 < p → (updates : List Update) (old new : ℕ) (before after : ℤ) (numbers : List ℤ) → All (λ u. u.item < 2 ^ length challenges) updates →
+      new ≡ hash_after p challenges old updates → after ≡ total_after before updates →
+      AugRootStandsFor p challenges old before numbers → AugRootStandsFor p challenges new after (numbers_after numbers updates)
+  augroot_stands_after some [] old new before after numbers within is also h =
+      subst (λ v. AugRootStandsFor p challenges v after numbers) (sym is) (subst (λ t. AugRootStandsFor p challenges old t numbers) (sym also) h)
+  augroot_stands_after some (u ∷ updates) old new before after numbers within is also h =
+      let next : ℕ = (old + residue p u.delta * hash_weight p u.item challenges) % p in
+      augroot_stands_after some updates next new (before +ℤ u.delta) after (raised_numbers numbers u.item u.delta)
+      (All-tail (λ v. v.item < 2 ^ length challenges) u updates within) is also
+      (augroot_stands p challenges u.item u.delta some (All-head (λ v. v.item < 2 ^ length challenges) u updates within) old next before (before +ℤ u.delta) numbers refl refl h)
+
+  pub one_hash : (value : ℕ) (updates : List Update) (k : ℕ) (d : Update) (sum new : ℕ) → k < length updates →
+      sum ≡ hash_after p challenges value (take k updates) →
+      new ≡ (sum + residue p (get_or updates k d).delta * hash_weight p (get_or updates k d).item challenges) % p →
+      new ≡ hash_after p challenges value (take (k + 1) updates)
+  one_hash value updates k d sum new within before is =
+      let add : ℕ → Update → ℕ = λ v u. (v + residue p u.delta * hash_weight p u.item challenges) % p in
+      is ∙ ap (λ v. add v (get_or updates k d)) before ∙ sym (fold_more add value updates k d within)
+
+pub one_total : (total : ℤ) (updates : List Update) (k : ℕ) (d : Update) (sum : ℤ) → k < length updates →
+    sum ≡ total_after total (take k updates) → sum +ℤ (get_or updates k d).delta ≡ total_after total (take (k + 1) updates)
+one_total total updates k d sum within before =
+    let add : ℤ → Update → ℤ = λ t u. t +ℤ u.delta in
+    ap (λ t. add t (get_or updates k d)) before ∙ sym (fold_more add total updates k d within)

@@ -2,3 +2,4 @@ pub mod WeightSteps
 pub mod FoldSteps
 pub mod StandsLemmas
 pub mod Blocks
+pub mod StepTables

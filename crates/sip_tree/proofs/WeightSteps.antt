@@ -17,7 +17,7 @@ pub weight_of_one : (p i : ℕ) (challenges : List ℕ) → 1 < p → (1 % p * n
 weight_of_one p i challenges above = one_times p _ (weight_below p i challenges above)
 
 -- the factor of a right node, with two products
-by_powers : (h r : ℕ) → (h + r) * (r * r) ≡ h * r ^ 2 + r ^ 3
+pub by_powers : (h r : ℕ) → (h + r) * (r * r) ≡ h * r ^ 2 + r ^ 3
 by_powers h r = rw (pow-succ' r 2, pow-succ' r 1, pow-succ' r 0, pow-zero r) (omega arith)
 
 -- at level k + 1, whose challenge a seat keeps under the number k

@@ -1,2 +1,3 @@
 pub mod StandsFor
 pub mod Blocks
+pub mod Steps

@@ -1,11 +1,18 @@
 //! The root of a vector's augmented tree, as two running numbers.
-ghost use Rattle.std.specs.Prelude.{◌≡◌, ◌+◌, ◌*◌, ◌%◌, ◌^◌, ◌<◌, ◌≤◌, ℤ, pos, ◌+ℤ◌, nat_abs, List, length, min, replicate};
+ghost use Rattle.std.specs.Prelude.{◌≡◌, ℕ, ◌+◌, ◌*◌, ◌%◌, ◌^◌, ◌<◌, ◌≤◌, ℤ, pos, ◌+ℤ◌, nat_abs, List, All, take, length, min, replicate};
 ghost use Rattle.sip_field.specs.Residue.{residue};
+ghost use Rattle.sip_tree.specs.Blocks.{hash_after, total_after};
 ghost use Rattle.sip_tree.specs.StandsFor.{AugRootStandsFor};
 ghost use Rattle.sip_vector.specs.Streams.{most_weight};
-ghost use Rattle.sip_vector.specs.Weights.{raised_numbers, hash_weight};
+ghost use Rattle.sip_vector.specs.Limits.{most_depth};
+ghost use Rattle.sip_vector.specs.Weights.{raised_numbers, numbers_after, hash_weight};
 
+use crate::steps::{Step, by_steps, fill_steps};
 use sip_field::{Field, Seat};
+use sip_vector::Update;
+
+/// The shortest block for which tables are made: below it they cost more than they save.
+const BLOCK: usize = 64;
 
 /// The augmented root of a vector of 2^d numbers, for the d challenges of a seat: a hash, and the sum of the numbers.
 #[derive(Drop)]
@@ -54,6 +61,43 @@ impl<F: Field, const CAP: usize> AugRoot<F, CAP> {
         let term = F::of_signed(delta).times(hash_weight(&self.seat, index));
         self.hash = F::of_number(self.hash).plus(term).number();
         self.total += delta;
+    }
+
+    /// The root after each of these updates, whatever their sides.
+    ///
+    /// Two `times` for an update, and one more for seven challenges of it; and 261 for seven challenges, whose table is on the
+    /// stack for this call. A block of less than 64 updates is `update` for each.
+    pub fn update_all(&mut self, updates: &[Update])
+        requires depth { length self.old.seat ≤ most_depth }
+        requires items { All (λ u. u.item < 2 ^ length self.old.seat) updates.now }
+        requires weight { (k : ℕ) → k ≤ length updates.now
+            → nat_abs (total_after self.old.total (take k updates.now)) ≤ most_weight }
+        ensures seat { self.new.seat ≡ self.old.seat }
+        ensures hash { self.new.hash
+            ≡ hash_after F.MODULUS self.old.seat self.old.hash updates.now }
+        ensures total { self.new.total ≡ total_after self.old.total updates.now }
+        ensures stands { (numbers : List ℤ)
+            → AugRootStandsFor F.MODULUS self.old.seat self.old.hash self.old.total numbers
+            → AugRootStandsFor F.MODULUS self.new.seat self.new.hash self.new.total
+            (numbers_after numbers updates.now) }
+    {
+        if updates.len() < BLOCK {
+            for update in updates {
+                self.update(update.item, update.delta);
+            }
+        } else {
+            let mut tables = [[Step { scale: 1, shift: 0 }; 128]; 7];
+            let count = fill_steps(&mut tables, &self.seat);
+            let mut hash = F::of_number(self.hash);
+            let mut total = self.total;
+            for update in updates {
+                let weight = by_steps(&tables[..count], update.item);
+                hash = hash.plus(F::of_signed(update.delta).times(weight));
+                total += update.delta;
+            }
+            self.hash = hash.number();
+            self.total = total;
+        }
     }
 
     /// The hash.

@@ -22,7 +22,7 @@
 //! # Cost
 //!
 //! No call takes memory: a root is its seat and 8 or 16 bytes, and `up` works in the list that its caller made. `update_all`
-//! has its tables on the stack for one call, 7 KB. The unit of
+//! has its tables on the stack for one call, 7 KB, and `AugRoot` 14. The unit of
 //! time is one `Field::times`. The bits are those of the index, d is the depth, and a list has n nodes.
 //!
 //! | Call | `times` | Beside it |
@@ -32,6 +32,7 @@
 //! | `Root::update_all` of 64 and more | one for an update and 7 challenges, and 127 for 7 challenges | an `of_signed` and a `plus` for an update |
 //! | `Root::weight_above` | one for each bit that is 1, d - level at most | d - level steps along the bits |
 //! | `AugRoot::update` | two for each bit that is 1, and one: 2d + 1 at most | d steps along the bits, each with one `plus`; one `of_signed` |
+//! | `AugRoot::update_all` of 64 and more | two for an update and one for 7 challenges of it, and 261 for 7 challenges | an `of_signed` for an update, `plus` as many as `times` |
 //! | `up` | n / 2 | n / 2 `plus` |
 #![tactic(auto)]
 
@@ -39,6 +40,7 @@ mod augmented;
 mod fold;
 pub mod laws;
 mod root;
+mod steps;
 mod weight;
 
 pub use augmented::AugRoot;

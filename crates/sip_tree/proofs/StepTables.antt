@@ -1,0 +1,88 @@
+-- Tables of steps: what levels make of a hash is what the upper ones make of what the lower ones do.
+use Rattle.std.proofs.Common.{◌≡◌, ℕ, zero, suc, ◌+◌, ◌-◌, ◌*◌, ◌/◌, ◌%◌, ◌^◌, ◌<◌, ◌≤◌, ◌==◌, if◌then◌else◌, List, [], ◌∷◌, length, get_or, take, drop, refl, sym, ◌∙◌, ap, subst, arith}
+use Rattle.std.proofs.Math.Nat.{mod-lt, mod-eq_of_lt, pow-succ', div-div-eq-div-mul, div-eq_of_lt, mod-add-mod, add-mod-mod, mod-mod}
+use Rattle.std.proofs.lemmas.List.{drop_more, drop-take}
+use Rattle.std.proofs.lemmas.Nat.{mul-mod_first, mul-mod_second, pow_pos, mod-mul-add, div-mul-add}
+use Rattle.sip_field.proofs.Doubling.{low_bit, low_half, take_shorter}
+use Rattle.sip_field.proofs.BitProducts.{low_part, seven_more}
+use Rattle.sip_vector.specs.Weights.{hash_weight, hash_weight_from}
+use Rattle.sip_vector.proofs.TreeResidues.{mod_plus}
+use Rattle.sip_tree.specs.Steps.{no_step, IsStep, AreStepTables}
+use Rattle.sip_tree.specs.declared.steps.Step.{Step}
+use Rattle.sip_tree.proofs.WeightSteps.{by_powers}
+
+-- an index's low n bits go along the first n challenges, and the others along the others
+pub split_hash : (p h i n : ℕ) (rs : List ℕ) →
+    hash_weight_from p h i rs ≡ hash_weight_from p (hash_weight_from p h (i % 2 ^ n) (take n rs)) (i / 2 ^ n) (drop n rs)
+split_hash p h i zero rs = let whole : i / 2 ^ 0 ≡ i = omega arith in rw whole refl
+split_hash p h i (suc n) [] = refl
+split_hash p h i (suc n) (r ∷ rs) =
+    let more : 2 ^ suc n ≡ 2 * 2 ^ n = pow-succ' 2 n in
+    let bit : i % 2 ≡ i % 2 ^ suc n % 2 = sym (ap (λ k. i % k % 2) more ∙ low_bit i (2 ^ n) (pow_pos n)) in
+    let half : i / 2 % 2 ^ n ≡ i % 2 ^ suc n / 2 = sym (ap (λ k. i % k / 2) more ∙ low_half i (2 ^ n) (pow_pos n)) in
+    let rest : i / 2 / 2 ^ n ≡ i / 2 ^ suc n = div-div-eq-div-mul i 2 (2 ^ n) ∙ ap (λ k. i / k) (sym more) in
+    let up : ℕ → ℕ = λ b. (if b == 1 then h * r ^ 2 + r ^ 3 else h + r) % p in
+    split_hash p (up (i % 2)) (i / 2) n rs
+    ∙ ap (λ b. hash_weight_from p (hash_weight_from p (up b) (i / 2 % 2 ^ n) (take n rs)) (i / 2 / 2 ^ n) (drop n rs)) bit
+    ∙ ap (λ x. hash_weight_from p (hash_weight_from p (up (i % 2 ^ suc n % 2)) x (take n rs)) (i / 2 / 2 ^ n) (drop n rs)) half
+    ∙ ap (λ x. hash_weight_from p (hash_weight_from p (up (i % 2 ^ suc n % 2)) (i % 2 ^ suc n / 2) (take n rs)) x (drop n rs)) rest
+
+abbrev pub alone : List ℕ → ℕ → List ℕ
+alone rs n = take 1 (drop n rs)
+
+-- what a step is split into by the challenge at n
+pub record Split (p : ℕ) (rs : List ℕ) (n : ℕ) (whole left right : Step) : Type 0 where
+  pub left_is : (h : ℕ) → hash_weight_from p ((h * whole.scale + whole.shift) % p) 0 (alone rs n) ≡ (h * left.scale + left.shift) % p
+  pub right_is : (h : ℕ) → hash_weight_from p ((h * whole.scale + whole.shift) % p) 1 (alone rs n) ≡ (h * right.scale + right.shift) % p
+
+pub split_by : (p : ℕ) (rs : List ℕ) (n : ℕ) (whole left right : Step) (r : ℕ) → n < length rs → r ≡ get_or rs n 0 →
+    left.scale ≡ whole.scale → left.shift ≡ (whole.shift + r) % p →
+    right.scale ≡ (whole.scale * ((r * r) % p)) % p → right.shift ≡ (left.shift * ((r * r) % p)) % p → Split p rs n whole left right
+split_by p rs n whole left right r within is ls lt rs' rt =
+    let here : alone rs n ≡ get_or rs n 0 ∷ [] = ap (take 1) (drop_more rs n 0 within) in
+    let at : get_or rs n 0 ≡ r = sym is in
+    let a : ℕ = whole.scale in
+    let b : ℕ = whole.shift in
+    let q : ℕ = r * r in
+    record {
+      left_is = λ h.
+          let w : ℕ = h * a + b in
+          rw (here, at, ls, lt)
+          (mod-add-mod w p r ∙ sym (add-mod-mod (h * a) (b + r) p ∙ ap (λ x. x % p) (let same : h * a + (b + r) ≡ h * a + b + r = omega arith in same)));
+      right_is = λ h.
+          let w : ℕ = h * a + b in
+          let first : (h * ((a * (q % p)) % p)) % p ≡ (h * a * q) % p =
+          mul-mod_second h (a * (q % p)) p ∙ ap (λ x. x % p) (let same : h * (a * (q % p)) ≡ h * a * (q % p) = omega arith in same) ∙ mul-mod_second (h * a) q p in
+          let second : (((b + r) % p * (q % p)) % p) % p ≡ ((b + r) * q) % p =
+          mod-mod ((b + r) % p * (q % p)) p ∙ mul-mod_first (b + r) (q % p) p ∙ mul-mod_second (b + r) q p in
+          let powers : (w % p * r ^ 2 + r ^ 3) % p ≡ ((w + r) * q) % p =
+          ap (λ x. x % p) (sym (by_powers (w % p) r)) ∙ sym (mul-mod_first (w % p + r) q p) ∙ ap (λ x. (x * q) % p) (mod-add-mod w p r) ∙ mul-mod_first (w + r) q p in
+          rw (here, at, rs', rt, lt)
+          (powers ∙ ap (λ x. x % p) (let same : (h * a + b + r) * q ≡ h * a * q + (b + r) * q = omega arith in same)
+          ∙ sym (mod_plus p (h * ((a * (q % p)) % p)) (h * a * q) (((b + r) % p * (q % p)) % p) ((b + r) * q) first second));
+    }
+
+module _ (p e n : ℕ) (rs : List ℕ) (whole left right : Step) (low : e < 2 ^ n) (split : Split p rs n whole left right) (is : IsStep p (take n rs) e whole) where
+  pub left_step : IsStep p (take (n + 1) rs) e left
+  left_step h small =
+      let within : e % 2 ^ n ≡ e = mod-eq_of_lt low in
+      let none : e / 2 ^ n ≡ 0 = div-eq_of_lt low in
+      split_hash p h e n (take (n + 1) rs) ∙ rw (within, none, take_shorter n rs, drop-take n 1 rs, is h small) (split.left_is h)
+
+  pub right_step : IsStep p (take (n + 1) rs) (2 ^ n + e) right
+  right_step h small =
+      let turned : 2 ^ n + e ≡ 1 * 2 ^ n + e = omega arith in
+      let within : (2 ^ n + e) % 2 ^ n ≡ e = ap (λ x. x % 2 ^ n) turned ∙ mod-mul-add 1 (2 ^ n) e low in
+      let one : (2 ^ n + e) / 2 ^ n ≡ 1 = ap (λ x. x / 2 ^ n) turned ∙ div-mul-add 1 (2 ^ n) e low in
+      split_hash p h (2 ^ n + e) n (take (n + 1) rs) ∙ rw (within, one, take_shorter n rs, drop-take n 1 rs, is h small) (split.right_is h)
+
+-- one table more
+pub one_step_table : (p index : ℕ) (seat : List ℕ) (tables : List (List Step)) (k path u v : ℕ) → AreStepTables p seat tables → k < length tables → u < p →
+    path < 2 ^ length (drop (7 * k) seat) →
+    v ≡ (u * (get_or (get_or tables k []) (path % 128) no_step).scale + (get_or (get_or tables k []) (path % 128) no_step).shift) % p →
+    hash_weight_from p u path (drop (7 * k) seat) ≡ hash_weight p index seat →
+    hash_weight_from p v (path / 128) (drop (7 * (k + 1)) seat) ≡ hash_weight p index seat
+one_step_table p index seat tables k path u v are within small inside made before =
+    let rs : List ℕ = drop (7 * k) seat in
+    let entry : hash_weight_from p u (path % 128) (take 7 rs) ≡ v = are k within (path % 128) (low_part 7 path rs inside) u small ∙ sym made in
+    rw (seven_more k seat) (ap (λ x. hash_weight_from p x (path / 128) (drop 7 rs)) (sym entry) ∙ sym (split_hash p u path 7 rs) ∙ before)

@@ -1,0 +1,49 @@
+use Rattle.std.proofs.Common.{◌≡◌, ℕ, List, [], ◌+◌, ◌*◌, ◌/◌, ◌<◌, ◌≤◌, length, set, take, drop, get_or, inl, inr, sym, ◌∙◌, subst, arith}
+use Rattle.std.specs.Prelude.{All}
+use Rattle.std.proofs.lemmas.List.{length-set, length-take-le, get_or-take, get_or_default}
+use Rattle.sip_tree.specs.Steps.{HasSteps, IsBelow}
+use Rattle.sip_tree.specs.declared.steps.Step.{Step}
+use Rattle.sip_field.proofs.Doubling.{each_set}
+use Rattle.sip_tree.proofs.steps.fill_steps.Goals as goal
+
+pub loop-group-init : goal.loop-group-init
+loop-group-init g c = record {
+  long = c.told-tables;
+  below = λ k none. absurd (let no : ⊥ = omega (arith, none) in no);
+  steps = λ k none. absurd (let no : ⊥ = omega (arith, none) in no);
+}
+
+pub loop-group-preserved : goal.loop-group-preserved
+loop-group-preserved g c =
+    let p : ℕ = g.F.Field.MODULUS in
+    let tables : List (List Step) = c.loop-group.tables in
+    let k : ℕ = c.loop-group.group in
+    let within : k < length tables =
+    omega (arith, c.loop-group.invariant.long, c.loop-group-test.true, c.depth.ensures.exact, c.requires) in
+    record {
+      long = length-set tables k c.steps.result ∙ c.loop-group.invariant.long;
+      below = each_set [] (λ _ t. All (IsBelow p) t) tables k c.steps.result within c.steps.ensures.below c.loop-group.invariant.below;
+      steps = each_set [] (λ j t. HasSteps p (take 7 (drop (7 * j) c.args.seat.now)) t) tables k c.steps.result within
+          c.steps.ensures.steps c.loop-group.invariant.steps;
+    }
+
+pub returns-clause-below : goal.returns-clause-below
+returns-clause-below g c k d low =
+    let p : ℕ = g.F.Field.MODULUS in
+    let n : ℕ = (c.depth.result + 6) / 7 in
+    let tables : List (List Step) = c.loop-group.tables in
+    let long : length (take n tables) ≡ n =
+    length-take-le n tables (omega (arith, c.loop-group.invariant.long, c.depth.ensures.exact, c.requires)) in
+    subst (All (IsBelow p)) (sym (get_or_default (take n tables) k d [] low ∙ get_or-take n tables k [] (omega (arith, long, low))))
+    (c.loop-group.invariant.below k (omega (arith, long, low, c.loop-group-test.false)))
+
+pub returns-clause-tables : goal.returns-clause-tables
+returns-clause-tables g c k low =
+    let p : ℕ = g.F.Field.MODULUS in
+    let n : ℕ = (c.depth.result + 6) / 7 in
+    let tables : List (List Step) = c.loop-group.tables in
+    let long : length (take n tables) ≡ n =
+    length-take-le n tables (omega (arith, c.loop-group.invariant.long, c.depth.ensures.exact, c.requires)) in
+    subst (HasSteps p (take 7 (drop (7 * k) c.args.seat.now)))
+    (sym (get_or-take n tables k [] (omega (arith, long, low))))
+    (c.loop-group.invariant.steps k (omega (arith, long, low, c.loop-group-test.false)))

@@ -1,0 +1,14 @@
+use Rattle.std.proofs.Common.{◌≡◌, ℕ, ◌*◌, ◌<◌, [], length, take, drop, get_or}
+use Rattle.std.specs.Prelude.{All}
+use Rattle.sip_tree.specs.Steps.{HasSteps, IsBelow}
+use Rattle.sip_tree.proofs.steps.fill_steps.Given as goal
+
+-- the first tables are those of the seat
+abbrev pub invariant-loop-group : goal.invariant-loop-group
+invariant-loop-group g l =
+    let p = g.F.Field.MODULUS in
+    record {
+      long : length l.tables ≡ 7;
+      below : (k : ℕ) → k < l.group → All (IsBelow p) (get_or l.tables k []);
+      steps : (k : ℕ) → k < l.group → HasSteps p (take 7 (drop (7 * k) l.fn.seat)) (get_or l.tables k []);
+    }
