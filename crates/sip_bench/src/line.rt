@@ -8,8 +8,11 @@ use std::time::Duration;
 #[derive(Clone, Copy)]
 pub(crate) enum Part {
     Root,
+    Roots,
     Point,
+    Points,
     AugRoot,
+    AugRoots,
     Vector,
     Fold,
 }
@@ -18,8 +21,11 @@ impl Part {
     fn name(self) -> &'static str {
         match self {
             Part::Root => "root",
+            Part::Roots => "roots",
             Part::Point => "point",
+            Part::Points => "points",
             Part::AugRoot => "augroot",
+            Part::AugRoots => "augroots",
             Part::Vector => "vector",
             Part::Fold => "fold",
         }

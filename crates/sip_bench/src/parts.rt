@@ -5,13 +5,23 @@ use crate::stream::{Generator, seat};
 use sip_field::{Field, M61, OutOfMemory};
 use sip_mle::Point;
 use sip_tree::{AugRoot, Root};
-use sip_vector::{Depth, Level, Vector};
+use sip_vector::{Depth, Level, Side, Update, Vector};
 use std::alloc::Global;
 use std::io;
 use std::time::{Clock, Instant};
 
 /// How many updates a running number gets. 8 times as much is below 2^30, the limit of an augmented root.
 const RUNNING_UPDATES: u64 = 4_000_000;
+/// How many updates a block has.
+const BLOCK: usize = 500;
+/// How many blocks a running number gets: as many updates as one by one.
+const BLOCKS: u64 = RUNNING_UPDATES / 500;
+/// An update that changes nothing.
+const NOTHING: Update = Update {
+    side: Side::First,
+    item: 0,
+    delta: 0,
+};
 /// How many updates a vector gets. 8 times as much is below 2^30, the limit of a vector's weight.
 const VECTOR_UPDATES: u64 = 1_000_000;
 
@@ -26,6 +36,27 @@ pub(crate) fn root(clock: &impl Clock, depth: Depth) -> io::Result<Line> {
     }
     Ok(Line {
         part: Part::Root,
+        depth,
+        count: RUNNING_UPDATES,
+        time: start.elapsed(clock)?,
+        checksum: root.value,
+    })
+}
+
+/// Blocks of updates of a root.
+pub(crate) fn root_blocks(clock: &impl Clock, depth: Depth) -> io::Result<Line> {
+    let mut root = Root::new(seat(depth));
+    let mut stream = Generator::of_stream();
+    let mut block = [NOTHING; BLOCK];
+    let start = Instant::now(clock)?;
+    for _ in 0..BLOCKS {
+        for at in 0..BLOCK {
+            block[at] = stream.next_update(depth);
+        }
+        root.update_all(&block);
+    }
+    Ok(Line {
+        part: Part::Roots,
         depth,
         count: RUNNING_UPDATES,
         time: start.elapsed(clock)?,
@@ -51,6 +82,27 @@ pub(crate) fn point(clock: &impl Clock, depth: Depth) -> io::Result<Line> {
     })
 }
 
+/// Blocks of updates of an extension.
+pub(crate) fn point_blocks(clock: &impl Clock, depth: Depth) -> io::Result<Line> {
+    let mut point = Point::new(seat(depth));
+    let mut stream = Generator::of_stream();
+    let mut block = [NOTHING; BLOCK];
+    let start = Instant::now(clock)?;
+    for _ in 0..BLOCKS {
+        for at in 0..BLOCK {
+            block[at] = stream.next_update(depth);
+        }
+        point.update_all(&block);
+    }
+    Ok(Line {
+        part: Part::Points,
+        depth,
+        count: RUNNING_UPDATES,
+        time: start.elapsed(clock)?,
+        checksum: point.value,
+    })
+}
+
 /// Updates of an augmented root.
 pub(crate) fn augroot(clock: &impl Clock, depth: Depth) -> io::Result<Line> {
     let mut root = AugRoot::new(seat(depth));
@@ -62,6 +114,27 @@ pub(crate) fn augroot(clock: &impl Clock, depth: Depth) -> io::Result<Line> {
     }
     Ok(Line {
         part: Part::AugRoot,
+        depth,
+        count: RUNNING_UPDATES,
+        time: start.elapsed(clock)?,
+        checksum: root.hash,
+    })
+}
+
+/// Blocks of updates of an augmented root.
+pub(crate) fn augroot_blocks(clock: &impl Clock, depth: Depth) -> io::Result<Line> {
+    let mut root = AugRoot::new(seat(depth));
+    let mut stream = Generator::of_stream();
+    let mut block = [NOTHING; BLOCK];
+    let start = Instant::now(clock)?;
+    for _ in 0..BLOCKS {
+        for at in 0..BLOCK {
+            block[at] = stream.next_update(depth);
+        }
+        root.update_all(&block);
+    }
+    Ok(Line {
+        part: Part::AugRoots,
         depth,
         count: RUNNING_UPDATES,
         time: start.elapsed(clock)?,

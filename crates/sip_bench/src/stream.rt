@@ -2,7 +2,7 @@
 ghost use Rattle.std.specs.Prelude.{◌≡◌, ◌^◌, ◌<◌, ◌≤◌, nat_abs, length};
 
 use sip_field::{Field, M61, Seat};
-use sip_vector::{Depth, Side, Update};
+use sip_vector::{CAP, Depth, Side, Update};
 
 /// The linear congruential generator modulo 2^64 of Knuth's MMIX: Knuth, The Art of Computer Programming, volume 2,
 /// section 3.3.4.
@@ -40,11 +40,11 @@ impl Generator {
 }
 
 /// A seat of as many challenges as the depth says.
-pub(crate) fn seat(depth: Depth) -> Seat<M61, 32>
+pub(crate) fn seat(depth: Depth) -> Seat<M61, CAP>
     ensures { length result ≡ depth }
 {
     let mut generator = Generator { state: 2 };
-    let mut challenges = [M61::of(0); 32];
+    let mut challenges = [M61::of(0); CAP];
     for challenge in &mut challenges {
         *challenge = M61::of(generator.next());
     }
@@ -58,7 +58,7 @@ pub(crate) fn depth_20() -> Depth
     Depth::new(20).unwrap()
 }
 
-/// As many items as a vector can have.
+/// 2^32 items.
 pub(crate) fn depth_32() -> Depth
     ensures { result ≡ 32 }
 {
