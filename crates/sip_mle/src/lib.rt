@@ -26,7 +26,7 @@
 //! | `chi` | d |
 //! | `Point::new`, `Point::value` | 0 |
 //! | `Point::update` | d |
-//! | `Point::update_all` of n, 64 and more | n for each 7 challenges, and 127 for their table |
+//! | `Point::update_all` of n, 32 and more | n for each 7 challenges, and 127 for their table |
 //! | `interval_at` | 2d |
 //! | `IntervalFold::new`, `IntervalFold::at` | 0 |
 //! | `IntervalFold::fold` | 2 |

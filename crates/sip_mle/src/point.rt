@@ -12,7 +12,7 @@ use sip_field::{Factors, Field, Seat, by_tables, fill_tables};
 use sip_vector::Update;
 
 /// The shortest block for which tables are made: below it they cost more than they save.
-const BLOCK: usize = 64;
+const BLOCK: usize = 32;
 
 /// The extension of a vector of 2^d numbers, at the d challenges of a seat.
 #[derive(Drop)]
@@ -57,7 +57,7 @@ impl<F: Field, const CAP: usize> Point<F, CAP> {
     /// The extension after each of these updates, whatever their sides.
     ///
     /// One `times` for an update and seven challenges, and 127 for seven challenges, whose table of products is on the stack
-    /// for this call. A block of less than 64 updates is `update` for each.
+    /// for this call. A block of less than 32 updates is `update` for each.
     pub fn update_all(&mut self, updates: &[Update])
         requires depth { length self.old.seat ≤ most_depth }
         requires items { All (λ u. u.item < 2 ^ length self.old.seat) updates.now }

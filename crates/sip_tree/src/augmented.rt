@@ -12,7 +12,7 @@ use sip_field::{Field, Seat};
 use sip_vector::Update;
 
 /// The shortest block for which tables are made: below it they cost more than they save.
-const BLOCK: usize = 64;
+const BLOCK: usize = 32;
 
 /// The augmented root of a vector of 2^d numbers, for the d challenges of a seat: a hash, and the sum of the numbers.
 #[derive(Drop)]
@@ -66,7 +66,7 @@ impl<F: Field, const CAP: usize> AugRoot<F, CAP> {
     /// The root after each of these updates, whatever their sides.
     ///
     /// Two `times` for an update, and one more for seven challenges of it; and 261 for seven challenges, whose table is on the
-    /// stack for this call. A block of less than 64 updates is `update` for each.
+    /// stack for this call. A block of less than 32 updates is `update` for each.
     pub fn update_all(&mut self, updates: &[Update])
         requires depth { length self.old.seat ≤ most_depth }
         requires items { All (λ u. u.item < 2 ^ length self.old.seat) updates.now }

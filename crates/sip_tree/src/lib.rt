@@ -29,10 +29,10 @@
 //! |---|---|---|
 //! | `Root::new`, `Root::value`, `AugRoot::new`, `AugRoot::hash`, `AugRoot::total` | 0 | |
 //! | `Root::update` | one for each bit that is 1, d at most | d steps along the bits, one `of_signed` and one `plus` |
-//! | `Root::update_all` of 64 and more | one for an update and 7 challenges, and 127 for 7 challenges | an `of_signed` and a `plus` for an update |
+//! | `Root::update_all` of 32 and more | one for an update and 7 challenges, and 127 for 7 challenges | an `of_signed` and a `plus` for an update |
 //! | `Root::weight_above` | one for each bit that is 1, d - level at most | d - level steps along the bits |
 //! | `AugRoot::update` | two for each bit that is 1, and one: 2d + 1 at most | d steps along the bits, each with one `plus`; one `of_signed` |
-//! | `AugRoot::update_all` of 64 and more | two for an update and one for 7 challenges of it, and 261 for 7 challenges | an `of_signed` for an update, `plus` as many as `times` |
+//! | `AugRoot::update_all` of 32 and more | two for an update and one for 7 challenges of it, and 261 for 7 challenges | an `of_signed` for an update, `plus` as many as `times` |
 //! | `up` | n / 2 | n / 2 `plus` |
 #![tactic(auto)]
 
