@@ -1,5 +1,5 @@
 -- Reply 0 by the protocol: entries, frame by frame, and then siblings.
-use Rattle.std.proofs.Common.{◌≡◌, ℕ, zero, suc, ◌/◌, ◌^◌, true, Result, Ok, Err, List, [], ◌∷◌, length, refl, ap, subst}
+use Rattle.std.proofs.Common.{◌≡◌, ℕ, zero, suc, ◌/◌, ◌^◌, true, Result, Ok, Err, List, [], ◌∷◌, length, refl, subst}
 use Rattle.sip_vector.specs.declared.update.Entry.{Entry}
 use Rattle.sip_vector.specs.Steps.{◌>>=◌}
 use Rattle.sip_wire.specs.declared.kind.Place.TheVariants as places
@@ -8,9 +8,8 @@ use Rattle.sip_wire.specs.declared.message.Message.TheVariants as messages
 use Rattle.sip_wire.specs.declared.message.Reason.{Reason}
 use Rattle.sip_wire.specs.declared.message.WireFault.{WireFault}
 use Rattle.sip_wire.specs.declared.version.Version.{Version}
-use Rattle.sip_wire.specs.Versions.{read_in}
+use Rattle.sip_wire.specs.Reading.{read_frame}
 use Rattle.arrayvec.specs.ArrayVec.{ArrayVec}
-use Rattle.sip_replies.specs.declared.check.More.{More}
 use Rattle.sip_replies.specs.declared.check.More.TheVariants as mores
 use Rattle.sip_replies.specs.Replies.{step_says, frame_says, read_from, read_reply}
 use Rattle.sip_subvec.specs.AcceptsSub.{Siblings, Stated}
@@ -40,7 +39,7 @@ pub record FirstKept (lo hi : ℕ) (Keeps : List Entry → Type 0) (t : Stated) 
 -- What each frame of entries keeps, reply 0 keeps.
 module _ (version : Version) (lo hi : ℕ) (Keeps : List Entry → Type 0) (Fine : List ℕ → Type 0)
     (step : (before more : List Entry) (bytes rest : List ℕ) (v : ArrayVec Entry) → Fine bytes
-    → read_in version places.Entries bytes ≡ Ok (messages.Entries v, rest)
+    → read_frame version places.Entries bytes ≡ Ok (messages.Entries v, rest)
     → with_entries lo hi before v.items ≡ Ok more → Keeps before → Keeps more × Fine rest) where
   -- the siblings at its end
   last : (next : Stated → List ℕ → Result Stated Reason) (before : List Entry) (rest : List ℕ)
@@ -68,7 +67,7 @@ module _ (version : Version) (lo hi : ℕ) (Keeps : List Entry → Type 0) (Fine
   entries : (next : Stated → List ℕ → Result Stated Reason) (before : List Entry)
       (bytes rest : List ℕ) (t : Stated) (v : ArrayVec Entry) (r : Result (List Entry) Reason)
       → GoesOn next t → Fine bytes → Keeps before
-      → read_in version places.Entries bytes ≡ Ok (messages.Entries v, rest)
+      → read_frame version places.Entries bytes ≡ Ok (messages.Entries v, rest)
       → with_entries lo hi before v.items ≡ r
       → step_says next rest (r >>= λ all. Ok (mores.Due, in_part all)) ≡ Ok t
       → FirstKept lo hi Keeps t
@@ -79,7 +78,7 @@ module _ (version : Version) (lo hi : ℕ) (Keeps : List Entry → Type 0) (Fine
 
   by_message : (next : Stated → List ℕ → Result Stated Reason) (before : List Entry)
       (bytes rest : List ℕ) (t : Stated) → GoesOn next t → Fine bytes → Keeps before
-      → (m : Message) → read_in version places.Entries bytes ≡ Ok (m, rest)
+      → (m : Message) → read_frame version places.Entries bytes ≡ Ok (m, rest)
       → step_says next rest (sub_step lo hi (in_part before) m) ≡ Ok t → FirstKept lo hi Keeps t
   by_message next before bytes rest t goes_on fine keeps (messages.Entries v) is h =
       entries next before bytes rest t v (with_entries lo hi before v.items) goes_on fine keeps is
@@ -102,7 +101,7 @@ module _ (version : Version) (lo hi : ℕ) (Keeps : List Entry → Type 0) (Fine
 
   by_frame : (next : Stated → List ℕ → Result Stated Reason) (before : List Entry) (bytes : List ℕ)
       (t : Stated) → GoesOn next t → Fine bytes → Keeps before
-      → (r : Result (Message × List ℕ) WireFault) → read_in version places.Entries bytes ≡ r
+      → (r : Result (Message × List ℕ) WireFault) → read_frame version places.Entries bytes ≡ r
       → frame_says (sub_rules version lo hi) next (in_part before) r ≡ Ok t
       → FirstKept lo hi Keeps t
   by_frame next before bytes t goes_on fine keeps (Err fault) is h = absurd (cc)
@@ -117,7 +116,7 @@ module _ (version : Version) (lo hi : ℕ) (Keeps : List Entry → Type 0) (Fine
   from_frame (suc n) before bytes t fine keeps e =
       by_frame (read_from (sub_rules version lo hi) n) before bytes t
       (λ more after f k h. from_frame n more after t f k h) fine keeps
-      (read_in version places.Entries bytes) refl e
+      (read_frame version places.Entries bytes) refl e
 
   pub first_keeps : (bytes : List ℕ) (t : Stated) → Fine bytes → Keeps []
       → read_reply (sub_rules version lo hi) (in_part []) bytes ≡ Ok t → FirstKept lo hi Keeps t

@@ -2,7 +2,7 @@
 use Rattle.std.proofs.Common.{◌≡◌, ℕ, ◌<◌, Result, Ok, Err, List, [], ◌∷◌, ◌++◌, length, ℤ, refl, sym, ap, ◌∙◌, arith, append-nil, length-append}
 use Rattle.sip_wire.specs.declared.message.Reason.{Reason}
 use Rattle.sip_wire.specs.declared.version.Version.{Version}
-use Rattle.sip_replies.specs.Replies.{Fault, read_reply, run, IsUnfinished}
+use Rattle.sip_replies.specs.Replies.{read_reply, run, IsUnfinished}
 use Rattle.sip_replies.proofs.Fronts.{reply_front}
 use Rattle.sip_replies.proofs.Running.{run-fault}
 use Rattle.sip_replies.proofs.Turns.{closed_next}

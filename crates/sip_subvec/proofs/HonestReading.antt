@@ -15,9 +15,8 @@ use Rattle.sip_wire.specs.declared.message.Message.{Message}
 use Rattle.sip_wire.specs.declared.message.Message.TheVariants as messages
 use Rattle.sip_wire.specs.declared.message.Reason.{Reason}
 use Rattle.sip_wire.specs.declared.version.Version.{Version}
-use Rattle.sip_wire.specs.Spelling.{kind_of}
+use Rattle.sip_wire.specs.Spelling.{kind_of, spelling}
 use Rattle.sip_wire.specs.Table.{allows}
-use Rattle.sip_wire.specs.Versions.{spelling_in}
 use Rattle.sip_wire.proofs.ReadingLaws.{read_frame-spelling}
 use Rattle.sip_wire.proofs.SiblingElements.{siblings_fit}
 use Rattle.sip_replies.specs.declared.check.More.{More}
@@ -64,7 +63,7 @@ module _ (version : Version) (lo hi p : ℕ) (small : p ≤ m61_modulus) where
     -- the siblings at the end of a reply, which are those of this level
     pub siblings_read : (low high : ℕ) (s : Stated) → at_level s.siblings lo ≡ low
         → at_level s.siblings hi ≡ high
-        → read_reply R s (spelling_in version (siblings_message (honest_siblings level low high)) ++ [])
+        → read_reply R s (spelling version (siblings_message (honest_siblings level low high)) ++ [])
         ≡ Ok (with_siblings s (honest_siblings level low high))
     siblings_read low high s at_low at_high =
         let x = honest_siblings level low high in
@@ -73,10 +72,10 @@ module _ (version : Version) (lo hi p : ℕ) (small : p ≤ m61_modulus) where
         ap (λ (l : ℕ). as_complete s (asked_siblings l (at_level s.siblings hi) x)) at_low
         ∙ ap (λ (h : ℕ). as_complete s (asked_siblings low h x)) at_high
         ∙ ap (as_complete s) (asked_is level low high) in
-        read_reply-step R s (spelling_in version (siblings_message x) ++ []) [] (siblings_message x)
+        read_reply-step R s (spelling version (siblings_message x) ++ []) [] (siblings_message x)
         (Ok (mores.Complete, with_siblings s x))
-        (read_frame-spelling (place_of s.siblings) (siblings_message x) []
-        (siblings_fit x.left x.right elements.0 elements.1) (siblings_allowed s.siblings x) tt)
+        (read_frame-spelling version (place_of s.siblings) (siblings_message x) []
+        (siblings_fit version x.left x.right elements.0 elements.1) (siblings_allowed s.siblings x) tt)
         step
 
     -- ---- entries
@@ -89,26 +88,26 @@ module _ (version : Version) (lo hi p : ℕ) (small : p ≤ m61_modulus) where
 
     abbrev from_pieces : ℕ → List Entry → List ℕ
     from_pieces n es =
-        flat_map (spelling_in version)
+        flat_map (spelling version)
         (map entries_message (pieces 512 n es) ++ siblings_message lowest ∷ [])
 
     -- one frame, and those after it
     frame_read : (before es all : List Entry) (rest : List ℕ) → 0 < length es → length es ≤ 512
-        → All IsRow es → with_entries lo hi before es ≡ Ok all
-        → read_reply R (in_part before) (spelling_in version (entries_message es) ++ rest)
+        → All (IsRow version) es → with_entries lo hi before es ≡ Ok all
+        → read_reply R (in_part before) (spelling version (entries_message es) ++ rest)
         ≡ read_reply R (in_part all) rest
     frame_read before es all rest some most rows passes =
-        read_reply-step R (in_part before) (spelling_in version (entries_message es) ++ rest) rest
+        read_reply-step R (in_part before) (spelling version (entries_message es) ++ rest) rest
         (entries_message es) (Ok (mores.Due, in_part all))
-        (read_frame-spelling places.Entries (entries_message es) rest (entries_fit es some most rows)
-        refl (entries_in_range es rows)) (ap as_due passes)
+        (read_frame-spelling version places.Entries (entries_message es) rest (entries_fit version es some most rows)
+        refl (entries_in_range version es rows)) (ap as_due passes)
 
-    pieces_read : (n : ℕ) (before es all : List Entry) → n ≡ (length es + 511) / 512 → All IsRow es
+    pieces_read : (n : ℕ) (before es all : List Entry) → n ≡ (length es + 511) / 512 → All (IsRow version) es
         → with_entries lo hi before es ≡ Ok all
         → read_reply R (in_part before) (from_pieces n es) ≡ Ok (as_whole all lowest)
     pieces_read zero before [] all count rows passes =
         let e : before ≡ all = cc in
-        ap (read_reply R (in_part before)) (flat_map-cons (spelling_in version) (siblings_message lowest) [])
+        ap (read_reply R (in_part before)) (flat_map-cons (spelling version) (siblings_message lowest) [])
         ∙ siblings_read lo hi (in_part before) (whole lo) (whole hi)
         ∙ ap (λ (es : List Entry). Ok (as_whole es lowest)) e
     pieces_read zero before (x ∷ es) all count rows passes = absurd (omega (arith, count))
@@ -119,17 +118,17 @@ module _ (version : Version) (lo hi p : ℕ) (small : p ≤ m61_modulus) where
         let taken = length-take 512 es in
         let parts = with_entries-parts lo hi before front rest all
         (ap (with_entries lo hi before) (take-append-drop 512 es) ∙ passes) in
-        ap (read_reply R (in_part before)) (flat_map-cons (spelling_in version) (entries_message front)
+        ap (read_reply R (in_part before)) (flat_map-cons (spelling version) (entries_message front)
         (map entries_message (pieces 512 n rest) ++ siblings_message lowest ∷ []))
         ∙ frame_read before front (before ++ front) (from_pieces n rest) (omega arith) (omega arith)
-        (All-take IsRow 512 es rows) parts.front
-        ∙ pieces_read n (before ++ front) rest all (omega (arith, count)) (All-drop IsRow 512 es rows)
+        (All-take (IsRow version) 512 es rows) parts.front
+        ∙ pieces_read n (before ++ front) rest all (omega (arith, count)) (All-drop (IsRow version) 512 es rows)
         parts.rest
 
     -- reply 0
-    pub first_read : (es : List Entry) → All IsRow es → with_entries lo hi [] es ≡ Ok es
+    pub first_read : (es : List Entry) → All (IsRow version) es → with_entries lo hi [] es ≡ Ok es
         → read_reply R (in_part [])
-        (flat_map (spelling_in version) (entry_frames es ++ siblings_message lowest ∷ []))
+        (flat_map (spelling version) (entry_frames es ++ siblings_message lowest ∷ []))
         ≡ Ok (as_whole es lowest)
     first_read es rows passes = pieces_read ((length es + 511) / 512) [] es es refl rows passes
 
@@ -139,7 +138,7 @@ module _ (version : Version) (lo hi p : ℕ) (small : p ≤ m61_modulus) where
 abbrev pub replies_above : Version → ℕ → List ℕ → ℕ → ℕ → List ℕ → List (List ℕ)
 replies_above version p level lo hi [] = []
 replies_above version p level lo hi (r ∷ challenges) =
-    (spelling_in version (siblings_message (honest_siblings level lo hi)) ++ [])
+    (spelling version (siblings_message (honest_siblings level lo hi)) ++ [])
     ∷ replies_above version p (up p level r) (lo / 2) (hi / 2) challenges
 
 abbrev stated_as : List Entry → List Siblings → Stated
@@ -159,7 +158,7 @@ module _ (version : Version) (lo hi p : ℕ) (some : 0 < p) (small : p ≤ m61_m
       ∙ ap (λ (l : List Siblings). Ok (stated_as es l)) (sym (append-nil (x ∷ xs)))
   above_read (r ∷ challenges) j rs xs level low high below at_low at_high =
       let y = honest_siblings level low high in
-      run_is version lo hi j rs (known es x xs) (spelling_in version (siblings_message y) ++ [])
+      run_is version lo hi j rs (known es x xs) (spelling version (siblings_message y) ++ [])
       (replies_above version p (up p level r) (low / 2) (high / 2) challenges)
       (known es x (xs ++ y ∷ []))
       (siblings_read version lo hi p small level below low high (known es x xs) at_low at_high)

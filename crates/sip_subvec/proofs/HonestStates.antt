@@ -8,16 +8,13 @@ use Rattle.std.proofs.lemmas.List.Concat.{flat_map-cons}
 use Rattle.std.proofs.lemmas.List.Sums.{fold-append}
 use Rattle.sip_field.specs.Moduli.{m61_modulus}
 use Rattle.sip_field.specs.Residue.{residue}
-use Rattle.sip_vector.specs.declared.update.Entry.{Entry}
 use Rattle.sip_vector.specs.Trees.{up, root}
 use Rattle.sip_vector.specs.Vectors.{nonzero_within}
-use Rattle.sip_vector.specs.Answers.{Answer, pairs}
-use Rattle.sip_vector.specs.Steps.{◌>>=◌, needs}
-use Rattle.sip_wire.specs.declared.message.Reason.TheVariants as reasons
+use Rattle.sip_vector.specs.Answers.{pairs}
 use Rattle.sip_wire.specs.declared.version.Version.{Version}
-use Rattle.sip_wire.specs.Versions.{spelling_in}
-use Rattle.sip_replies.specs.Replies.{in_round, read_reply, run_from, run, verdict}
-use Rattle.sip_subvec.specs.AcceptsSub.{Siblings, Stated, next_level, folded, gives_root}
+use Rattle.sip_wire.specs.Spelling.{spelling}
+use Rattle.sip_replies.specs.Replies.{read_reply, run, verdict}
+use Rattle.sip_subvec.specs.AcceptsSub.{Stated, next_level, folded, gives_root}
 use Rattle.sip_subvec.specs.Checking.{nothing}
 use Rattle.sip_subvec.specs.Honest.{Proving, begun, learnt, proving, honest_siblings, its_siblings, siblings_message, entry_frames, honest_messages, honest_reply, honest_replies}
 use Rattle.sip_subvec.specs.Protocol.{sub_asked, sub_protocol, sub_rules}
@@ -78,7 +75,7 @@ walk_snoc g front (c ∷ challenges) r =
 
 -- the siblings of a level alone
 abbrev pub siblings_reply : Version → Proving → List ℕ
-siblings_reply version s = spelling_in version (siblings_message (its_siblings s)) ++ []
+siblings_reply version s = spelling version (siblings_message (its_siblings s)) ++ []
 
 -- the siblings of a prover's level and of those above it, each as one reply
 abbrev pub above : Version → ℕ → Proving → List ℕ → List (List ℕ)
@@ -90,7 +87,7 @@ module _ (version : Version) (p : ℕ) (numbers : List ℤ) (lo hi : ℕ) where
       → honest_reply version p numbers lo hi (c ∷ front)
       ≡ siblings_reply version (proving p numbers lo hi (c ∷ front))
   unfolding honest_messages
-  later_reply_is c front = flat_map-cons (spelling_in version) _ []
+  later_reply_is c front = flat_map-cons (spelling version) _ []
 
   later_walk : (c : ℕ) (front challenges : List ℕ)
       → walk (honest_reply version p numbers lo hi) (c ∷ front) challenges
@@ -127,11 +124,11 @@ module _ (version : Version) (p : ℕ) (numbers : List ℤ) (lo hi : ℕ) where
       ∙ ap (λ xs. xs ++ g revealed ∷ []) (sym (fronts_walk g [] revealed))
 
   first_reply_is : honest_reply version p numbers lo hi []
-      ≡ flat_map (spelling_in version) (entry_frames (nonzero_within lo hi numbers)
+      ≡ flat_map (spelling version) (entry_frames (nonzero_within lo hi numbers)
       ++ siblings_message (honest_siblings (map (residue p) numbers) lo hi) ∷ [])
   unfolding honest_messages
   first_reply_is =
-      ap (λ (s : Proving). flat_map (spelling_in version)
+      ap (λ (s : Proving). flat_map (spelling version)
       (entry_frames (nonzero_within lo hi numbers)
       ++ siblings_message (honest_siblings s.level s.lo s.hi) ∷ []))
       (proving-nil p numbers lo hi)
@@ -145,7 +142,7 @@ module _ (version : Version) (p : ℕ) (numbers : List ℤ) (lo hi : ℕ) where
     siblings = siblings_above p (map (residue p) numbers) lo hi (r ∷ challenges);
   }
 
-  module _ (some : 0 < p) (small : p ≤ m61_modulus) (rows : All IsRow (nonzero_within lo hi numbers))
+  module _ (some : 0 < p) (small : p ≤ m61_modulus) (rows : All (IsRow version) (nonzero_within lo hi numbers))
       (few : length (nonzero_within lo hi numbers) ≤ most_entries) where
     reply_0_read : read_reply (sub_rules version lo hi) (in_part [])
         (honest_reply version p numbers lo hi [])

@@ -1,5 +1,5 @@
 -- A later reply is one frame of siblings, and what it states does not rest on what was stated before.
-use Rattle.std.proofs.Common.{◌≡◌, ℕ, ◌/◌, ◌^◌, true, Result, Ok, Err, List, [], ◌∷◌, ◌++◌, length, refl, sym, ap, ◌∙◌}
+use Rattle.std.proofs.Common.{◌≡◌, ℕ, true, Result, Ok, Err, List, [], ◌∷◌, ◌++◌, refl, sym, ap, ◌∙◌}
 use Rattle.sip_vector.specs.declared.update.Entry.{Entry}
 use Rattle.sip_vector.specs.Steps.{◌>>=◌}
 use Rattle.sip_wire.specs.declared.kind.Place.TheVariants as places
@@ -9,8 +9,7 @@ use Rattle.sip_wire.specs.declared.message.Reason.{Reason}
 use Rattle.sip_wire.specs.declared.message.Reason.TheVariants as reasons
 use Rattle.sip_wire.specs.declared.message.WireFault.{WireFault}
 use Rattle.sip_wire.specs.declared.version.Version.{Version}
-use Rattle.sip_wire.specs.Versions.{read_in}
-use Rattle.sip_replies.specs.declared.check.More.{More}
+use Rattle.sip_wire.specs.Reading.{read_frame}
 use Rattle.sip_replies.specs.declared.check.More.TheVariants as mores
 use Rattle.sip_replies.specs.Replies as general
 use Rattle.sip_replies.specs.Replies.{reason_of, at_end, read_reply}
@@ -34,7 +33,7 @@ frame_says lo hi (Ok frame) = message_says lo hi frame.1 frame.0
 
 -- the siblings that a later reply states, for an interval of its level
 pub later_reply : Version → ℕ → ℕ → List ℕ → Result Siblings Reason
-later_reply version lo hi bytes = frame_says lo hi (read_in version places.Siblings bytes)
+later_reply version lo hi bytes = frame_says lo hi (read_frame version places.Siblings bytes)
 
 -- ---- by the protocol
 
@@ -99,7 +98,7 @@ module _ (lo hi : ℕ) (es : List Entry) (x : Siblings) (xs : List Siblings) whe
   unfolding later_reply
   later_whole version bytes =
       read_reply-frame (sub_rules version lo hi) (known es x xs) bytes
-      ∙ frame version (read_reply (sub_rules version lo hi)) (read_in version places.Siblings bytes)
+      ∙ frame version (read_reply (sub_rules version lo hi)) (read_frame version places.Siblings bytes)
 
 -- ---- its siblings are those that are asked for
 
@@ -132,4 +131,4 @@ pub later_reply-asked : (version : Version) (lo hi : ℕ) (bytes : List ℕ) (s 
     → later_reply version lo hi bytes ≡ Ok s → are_asked lo hi s ≡ true
 unfolding later_reply
 later_reply-asked version lo hi bytes s e =
-    frame_asked lo hi (read_in version places.Siblings bytes) s e
+    frame_asked lo hi (read_frame version places.Siblings bytes) s e

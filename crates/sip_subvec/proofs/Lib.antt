@@ -6,6 +6,7 @@ pub mod HonestFrames
 pub mod HonestReading
 pub mod HonestStates
 pub mod HonestStreams
+pub mod HonestSpellings
 pub mod HonestLaws
 pub mod HonestFronts
 pub mod WeightedFolds

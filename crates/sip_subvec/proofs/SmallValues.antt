@@ -64,12 +64,12 @@ first_small version lo hi bytes t are e =
     (λ l. (rise_within lo hi l ≡ true) × (list_all (has_small_value m61_modulus) l ≡ true)) AreBytes
     (λ before more from rest v fine is taken keeps.
     let t = entries-taken lo hi before v.items more keeps.0 taken in
-    let spelled = read_frame-message places.Entries from (messages.Entries v) rest (bytes_at from fine) is in
-    let small = values_small v.items (values_spelled v spelled.has_spelling spelled.in_range) in
+    let spelled = read_frame-message version places.Entries from (messages.Entries v) rest (bytes_at from fine) is in
+    let small = values_small v.items (values_spelled version v spelled.has_spelling spelled.in_range) in
     let both : list_all (has_small_value m61_modulus) (before ++ v.items)
     ≡ true = list_all-append (has_small_value m61_modulus) before v.items
     ∙ and_from (list_all (has_small_value m61_modulus) before) (list_all (has_small_value m61_modulus) v.items) keeps.1 small in
-    let behind_it = (read_frame-rest places.Entries from (messages.Entries v) rest is).1 in
-    ((t.0, ap (list_all (has_small_value m61_modulus)) t.1 ∙ both), rw behind_it (All-drop (λ (b : ℕ). b < 256) (asked places.Entries from) from fine)))
+    let behind_it = (read_frame-rest version places.Entries from (messages.Entries v) rest is).1 in
+    ((t.0, ap (list_all (has_small_value m61_modulus)) t.1 ∙ both), rw behind_it (All-drop (λ (b : ℕ). b < 256) (asked version places.Entries from) from fine)))
     bytes t are (rise-nil lo hi, refl) e in
     kept.keeps.1

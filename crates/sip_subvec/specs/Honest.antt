@@ -6,6 +6,7 @@ use Rattle.std.specs.Prelude.{ℕ, ◌+◌, ◌-◌, ◌/◌, ◌%◌, ◌^◌, 
 use Rattle.std.specs.List.{range_with_len, flat_map}
 use Rattle.sip_field.specs.Moduli.{m61_modulus}
 use Rattle.sip_field.specs.Residue.{residue}
+use Rattle.sip_vector.specs.declared.query.Query.TheVariants.{Sub}
 use Rattle.sip_vector.specs.declared.update.Entry.{Entry}
 use Rattle.sip_vector.specs.Pieces.{cut}
 use Rattle.sip_vector.specs.Trees.{up, tree}
@@ -13,8 +14,9 @@ use Rattle.sip_vector.specs.Vectors.{nonzero_within}
 use Rattle.sip_wire.specs.declared.message.Message.{Message}
 use Rattle.sip_wire.specs.declared.message.Message.TheVariants as messages
 use Rattle.sip_wire.specs.declared.version.Version.{Version}
-use Rattle.sip_wire.specs.Versions.{spelling_in}
-use Rattle.sip_wire.specs.Table.{most_rows, most_depth, most_claim}
+use Rattle.sip_wire.specs.Spelling.{spelling}
+use Rattle.sip_wire.specs.Table.{most_rows, most_claim}
+use Rattle.sip_wire.specs.Versions.{Speaks}
 use Rattle.sip_subvec.specs.AcceptsSub.{Siblings}
 use Rattle.sip_subvec.specs.Replies.{most_entries}
 
@@ -76,7 +78,7 @@ honest_messages p numbers lo hi prefix =
 -- their bytes
 abbrev pub honest_reply : Version → ℕ → List ℤ → ℕ → ℕ → List ℕ → List ℕ
 honest_reply version p numbers lo hi prefix =
-    flat_map (spelling_in version) (honest_messages p numbers lo hi prefix)
+    flat_map (spelling version) (honest_messages p numbers lo hi prefix)
 
 -- all replies: reply j is the one due once the first j challenges are revealed
 abbrev pub honest_replies : Version → ℕ → List ℤ → ℕ → ℕ → List ℕ → List (List ℕ)
@@ -84,14 +86,14 @@ honest_replies version p numbers lo hi challenges =
     map (λ j. honest_reply version p numbers lo hi (take j challenges))
     (range_with_len 0 (length challenges))
 
--- The entries of an interval can be shown: the vector is of a depth and a field that the version's
--- messages have room for, its numbers are no greater than an entry may be, and no more of them are
--- asked for than an answer may have.
+-- The entries of an interval can be shown: the version has a query for them at the vector's depth,
+-- messages have room for the field and for the numbers, and no more of them are asked for than an
+-- answer may have.
 pub record CanBeShown (version : Version) (p depth lo hi : ℕ) (numbers : List ℤ) : Type 0 where
   pub some : 0 < p
   pub elements : p ≤ m61_modulus
   pub levels : 1 ≤ depth
-  pub indices : depth ≤ most_depth
+  pub speaks : Speaks version depth (Sub lo hi)
   pub size : length numbers ≡ 2 ^ depth
   pub order : lo ≤ hi
   pub within : hi < 2 ^ depth
