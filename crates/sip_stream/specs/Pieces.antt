@@ -7,7 +7,7 @@ use Rattle.sip_stream.specs.declared.line_reader.LineEnd.TheVariants.{Feed, Inpu
 use Rattle.sip_stream.specs.declared.why.Why.{Why}
 use Rattle.sip_stream.specs.declared.why.Why.TheVariants.{BadLine, BadSide}
 use Rattle.sip_stream.specs.Layouts.{Layout}
-use Rattle.sip_stream.specs.Lines.{numbers_at, parts_at, lines_from}
+use Rattle.sip_stream.specs.Lines.{numbers_at, parts_at, lines_from, most_line}
 use Rattle.sip_stream.specs.Records.{said, update_at, fault_at, update_fault, pieces_of}
 
 -- what was taken is a front of the bytes, and the rest is left
@@ -21,13 +21,20 @@ pub record IsFirst (layout : Layout) (bytes piece rest : List ℕ) : Type 0 wher
 
 -- what a record says: an update, which is then tested by what came before, or none
 abbrev pub Says : Layout → List ℕ → Result Update Why → Type 0
-Says layout piece (Ok u) = (update_at layout piece ≡ u) × ((depth : ℕ) (before : List Update) → fault_at layout depth before piece ≡ update_fault depth before u)
-Says layout piece (Err why) = (depth : ℕ) (before : List Update) → fault_at layout depth before piece ≡ Some why
+Says layout piece (Ok u) =
+    (update_at layout piece ≡ u)
+    × ((depth : ℕ) (before : List Update)
+    → fault_at layout depth before piece ≡ update_fault depth before u)
+Says layout piece (Err why) =
+    (depth : ℕ) (before : List Update) → fault_at layout depth before piece ≡ Some why
 
 -- the first record was taken, or there is none
-abbrev pub ReadsPiece : Layout → List ℕ → Option (List ℕ) → Result (Option (Result Update Why)) PortStop → Type 0
+abbrev pub ReadsPiece : Layout → List ℕ → Option (List ℕ)
+    → Result (Option (Result Update Why)) PortStop → Type 0
 ReadsPiece layout bytes left (Ok None) = (bytes ≡ []) × (left ≡ Some [])
-ReadsPiece layout bytes left (Ok (Some answer)) = (piece rest : List ℕ) × (left ≡ Some rest) × IsFirst layout bytes piece rest × Says layout piece answer
+ReadsPiece layout bytes left (Ok (Some answer)) =
+    (piece rest : List ℕ) × (left ≡ Some rest) × IsFirst layout bytes piece rest
+    × Says layout piece answer
 ReadsPiece layout bytes left (Err stop) = TakesFront bytes left
 
 -- the first byte was taken, or there is none
@@ -45,9 +52,14 @@ pub record IsBegun (bytes front rest : List ℕ) : Type 0 where
 -- a line was taken up to its end, or a part of it
 abbrev pub TakesLine : List ℕ → List ℕ → Option (List ℕ) → Result LineEnd PortStop → Type 0
 TakesLine bytes front left (Ok Input) = IsBegun bytes front [] × (left ≡ Some [])
-TakesLine bytes front left (Ok Feed) = (rest : List ℕ) × IsBegun bytes front (10 ∷ rest) × (left ≡ Some rest) × (length front < 40)
-TakesLine bytes front left (Ok TooLong) = (byte : ℕ) × (rest : List ℕ) × IsBegun bytes front (byte ∷ rest) × (left ≡ Some rest) × (40 ≤ length front)
-TakesLine bytes front left (Err stop) = (rest : List ℕ) × IsBegun bytes front rest × (left ≡ Some rest)
+TakesLine bytes front left (Ok Feed) =
+    (rest : List ℕ) × IsBegun bytes front (10 ∷ rest) × (left ≡ Some rest)
+    × (length front < most_line)
+TakesLine bytes front left (Ok TooLong) =
+    (byte : ℕ) × (rest : List ℕ) × IsBegun bytes front (byte ∷ rest) × (left ≡ Some rest)
+    × (most_line ≤ length front)
+TakesLine bytes front left (Err stop) =
+    (rest : List ℕ) × IsBegun bytes front rest × (left ≡ Some rest)
 
 -- what the text of a line says
 abbrev pub line_said : List ℕ → Result Update Why

@@ -62,7 +62,8 @@ pub(crate) fn record_of<const WIDTH: usize>(update: &Update) -> ArrayVec<u8, MOS
 pub fn put_record<K: Sink>(update: &Update, sink: &mut K) -> Result<(), PortStop>
     requires item { update.now.item < 2 ^ most_narrow_depth }
     requires delta { update.now.delta ≢ pos 0 }
-    ensures talk { SendsWhole (K.talk sink.old) (K.talk sink.new) result (record_bytes 4 update.now) }
+    ensures talk { SendsWhole (K.talk sink.old) (K.talk sink.new) result
+        (record_bytes 4 update.now) }
     ensures cause { HasCause K.faults K.is_sure sink.old sink.new result }
 {
     write_whole(sink, record_of::<NARROW>(update).as_slice())
@@ -76,7 +77,8 @@ pub fn put_record<K: Sink>(update: &Update, sink: &mut K) -> Result<(), PortStop
 pub fn put_wide<K: Sink>(update: &Update, sink: &mut K) -> Result<(), PortStop>
     requires item { update.now.item < 2 ^ most_depth }
     requires delta { update.now.delta ≢ pos 0 }
-    ensures talk { SendsWhole (K.talk sink.old) (K.talk sink.new) result (record_bytes 8 update.now) }
+    ensures talk { SendsWhole (K.talk sink.old) (K.talk sink.new) result
+        (record_bytes 8 update.now) }
     ensures cause { HasCause K.faults K.is_sure sink.old sink.new result }
 {
     write_whole(sink, record_of::<WIDE>(update).as_slice())
