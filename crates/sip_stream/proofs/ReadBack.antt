@@ -1,12 +1,11 @@
 -- The spelling of an update in front of bytes is read as the update, and then the bytes.
-use Rattle.std.proofs.Common.{◌≡◌, ℕ, suc, ◌+◌, ◌/◌, ◌^◌, ◌<◌, ◌≤◌, false, List, [], ◌∷◌, ◌++◌, length, drop, take_at, drop_at, Option, Some, None, refl, sym, ap, ◌∙◌, append_assoc, length-append, arith, w64}
+use Rattle.std.proofs.Common.{◌≡◌, ℕ, ◌^◌, ◌<◌, ◌≤◌, false, List, [], ◌∷◌, ◌++◌, length, Option, Some, None, refl, sym, ap, ◌∙◌, append_assoc, length-append, arith, w64}
 use Rattle.std.specs.Prelude.{FitsSigned, nat_lt, slice_index}
 use Rattle.std.proofs.Math.Nat.{pow-le-pow_right}
 use Rattle.std.proofs.lemmas.Bool.Decides.{nat_tests}
 use Rattle.sip_vector.specs.declared.update.Side.{Side}
 use Rattle.sip_vector.specs.declared.update.Side.TheVariants.{First, Second}
 use Rattle.sip_vector.specs.declared.update.Update.{Update}
-use Rattle.sip_vector.specs.Pieces.{pieces, cut}
 use Rattle.sip_stream.specs.declared.form.Form.{Form}
 use Rattle.sip_stream.specs.declared.form.Form.TheVariants.{Binary, Text, Wide}
 use Rattle.sip_stream.specs.declared.why.Why.{Why}

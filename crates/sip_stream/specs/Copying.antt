@@ -5,7 +5,6 @@ use Rattle.sip_ports.specs.declared.port.PortStop.{PortStop}
 use Rattle.sip_ports.specs.declared.port.PortStop.TheVariants as ports
 use Rattle.sip_ports.specs.declared.port.TalkEvent.{TalkEvent}
 use Rattle.sip_ports.specs.Ports.{GoesOn, outs}
-use Rattle.sip_vector.specs.declared.update.Update.{Update}
 use Rattle.sip_stream.specs.declared.copying.CopyStop.{CopyStop}
 use Rattle.sip_stream.specs.declared.copying.CopyStop.TheVariants as stops
 use Rattle.sip_stream.specs.declared.fault.StreamFault.{StreamFault}

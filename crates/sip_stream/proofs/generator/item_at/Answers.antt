@@ -1,5 +1,5 @@
 -- A bit is an item at each depth.
-use Rattle.std.proofs.Common.{◌≤◌, ◌<◌, ◌^◌, ◌/◌, ◌%◌, arith}
+use Rattle.std.proofs.Common.{◌<◌, ◌^◌, ◌/◌, ◌%◌, arith}
 use Rattle.std.proofs.Math.Nat.{mod-lt}
 use Rattle.sip_stream.proofs.ReadBack.{below_deeper}
 use Rattle.sip_stream.proofs.generator.item_at.Goals as goal

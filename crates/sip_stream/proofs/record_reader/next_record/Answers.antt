@@ -1,5 +1,5 @@
 -- A whole record came, or fewer bytes at the end.
-use Rattle.std.proofs.Common.{◌≡◌, ◌≤◌, ◌<◌, length, arith, rules}
+use Rattle.std.proofs.Common.{◌≡◌, length, arith, rules}
 use Rattle.sip_stream.specs.Layouts.{record_size}
 use Rattle.sip_stream.proofs.RecordsRead.{reads_part, reads_side, reads_record}
 use Rattle.sip_stream.proofs.record_reader.next_record.Goals as goal

@@ -1,4 +1,4 @@
-use Rattle.std.proofs.Common.{◌≡◌, ◌+◌, ap, ◌∙◌, rules, w64}
+use Rattle.std.proofs.Common.{◌+◌, ap, ◌∙◌, rules, w64}
 use Rattle.std.proofs.lemmas.Int.{to_z-of_z}
 use Rattle.std.specs.Int.{cast_signed}
 use Rattle.byteorder.specs.Endian.{big_number}
