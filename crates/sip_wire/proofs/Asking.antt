@@ -1,16 +1,20 @@
 -- A query that fits a depth and has a code in a version has a spelling there, of 21 bytes at most.
-use Rattle.std.proofs.Common.{◌≡◌, true, false, ℕ, ◌+◌, ◌^◌, ◌<◌, ◌≤◌, length, arith, refl}
-use Rattle.std.specs.Prelude.{IsTrue}
+use Rattle.std.proofs.Common.{◌≡◌, Bool, true, false, not, cond, nat_lt, List, [], ◌∷◌, ap, ℕ, ◌+◌, ◌^◌, ◌<◌, ◌≤◌, length, arith, refl}
+use Rattle.std.specs.Prelude.{IsTrue, All, ◌||◌}
+use Rattle.std.specs.List.{list_any}
+use Rattle.std.proofs.lemmas.Bool.{ltb-false, or_parts}
+use Rattle.std.proofs.lemmas.List.Elements.{All-nil, All-cons}
 use Rattle.std.proofs.lemmas.Bool.Decides.{nat_tests}
 use Rattle.std.proofs.Math.Nat.{pow-le-pow_right}
 use Rattle.sip_vector.specs.Answers.{Fits}
+use Rattle.sip_vector.specs.Limits.{most_depth, most_narrow_depth}
 use Rattle.sip_vector.specs.declared.query.Query.{Query}
 use Rattle.sip_vector.specs.declared.query.Query.TheVariants as queries
 use Rattle.sip_vector.specs.declared.update.Side.TheVariants as sides
 use Rattle.sip_wire.specs.declared.message.Message.TheVariants as messages
 use Rattle.sip_wire.specs.declared.version.Version.{Version}
 use Rattle.sip_wire.specs.declared.version.Version.TheVariants.{One, Two}
-use Rattle.sip_wire.specs.Versions.{Speaks, deepest, index_width}
+use Rattle.sip_wire.specs.Versions.{Speaks, deepest, index_width, is_share, needed}
 use Rattle.sip_wire.specs.Table.{query_shape, query_fields, size}
 use Rattle.sip_wire.specs.Spelling.{fits, has_room, all_hold, spelling, query_code, query_numbers}
 use Rattle.sip_wire.proofs.Shapes.{body_length}
@@ -59,3 +63,22 @@ of_length version (queries.Share side num den) = omega arith
 pub query-length : (version : Version) (query : Query) → IsTrue (fits version (messages.Query query)) → length (spelling version (messages.Query query)) ≤ 21
 unfolding fits
 query-length version query fit = omega (arith, length-spelling version (messages.Query query), body_length (query_shape version) (query_code query) (query_numbers query) fit, of_length version query)
+
+-- ---- the least version
+
+-- where no query is for a share, none of them is
+none_shared : (queries : List Query) → list_any is_share queries ≡ false → All (λ q. is_share q ≡ false) queries
+none_shared [] none = All-nil (λ q. is_share q ≡ false)
+none_shared (q ∷ queries) none =
+    let both = or_parts (is_share q) (list_any is_share queries) none in
+    All-cons (λ q. is_share q ≡ false) q queries both.0 (none_shared queries both.1)
+
+-- in the least version each of the queries can be asked
+pub needed-speaks : (depth : ℕ) (queries : List Query) → depth ≤ most_depth → All (Speaks (needed depth queries) depth) queries
+needed-speaks depth queries most = by_tests (nat_lt most_narrow_depth depth) (list_any is_share queries) refl refl
+  where
+    by_tests : (deep shared : Bool) → nat_lt most_narrow_depth depth ≡ deep → list_any is_share queries ≡ shared
+        → All (Speaks (cond (deep || shared) Two One) depth) queries
+    by_tests true shared e f = λ i other less. record { shallow = most; has_code = refl }
+    by_tests false true e f = λ i other less. record { shallow = most; has_code = refl }
+    by_tests false false e f = λ i other less. record { shallow = ltb-false _ _ e; has_code = ap not (none_shared queries f i other less) }

@@ -1,7 +1,10 @@
 //! What the spellings are like, and how the definitions are tied to each other.
 
-ghost use Rattle.std.specs.Prelude.{◌≡◌, ◌≢◌, ◌≤◌, ◌+◌, ◌*◌, ◌++◌, ◌↔◌, ℕ, ℤ, List, [], Ok, Err, length, nat_abs, IsTrue, FitsSigned};
+ghost use Rattle.std.specs.Prelude.{◌≡◌, ◌≢◌, ◌≤◌, ◌+◌, ◌*◌, ◌++◌, ◌↔◌, ℕ, ℤ, List, [], Ok, Err, length, nat_abs, IsTrue, All, FitsSigned};
 ghost use Rattle.std.specs.Int.{w64};
+ghost use Rattle.sip_vector.specs.declared.query.Query.{Query as AnyQuery};
+ghost use Rattle.sip_vector.specs.Answers.{Fits};
+ghost use Rattle.sip_vector.specs.Limits.{most_depth};
 ghost use Rattle.sip_wire.specs.declared.kind.Kind.{Kind as AnyKind};
 ghost use Rattle.sip_wire.specs.declared.kind.Place.{Place as AnyPlace};
 ghost use Rattle.sip_wire.specs.declared.message.Message.{Message as AnyMessage};
@@ -13,6 +16,7 @@ ghost use Rattle.sip_wire.specs.declared.version.Version.TheVariants.{Two};
 ghost use Rattle.sip_wire.specs.Table.{shape, size, update_fields, most_rows, most_claim, longest_frame, allows, IsLengthOfMark};
 ghost use Rattle.sip_wire.specs.Spelling.{fits, kind_of, spelling, asked};
 ghost use Rattle.sip_wire.specs.Values.{InRange};
+ghost use Rattle.sip_wire.specs.Versions.{Speaks, needed};
 ghost use Rattle.sip_wire.specs.Reading.{read_frame};
 ghost use Rattle.sip_wire.specs.Decoding.{IsBytes, Spelled};
 
@@ -71,4 +75,14 @@ pub fn fronts_are_not_whole()
     ensures { (version : AnyVersion) (place : AnyPlace) (front more : List ℕ) → more ≢ []
         → length (front ++ more) ≤ asked version place (front ++ more)
         → read_frame version place front ≡ Err faults.Closed }
+{}
+
+/// A query that fits a depth has a spelling in each version in which it can be asked there, and each query can
+/// be asked in the least version that the queries need.
+pub fn queries_have_spellings()
+    ensures fits { (version : AnyVersion) (depth : ℕ) (query : AnyQuery)
+        → Speaks version depth query → Fits depth query
+        → IsTrue (fits version (messages.Query query)) }
+    ensures least { (depth : ℕ) (queries : List AnyQuery) → depth ≤ most_depth
+        → All (Speaks (needed depth queries) depth) queries }
 {}
