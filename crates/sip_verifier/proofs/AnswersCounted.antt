@@ -2,6 +2,7 @@
 use Rattle.std.proofs.Common.{◌≡◌, ◌==◌, ℕ, zero, suc, IsTrue, List, [], ◌∷◌, length, drop, Option, Result, Ok, Err, subst}
 use Rattle.std.specs.List.{list_all}
 use Rattle.std.proofs.lemmas.Bool.{and_parts}
+use Rattle.sip_wire.specs.declared.version.Version.{Version}
 use Rattle.sip_ports.specs.declared.port.TalkEvent.{TalkEvent}
 use Rattle.sip_vector.specs.declared.query.Query.{Query}
 use Rattle.sip_vector.specs.declared.update.Entry.{Entry}
@@ -12,25 +13,26 @@ use Rattle.sip_verifier.specs.declared.session.SessionFault.{SessionFault}
 use Rattle.sip_verifier.specs.declared.session.Verdict.{Verdict}
 use Rattle.sip_verifier.specs.declared.session.Verdict.TheVariants as verdicts
 use Rattle.sip_verifier.specs.Asking.{AnswersCount, Asks, IsAnswered, IsCounted}
-use Rattle.sip_verifier.specs.QuerySeats.{Seated, can_be_asked, is_seat}
-use Rattle.sip_verifier.proofs.CountedQuestions.{question_counts}
+use Rattle.sip_verifier.specs.QuerySeats.{block_of, can_be_asked, is_seat}
+use Rattle.sip_verifier.specs.declared.seat.QuerySeat.{QuerySeat}
+use Rattle.sip_verifier.proofs.CountedTurns.{turn_counts}
 use Rattle.sip_verifier.proofs.SeatsHead.{fits-asked}
 
 -- the query of the first seat that is left fits the depth
-pub left_fits : (depth n : ℕ) (seats : List Seated) (seat : Seated) (more : List Seated) → IsTrue (list_all (is_seat depth) seats) → drop n seats ≡ seat ∷ more → Fits depth seat.query
+pub left_fits : (depth n : ℕ) (seats : List QuerySeat) (seat : QuerySeat) (more : List QuerySeat) → IsTrue (list_all (is_seat depth) seats) → drop n seats ≡ seat ∷ more → Fits depth seat.query
 left_fits depth zero [] seat more all e = absurd cc
 left_fits depth zero (x ∷ seats) seat more all e =
     let same : x ≡ seat = cc in
-    let is = subst (λ (s : Seated). IsTrue (is_seat depth s)) same (and_parts (is_seat depth x) (list_all (is_seat depth) seats) all).0 in
-    fits-asked depth seat.query (and_parts (can_be_asked depth seat.query) (length seat.block == depth) is).0
+    let is = subst (λ (s : QuerySeat). IsTrue (is_seat depth s)) same (and_parts (is_seat depth x) (list_all (is_seat depth) seats) all).0 in
+    fits-asked depth seat.query (and_parts (can_be_asked depth seat.query) (length (block_of seat) == depth) is).0
 left_fits depth (suc n) [] seat more all e = absurd cc
 left_fits depth (suc n) (x ∷ seats) seat more all e = left_fits depth n seats seat more (and_parts (is_seat depth x) (list_all (is_seat depth) seats) all).1 e
 
-module _ (depth : ℕ) (stream : List Update) (query : Query) (block : List ℕ) (old new : Option (List TalkEvent)) (fits : Fits depth query) (legal : IsLegal depth stream) where
-  answered_counts : (answer : Answer) → IsAnswered depth stream query block old new answer → IsCounted depth stream query block old new answer
-  answered_counts answer is = record { replies = is.replies; talk = is.talk; counts = question_counts depth stream query block is.replies answer fits legal is.accepted }
+module _ (version : Version) (depth : ℕ) (stream : List Update) (query : Query) (block : List ℕ) (old new : Option (List TalkEvent)) (fits : Fits depth query) (legal : IsLegal depth stream) where
+  answered_counts : (answer : Answer) → IsAnswered version depth stream query block old new answer → IsCounted version depth stream query block old new answer
+  answered_counts answer is = record { replies = is.replies; talk = is.talk; counts = turn_counts version depth stream query block is.replies answer fits legal is.accepted }
 
-  pub answers_count : (entries : List Entry) (result : Result Verdict SessionFault) → Asks depth stream query block old new entries result → AnswersCount depth stream query block old new entries result
+  pub answers_count : (entries : List Entry) (result : Result Verdict SessionFault) → Asks version depth stream query block old new entries result → AnswersCount version depth stream query block old new entries result
   answers_count entries (Ok (verdicts.Number n)) asks = answered_counts (number n) asks
   answers_count entries (Ok verdicts.Pairs) asks = answered_counts (pairs entries) asks
   answers_count entries (Ok (verdicts.Rejected round reason)) asks = tt

@@ -18,13 +18,12 @@ pub mod QueriesChecked
 pub mod RunTalks
 pub mod StreamPromises
 pub mod QueryPromises
-pub mod LegalRecords
-pub mod CountedQuestions
+pub mod CountedTurns
 pub mod CountedReports
 pub mod Blocks
 pub mod HeardTalks
 pub mod HonestReplies
-pub mod HonestQuestions
+pub mod HonestTurns
 pub mod HonestRuns
 pub mod CompleteRuns
 mod RoomForAnswers

@@ -3,6 +3,7 @@ use Rattle.std.proofs.Common.{◌≡◌, ◌≢◌, ℕ, suc, ◌≤◌, Bool, O
 use Rattle.std.specs.Prelude.{flat_map, ◌⊎◌, if◌then◌else◌, MatchResult}
 use Rattle.std.proofs.lemmas.Bool.Decides.{Decides-eqb}
 use Rattle.std.proofs.lemmas.List.{length-map, map-append}
+use Rattle.sip_wire.specs.declared.version.Version.{Version}
 use Rattle.sip_ports.specs.declared.port.PortStop.{PortStop}
 use Rattle.sip_ports.specs.declared.port.PortStop.TheVariants as port_stops
 use Rattle.sip_ports.specs.declared.port.TalkEvent.{TalkEvent}
@@ -16,41 +17,42 @@ use Rattle.sip_vector.specs.Answers.{Answer}
 use Rattle.sip_wire.specs.declared.message.Message.TheVariants as messages
 use Rattle.sip_wire.specs.declared.message.Reason.{Reason}
 use Rattle.sip_wire.specs.Spelling.{spelling}
+use Rattle.sip_verifier.specs.Tasks.{version_of}
 use Rattle.sip_verifier.specs.declared.status.Port.TheVariants as ports
 use Rattle.sip_verifier.specs.declared.status.Status.{Status}
 use Rattle.sip_verifier.specs.declared.status.Status.TheVariants as statuses
 use Rattle.sip_verifier.specs.declared.task.Task.{Task}
-use Rattle.sip_verifier.specs.Asking.{question_of}
+use Rattle.sip_verifier.specs.Asking.{turn_of}
 use Rattle.sip_verifier.specs.Draws.{drawn, blocks}
 use Rattle.sip_verifier.specs.inside.Ending.{status_of_link}
 use Rattle.sip_replies.specs.Talks.{IsPrefix, ending}
 use Rattle.sip_verifier.specs.Exchanges.{Exchange}
-use Rattle.sip_verifier.specs.Kinds.{KindRow, built, missing, kind_row, Holds}
+use Rattle.sip_verifier.specs.Kinds.{Row, built, missing, row_of, Holds}
 use Rattle.sip_verifier.specs.Moments.{Counts}
 use Rattle.sip_verifier.specs.inside.Progress.{Fails, PassesInPart, FailsInPart, HasNone, AreFirst, Passed, PassedBy, EndsWith, Ended, status_of}
 use Rattle.sip_verifier.specs.Reports.{line, rejection}
 use Rattle.sip_verifier.specs.Statuses.{FaultClause, IsListed}
 use Rattle.sip_verifier.specs.Talks.{stream_sent, bye_sent}
 use Rattle.sip_verifier.specs.TalkClause.{EndsAtFault, IsUnderWay}
-use Rattle.sip_verifier.specs.Questions.{Question, Accepted, Accepts, IsDue, IsFaulty, IsWaiting, said_for, updates, IsLegalToEnd, Done, questions_of, lines, farewell, AreQuestions, Reached}
+use Rattle.sip_verifier.specs.Turns.{Turn, Accepted, Accepts, IsDue, IsFaulty, IsWaiting, said_in_turn, updates, IsLegalToEnd, Done, turns_of, lines, farewell, AreTurns, Reached}
 use Rattle.sip_verifier.specs.VerdictClause.{OneFaulty, PartWritten, PartRejected, CutInLine, NoneLeft}
 use Rattle.sip_verifier.proofs.QueriesChecked.{first_more, flat_map_snoc}
 use Rattle.sip_verifier.proofs.RunTalks.{Adds, said_is, written_is, front_before}
 
--- a question that waits is unfinished
-waits_unfinished : (row : KindRow) (block : List ℕ) (replies : List (List ℕ))
+-- a turn that waits is unfinished
+waits_unfinished : (row : Row) (block : List ℕ) (replies : List (List ℕ))
     → Holds (λ kind. IsDue (kind.protocol block) block replies) row
     → Holds (λ kind. replied.IsUnfinished (kind.protocol block).rules block replies) row
 waits_unfinished (built kind) block replies waits = waits.1
 waits_unfinished missing block replies waits = waits
 
 -- the farewell is one message's spelling
-bye_is : outs (spelling messages.Bye) ≡ bye_sent
-bye_is = ap outs (sym (append-nil (spelling messages.Bye)))
+bye_is : (version : Version) → outs (spelling version messages.Bye) ≡ (bye_sent version)
+bye_is version = ap outs (sym (append-nil (spelling version messages.Bye)))
 
 -- a front of it
-bye_front : (n : ℕ) → IsPrefix (outs (take n (spelling messages.Bye))) bye_sent
-bye_front n = (outs (drop n (spelling messages.Bye)), sym bye_is ∙ ap outs (sym (take-append-drop n (spelling messages.Bye))) ∙ outs-append _ _)
+bye_front : (version : Version) (n : ℕ) → IsPrefix (outs (take n (spelling version messages.Bye))) (bye_sent version)
+bye_front version n = (outs (drop n (spelling version messages.Bye)), sym (bye_is version) ∙ ap outs (sym (take-append-drop n (spelling version messages.Bye))) ∙ outs-append _ _)
 
 -- a fault of the link has its cause
 link_caused : (before now : Counts) (stop : PortStop) → (stop ≡ port_stops.Failed → Rose before.peer now.peer) → FaultClause before now (status_of_link stop)
@@ -62,29 +64,29 @@ regroup a b c d = sym (append_assoc (a ++ b) c d) ∙ ap (λ (l : List TalkEvent
 
 module _ (task : Task) (x : Exchange) where
   abbrev streamed : List TalkEvent
-  streamed = stream_sent task.depth (updates task x)
+  streamed = stream_sent (version_of task) task.depth (updates task x)
 
-  -- a list of questions, said
-  abbrev said : List Question → List TalkEvent
-  said questions = flat_map (said_for task.depth (updates task x)) questions
+  -- a list of turns, said
+  abbrev said : List Turn → List TalkEvent
+  said turns = flat_map (said_in_turn (version_of task) task.depth (updates task x)) turns
 
   -- the seed gave these challenges, and the stream was legal and sent; these queries were accepted, then this was said and this was written
   pub record Came (challenges : List ℕ) (done : Done task x) (rest : List TalkEvent) (part : List ℕ) : Type 0 where
     pub draws : drawn task x.seed ≡ Some challenges
     pub legal : IsLegalToEnd task x
-    pub first : AreFirst task.queries.items (blocks task challenges) (questions_of task x done)
-    pub talk : x.talk ≡ stream_sent task.depth (updates task x) ++ flat_map
-        (said_for task.depth (updates task x)) (questions_of task x done) ++ rest
+    pub first : AreFirst task.queries.items (blocks task challenges) (turns_of task x done)
+    pub talk : x.talk ≡ stream_sent (version_of task) task.depth (updates task x) ++ flat_map
+        (said_in_turn (version_of task) task.depth (updates task x)) (turns_of task x done) ++ rest
     pub report : x.report ≡ lines task x done ++ part
 
   pub came : (challenges : List ℕ) (done : Done task x) (rest : List TalkEvent) (part : List ℕ) (t0 t1 t2 t3 r0 r1 r2 : Option (List TalkEvent)) → drawn task x.seed ≡ Some challenges → IsLegalToEnd task x
-      → Adds t0 t3 x.talk → Adds r0 r2 (outs x.report) → GoesOn t0 t1 (stream_sent task.depth (updates task x)) → Passed task.depth (updates task x) task.queries.items (blocks task challenges) t1 t2 r0 r1 done
+      → Adds t0 t3 x.talk → Adds r0 r2 (outs x.report) → GoesOn t0 t1 (stream_sent (version_of task) task.depth (updates task x)) → Passed (version_of task) task.depth (updates task x) task.queries.items (blocks task challenges) t1 t2 r0 r1 done
       → GoesOn t2 t3 rest → GoesOn r1 r2 (outs part) → Came challenges done rest part
   came challenges done rest part t0 t1 t2 t3 r0 r1 r2 draws legal told wrote went passed goes writes = record {
     draws = draws;
     legal = legal;
     first = passed.first;
-    talk = said_is t0 t3 _ x.talk (GoesOn-trans t0 t2 t3 _ rest (GoesOn-trans t0 t1 t2 streamed (said (questions_of task x done)) went passed.talk) goes) told;
+    talk = said_is t0 t3 _ x.talk (GoesOn-trans t0 t2 t3 _ rest (GoesOn-trans t0 t1 t2 streamed (said (turns_of task x done)) went passed.talk) goes) told;
     report = written_is r0 r2 (lines task x done ++ part) x.report
         (subst (GoesOn r0 r2) (sym (outs-append (lines task x done) part)) (GoesOn-trans r0 r1 r2 (outs (lines task x done)) (outs part) passed.report writes)) wrote;
   }
@@ -96,8 +98,8 @@ module _ (task : Task) (x : Exchange) where
     good : (drawn task x.seed ≢ None) × IsLegalToEnd task x
     good = (is_drawn, c.legal)
 
-    reached : Reached task x (questions_of task x done) rest
-    reached = record { are_questions = record { challenges = challenges; drawn = c.draws; queries = c.first.asked; blocks = c.first.at_blocks }; legal = c.legal; talk = c.talk }
+    reached : Reached task x (turns_of task x done) rest
+    reached = record { are_turns = record { challenges = challenges; drawn = c.draws; queries = c.first.asked; blocks = c.first.at_blocks }; legal = c.legal; talk = c.talk }
 
     -- this is the query behind those that were accepted
     pub record Next (query : Query) (block : List ℕ) : Type 0 where
@@ -106,145 +108,145 @@ module _ (task : Task) (x : Exchange) where
       pub asks : drop (length done) task.queries.items ≡ query ∷ more
       pub at : drop (length done) (blocks task challenges) ≡ block ∷ others
 
-    are_questions : {query : Query} {block : List ℕ} (replies : List (List ℕ)) → Next query block → AreQuestions task x (questions_of task x done ++ question_of query block replies ∷ [])
-    are_questions {query = query} {block = block} replies next =
-        let count : length (questions_of task x done) ≡ length done = length-map done (λ (a : Accepted task.depth (updates task x)). a.question) in
-        let first : AreFirst task.queries.items (blocks task challenges) (questions_of task x done ++ question_of query block replies ∷ []) =
-        first_more task.queries.items next.more (blocks task challenges) next.others (questions_of task x done) query block replies c.first (ap (λ (n : ℕ). drop n task.queries.items) count ∙ next.asks)
+    are_turns : {query : Query} {block : List ℕ} (replies : List (List ℕ)) → Next query block → AreTurns task x (turns_of task x done ++ turn_of query block replies ∷ [])
+    are_turns {query = query} {block = block} replies next =
+        let count : length (turns_of task x done) ≡ length done = length-map done (λ (a : Accepted (version_of task) task.depth (updates task x)). a.turn) in
+        let first : AreFirst task.queries.items (blocks task challenges) (turns_of task x done ++ turn_of query block replies ∷ []) =
+        first_more task.queries.items next.more (blocks task challenges) next.others (turns_of task x done) query block replies c.first (ap (λ (n : ℕ). drop n task.queries.items) count ∙ next.asks)
         (ap (λ (n : ℕ). drop n (blocks task challenges)) count ∙ next.at) in
         record { challenges = challenges; drawn = c.draws; queries = first.asked; blocks = first.at_blocks }
 
-    were_reached : (done ≡ []) ⊎ ((end : List TalkEvent) × Reached task x (questions_of task x done) end)
+    were_reached : (done ≡ []) ⊎ ((end : List TalkEvent) × Reached task x (turns_of task x done) end)
     were_reached = inr (rest, reached)
 
     module _ {query : Query} {block : List ℕ} (next : Next query block) (replies : List (List ℕ)) where
-      abbrev question : Question
-      question = question_of query block replies
+      abbrev turn : Turn
+      turn = turn_of query block replies
 
-      abbrev all_questions : List Question
-      all_questions = questions_of task x done ++ question ∷ []
+      abbrev all_turns : List Turn
+      all_turns = turns_of task x done ++ turn ∷ []
 
-      -- with that query's question
-      reached_more : (end : List TalkEvent) → rest ≡ said_for task.depth
-          (updates task x) question ++ end → Reached task x all_questions end
+      -- with that query's turn
+      reached_more : (end : List TalkEvent) → rest ≡ said_in_turn (version_of task) task.depth
+          (updates task x) turn ++ end → Reached task x all_turns end
       reached_more end is = record {
-        are_questions = are_questions replies next;
+        are_turns = are_turns replies next;
         legal = c.legal;
-        talk = c.talk ∙ ap (λ (l : List TalkEvent). streamed ++ said (questions_of task x done) ++ l) is
-            ∙ regroup streamed (said (questions_of task x done))
-            (said_for task.depth (updates task x) question) end
+        talk = c.talk ∙ ap (λ (l : List TalkEvent). streamed ++ said (turns_of task x done) ++ l) is
+            ∙ regroup streamed (said (turns_of task x done))
+            (said_in_turn (version_of task) task.depth (updates task x) turn) end
             ∙ ap (λ (l : List TalkEvent). streamed ++ l ++ end)
-            (sym (flat_map_snoc (said_for task.depth (updates task x))
-            (questions_of task x done) question));
+            (sym (flat_map_snoc (said_in_turn (version_of task) task.depth (updates task x))
+            (turns_of task x done) turn));
       }
 
       -- ---- its replies have a fault
 
-      module _ (round : ℕ) (reason : Reason) (faulty : IsFaulty task.depth (updates task x) question
+      module _ (round : ℕ) (reason : Reason) (faulty : IsFaulty (version_of task) task.depth (updates task x) turn
           (record { round = round; reason = reason }))
-          (is : rest ≡ said_for task.depth (updates task x) question ++ ending reason) where
+          (is : rest ≡ said_in_turn (version_of task) task.depth (updates task x) turn ++ ending reason) where
         ends_at_fault : EndsAtFault task x (record { round = round; reason = reason })
-        ends_at_fault = record { done = done; last = question; faulty = faulty; reached = reached_more (ending reason) is }
+        ends_at_fault = record { done = done; last = turn; faulty = faulty; reached = reached_more (ending reason) is }
 
         one_faulty : part ≡ rejection (suc (length done)) round reason → OneFaulty task x (suc (length done)) round reason
         one_faulty all = record {
           done = done;
           number = refl;
-          last = question;
+          last = turn;
           faulty = faulty;
           reached = reached_more (ending reason) is;
           report = c.report ∙ ap (λ (l : List ℕ). lines task x done ++ l) all;
         }
 
         part_rejected : IsPrefix part (rejection (suc (length done)) round reason) → PartRejected task x done part
-        part_rejected front = record { last = question; fault = record { round = round; reason = reason }; faulty = faulty; reached = reached_more (ending reason) is; front = front }
+        part_rejected front = record { last = turn; fault = record { round = round; reason = reason }; faulty = faulty; reached = reached_more (ending reason) is; front = front }
 
       -- ---- its replies are accepted, and nothing was said since
 
-      module _ (answer : Answer) (accepts : Accepts task.depth (updates task x) question answer)
-          (is : rest ≡ said_for task.depth (updates task x) question ++ []) where
-        abbrev one : Accepted task.depth (updates task x)
-        one = record { question = question; answer = answer; accepts = accepts }
+      module _ (answer : Answer) (accepts : Accepts (version_of task) task.depth (updates task x) turn answer)
+          (is : rest ≡ said_in_turn (version_of task) task.depth (updates task x) turn ++ []) where
+        abbrev one : Accepted (version_of task) task.depth (updates task x)
+        one = record { turn = turn; answer = answer; accepts = accepts }
 
         part_written : IsPrefix part (line query answer) → PartWritten task x done part
         part_written front = record { next = one; reached = reached_more [] is; front = front }
 
-        with_one : questions_of task x (done ++ one ∷ []) ≡ all_questions
-        with_one = map-append (λ (a : Accepted task.depth (updates task x)). a.question) done (one ∷ [])
+        with_one : turns_of task x (done ++ one ∷ []) ≡ all_turns
+        with_one = map-append (λ (a : Accepted (version_of task) task.depth (updates task x)). a.turn) done (one ∷ [])
 
-        -- the talk is that of all questions
-        talk_is : streamed ++ said all_questions ≡ x.talk
+        -- the talk is that of all turns
+        talk_is : streamed ++ said all_turns ≡ x.talk
         talk_is = let r = reached_more [] is in sym (r.talk ∙ append-nil _)
 
         way_accepted : IsUnderWay task x
         way_accepted = record {
           done = done ++ one ∷ [];
-          reached = inr ([], subst (λ (ts : List Question). Reached task x ts []) (sym with_one) (reached_more [] is));
+          reached = inr ([], subst (λ (ts : List Turn). Reached task x ts []) (sym with_one) (reached_more [] is));
           current = None;
           unfinished = tt;
-          questions = λ _. subst (AreQuestions task x) (sym (append-nil _ ∙ with_one)) (are_questions replies next);
+          turns = λ _. subst (AreTurns task x) (sym (append-nil _ ∙ with_one)) (are_turns replies next);
           order = (
             farewell task x (done ++ one ∷ []),
-            ap (λ (ts : List Question). streamed ++ said ts ++ farewell task x (done ++ one ∷ [])) (append-nil _ ∙ with_one) ∙ ap (λ (l : List TalkEvent). l ++ farewell task x (done ++ one ∷ [])) talk_is,
+            ap (λ (ts : List Turn). streamed ++ said ts ++ farewell task x (done ++ one ∷ [])) (append-nil _ ∙ with_one) ∙ ap (λ (l : List TalkEvent). l ++ farewell task x (done ++ one ∷ [])) talk_is,
           );
           legal = λ not. absurd (not c.legal);
-          written = λ more. absurd (more ([], ap (λ (ts : List Question). streamed ++ said ts) with_one ∙ talk_is ∙ sym (append-nil x.talk)));
+          written = λ more. absurd (more ([], ap (λ (ts : List Turn). streamed ++ said ts) with_one ∙ talk_is ∙ sym (append-nil x.talk)));
         }
 
       -- ---- it waits for replies, and nothing was written
 
-      module _ (waits : IsWaiting task.depth (updates task x) question)
-          (order : IsPrefix rest (said_for task.depth (updates task x) question))
+      module _ (waits : IsWaiting (version_of task) task.depth (updates task x) turn)
+          (order : IsPrefix rest (said_in_turn (version_of task) task.depth (updates task x) turn))
           (blank : part ≡ []) where
         only_lines : x.report ≡ lines task x done
         only_lines = c.report ∙ ap (λ (l : List ℕ). lines task x done ++ l) blank ∙ append-nil _
 
-        front_of_questions : IsPrefix x.talk (streamed ++ said all_questions)
-        front_of_questions = (
+        front_of_turns : IsPrefix x.talk (streamed ++ said all_turns)
+        front_of_turns = (
           order.0,
           ap (λ (l : List TalkEvent). streamed ++ l)
-              (flat_map_snoc (said_for task.depth (updates task x)) (questions_of task x done) question)
-              ∙ ap (λ (l : List TalkEvent). streamed ++ (said (questions_of task x done) ++ l)) order.1
-              ∙ sym (append_assoc streamed (said (questions_of task x done)) (rest ++ order.0)) ∙ sym (append_assoc (streamed ++ said (questions_of task x done)) rest order.0)
+              (flat_map_snoc (said_in_turn (version_of task) task.depth (updates task x)) (turns_of task x done) turn)
+              ∙ ap (λ (l : List TalkEvent). streamed ++ (said (turns_of task x done) ++ l)) order.1
+              ∙ sym (append_assoc streamed (said (turns_of task x done)) (rest ++ order.0)) ∙ sym (append_assoc (streamed ++ said (turns_of task x done)) rest order.0)
               ∙ ap (λ (l : List TalkEvent). l ++ order.0) (sym c.talk),
         )
 
-        in_order : IsPrefix x.talk (streamed ++ said all_questions ++ farewell task x done)
-        in_order = front_before x.talk (streamed ++ said all_questions) (farewell task x done) front_of_questions
+        in_order : IsPrefix x.talk (streamed ++ said all_turns ++ farewell task x done)
+        in_order = front_before x.talk (streamed ++ said all_turns) (farewell task x done) front_of_turns
 
         way_waiting : IsUnderWay task x
         way_waiting = record {
           done = done;
           reached = were_reached;
-          current = Some question;
-          unfinished = waits_unfinished (kind_row task.depth (updates task x) query) block replies
+          current = Some turn;
+          unfinished = waits_unfinished (row_of (version_of task) task.depth (updates task x) query) block replies
               waits;
-          questions = λ _. are_questions replies next;
+          turns = λ _. are_turns replies next;
           order = in_order;
           legal = λ not. absurd (not c.legal);
           written = λ _. only_lines;
         }
 
         none_left : NoneLeft task x
-        none_left = record { done = done; current = Some question; waits = waits; reached = were_reached; order = in_order; report = only_lines }
+        none_left = record { done = done; current = Some turn; waits = waits; reached = were_reached; order = in_order; report = only_lines }
 
     -- ---- every query was accepted
 
-    farewell_is : length done ≡ length task.queries.items → farewell task x done ≡ bye_sent
-    farewell_is all = ap (λ (b : Bool). if b then bye_sent else []) ((Decides-eqb (length done) (length task.queries.items)).1 all)
+    farewell_is : length done ≡ length task.queries.items → farewell task x done ≡ (bye_sent (version_of task))
+    farewell_is all = ap (λ (b : Bool). if b then (bye_sent (version_of task)) else []) ((Decides-eqb (length done) (length task.queries.items)).1 all)
 
     module _ (all : length done ≡ length task.queries.items) (blank : part ≡ []) where
       all_lines : x.report ≡ lines task x done
       all_lines = c.report ∙ ap (λ (l : List ℕ). lines task x done ++ l) blank ∙ append-nil _
 
-      module _ (front : IsPrefix rest bye_sent) where
-        order_at_bye : IsPrefix x.talk (streamed ++ said (questions_of task x done ++ []) ++ farewell task x done)
+      module _ (front : IsPrefix rest (bye_sent (version_of task))) where
+        order_at_bye : IsPrefix x.talk (streamed ++ said (turns_of task x done ++ []) ++ farewell task x done)
         order_at_bye = (
           front.0,
-          ap (λ (ts : List Question). streamed ++ said ts ++ farewell task x done)
-              (append-nil (questions_of task x done)) ∙ ap (λ (l : List TalkEvent). streamed ++ said
-              (questions_of task x done) ++ l) (farewell_is all ∙ front.1)
-              ∙ sym (append_assoc (streamed ++ said (questions_of task x done)) rest front.0) ∙ ap (λ (l : List TalkEvent). l ++ front.0) (sym c.talk),
+          ap (λ (ts : List Turn). streamed ++ said ts ++ farewell task x done)
+              (append-nil (turns_of task x done)) ∙ ap (λ (l : List TalkEvent). streamed ++ said
+              (turns_of task x done) ++ l) (farewell_is all ∙ front.1)
+              ∙ sym (append_assoc (streamed ++ said (turns_of task x done)) rest front.0) ∙ ap (λ (l : List TalkEvent). l ++ front.0) (sym c.talk),
         )
 
         way_at_bye : IsUnderWay task x
@@ -253,7 +255,7 @@ module _ (task : Task) (x : Exchange) where
           reached = were_reached;
           current = None;
           unfinished = tt;
-          questions = λ _. subst (AreQuestions task x) (sym (append-nil _)) reached.are_questions;
+          turns = λ _. subst (AreTurns task x) (sym (append-nil _)) reached.are_turns;
           order = order_at_bye;
           legal = λ not. absurd (not c.legal);
           written = λ _. all_lines;
@@ -273,9 +275,9 @@ module _ (task : Task) (x : Exchange) where
         }
 
       -- all went well
-      pub at_end : (before now : Counts) → rest ≡ bye_sent → x.unread ≡ [] → Ended task x before now statuses.Accepted
+      pub at_end : (before now : Counts) → rest ≡ (bye_sent (version_of task)) → x.unread ≡ [] → Ended task x before now statuses.Accepted
       at_end before now is read =
-          let whole : Reached task x (questions_of task x done) bye_sent = subst (Reached task x (questions_of task x done)) is reached in
+          let whole : Reached task x (turns_of task x done) (bye_sent (version_of task)) = subst (Reached task x (turns_of task x done)) is reached in
           record {
             verdict = record { done = done; all = all; reached = whole; report = all_lines; read = read };
             talk = record { done = done; all = all; reached = whole };
@@ -285,8 +287,8 @@ module _ (task : Task) (x : Exchange) where
   -- ---- a query ended the run
 
   module _ (challenges : List ℕ) (t0 t1 t3 r0 r2 : Option (List TalkEvent)) (draws : drawn task x.seed ≡ Some challenges) (legal : IsLegalToEnd task x)
-      (told : Adds t0 t3 x.talk) (wrote : Adds r0 r2 (outs x.report)) (went : GoesOn t0 t1 (stream_sent task.depth (updates task x))) where
-    module _ {status : Status} (e : EndsWith task.depth (updates task x) task.queries.items (blocks task challenges) t1 t3 r0 r2 status) where
+      (told : Adds t0 t3 x.talk) (wrote : Adds r0 r2 (outs x.report)) (went : GoesOn t0 t1 (stream_sent (version_of task) task.depth (updates task x))) where
+    module _ {status : Status} (e : EndsWith (version_of task) task.depth (updates task x) task.queries.items (blocks task challenges) t1 t3 r0 r2 status) where
       its : {rest : List TalkEvent} {part : List ℕ} → GoesOn e.mid t3 rest → GoesOn e.half r2 (outs part) → Came challenges e.done rest part
       its {rest = rest} {part = part} goes writes = came challenges e.done rest part t0 t1 e.mid t3 r0 e.half r2 draws legal told wrote went e.passed goes writes
 
@@ -294,9 +296,9 @@ module _ (task : Task) (x : Exchange) where
       its_next c = record { more = e.next_query; others = e.next_block; asks = e.asks; at = e.at }
 
       -- its line was not written whole
-      module _ (p : PassesInPart task.depth (updates task x) e.query e.block (suc (length e.done)) e.mid t3 e.half r2) where
-        passing : Came challenges e.done (said_for task.depth (updates task x)
-            (question_of e.query e.block p.answered.replies) ++ []) p.part
+      module _ (p : PassesInPart (version_of task) task.depth (updates task x) e.query e.block (suc (length e.done)) e.mid t3 e.half r2) where
+        passing : Came challenges e.done (said_in_turn (version_of task) task.depth (updates task x)
+            (turn_of e.query e.block p.answered.replies) ++ []) p.part
         passing = its (subst (GoesOn e.mid t3) (sym (append-nil _)) p.answered.talk) p.wrote
 
         written_in_part : PartWritten task x e.done p.part
@@ -309,9 +311,9 @@ module _ (task : Task) (x : Exchange) where
         cut_passing = record { done = e.done; part = p.part; reached = were_reached passing; verdict = inl written_in_part; report = passing.report }
 
       -- the line of its rejection was not written whole
-      module _ (p : FailsInPart task.depth (updates task x) e.query e.block (suc (length e.done)) e.mid t3 e.half r2) where
-        failing : Came challenges e.done (said_for task.depth (updates task x)
-            (question_of e.query e.block p.rejected.replies) ++ ending p.reason) p.part
+      module _ (p : FailsInPart (version_of task) task.depth (updates task x) e.query e.block (suc (length e.done)) e.mid t3 e.half r2) where
+        failing : Came challenges e.done (said_in_turn (version_of task) task.depth (updates task x)
+            (turn_of e.query e.block p.rejected.replies) ++ ending p.reason) p.part
         failing = its p.rejected.talk p.wrote
 
         rejected_in_part : PartRejected task x e.done p.part
@@ -324,7 +326,7 @@ module _ (task : Task) (x : Exchange) where
         cut_failing = record { done = e.done; part = p.part; reached = were_reached failing; verdict = inr rejected_in_part; report = failing.report }
 
       -- it has no verdict
-      module _ (n : HasNone task.depth (updates task x) e.query e.block (suc (length e.done)) e.mid t3 e.half r2) where
+      module _ (n : HasNone (version_of task) task.depth (updates task x) e.query e.block (suc (length e.done)) e.mid t3 e.half r2) where
         waiting : Came challenges e.done n.interrupted.said []
         waiting = its n.interrupted.talk (subst (λ (o : Option (List TalkEvent)). GoesOn e.half o []) (sym n.same) (GoesOn-refl e.half))
 
@@ -335,11 +337,11 @@ module _ (task : Task) (x : Exchange) where
         left_of_none = none_left waiting (its_next waiting) n.interrupted.replies n.interrupted.waits n.interrupted.order refl
 
       -- it was rejected, and the whole line was written
-      rejects : (before now : Counts) (round : ℕ) (reason : Reason) → Fails task.depth (updates task x) e.query e.block (suc (length e.done)) e.mid t3 e.half r2 round reason
+      rejects : (before now : Counts) (round : ℕ) (reason : Reason) → Fails (version_of task) task.depth (updates task x) e.query e.block (suc (length e.done)) e.mid t3 e.half r2 round reason
           → Ended task x before now (statuses.Rejected (suc (length e.done)) round reason)
       rejects before now round reason f =
-          let c : Came challenges e.done (said_for task.depth (updates task x)
-          (question_of e.query e.block f.rejected.replies) ++ ending reason)
+          let c : Came challenges e.done (said_in_turn (version_of task) task.depth (updates task x)
+          (turn_of e.query e.block f.rejected.replies) ++ ending reason)
           (rejection (suc (length e.done)) round reason) = its f.rejected.talk f.wrote in
           record {
             verdict = one_faulty c (its_next c) f.rejected.replies round reason f.rejected.faulty refl refl;
@@ -347,7 +349,7 @@ module _ (task : Task) (x : Exchange) where
             cause = good c;
           }
 
-    pub after_queries : (before now : Counts) (status : Status) → EndsWith task.depth (updates task x) task.queries.items (blocks task challenges) t1 t3 r0 r2 status → FaultClause before now status → Ended task x before now status
+    pub after_queries : (before now : Counts) (status : Status) → EndsWith (version_of task) task.depth (updates task x) task.queries.items (blocks task challenges) t1 t3 r0 r2 status → FaultClause before now status → Ended task x before now status
     after_queries before now (statuses.Rejected number round reason) e cause =
         let checks = e.checks in
         subst (λ (n : ℕ). Ended task x before now (statuses.Rejected n round reason)) (sym checks.0) (rejects e before now round reason checks.1)
@@ -370,18 +372,18 @@ module _ (task : Task) (x : Exchange) where
 
     -- ---- all were accepted, and the farewell was sent, or a front of it
 
-    pub at_bye : (before now : Counts) (t2 : Option (List TalkEvent)) (sent : Result (Unit {0}) PortStop) (r : Result (Unit {0}) Status) → PassedBy task.depth (updates task x) task.queries.items (blocks task challenges) t1 t2 r0 r2 (length task.queries.items)
-        → SendsWhole t2 t3 sent (spelling messages.Bye) → MatchResult r (λ u. sent ≡ Ok u) (λ status. (port : PortStop) × (sent ≡ Err port) × (status ≡ status_of_link port))
+    pub at_bye : (before now : Counts) (t2 : Option (List TalkEvent)) (sent : Result (Unit {0}) PortStop) (r : Result (Unit {0}) Status) → PassedBy (version_of task) task.depth (updates task x) task.queries.items (blocks task challenges) t1 t2 r0 r2 (length task.queries.items)
+        → SendsWhole t2 t3 sent (spelling (version_of task) messages.Bye) → MatchResult r (λ u. sent ≡ Ok u) (λ status. (port : PortStop) × (sent ≡ Err port) × (status ≡ status_of_link port))
         → (sent ≡ Err port_stops.Failed → Rose before.peer now.peer) → x.unread ≡ [] → Ended task x before now (status_of r)
     at_bye before now t2 (Ok u) (Ok v) so goes on cause read =
-        let c : Came challenges so.done (outs (spelling messages.Bye)) [] = came challenges so.done (outs (spelling messages.Bye)) [] t0 t1 t2 t3 r0 r2 r2 draws legal told wrote went so.passed goes (GoesOn-refl r2) in
-        at_end c so.counted refl before now bye_is read
+        let c : Came challenges so.done (outs (spelling (version_of task) messages.Bye)) [] = came challenges so.done (outs (spelling (version_of task) messages.Bye)) [] t0 t1 t2 t3 r0 r2 r2 draws legal told wrote went so.passed goes (GoesOn-refl r2) in
+        at_end c so.counted refl before now bye_is (version_of task) read
     at_bye before now t2 (Ok u) (Err status) so goes (port, is, stops) cause read = absurd cc
     at_bye before now t2 (Err stop) (Ok v) so goes on cause read = absurd cc
     at_bye before now t2 (Err stop) (Err status) so (n, less, goes) (port, is, stops) cause read =
-        let c : Came challenges so.done (outs (take n (spelling messages.Bye))) [] =
-        came challenges so.done (outs (take n (spelling messages.Bye))) [] t0 t1 t2 t3 r0 r2 r2 draws legal told wrote went so.passed goes (GoesOn-refl r2) in
-        subst (Ended task x before now) (sym stops) (after_bye c so.counted refl (bye_front n) before now port (link_caused before now port (λ e. cause (is ∙ ap Err e))))
+        let c : Came challenges so.done (outs (take n (spelling (version_of task) messages.Bye))) [] =
+        came challenges so.done (outs (take n (spelling (version_of task) messages.Bye))) [] t0 t1 t2 t3 r0 r2 r2 draws legal told wrote went so.passed goes (GoesOn-refl r2) in
+        subst (Ended task x before now) (sym stops) (after_bye c so.counted refl (bye_front (version_of task) n) before now port (link_caused before now port (λ e. cause (is ∙ ap Err e))))
 
 -- the farewell's stop has its cause, and is listed
 pub bye_stops : (before now : Counts) (sent : Result (Unit {0}) PortStop) (r : Result (Unit {0}) Status) → MatchResult r (λ u. sent ≡ Ok u) (λ status. (port : PortStop) × (sent ≡ Err port) × (status ≡ status_of_link port))

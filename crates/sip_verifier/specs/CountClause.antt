@@ -16,12 +16,14 @@ use Rattle.sip_wire.specs.declared.message.Reason.{Reason}
 use Rattle.sip_counts.specs.Clauses.{FewAndCounted}
 use Rattle.sip_counts.specs.Strategies.{Strategy, IsOfBytes, fooled}
 use Rattle.sip_replies.specs.Replies.{accepts}
+use Rattle.sip_wire.specs.declared.version.Version.{Version}
 use Rattle.sip_verifier.specs.declared.task.Task.{Task}
+use Rattle.sip_verifier.specs.Tasks.{version_of}
 use Rattle.sip_replies.specs.Talks.{IsPrefix}
 use Rattle.sip_verifier.specs.Exchanges.{Exchange}
 use Rattle.sip_verifier.specs.Kinds.{Kind, OfKind}
 use Rattle.sip_verifier.specs.Reports.{line, rejection}
-use Rattle.sip_verifier.specs.Questions.{Question, updates, Reached}
+use Rattle.sip_verifier.specs.Turns.{Turn, updates, Reached}
 
 -- ---- one query
 
@@ -34,48 +36,48 @@ abbrev pub bound_of : ℕ → Kind → ℕ
 bound_of depth kind = kind.chances * depth
 
 -- no helper has a wrong answer to this query accepted at more blocks than c·d·p^(d - 1)
-abbrev pub FewFor : ℕ → List Update → Query → Type 0
-FewFor depth stream query = OfKind depth stream query (λ kind.
+abbrev pub FewFor : Version → ℕ → List Update → Query → Type 0
+FewFor version depth stream query = OfKind version depth stream query (λ kind.
     (strategy : Strategy) → IsOfBytes strategy
     → fooled m61_modulus depth (accepts_in kind) kind.is_right strategy
     ≤ bound_of depth kind * m61_modulus ^ (depth - 1))
 
--- what a call that writes this answer for a question promises of a helper that lies
-abbrev pub CountsFor : ℕ → List Update → Question → Answer → Type 0
-CountsFor depth stream q written = OfKind depth stream q.query (λ kind.
+-- what a call that writes this answer for a turn promises of a helper that lies
+abbrev pub CountsFor : Version → ℕ → List Update → Turn → Answer → Type 0
+CountsFor version depth stream t written = OfKind version depth stream t.query (λ kind.
     FewAndCounted m61_modulus depth (bound_of depth kind)
-    (accepts_in kind) kind.is_right q.block q.replies (Some written)
-    (answer depth stream q.query))
+    (accepts_in kind) kind.is_right t.block t.replies (Some written)
+    (answer depth stream t.query))
 
 -- ---- a run
 
--- an answer that a line has, and the question that it is the answer to
+-- an answer that a line has, and the turn that it is the answer to
 pub record Written : Type 0 where
-  pub question : Question
+  pub turn : Turn
   pub answer : Answer
 
--- their questions
-abbrev pub questions_written : List Written → List Question
-questions_written lines = map (λ w. w.question) lines
+-- their turns
+abbrev pub turns_written : List Written → List Turn
+turns_written lines = map (λ w. w.turn) lines
 
 -- the lines of answers
 abbrev pub lines_written : List Written → List ℕ
-lines_written lines = flat_map (λ w. line w.question.query w.answer) lines
+lines_written lines = flat_map (λ w. line w.turn.query w.answer) lines
 
 -- nothing, or the line of a rejection
 abbrev pub IsRejection : List ℕ → Type 0
 IsRejection bytes = (bytes ≡ []) ⊎ ((query round : ℕ) × (reason : Reason) × (bytes ≡ rejection query round reason))
 
 module _ (task : Task) (x : Exchange) where
-  -- the talk has these questions, and perhaps one more
-  abbrev pub AreInTalk : List Question → Type 0
-  AreInTalk questions = (questions ≡ []) ⊎ ((after : Option Question) × (rest : List TalkEvent) × Reached task x (questions ++ option_to_list after) rest)
+  -- the talk has these turns, and perhaps one more
+  abbrev pub AreInTalk : List Turn → Type 0
+  AreInTalk turns = (turns ≡ []) ⊎ ((after : Option Turn) × (rest : List TalkEvent) × Reached task x (turns ++ option_to_list after) rest)
 
   pub record CountClause : Type 0 where
-    pub few : All (FewFor task.depth (updates task x)) task.queries.items
+    pub few : All (FewFor (version_of task) task.depth (updates task x)) task.queries.items
     pub lines : List Written
-    pub questions : AreInTalk (questions_written lines)
+    pub turns : AreInTalk (turns_written lines)
     pub rejected : List ℕ
     pub is_rejection : IsRejection rejected
     pub report : IsPrefix x.report (lines_written lines ++ rejected)
-    pub counted : All (λ w. CountsFor task.depth (updates task x) w.question w.answer) lines
+    pub counted : All (λ w. CountsFor (version_of task) task.depth (updates task x) w.turn w.answer) lines

@@ -1,7 +1,6 @@
 -- What only the contracts of private functions cite: no promise rests on a reading of it.
-pub mod Running
 pub mod Drawing
 pub mod Sending
-pub mod Judging
+pub mod Questions
 pub mod Ending
 pub mod Progress

@@ -1,16 +1,18 @@
 //! The queries of a run, asked one after another.
 
-ghost use Rattle.std.specs.Prelude.{◌≡◌, ◌≢◌, ◌<◌, ◌≤◌, ◌^◌, ℕ, List, [], ◌∷◌, true, false, length, drop, vec_len, IsTrue};
+ghost use Rattle.std.specs.Prelude.{◌≡◌, ◌≢◌, ◌<◌, ◌≤◌, ◌^◌, All, ℕ, List, [], ◌∷◌, true, false, length, drop, vec_len, IsTrue};
 ghost use Rattle.std.specs.List.{list_all};
 ghost use Rattle.sip_ports.specs.Ports.{Lasts, Rose};
 ghost use Rattle.sip_vector.specs.declared.query.Query.{Query as AnyQuery};
 ghost use Rattle.sip_vector.specs.declared.update.Update.{Update as AnyUpdate};
 ghost use Rattle.sip_vector.specs.Answers.{Fits};
 ghost use Rattle.sip_vector.specs.Streams.{IsLegal};
+ghost use Rattle.sip_wire.specs.Versions.{Speaks, deepest, speaks};
 ghost use Rattle.sip_verifier.specs.Asking.{AnswersCount, Asks};
-ghost use Rattle.sip_verifier.specs.inside.Judging.{has_places};
+ghost use Rattle.sip_verifier.specs.inside.Questions.{has_room};
+ghost use Rattle.sip_verifier.specs.declared.seat.QuerySeat.{QuerySeat as AnySeat};
 ghost use Rattle.sip_verifier.specs.NextSeat.{IsNext};
-ghost use Rattle.sip_verifier.specs.QuerySeats.{Seated};
+ghost use Rattle.sip_verifier.specs.QuerySeats.{block_of};
 ghost use Rattle.sip_verifier.specs.Sittings.{Starts, is_over};
 
 use crate::Seats;
@@ -18,12 +20,10 @@ use crate::asking::{ask_seat, found_in, verdict_of};
 use crate::seat::QuerySeat;
 use sip_ports::{Link, Sink};
 use sip_vector::{Entry, Query};
-use sip_wire::{Frame, Reason};
+use sip_subvec::MOST_ENTRIES;
+use sip_wire::{Frame, Reason, Version};
 use std::alloc::Global;
 use std::marker::Model;
-
-/// How many entries an answer may have.
-const MOST_ENTRIES: u64 = 65536;
 
 /// Why there is no session.
 #[derive(Clone, Copy, Debug, PartialEq, Eq)]
@@ -61,6 +61,7 @@ pub enum SessionFault {
 #[derive(Drop)]
 pub struct Session {
     seats: Seats,
+    version: Version,
     // The number of queries that were asked.
     asked: usize,
     frame: Frame,
@@ -69,8 +70,10 @@ pub struct Session {
     found: usize,
     is_spent: bool,
     ghost within: { asked ≤ length seats.seats },
+    ghost shallow: { seats.depth ≤ deepest version },
+    ghost spoken: { IsTrue (list_all (λ s. speaks version s.query) seats.seats) },
     ghost shown: { found ≤ vec_len entries },
-    ghost room: { IsTrue (list_all (λ s. has_places (vec_len entries) s.query) seats.seats) },
+    ghost room: { IsTrue (list_all (λ s. has_room (vec_len entries) s.query) seats.seats) },
 }
 
 impl Model for Session {
@@ -79,12 +82,12 @@ impl Model for Session {
 
     ghost Value = { Sitting };
 
-    ghost view = { λ s. record { depth = s.seats.depth; left = drop s.asked s.seats.seats; entries = take s.found s.entries.items; spent = s.is_spent } };
+    ghost view = { λ s. record { version = s.version; depth = s.seats.depth; left = drop s.asked s.seats.seats; entries = take s.found s.entries.items; spent = s.is_spent } };
 }
 
 /// How many entries an answer to this query may have.
 fn most_entries_of(query: &Query) -> usize
-    ensures { IsTrue (has_places result query.now) }
+    ensures { IsTrue (has_room result query.now) }
 {
     match query {
         Query::Sub { lo, hi } => (hi.saturating_sub(*lo).min(MOST_ENTRIES - 1) + 1) as usize,
@@ -102,7 +105,7 @@ fn greater(one: usize, other: usize) -> usize
 
 /// How many entries the longest answer of these seats may have.
 fn most_entries(seats: &[QuerySeat]) -> usize
-    ensures { IsTrue (list_all (λ s. has_places result s.query) seats.now) }
+    ensures { IsTrue (list_all (λ s. has_room result s.query) seats.now) }
 {
     let mut most = 0;
     for seat in seats.iter() {
@@ -112,16 +115,17 @@ fn most_entries(seats: &[QuerySeat]) -> usize
 }
 
 impl Session {
-    /// A session that asks the queries of these seats in order.
+    /// A session that asks the queries of these seats in order, in a version in which each can be asked.
     ///
-    /// Takes a frame of 6,661 bytes and 16 bytes for each entry that the longest answer may have, at most 65,536. After that no
+    /// Takes a frame of 8,709 bytes and 16 bytes for each entry that the longest answer may have, at most 65,536. After that no
     /// call takes memory.
     ///
     /// # Errors
     ///
     /// `OutOfMemory`; the seats are then dropped.
-    pub fn new(alloc: Global, seats: Seats) -> Result<Session, SessionStart>
-        ensures { Starts seats result }
+    pub fn new(alloc: Global, version: Version, seats: Seats) -> Result<Session, SessionStart>
+        requires { All (λ s. Speaks version seats.depth s.query) seats.seats }
+        ensures { Starts version seats result }
     {
         let Ok(frame) = Frame::new(alloc) else {
             return Err(SessionStart::OutOfMemory);
@@ -132,6 +136,7 @@ impl Session {
         };
         Ok(Session {
             seats,
+            version,
             asked: 0,
             frame,
             entries,
@@ -158,13 +163,14 @@ impl Session {
     fn judge<L: Link>(&mut self, link: &mut L) -> Result<Verdict, SessionFault>
         requires left { 0 < length self.old.left }
         requires live { self.old.spent ≡ false }
-        ensures asks { (stream : List AnyUpdate) (query : AnyQuery) (seat : Seated)
+        ensures asks { (stream : List AnyUpdate) (query : AnyQuery) (seat : AnySeat)
             → IsNext self.old.depth stream self.old.left query seat
-            → Asks self.old.depth stream query seat.block (L.talk link.old)
+            → Asks self.old.version self.old.depth stream query (block_of seat) (L.talk link.old)
             (L.talk link.new) self.new.entries result }
-        ensures fits { (seat : Seated) (more : List Seated) → self.old.left ≡ seat ∷ more
+        ensures fits { (seat : AnySeat) (more : List AnySeat) → self.old.left ≡ seat ∷ more
             → Fits self.old.depth seat.query }
         ensures next { self.new.left ≡ drop 1 self.old.left }
+        ensures version { self.new.version ≡ self.old.version }
         ensures depth { self.new.depth ≡ self.old.depth }
         ensures spent { self.new.spent ≡ is_over result }
         ensures cleared { is_over result ≡ true → self.new.entries ≡ [] }
@@ -175,7 +181,7 @@ impl Session {
     {
         let seats = self.seats.all();
         let seat = &seats[self.asked];
-        let asked = ask_seat(seat, &mut self.entries, &mut self.frame, link);
+        let asked = ask_seat(self.version, seat, &mut self.entries, &mut self.frame, link);
         self.asked += 1;
         self.found = found_in(self.entries.len(), &asked);
         self.is_spent = asked.is_err();
@@ -200,16 +206,17 @@ impl Session {
     ) -> Result<Verdict, SessionFault>
         requires left { 0 < length self.old.left }
         requires live { self.old.spent ≡ false }
-        ensures asks { (stream : List AnyUpdate) (query : AnyQuery) (seat : Seated)
+        ensures asks { (stream : List AnyUpdate) (query : AnyQuery) (seat : AnySeat)
             → IsNext self.old.depth stream self.old.left query seat
-            → Asks self.old.depth stream query seat.block (L.talk link.old)
+            → Asks self.old.version self.old.depth stream query (block_of seat) (L.talk link.old)
             (L.talk link.new) self.new.entries result }
-        ensures count { (stream : List AnyUpdate) (query : AnyQuery) (seat : Seated)
+        ensures count { (stream : List AnyUpdate) (query : AnyQuery) (seat : AnySeat)
             → IsNext self.old.depth stream self.old.left query seat
             → IsLegal self.old.depth stream
-            → AnswersCount self.old.depth stream query seat.block (L.talk link.old)
+            → AnswersCount self.old.version self.old.depth stream query (block_of seat) (L.talk link.old)
             (L.talk link.new) self.new.entries result }
         ensures next { self.new.left ≡ drop 1 self.old.left }
+        ensures version { self.new.version ≡ self.old.version }
         ensures depth { self.new.depth ≡ self.old.depth }
         ensures spent { self.new.spent ≡ is_over result }
         ensures cleared { is_over result ≡ true → self.new.entries ≡ [] }

@@ -1,0 +1,105 @@
+-- The queries of a run, each with its block of challenges and the reply bytes that were taken.
+use Rattle.std.specs.Prelude.{◌≡◌, ◌==◌, ℕ, List, [], ◌∷◌, ◌++◌, length, take, map, flat_map, Some, None, if◌then◌else◌}
+use Rattle.sip_ports.specs.declared.port.TalkEvent.{TalkEvent}
+use Rattle.sip_vector.specs.declared.query.Query.{Query}
+use Rattle.sip_vector.specs.declared.update.Update.{Update}
+use Rattle.sip_vector.specs.Answers.{Answer}
+use Rattle.sip_stream.specs.Records.{records}
+use Rattle.sip_wire.specs.declared.version.Version.{Version}
+use Rattle.sip_replies.specs.Protocols.{Protocol}
+use Rattle.sip_replies.specs.Replies as general
+use Rattle.sip_replies.specs.Replies.{Fault}
+use Rattle.sip_replies.specs.Talks.{asked_unless}
+use Rattle.sip_verifier.specs.declared.task.Task.{Task}
+use Rattle.sip_verifier.specs.Draws.{drawn, blocks}
+use Rattle.sip_verifier.specs.Exchanges.{Exchange}
+use Rattle.sip_verifier.specs.Kinds.{Row, built, missing, row_of, OfKind}
+use Rattle.sip_verifier.specs.Reports.{line}
+use Rattle.sip_verifier.specs.Tasks.{version_of}
+use Rattle.sip_verifier.specs.Talks.{stream_sent, bye_sent}
+
+pub record Turn : Type 0 where
+  pub query : Query
+  pub block : List ℕ
+  pub replies : List (List ℕ)
+
+-- a reply is due, and none of those that came has a fault so far
+abbrev pub IsDue : {S : Type 0} → Protocol S → List ℕ → List (List ℕ) → Type 0
+IsDue P block replies = (P.unasked ≡ None) × general.IsUnfinished P.rules block replies
+    × general.IsMissing P.rules block replies
+
+-- ---- the states of a turn; a query whose check does not stand here is never asked
+
+-- the replies are accepted, and this is the answer that they state
+abbrev pub Accepts : Version → ℕ → List Update → Turn → Answer → Type 0
+Accepts version depth stream t answer = OfKind version depth stream t.query
+    (λ kind. general.IsAccepted (kind.protocol t.block) t.block t.replies answer)
+
+-- the replies have this fault, and no byte too many was taken
+abbrev pub IsFaulty : Version → ℕ → List Update → Turn → Fault → Type 0
+IsFaulty version depth stream t fault = OfKind version depth stream t.query
+    (λ kind. general.IsFaulty (kind.protocol t.block) t.block t.replies fault)
+
+-- no fault so far
+abbrev pub IsUnfinished : Version → ℕ → List Update → Turn → Type 0
+IsUnfinished version depth stream t = OfKind version depth stream t.query
+    (λ kind. general.IsUnfinished (kind.protocol t.block).rules t.block t.replies)
+
+-- the query has to be asked, there is no fault so far, and a reply is missing or not whole yet
+abbrev pub IsWaiting : Version → ℕ → List Update → Turn → Type 0
+IsWaiting version depth stream t = OfKind version depth stream t.query
+    (λ kind. IsDue (kind.protocol t.block) t.block t.replies)
+
+-- a turn whose replies are accepted
+pub record Accepted (version : Version) (depth : ℕ) (stream : List Update) : Type 0 where
+  pub turn : Turn
+  pub answer : Answer
+  pub accepts : Accepts version depth stream turn answer
+
+-- ---- the turns of a run
+
+-- what was said for a query by its row: nothing, where its answer is known without a reply
+abbrev pub said_by : Row → Turn → List TalkEvent
+said_by (built kind) t = asked_unless (kind.protocol t.block).unasked
+    (kind.protocol t.block).rules.version t.query t.block t.replies
+said_by missing t = []
+
+-- what was said in a turn
+abbrev pub said_in_turn : Version → ℕ → List Update → Turn → List TalkEvent
+said_in_turn version depth stream t = said_by (row_of version depth stream t.query) t
+
+module _ (task : Task) (x : Exchange) where
+  -- the legal records of the stream
+  abbrev pub updates : List Update
+  updates = (records task.depth task.form x.stream).legal
+
+  -- the stream is legal to its end
+  abbrev pub IsLegalToEnd : Type 0
+  IsLegalToEnd = (records task.depth task.form x.stream).fault ≡ None
+
+  abbrev pub Done : Type 0
+  Done = List (Accepted (version_of task) task.depth updates)
+
+  abbrev pub turns_of : Done → List Turn
+  turns_of done = map (λ a. a.turn) done
+
+  abbrev pub lines : Done → List ℕ
+  lines done = flat_map (λ a. line a.turn.query a.answer) done
+
+  -- the farewell, which comes once every query was accepted
+  abbrev pub farewell : Done → List TalkEvent
+  farewell done = if length done == length task.queries.items then bye_sent (version_of task) else []
+
+  -- these are the task's first queries in order, each with its own block of the challenges that the seed gives
+  pub record AreTurns (turns : List Turn) : Type 0 where
+    pub challenges : List ℕ
+    pub drawn : drawn task x.seed ≡ Some challenges
+    pub queries : map (λ t. t.query) turns ≡ take (length turns) task.queries.items
+    pub blocks : map (λ t. t.block) turns ≡ take (length turns) (blocks task challenges)
+
+  -- the whole stream was legal and was sent, and then these turns were taken, and then the rest was said
+  pub record Reached (turns : List Turn) (rest : List TalkEvent) : Type 0 where
+    pub are_turns : AreTurns turns
+    pub legal : IsLegalToEnd
+    pub talk : x.talk ≡ stream_sent (version_of task) task.depth updates ++ flat_map
+        (said_in_turn (version_of task) task.depth updates) turns ++ rest
