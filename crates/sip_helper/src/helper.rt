@@ -11,7 +11,7 @@ ghost use Rattle.sip_helper.specs.Turns.{after_answer, fresh, is_allowed, owed, 
 use crate::OutOfTurn;
 use crate::asked::{Answerer, Asked};
 use crate::heard::Heard;
-use crate::vectors::{Vectors, Weights, grown};
+use crate::vectors::{Vectors, Weights, grown, settled};
 use arrayvec::ArrayVec;
 use sip_ports::{PortStop, Sink};
 use sip_vector::{Depth, Query, Update};
@@ -128,6 +128,7 @@ impl HelperCore {
         let Some(depth) = self.heard.part() else {
             return Err(OutOfTurn);
         };
+        self.vectors = settled(self.vectors.take());
         self.heard = Heard::Whole(depth);
         Ok(())
     }

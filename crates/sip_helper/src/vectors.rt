@@ -88,6 +88,17 @@ impl Vectors {
     }
 }
 
+/// The vectors with nothing pending, so that they are read quickly. They are the same vectors, also where memory is refused:
+/// reads are right then, and slow.
+pub(crate) fn settled(vectors: Option<Vectors>) -> Option<Vectors>
+    ensures { result ≡ vectors }
+{
+    let mut vectors = vectors?;
+    let _ = vectors.first.settle();
+    let _ = vectors.second.settle();
+    Some(vectors)
+}
+
 /// The vectors once these updates are added, where they are still kept; none where memory is refused.
 pub(crate) fn grown(vectors: Option<Vectors>, updates: &[Update]) -> Option<Vectors>
     requires legal { IfSome vectors (λ v. IsTrue (stays_legal v.first.depth
