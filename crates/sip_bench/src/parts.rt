@@ -159,6 +159,7 @@ pub(crate) fn vector(
         let update = stream.next_update(depth);
         vector.add(update.item, update.delta).map_err(to_io)?;
     }
+    vector.settle().map_err(to_io)?;
     let time = start.elapsed(clock)?;
     let line = Line {
         part: Part::Vector,

@@ -4,12 +4,11 @@ use Rattle.std.proofs.lemmas.List.Elements.{All-from_get_or}
 use Rattle.std.specs.Prelude.{◌↔◌}
 use Rattle.sip_ports.proofs.TalkLemmas.{GoesOn-refl}
 use Rattle.sip_stream.specs.declared.form.Form.{Form}
-use Rattle.sip_stream.specs.declared.form.Form.TheVariants.{Text, Wide}
-use Rattle.sip_stream.specs.Layouts.{made_form}
+use Rattle.sip_stream.specs.declared.form.Form.TheVariants.{Binary, Text}
 use Rattle.sip_vector.specs.declared.query.Query.{Query}
 use Rattle.sip_vector.specs.declared.query.Query.TheVariants.{Inner}
 use Rattle.sip_cli.specs.declared.command.Command.{Command}
-use Rattle.sip_cli.specs.declared.command.Command.TheVariants.{Verify, Help, Gen, Lines, Widen}
+use Rattle.sip_cli.specs.declared.command.Command.TheVariants.{Verify, Help, Gen, Lines}
 use Rattle.sip_verifier.specs.declared.status.Status.{Status}
 use Rattle.sip_verifier.specs.declared.status.Status.TheVariants as statuses
 use Rattle.sip_verifier.specs.declared.task.Task.{Task}
@@ -24,7 +23,7 @@ use Rattle.sip_cli.specs.CommandClause.{CommandClause}
 use Rattle.sip_cli.specs.CopyClause.{CopyClause}
 use Rattle.sip_cli.specs.HelpClause.{HelpClause}
 use Rattle.sip_cli.specs.Shapes.{Asks}
-use Rattle.sip_cli.specs.Statuses.{Ends, EndsCopy, EndsHelp, IsCopy}
+use Rattle.sip_cli.specs.Statuses.{Ends, EndsCopy, EndsHelp}
 use Rattle.sip_cli.specs.Words.{word, Spells, IsRefusedAt}
 use Rattle.sip_cli.proofs.Refusals.{refused_once, spelled_not_refused}
 
@@ -52,7 +51,6 @@ ends_otherwise (Verify task) word listed = absurd (true≢false (sym listed))
 ends_otherwise Help word listed = listed
 ends_otherwise (Gen depth) word listed = listed
 ends_otherwise (Lines form depth) word listed = listed
-ends_otherwise (Widen form depth) word listed = listed
 
 pub never_usage : (c : Command) (status : Status) (word : ℕ)
     → Ends c status → status ≡ statuses.Usage word → ⊥
@@ -80,7 +78,6 @@ module _ {before now : Moment} {status : Status} where
     verify = λ other is x t. same_task (let same = is in cc) (k.promises x t);
     made = λ depth is. absurd (let same = is in cc);
     lines = λ form depth is. absurd (let same = is in cc);
-    wide = λ form depth is. absurd (let same = is in cc);
     help = λ is. absurd (let same = is in cc);
     moves = k.moves;
     fault = k.fault;
@@ -95,47 +92,50 @@ module _ {before now : Moment} {status : Status} where
     verify = λ other is. absurd (let same = is in cc);
     made = λ depth is. absurd (let same = is in cc);
     lines = λ form depth is. absurd (let same = is in cc);
-    wide = λ form depth is. absurd (let same = is in cc);
     help = λ is. served;
     moves = moves;
     fault = fault;
     listed = λ command is. subst (λ (c : Command). Ends c status) is listed;
   })
 
-  -- the copy at a depth, from one form to another
-  abbrev pub Copied : ℕ → Form → Form → Type 0
-  Copied depth from to = (bytes : List ℕ) → before.first ≡ Some bytes
-      → CopyClause depth from to bytes now.first before.report now.report status
-
-  -- the copy that a command makes, if it makes one
-  abbrev Kept : Command → Type 0
-  Kept (Verify task) = ⊥
-  Kept Help = ⊥
-  Kept (Gen depth) = Copied depth (made_form depth) (made_form depth)
-  Kept (Lines form depth) = Copied depth form Text
-  Kept (Widen form depth) = Copied depth form Wide
-
-  -- a command that makes one ends as a copy does
-  ends_as_copy : (c : Command) → Kept c → EndsCopy status → Ends c status
-  ends_as_copy (Verify task) copied listed = absurd copied
-  ends_as_copy Help copied listed = absurd copied
-  ends_as_copy (Gen depth) copied listed = listed
-  ends_as_copy (Lines form depth) copied listed = listed
-  ends_as_copy (Widen form depth) copied listed = listed
-
-  pub copy_keeps : {c : Command} (d : Command) → c ≡ d → Kept d
+  pub gen_keeps : {c : Command} (depth : ℕ) → c ≡ Gen depth
+      → ((bytes : List ℕ) → before.first ≡ Some bytes
+      → CopyClause depth Binary Binary bytes now.first before.report now.report status)
       → (IsTold before → (x : Exchange) × Tells before now x)
       → FaultClause before.faults now.faults status → EndsCopy status
       → CommandClause (λ is. c ≡ is) before now status
-  copy_keeps d e copied moves fault listed = subst (λ (c : Command). CommandClause (λ is. c ≡ is) before now status) (sym e) (record {
-    verify = λ task is. absurd (subst Kept is copied);
-    made = λ depth is. subst Kept is copied;
-    lines = λ form depth is. subst Kept is copied;
-    wide = λ form depth is. subst Kept is copied;
-    help = λ is. absurd (subst Kept is copied);
+  gen_keeps depth e copied moves fault listed = subst (λ (c : Command). CommandClause (λ is. c ≡ is) before now status) (sym e) (record {
+    verify = λ other is. absurd (let same = is in cc);
+    made = λ other is bytes told. (
+        let same : depth ≡ other = cc in
+        subst (λ (d : ℕ). CopyClause d Binary Binary bytes now.first before.report now.report status)
+        same (copied bytes told));
+    lines = λ form depth is. absurd (let same = is in cc);
+    help = λ is. absurd (let same = is in cc);
     moves = moves;
     fault = fault;
-    listed = λ command is. subst (λ (c : Command). Ends c status) is (ends_as_copy d copied listed);
+    listed = λ command is. subst (λ (c : Command). Ends c status) is listed;
+  })
+
+  pub lines_keeps : {c : Command} (form : Form) (depth : ℕ) → c ≡ Lines form depth
+      → ((bytes : List ℕ) → before.first ≡ Some bytes
+      → CopyClause depth form Text bytes now.first before.report now.report status)
+      → (IsTold before → (x : Exchange) × Tells before now x)
+      → FaultClause before.faults now.faults status → EndsCopy status
+      → CommandClause (λ is. c ≡ is) before now status
+  lines_keeps form depth e copied moves fault listed = subst (λ (c : Command). CommandClause (λ is. c ≡ is) before now status) (sym e) (record {
+    verify = λ other is. absurd (let same = is in cc);
+    made = λ other is. absurd (let same = is in cc);
+    lines = λ other_form other is bytes told. (
+        let same : depth ≡ other = cc in
+        let like : form ≡ other_form = cc in
+        subst (λ (f : Form). CopyClause other f Text bytes now.first before.report now.report status) like
+        (subst (λ (d : ℕ). CopyClause d form Text bytes now.first before.report now.report status)
+        same (copied bytes told)));
+    help = λ is. absurd (let same = is in cc);
+    moves = moves;
+    fault = fault;
+    listed = λ command is. subst (λ (c : Command). Ends c status) is listed;
   })
 
   -- what a command keeps, it keeps for all who know it by another sign
@@ -145,7 +145,6 @@ module _ {before now : Moment} {status : Status} where
     verify = λ task is. k.verify task (tells (Verify task) is);
     made = λ depth is. k.made depth (tells (Gen depth) is);
     lines = λ form depth is. k.lines form depth (tells (Lines form depth) is);
-    wide = λ form depth is. k.wide form depth (tells (Widen form depth) is);
     help = λ is. k.help (tells Help is);
     moves = k.moves;
     fault = k.fault;
@@ -159,7 +158,6 @@ none_keeps {m = m} word none = record {
   verify = λ task is. absurd (none (Verify task) is);
   made = λ depth is. absurd (none (Gen depth) is);
   lines = λ form depth is. absurd (none (Lines form depth) is);
-  wide = λ form depth is. absurd (none (Widen form depth) is);
   help = λ is. absurd (none Help is);
   moves = λ is. tells m m is (λ some. some) [] (GoesOn-refl _) [] (GoesOn-refl _);
   fault = tt;

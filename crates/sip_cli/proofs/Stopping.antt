@@ -6,18 +6,16 @@ use Rattle.std.proofs.lemmas.List.{length-append, get_or_append_left}
 use Rattle.std.proofs.Math.Seq.{get_or-append_seam}
 use Rattle.sip_vector.specs.declared.query.Query.{Query}
 use Rattle.sip_vector.specs.declared.query.Query.TheVariants.{Inner}
-use Rattle.sip_wire.specs.Table.{most_queries}
 use Rattle.sip_cli.specs.declared.command.Command.{Command}
 use Rattle.sip_cli.specs.declared.shape.Shape.{Shape}
 use Rattle.sip_cli.specs.declared.shape.Shape.TheVariants.{Name}
-use Rattle.sip_cli.specs.declared.stream.Stream.{Stream}
 use Rattle.sip_cli.specs.declared.words.Usage.{Usage}
 use Rattle.sip_cli.specs.declared.verb.Verb.{Verb}
 use Rattle.sip_cli.specs.declared.verb.Verb.TheVariants.{Verify}
-use Rattle.sip_cli.specs.Shapes.{IsOf, IsDepth, IsStreamWord, Asks}
-use Rattle.sip_cli.specs.Verbs.{verb_word, shapes, least_asked, most_asked}
-use Rattle.sip_cli.specs.Words.{word, IsCommandOf, IsRefusedAt}
-use Rattle.sip_cli.specs.inside.Progress.{HaveShapes, StopsInShapes, Fitted, TakesStream, AreAsked, StopsInQueries}
+use Rattle.sip_cli.specs.Shapes.{IsOf, IsDepth, Asks}
+use Rattle.sip_cli.specs.Verbs.{verb_word, shapes, least_asked, most_asked, most_queries}
+use Rattle.sip_cli.specs.Words.{word, IsWhole, IsRefusedAt}
+use Rattle.sip_cli.specs.inside.Progress.{HaveShapes, StopsInShapes, Fitted, AreAsked, StopsInQueries}
 use Rattle.sip_cli.proofs.Beginning.{Begun, refused}
 
 -- a word has one depth
@@ -39,7 +37,7 @@ begun_shapes verb words n first few have = record {
 pub refused_shape : (verb : Verb) (words : List (List ℕ)) (number : ℕ) → word words 0 ≡ verb_word verb → StopsInShapes (shapes verb) words number → IsRefusedAt words number
 refused_shape verb words number first stops =
     let within = stops.within in
-    let least_of = λ (ws : List (List ℕ)) (w : IsCommandOf verb ws). w.least in
+    let least_of = λ (ws : List (List ℕ)) (w : IsWhole verb ws). w.least in
     rw (stops.number_is) (refused verb words (stops.index + 1) (begun_shapes verb words stops.index first (omega arith) stops.before)
     (λ more whole is longer reads. stops.here (rw stops.number_is more) (rw stops.number_is (subst (IsOf (get_or (shapes verb) stops.index Name)) (reads (stops.index + 1) (omega arith)) (is.shaped stops.index within))))
     (λ least is. let enough = is.least in omega arith))
@@ -77,7 +75,7 @@ refused_query words d n fitted deep stops =
     (λ least is. let enough = is.least in let missing = stops.missing least in omega arith)
 
 -- words with all their shapes and no more are whole, where the verb asks no query
-pub whole_end : (verb : Verb) (words : List (List ℕ)) → Fitted verb words → least_asked verb ≡ 0 → length words ≤ 1 + length (shapes verb) → IsCommandOf verb words
+pub whole_end : (verb : Verb) (words : List (List ℕ)) → Fitted verb words → least_asked verb ≡ 0 → length words ≤ 1 + length (shapes verb) → IsWhole verb words
 whole_end verb words fitted none few = record {
   first = fitted.0;
   shaped = fitted.1.1;
@@ -87,7 +85,7 @@ whole_end verb words fitted none few = record {
 }
 
 -- words of `verify` with all their queries are whole
-pub whole_asked : (words : List (List ℕ)) (d : ℕ) (queries : List Query) → Fitted Verify words → IsDepth d (word words 6) → AreAsked words d queries (length words) → 8 ≤ length words → length words ≤ 7 + most_queries → IsCommandOf Verify words
+pub whole_asked : (words : List (List ℕ)) (d : ℕ) (queries : List Query) → Fitted Verify words → IsDepth d (word words 6) → AreAsked words d queries (length words) → 8 ≤ length words → length words ≤ 7 + most_queries → IsWhole Verify words
 whole_asked words d queries fitted deep asked enough few = record {
   first = fitted.0;
   shaped = fitted.1.1;
@@ -131,12 +129,6 @@ pub refused_more : (verb : Verb) (words : List (List ℕ)) (n : ℕ) → Fitted 
 refused_more verb words n fitted none last more =
     let sum : length (shapes verb) + 1 ≡ n = omega arith in
     refused_end verb words n (subst (Begun verb words) sum (begun_shapes verb words (length (shapes verb)) fitted.0 (omega arith) fitted.1)) (omega arith) more
-
--- behind a verb with a stream and a depth stand a stream and a depth
-pub stream_and_depth : (verb : Verb) (words : List (List ℕ)) → TakesStream verb → Fitted verb words → (2 < length words) × ((s : Stream) × IsStreamWord s (word words 1)) × ((d : ℕ) × IsDepth d (word words 2))
-stream_and_depth verb words takes fitted =
-    let have = subst (λ ss. HaveShapes ss words (length ss)) takes.shaped fitted.1 in
-    (have.0, have.1 0 (omega arith), have.1 1 (omega arith))
 
 -- there is no word of a number
 pub no_word : (r : Bool) (n m : ℕ) → IsTrue r ↔ (n < m) → r ≡ false → m ≤ n

@@ -1,8 +1,7 @@
 //! The commands that copy a stream.
 
-ghost use Rattle.std.specs.Prelude.{◌≡◌, ◌≤◌, ℕ, List, Some, IsSome};
+ghost use Rattle.std.specs.Prelude.{◌≡◌, ℕ, List, Some, IsSome};
 ghost use Rattle.sip_ports.specs.Ports.{GoesOn, Lasts, outs};
-ghost use Rattle.sip_stream.specs.Layouts.{deepest_in};
 ghost use Rattle.sip_verifier.specs.Moments.{counts};
 ghost use Rattle.sip_verifier.specs.Statuses.{FaultClause};
 ghost use Rattle.sip_cli.specs.CopyClause.{CopyClause};
@@ -21,7 +20,6 @@ pub(crate) fn copy_stream<A: Source, K: Sink>(
     first: &mut A,
     report: &mut K,
 ) -> Status
-    requires { depth ≤ deepest_in to }
     ensures copied { (bytes : List ℕ) → A.left first.old ≡ Some bytes
         → CopyClause depth from to bytes (A.left first.new) (K.talk report.old)
         (K.talk report.new) result }

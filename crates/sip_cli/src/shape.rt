@@ -5,7 +5,6 @@ ghost use Rattle.sip_cli.specs.Shapes.{IsOf};
 
 use crate::decimal::read_decimal;
 use crate::stream::read_stream;
-use sip_vector::Depth;
 
 /// What one word of a command may be.
 #[derive(Clone, Copy, Debug, PartialEq, Eq)]
@@ -18,8 +17,8 @@ pub(crate) enum Shape {
     NoRecord,
     /// A number up to `most`.
     Number { most: u64 },
-    /// A depth.
-    Depth,
+    /// A depth up to `most`, which is 32 at the most.
+    Depth { most: u64 },
 }
 
 /// A name.
@@ -57,7 +56,7 @@ impl Shape {
             Shape::Stream => read_stream(word).is_some(),
             Shape::NoRecord => word == "-",
             Shape::Number { most } => is_within(word, 0, most),
-            Shape::Depth => is_within(word, 1, Depth::MOST as u64),
+            Shape::Depth { most } => is_within(word, 1, most.min(32)),
         }
     }
 }

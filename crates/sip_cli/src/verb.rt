@@ -5,7 +5,7 @@ ghost use Rattle.sip_cli.specs.declared.verb.Verb.{Verb as AnyVerb};
 ghost use Rattle.sip_cli.specs.Verbs.{verb_word, shapes};
 
 use crate::shape::Shape;
-use sip_stream::MadeSource;
+use crate::stream::MOST_COUNT;
 
 /// What a command is about.
 #[derive(Clone, Copy, Debug, PartialEq, Eq)]
@@ -18,9 +18,10 @@ pub(crate) enum Verb {
     Gen,
     /// To write a stream as lines of text.
     Lines,
-    /// To write a stream as wide records.
-    Widen,
 }
+
+/// The greatest depth.
+const MOST_DEPTH: u64 = 32;
 
 const VERIFY: [Shape; 6] = [
     Shape::Stream,
@@ -28,22 +29,18 @@ const VERIFY: [Shape; 6] = [
     Shape::Name,
     Shape::Name,
     Shape::NoRecord,
-    Shape::Depth,
+    Shape::Depth { most: MOST_DEPTH },
 ];
 
 const HELP: [Shape; 2] = [Shape::Name, Shape::Name];
 
 const GEN: [Shape; 3] = [
     Shape::Number { most: u64::MAX },
-    Shape::Number {
-        most: MadeSource::MOST,
-    },
-    Shape::Depth,
+    Shape::Number { most: MOST_COUNT },
+    Shape::Depth { most: MOST_DEPTH },
 ];
 
-const LINES: [Shape; 2] = [Shape::Stream, Shape::Depth];
-
-const WIDEN: [Shape; 2] = [Shape::Stream, Shape::Depth];
+const LINES: [Shape; 2] = [Shape::Stream, Shape::Depth { most: MOST_DEPTH }];
 
 impl Verb {
     /// The verb that a word is.
@@ -57,7 +54,6 @@ impl Verb {
             "help" => Some(Verb::Help),
             "gen" => Some(Verb::Gen),
             "lines" => Some(Verb::Lines),
-            "widen" => Some(Verb::Widen),
             _ => None,
         }
     }
@@ -71,7 +67,6 @@ impl Verb {
             Verb::Help => &HELP,
             Verb::Gen => &GEN,
             Verb::Lines => &LINES,
-            Verb::Widen => &WIDEN,
         }
     }
 }

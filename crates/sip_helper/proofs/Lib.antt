@@ -9,4 +9,3 @@ pub mod Standing
 pub mod SubVectors
 pub mod Talks
 pub mod Turning
-pub mod Wider

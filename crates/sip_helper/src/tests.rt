@@ -62,7 +62,7 @@ fn a_talk_is_served(rt: HostRuntime) -> Result<(), Fail> {
 }
 
 /// What is received, how it ends, and what is sent.
-const ENDS: [(&[u8], HelpStatus, &[u8]); 14] = [
+const ENDS: [(&[u8], HelpStatus, &[u8]); 11] = [
     // The link ends before the opening, behind it, and inside a frame.
     (&[], HelpStatus::PeerClosed, &[]),
     (&[1, 0, 2, 1, 2], HelpStatus::PeerClosed, &[]),
@@ -76,18 +76,6 @@ const ENDS: [(&[u8], HelpStatus, &[u8]); 14] = [
         HelpStatus::BadFrame { offset: 5 },
         &[],
     ),
-    // Depths that a version has not, and one that version 2 has.
-    (
-        &[1, 0, 2, 1, 33],
-        HelpStatus::BadFrame { offset: 0 },
-        &[],
-    ),
-    (
-        &[1, 0, 2, 2, 49],
-        HelpStatus::BadFrame { offset: 0 },
-        &[],
-    ),
-    (&[1, 0, 2, 2, 48], HelpStatus::PeerClosed, &[]),
     // A challenge, a second opening, a query and the end before the opening, and an item that the depth does not have.
     (
         &[1, 0, 2, 1, 2, 5, 0, 8, 0, 0, 0, 0, 0, 0, 0, 2],

@@ -90,7 +90,10 @@ pub(crate) fn receive<L: Link, K: Keeper>(
         → Rose (K.faults keep.old) (K.faults keep.new) }
     ensures free { K.is_free → result ≢ Err ReplyStop.KeepOutOfMemory }
 {
-    match decode(link, place, version, frame) {
+    let received = match version {
+        Version::One => decode(link, place, frame),
+    };
+    match received {
         Err(WireFault::PeerFault) => Err(ReplyStop::PeerFault),
         Err(WireFault::OutOfMemory) => Err(ReplyStop::OutOfMemory),
         judged => {

@@ -1,4 +1,3 @@
-pub mod Layouts
 pub mod Lines
 pub mod Records
 pub mod Spellings

@@ -1,15 +1,10 @@
--- A stream that is made from a number: a linear congruential generator modulo 2^64, and the
--- records that its states say.
+-- A stream that is made from a number: a linear congruential generator modulo 2^64, and the records that its states say.
 use Rattle.std.specs.Prelude.{ℕ, zero, suc, ◌+◌, ◌*◌, ◌/◌, ◌%◌, ◌^◌, ◌==◌, ℤ, pos, List, [], ◌∷◌, if◌then◌else◌}
+use Rattle.std.specs.List.{flat_map}
 use Rattle.sip_vector.specs.declared.update.Side.{Side}
 use Rattle.sip_vector.specs.declared.update.Side.TheVariants.{First, Second}
 use Rattle.sip_vector.specs.declared.update.Update.{Update}
-use Rattle.sip_stream.specs.Layouts.{made_form}
-use Rattle.sip_stream.specs.Spellings.{all_spelled}
-
--- the most records of a made stream
-abbrev pub most_made : ℕ
-most_made = 10000000
+use Rattle.sip_stream.specs.Spellings.{record_bytes}
 
 -- the state after x
 unfoldable pub next_state : ℕ → ℕ
@@ -19,8 +14,8 @@ next_state x = (x * 6364136223846793005 + 1442695040888963407) % 2 ^ 64
 unfoldable pub made_side : ℕ → Side
 made_side x = if x / 2 ^ 63 == 0 then First else Second
 
--- The item is the bits from 15 on, as many as there are levels; but where bits 8 and 9 are 0 it is
--- bit 15 alone, so items 0 and 1 are heavy.
+-- The item is the bits from 15 on, as many as there are levels; but where bits 8 and 9 are 0 it is bit 15 alone, so
+-- items 0 and 1 are heavy.
 unfoldable pub made_item : ℕ → ℕ → ℕ
 made_item depth x = if x / 2 ^ 8 % 4 == 0 then x / 2 ^ 15 % 2 else x / 2 ^ 15 % 2 ^ depth
 
@@ -37,6 +32,6 @@ abbrev pub made : ℕ → ℕ → ℕ → List Update
 made x zero depth = []
 made x (suc count) depth = made_update depth (next_state x) ∷ made (next_state x) count depth
 
--- their records, in the form of the depth
+-- their records
 abbrev pub made_bytes : ℕ → ℕ → ℕ → List ℕ
-made_bytes x count depth = all_spelled (made_form depth) (made x count depth)
+made_bytes x count depth = flat_map record_bytes (made x count depth)

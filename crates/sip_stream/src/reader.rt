@@ -5,13 +5,11 @@ ghost use Rattle.std.specs.Result.{is_err};
 ghost use Rattle.sip_ports.specs.Ports.{HasCause, Lasts, Rose};
 ghost use Rattle.sip_vector.specs.declared.update.Update.{Update};
 ghost use Rattle.sip_stream.specs.declared.why.Why.{Why};
-ghost use Rattle.sip_stream.specs.Layouts.{layout_of};
 ghost use Rattle.sip_stream.specs.Pieces.{ReadsPiece};
 ghost use Rattle.sip_stream.specs.Reading.{IsAfter, HasRoom, GoesOnAfter, Reads, room, unread, weight_of};
 ghost use Rattle.sip_stream.specs.Records.{update_fault};
 
 use crate::line_reader::next_line;
-use crate::record_bytes::{NARROW, WIDE};
 use crate::record_reader::next_record;
 use crate::{Form, StreamFault, Why};
 use sip_ports::{PortStop, Source};
@@ -41,26 +39,11 @@ impl Model for Reader {
 
     ghost Value = { Reading };
 
-    ghost view = { λ r. record {
-      depth = r.depth;
-      form = r.form;
-      count = r.count;
-      first = r.first;
-      second = r.second;
-      is_spent = r.is_spent;
-    } };
+    ghost view = { λ r. record { depth = r.depth; form = r.form; count = r.count; first = r.first; second = r.second; is_spent = r.is_spent } };
 
-    ghost invariant = { λ r. (r.first ≤ most_weight) × (r.second ≤ most_weight)
-        × (r.count ≤ r.first + r.second) };
+    ghost invariant = { λ r. (r.first ≤ most_weight) × (r.second ≤ most_weight) × (r.count ≤ r.first + r.second) };
 
-    ghost inverse = { λ r. record {
-      depth = r.depth;
-      form = r.form;
-      count = r.count;
-      first = r.first;
-      second = r.second;
-      is_spent = r.is_spent;
-    } };
+    ghost inverse = { λ r. record { depth = r.depth; form = r.form; count = r.count; first = r.first; second = r.second; is_spent = r.is_spent } };
 }
 
 impl Reader {
@@ -191,14 +174,13 @@ fn next_piece<S: Source>(
     source: &mut S,
 ) -> Result<Option<Result<Update, Why>>, PortStop>
     ensures reads { (bytes : List ℕ) → S.left source.old ≡ Some bytes
-        → ReadsPiece (layout_of form) bytes (S.left source.new) result }
+        → ReadsPiece form bytes (S.left source.new) result }
     ensures told { IsSome (S.left source.old) → IsSome (S.left source.new) }
     ensures cause { HasCause S.faults S.is_sure source.old source.new result }
 {
     match form {
-        Form::Binary => next_record::<NARROW, S>(source),
+        Form::Binary => next_record(source),
         Form::Text => next_line(source),
-        Form::Wide => next_record::<WIDE, S>(source),
     }
 }
 

@@ -1,3 +1,7 @@
+pub mod FirstReply
+pub mod LaterReply
+pub mod Fronts
+pub mod Verdicts
 pub mod Provers
 pub mod Windows
 pub mod Halvings
@@ -6,7 +10,6 @@ pub mod HonestFrames
 pub mod HonestReading
 pub mod HonestStates
 pub mod HonestStreams
-pub mod HonestSpellings
 pub mod HonestLaws
 pub mod HonestFronts
 pub mod WeightedFolds
@@ -16,15 +19,13 @@ pub mod Stretches
 pub mod WrongLevels
 pub mod StatedEntries
 pub mod WrongEntries
-pub mod Passing
-pub mod RisingEntries
-pub mod FirstReply
-pub mod LaterReply
-pub mod Runs
+pub mod SaidReplies
 pub mod SaidByStrategies
 pub mod SmallValues
 pub mod FewFooled
 pub mod WrittenAnswers
+pub mod ProtocolReplies
+pub mod ProtocolTurns
 pub mod RoomForEntries
 pub mod GivenEntries
 pub mod ProtocolSteps

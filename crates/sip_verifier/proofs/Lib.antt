@@ -18,6 +18,7 @@ pub mod QueriesChecked
 pub mod RunTalks
 pub mod StreamPromises
 pub mod QueryPromises
+pub mod LegalRecords
 pub mod CountedTurns
 pub mod CountedReports
 pub mod Blocks

@@ -4,11 +4,10 @@ use Rattle.std.specs.Prelude.{nat_lt, nat_le, IsTrue}
 use Rattle.std.proofs.Math.Pow.{pow_mono}
 use Rattle.std.proofs.lemmas.Bool.{leb-true}
 use Rattle.std.proofs.lemmas.Bool.Decides.{nat_tests}
-use Rattle.sip_wire.specs.declared.version.Version.{Version}
 use Rattle.sip_field.specs.Moduli.{m61_modulus}
 use Rattle.sip_ports.specs.declared.port.TalkEvent.{TalkEvent}
 use Rattle.sip_vector.specs.declared.query.Query.{Query}
-use Rattle.sip_vector.specs.declared.query.Query.TheVariants.{Sub, Range, F2, Inner, Heavy, Share}
+use Rattle.sip_vector.specs.declared.query.Query.TheVariants.{Sub, Range, F2, Inner, Heavy}
 use Rattle.sip_vector.specs.declared.update.Entry.{Entry}
 use Rattle.sip_vector.specs.declared.update.Update.{Update}
 use Rattle.sip_wire.specs.declared.message.Message.TheVariants as messages
@@ -28,19 +27,29 @@ use Rattle.sip_verifier.specs.Asking.{Asks}
 use Rattle.sip_verifier.specs.inside.Questions as questions
 use Rattle.sip_verifier.specs.inside.Questions.{found_in, verdict_of}
 use Rattle.sip_verifier.specs.QuerySeats.{RunsOn, StandsFor, block_of, can_be_asked, is_seat}
-use Rattle.sip_wire.specs.Versions.{Speaks}
-use Rattle.sip_wire.proofs.Asking.{query-fits}
 use Rattle.sip_verifier.proofs.QueryAsked.{IsProtocol, asks}
 use Rattle.sip_verifier.proofs.Seating.{Has}
 use Rattle.sip_verifier.proofs.SeatsHead.{seat-fits}
 
 -- ---- a sub-vector
 
--- the query of a seat has a spelling in each version in which it can be asked
-pub seat_has_spelling : (version : Version) (s : QuerySeat) → IsTrue (is_seat (length (block_of s)) s)
-    → Speaks version (length (block_of s)) s.query → IsTrue (fits version (messages.Query s.query))
-seat_has_spelling version s seat speaks =
-    query-fits version (length (block_of s)) s.query speaks (seat-fits (length (block_of s)) s (block_of s) seat refl)
+-- the query has a spelling
+sub_fits : (lo hi d : ℕ) → lo ≤ hi → hi < 2 ^ d → d ≤ 32
+    → IsTrue (fits (messages.Query (Sub lo hi)))
+unfolding fits has_room all_hold
+sub_fits lo hi d order within shallow =
+    let top : 2 ^ d ≤ 2 ^ 32 = pow_mono shallow in
+    let a : nat_lt lo 4294967296 ≡ true = grind (arith, nat_tests) in
+    let b : nat_lt hi 4294967296 ≡ true = grind (arith, nat_tests) in
+    let c : nat_le lo hi ≡ true = grind (arith, nat_tests) in
+    rw (a, b, c) refl
+
+pub sub_has_spelling : (s : QuerySeat) (lo hi : ℕ) → s.query ≡ Sub lo hi
+    → IsTrue (is_seat (length (block_of s)) s) → length (block_of s) ≤ 32
+    → IsTrue (fits (messages.Query s.query))
+sub_has_spelling s lo hi is seat shallow =
+    let fit = rw is at (seat-fits (length (block_of s)) s (block_of s) seat refl) in
+    rw is (sub_fits lo hi (length (block_of s)) fit.0 fit.1 shallow)
 
 -- its answer has room
 pub sub_has_room : (s : QuerySeat) (lo hi room : ℕ) → s.query ≡ Sub lo hi
@@ -49,11 +58,11 @@ sub_has_room s lo hi room is has = leb-true (most_answer lo hi) room
     (subst (λ (q : Query). IsTrue (questions.has_room room q)) is has)
 
 -- its protocol is that of the stream for which its root stands
-sub_is_protocol : (version : Version) (depth : ℕ) (stream : List Update) (query : Query) (running : Running)
+sub_is_protocol : (depth : ℕ) (stream : List Update) (query : Query) (running : Running)
     (lo hi value : ℕ) (block : List ℕ) → query ≡ Sub lo hi → Has running block value
     → RunsOn depth stream query running
-    → IsProtocol version depth stream query block (sub_protocol (sub_asked version m61_modulus value lo hi block))
-sub_is_protocol version depth stream (Sub low high) (Root root) lo hi value block is has stands =
+    → IsProtocol depth stream query block (sub_protocol (sub_asked m61_modulus value lo hi block))
+sub_is_protocol depth stream (Sub low high) (Root root) lo hi value block is has stands =
     let same_lo : low ≡ lo = cc in
     let same_hi : high ≡ hi = cc in
     let same = stands.same in
@@ -65,35 +74,33 @@ sub_is_protocol version depth stream (Sub low high) (Root root) lo hi value bloc
           fault f. f;
       waits = λ replies w. w;
     })
-sub_is_protocol version depth stream (Range side low high) running lo hi value block is has stands = absurd
+sub_is_protocol depth stream (Range side low high) running lo hi value block is has stands = absurd
     stands
-sub_is_protocol version depth stream (F2 side) running lo hi value block is has stands = absurd stands
-sub_is_protocol version depth stream Inner running lo hi value block is has stands = absurd stands
-sub_is_protocol version depth stream (Heavy side at_least) running lo hi value block is has stands = absurd
-    stands
-sub_is_protocol version depth stream (Share side num den) running lo hi value block is has stands = absurd
+sub_is_protocol depth stream (F2 side) running lo hi value block is has stands = absurd stands
+sub_is_protocol depth stream Inner running lo hi value block is has stands = absurd stands
+sub_is_protocol depth stream (Heavy side at_least) running lo hi value block is has stands = absurd
     stands
 
 block_is : (running : Running) (query : Query) (value : ℕ) (block : List ℕ)
     → Has running block value → block_of (record { query = query; running = running }) ≡ block
 block_is (Root root) query value block has = has.0
 
-pub sub_asks : (version : Version) (depth : ℕ) (stream : List Update) (s : QuerySeat) (lo hi value : ℕ)
+pub sub_asks : (depth : ℕ) (stream : List Update) (s : QuerySeat) (lo hi value : ℕ)
     (block at : List ℕ) (old new before now : Option (List TalkEvent)) (places : List Entry)
     (result : Result Said AskStop)
     → s.query ≡ Sub lo hi → Has s.running block value → at ≡ block → StandsFor depth stream s
-    → Answers (sub_protocol (sub_asked version m61_modulus value lo hi block)) s.query at old new before now
+    → Answers (sub_protocol (sub_asked m61_modulus value lo hi block)) s.query at old new before now
     places result → result ≢ Err stops.KeepFault
-    → result ≢ Err stops.KeepOutOfMemory → Asks version depth stream s.query (block_of s) old new
+    → result ≢ Err stops.KeepOutOfMemory → Asks depth stream s.query (block_of s) old new
     (take (found_in (length places) result) places) (verdict_of result)
-sub_asks version depth stream s lo hi value block at old new before now places result is has same stands
+sub_asks depth stream s lo hi value block at old new before now places result is has same stands
     answers kept free =
-    let P : Protocol Stated = sub_protocol (sub_asked version m61_modulus value lo hi block) in
+    let P : Protocol Stated = sub_protocol (sub_asked m61_modulus value lo hi block) in
     let own = subst (λ (b : List ℕ). Answers P s.query b old new before now places result) same
     answers in
-    subst (λ (b : List ℕ). Asks version depth stream s.query b old new
+    subst (λ (b : List ℕ). Asks depth stream s.query b old new
     (take (found_in (length places) result) places) (verdict_of result))
     (sym (block_is s.running s.query value block has))
-    (asks version depth stream s.query block old new before now P
-    (sub_is_protocol version depth stream s.query s.running lo hi value block is has stands) places
+    (asks depth stream s.query block old new before now P
+    (sub_is_protocol depth stream s.query s.running lo hi value block is has stands) places
     result own kept free)

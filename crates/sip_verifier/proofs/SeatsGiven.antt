@@ -10,7 +10,7 @@ use Rattle.std.proofs.lemmas.List.Folds.{list_all-append}
 use Rattle.sip_field.specs.Moduli.{m61_modulus}
 use Rattle.sip_tree.specs.StandsFor.{RootStandsFor}
 use Rattle.sip_vector.specs.declared.query.Query.{Query}
-use Rattle.sip_vector.specs.declared.query.Query.TheVariants.{Sub, Range, F2, Inner, Heavy, Share}
+use Rattle.sip_vector.specs.declared.query.Query.TheVariants.{Sub, Range, F2, Inner, Heavy}
 use Rattle.sip_vector.specs.declared.update.Side.TheVariants.{First}
 use Rattle.sip_vector.specs.Pieces.{pieces, cut}
 use Rattle.sip_vector.proofs.Sides.{vector-nil}
@@ -35,7 +35,6 @@ new-running depth (Range side lo hi) running seat value can has size stands = ab
 new-running depth (F2 side) running seat value can has size stands = absurd (let no = can.0 in cc)
 new-running depth Inner running seat value can has size stands = absurd (let no = can.0 in cc)
 new-running depth (Heavy side least) running seat value can has size stands = absurd (let no = can.0 in cc)
-new-running depth (Share side num den) running seat value can has size stands = absurd (let no = can.0 in cc)
 
 pub new-seat : (depth : ℕ) (s : QuerySeat) (seat : List ℕ) (value : ℕ) → CanBeAsked depth s.query → Has s.running seat value → length seat ≡ depth
     → RootStandsFor m61_modulus seat value (replicate (2 ^ length seat) (pos 0)) → IsTrue (is_seat depth s) × StandsFor depth [] s

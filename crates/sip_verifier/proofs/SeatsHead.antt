@@ -3,36 +3,28 @@ use Rattle.std.proofs.Common.{◌≡◌, ℕ, zero, suc, ◌+◌, ◌^◌, ◌<�
 use Rattle.std.specs.Prelude.{◌==◌, nat_le, nat_lt, IsTrue}
 use Rattle.std.specs.List.{list_all, flat_map, zip}
 use Rattle.std.proofs.lemmas.Bool.{and_parts, eqb-true, leb-true, ltb-true}
-use Rattle.std.proofs.lemmas.List.{get_or-map, length-map, take_more, take-append-drop}
+use Rattle.std.proofs.lemmas.List.{length-map, take_more, take-append-drop}
 use Rattle.std.proofs.lemmas.List.Concat.{flat_map-append}
-use Rattle.sip_wire.specs.declared.version.Version.{Version}
 use Rattle.sip_vector.specs.declared.query.Query.{Query}
-use Rattle.sip_vector.specs.declared.query.Query.TheVariants.{Sub, Range, F2, Inner, Heavy, Share}
+use Rattle.sip_vector.specs.declared.query.Query.TheVariants.{Sub, Range, F2, Inner, Heavy}
 use Rattle.sip_vector.specs.declared.update.Update.{Update}
 use Rattle.sip_vector.specs.Answers.{Fits}
-use Rattle.sip_vector.specs.Limits.{most_depth}
 use Rattle.sip_wire.specs.Transcript.{head_bytes, ask_bytes}
-use Rattle.sip_wire.specs.Versions.{Speaks, deepest, needed}
-use Rattle.sip_wire.proofs.Asking.{needed-speaks}
 use Rattle.sip_verifier.specs.QuerySeats.{block_of, is_seat, can_be_asked}
 use Rattle.sip_verifier.specs.Seats.{AreSeats, Seating}
 use Rattle.sip_verifier.specs.Transcripts.{head_of}
 use Rattle.sip_verifier.specs.declared.seat.QuerySeat.{QuerySeat}
 
 -- a seat's query and its challenges
-abbrev pub ask : (version : Version) → QuerySeat → List ℕ
-ask version s = ask_bytes version s.query (block_of s)
+abbrev pub ask : QuerySeat → List ℕ
+ask s = ask_bytes s.query (block_of s)
 
-abbrev pub asks : (version : Version) → List QuerySeat → List ℕ
-asks version seats = flat_map (ask version) seats
-
--- the version that the seats need
-abbrev pub version_of : Seating → Version
-version_of s = needed s.depth (map (λ (x : QuerySeat). x.query) s.seats)
+abbrev pub asks : List QuerySeat → List ℕ
+asks seats = flat_map ask seats
 
 -- what is written of these seats
-abbrev pub head_up_to : (version : Version) → Seating → ℕ → List ℕ
-head_up_to version s k = head_bytes version s.depth (length s.seats) ++ asks version (take k s.seats)
+abbrev pub head_up_to : Seating → ℕ → List ℕ
+head_up_to s k = head_bytes s.depth (length s.seats) ++ asks (take k s.seats)
 
 -- ---- the query of a seat fits its challenges
 
@@ -47,7 +39,6 @@ fits-asked depth (Range side lo hi) can = absurd (let no = can in cc)
 fits-asked depth (F2 side) can = absurd (let no = can in cc)
 fits-asked depth Inner can = absurd (let no = can in cc)
 fits-asked depth (Heavy side least) can = absurd (let no = can in cc)
-fits-asked depth (Share side num den) can = absurd (let no = can in cc)
 
 pub seat-fits : (depth : ℕ) (s : QuerySeat) (block : List ℕ) → IsTrue (is_seat depth s) → block ≡ block_of s → Fits (length block) s.query
 seat-fits depth s block is same =
@@ -55,67 +46,44 @@ seat-fits depth s block is same =
     let levels : length block ≡ depth = ap length same ∙ eqb-true (length (block_of s)) depth both.1 in
     subst (λ n. Fits n s.query) (sym levels) (fits-asked depth s.query both.0)
 
--- a seat has a challenge for each level
-pub seat-long : (depth : ℕ) (s : QuerySeat) → IsTrue (is_seat depth s) → length (block_of s) ≡ depth
-seat-long depth s is = eqb-true (length (block_of s)) depth ((and_parts (can_be_asked depth s.query) (length (block_of s) == depth) is).1)
-
--- no seat's depth is beyond the version that all need
-pub seats-shallow : (depth : ℕ) (seats : List QuerySeat) → depth ≤ most_depth → 0 < length seats → depth ≤ deepest (needed depth (map (λ (s : QuerySeat). s.query) seats))
-seats-shallow depth seats most some =
-    let query = λ (s : QuerySeat). s.query in
-    (needed-speaks depth (map query seats) most 0 (Sub 0 0) (omega (arith, length-map seats query, some))).shallow
-
--- each query can be asked in the version that all need
-pub seat-speaks : (depth k : ℕ) (seats : List QuerySeat) (d : QuerySeat) → depth ≤ most_depth → k < length seats → Speaks (needed depth (map (λ (s : QuerySeat). s.query) seats)) depth ((get_or seats k d).query)
-seat-speaks depth k seats d most below =
-    let query = λ (s : QuerySeat). s.query in
-    let inside : k < length (map query seats) = omega (arith, length-map seats query, below) in
-    subst (Speaks (needed depth (map query seats)) depth) (get_or-map query seats k d (query d) below)
-    (needed-speaks depth (map query seats) most k (query d) inside)
-
 -- ---- the bytes
 
-zip-asks : (version : Version) (seats : List QuerySeat) → flat_map (λ (x : Query × List ℕ). ask_bytes version x.0 x.1) (zip (map (λ (s : QuerySeat). s.query) seats) (map block_of seats)) ≡ asks version seats
-zip-asks version [] = refl
-zip-asks version (s ∷ seats) = ap (λ l. ask version s ++ l) (zip-asks version seats)
-
--- the seats need the version of their queries
-pub version-asked : (depth : ℕ) (queries : List Query) (blocks : List (List ℕ)) (stream : List Update) (s : Seating) → AreSeats depth queries blocks stream s → version_of s ≡ needed depth queries
-version-asked depth queries blocks stream s are =
-    ap (λ d. needed d (map (λ (x : QuerySeat). x.query) s.seats)) are.levels ∙ ap (needed depth) are.asked
+zip-asks : (seats : List QuerySeat) → flat_map (λ (x : Query × List ℕ). ask_bytes x.0 x.1) (zip (map (λ (s : QuerySeat). s.query) seats) (map block_of seats)) ≡ asks seats
+zip-asks [] = refl
+zip-asks (s ∷ seats) = ap (λ l. ask s ++ l) (zip-asks seats)
 
 -- the head is that of the seats
-pub head-whole : (version : Version) (depth : ℕ) (queries : List Query) (blocks : List (List ℕ)) (stream : List Update) (s : Seating) → AreSeats depth queries blocks stream s → head_of version depth queries blocks ≡ head_bytes version s.depth (length s.seats) ++ asks version s.seats
-head-whole version depth queries blocks stream s are =
+pub head-whole : (depth : ℕ) (queries : List Query) (blocks : List (List ℕ)) (stream : List Update) (s : Seating) → AreSeats depth queries blocks stream s → head_of depth queries blocks ≡ head_bytes s.depth (length s.seats) ++ asks s.seats
+head-whole depth queries blocks stream s are =
     let seats = s.seats in
-    ap (λ d. head_of version d queries blocks) (sym are.levels)
-    ∙ ap (λ q. head_of version s.depth q blocks) (sym are.asked)
-    ∙ ap (λ b. head_of version s.depth (map (λ (x : QuerySeat). x.query) seats) b) (sym are.at_blocks)
-    ∙ ap (λ n. head_bytes version s.depth n ++ flat_map (λ (x : Query × List ℕ). ask_bytes version x.0 x.1) (zip (map (λ (x : QuerySeat). x.query) seats) (map block_of seats))) (length-map seats (λ (x : QuerySeat). x.query))
-    ∙ ap (λ l. head_bytes version s.depth (length seats) ++ l) (zip-asks version seats)
+    ap (λ d. head_of d queries blocks) (sym are.levels)
+    ∙ ap (λ q. head_of s.depth q blocks) (sym are.asked)
+    ∙ ap (λ b. head_of s.depth (map (λ (x : QuerySeat). x.query) seats) b) (sym are.at_blocks)
+    ∙ ap (λ n. head_bytes s.depth n ++ flat_map (λ (x : Query × List ℕ). ask_bytes x.0 x.1) (zip (map (λ (x : QuerySeat). x.query) seats) (map block_of seats))) (length-map seats (λ (x : QuerySeat). x.query))
+    ∙ ap (λ l. head_bytes s.depth (length seats) ++ l) (zip-asks seats)
 
 -- one more seat
-pub head-more : (version : Version) (s : Seating) (k : ℕ) (d : QuerySeat) → k < length s.seats → head_up_to version s (k + 1) ≡ head_up_to version s k ++ ask version (get_or s.seats k d)
-head-more version s k d lt =
-    let head = head_bytes version s.depth (length s.seats) in
+pub head-more : (s : Seating) (k : ℕ) (d : QuerySeat) → k < length s.seats → head_up_to s (k + 1) ≡ head_up_to s k ++ ask (get_or s.seats k d)
+head-more s k d lt =
+    let head = head_bytes s.depth (length s.seats) in
     let seats = s.seats in
     let one = get_or seats k d in
-    ap (λ l. head ++ asks version l) (take_more seats k d lt)
-    ∙ ap (λ l. head ++ l) (flat_map-append (ask version) (take k seats) (one ∷ []))
-    ∙ ap (λ l. head ++ (asks version (take k seats) ++ l)) (append-nil (ask version one))
-    ∙ sym (append_assoc head (asks version (take k seats)) (ask version one))
+    ap (λ l. head ++ asks l) (take_more seats k d lt)
+    ∙ ap (λ l. head ++ l) (flat_map-append ask (take k seats) (one ∷ []))
+    ∙ ap (λ l. head ++ (asks (take k seats) ++ l)) (append-nil (ask one))
+    ∙ sym (append_assoc head (asks (take k seats)) (ask one))
 
-asks-from : (version : Version) (k : ℕ) (seats : List QuerySeat) → asks version seats ≡ asks version (take k seats) ++ asks version (drop k seats)
-asks-from version k seats = ap (asks version) (sym (take-append-drop k seats)) ∙ flat_map-append (ask version) (take k seats) (drop k seats)
+asks-from : (k : ℕ) (seats : List QuerySeat) → asks seats ≡ asks (take k seats) ++ asks (drop k seats)
+asks-from k seats = ap asks (sym (take-append-drop k seats)) ∙ flat_map-append ask (take k seats) (drop k seats)
 
 -- the whole head is what is written so far, the next seat and the rest
-pub head-split : (version : Version) (s : Seating) (k : ℕ) (d : QuerySeat) → k < length s.seats
-    → head_bytes version s.depth (length s.seats) ++ asks version s.seats ≡ (head_up_to version s k ++ ask version (get_or s.seats k d)) ++ asks version (drop (k + 1) s.seats)
-head-split version s k d lt =
-    let head = head_bytes version s.depth (length s.seats) in
-    let rest = asks version (drop (k + 1) s.seats) in
-    ap (λ l. head ++ l) (asks-from version (k + 1) s.seats) ∙ sym (append_assoc head (asks version (take (k + 1) s.seats)) rest) ∙ ap (λ l. l ++ rest) (head-more version s k d lt)
+pub head-split : (s : Seating) (k : ℕ) (d : QuerySeat) → k < length s.seats
+    → head_bytes s.depth (length s.seats) ++ asks s.seats ≡ (head_up_to s k ++ ask (get_or s.seats k d)) ++ asks (drop (k + 1) s.seats)
+head-split s k d lt =
+    let head = head_bytes s.depth (length s.seats) in
+    let rest = asks (drop (k + 1) s.seats) in
+    ap (λ l. head ++ l) (asks-from (k + 1) s.seats) ∙ sym (append_assoc head (asks (take (k + 1) s.seats)) rest) ∙ ap (λ l. l ++ rest) (head-more s k d lt)
 
 -- all are written
-pub head-done : (version : Version) (s : Seating) (k : ℕ) → length s.seats ≤ k → head_up_to version s k ≡ head_bytes version s.depth (length s.seats) ++ asks version s.seats
-head-done version s k le = ap (λ l. head_bytes version s.depth (length s.seats) ++ asks version l) (take_all k s.seats le)
+pub head-done : (s : Seating) (k : ℕ) → length s.seats ≤ k → head_up_to s k ≡ head_bytes s.depth (length s.seats) ++ asks s.seats
+head-done s k le = ap (λ l. head_bytes s.depth (length s.seats) ++ asks l) (take_all k s.seats le)

@@ -7,7 +7,6 @@ use Rattle.sip_vector.specs.declared.update.Entry.{Entry}
 use Rattle.sip_vector.specs.declared.update.Update.{Update}
 use Rattle.sip_vector.specs.Answers.{Answer, pairs, number}
 use Rattle.sip_wire.specs.declared.message.Reason.{Reason}
-use Rattle.sip_wire.specs.declared.version.Version.{Version}
 use Rattle.sip_replies.specs.Talks.{IsPrefix, ending}
 use Rattle.sip_verifier.specs.declared.session.SessionFault.{SessionFault}
 use Rattle.sip_verifier.specs.declared.session.SessionFault.TheVariants as faults
@@ -20,27 +19,27 @@ use Rattle.sip_verifier.specs.Turns.{Turn, Accepts, IsFaulty, IsWaiting, said_in
 abbrev pub turn_of : Query → List ℕ → List (List ℕ) → Turn
 turn_of query block replies = record { query = query; block = block; replies = replies }
 
-module _ (version : Version) (depth : ℕ) (stream : List Update) (query : Query) (block : List ℕ) (old new : Option (List TalkEvent)) where
+module _ (depth : ℕ) (stream : List Update) (query : Query) (block : List ℕ) (old new : Option (List TalkEvent)) where
   -- all replies came and are accepted, and they state this answer
   pub record IsAnswered (answer : Answer) : Type 0 where
     pub replies : List (List ℕ)
-    pub talk : GoesOn old new (said_in_turn version depth stream (turn_of query block replies))
-    pub accepted : Accepts version depth stream (turn_of query block replies) answer
+    pub talk : GoesOn old new (said_in_turn depth stream (turn_of query block replies))
+    pub accepted : Accepts depth stream (turn_of query block replies) answer
 
   -- the replies that came have this first fault
   pub record IsRejected (round : ℕ) (reason : Reason) : Type 0 where
     pub replies : List (List ℕ)
-    pub talk : GoesOn old new (said_in_turn version depth stream
+    pub talk : GoesOn old new (said_in_turn depth stream
         (turn_of query block replies) ++ ending reason)
-    pub faulty : IsFaulty version depth stream (turn_of query block replies) (record { round = round; reason = reason })
+    pub faulty : IsFaulty depth stream (turn_of query block replies) (record { round = round; reason = reason })
 
   -- the talk stopped, a reply is missing or not whole, and none has a fault so far
   pub record IsInterrupted : Type 0 where
     pub replies : List (List ℕ)
     pub said : List TalkEvent
     pub talk : GoesOn old new said
-    pub order : IsPrefix said (said_in_turn version depth stream (turn_of query block replies))
-    pub waits : IsWaiting version depth stream (turn_of query block replies)
+    pub order : IsPrefix said (said_in_turn depth stream (turn_of query block replies))
+    pub waits : IsWaiting depth stream (turn_of query block replies)
 
   -- What was answered, where the entries are those that the session shows then. Nothing is kept of a talk yet, so keeping it
   -- cannot fail.
@@ -55,8 +54,8 @@ module _ (version : Version) (depth : ℕ) (stream : List Update) (query : Query
   -- an answer counts for the replies that came
   pub record IsCounted (answer : Answer) : Type 0 where
     pub replies : List (List ℕ)
-    pub talk : GoesOn old new (said_in_turn version depth stream (turn_of query block replies))
-    pub counts : CountsFor version depth stream (turn_of query block replies) answer
+    pub talk : GoesOn old new (said_in_turn depth stream (turn_of query block replies))
+    pub counts : CountsFor depth stream (turn_of query block replies) answer
 
   -- So does each answer that is given.
   abbrev pub AnswersCount : List Entry → Result Verdict SessionFault → Type 0

@@ -16,9 +16,7 @@ use Rattle.sip_wire.specs.declared.message.Reason.{Reason}
 use Rattle.sip_counts.specs.Clauses.{FewAndCounted}
 use Rattle.sip_counts.specs.Strategies.{Strategy, IsOfBytes, fooled}
 use Rattle.sip_replies.specs.Replies.{accepts}
-use Rattle.sip_wire.specs.declared.version.Version.{Version}
 use Rattle.sip_verifier.specs.declared.task.Task.{Task}
-use Rattle.sip_verifier.specs.Tasks.{version_of}
 use Rattle.sip_replies.specs.Talks.{IsPrefix}
 use Rattle.sip_verifier.specs.Exchanges.{Exchange}
 use Rattle.sip_verifier.specs.Kinds.{Kind, OfKind}
@@ -36,15 +34,15 @@ abbrev pub bound_of : ℕ → Kind → ℕ
 bound_of depth kind = kind.chances * depth
 
 -- no helper has a wrong answer to this query accepted at more blocks than c·d·p^(d - 1)
-abbrev pub FewFor : Version → ℕ → List Update → Query → Type 0
-FewFor version depth stream query = OfKind version depth stream query (λ kind.
+abbrev pub FewFor : ℕ → List Update → Query → Type 0
+FewFor depth stream query = OfKind depth stream query (λ kind.
     (strategy : Strategy) → IsOfBytes strategy
     → fooled m61_modulus depth (accepts_in kind) kind.is_right strategy
     ≤ bound_of depth kind * m61_modulus ^ (depth - 1))
 
 -- what a call that writes this answer for a turn promises of a helper that lies
-abbrev pub CountsFor : Version → ℕ → List Update → Turn → Answer → Type 0
-CountsFor version depth stream t written = OfKind version depth stream t.query (λ kind.
+abbrev pub CountsFor : ℕ → List Update → Turn → Answer → Type 0
+CountsFor depth stream t written = OfKind depth stream t.query (λ kind.
     FewAndCounted m61_modulus depth (bound_of depth kind)
     (accepts_in kind) kind.is_right t.block t.replies (Some written)
     (answer depth stream t.query))
@@ -74,10 +72,10 @@ module _ (task : Task) (x : Exchange) where
   AreInTalk turns = (turns ≡ []) ⊎ ((after : Option Turn) × (rest : List TalkEvent) × Reached task x (turns ++ option_to_list after) rest)
 
   pub record CountClause : Type 0 where
-    pub few : All (FewFor (version_of task) task.depth (updates task x)) task.queries.items
+    pub few : All (FewFor task.depth (updates task x)) task.queries.items
     pub lines : List Written
     pub turns : AreInTalk (turns_written lines)
     pub rejected : List ℕ
     pub is_rejection : IsRejection rejected
     pub report : IsPrefix x.report (lines_written lines ++ rejected)
-    pub counted : All (λ w. CountsFor (version_of task) task.depth (updates task x) w.turn w.answer) lines
+    pub counted : All (λ w. CountsFor task.depth (updates task x) w.turn w.answer) lines

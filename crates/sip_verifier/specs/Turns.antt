@@ -5,7 +5,6 @@ use Rattle.sip_vector.specs.declared.query.Query.{Query}
 use Rattle.sip_vector.specs.declared.update.Update.{Update}
 use Rattle.sip_vector.specs.Answers.{Answer}
 use Rattle.sip_stream.specs.Records.{records}
-use Rattle.sip_wire.specs.declared.version.Version.{Version}
 use Rattle.sip_replies.specs.Protocols.{Protocol}
 use Rattle.sip_replies.specs.Replies as general
 use Rattle.sip_replies.specs.Replies.{Fault}
@@ -15,7 +14,6 @@ use Rattle.sip_verifier.specs.Draws.{drawn, blocks}
 use Rattle.sip_verifier.specs.Exchanges.{Exchange}
 use Rattle.sip_verifier.specs.Kinds.{Row, built, missing, row_of, OfKind}
 use Rattle.sip_verifier.specs.Reports.{line}
-use Rattle.sip_verifier.specs.Tasks.{version_of}
 use Rattle.sip_verifier.specs.Talks.{stream_sent, bye_sent}
 
 pub record Turn : Type 0 where
@@ -31,30 +29,30 @@ IsDue P block replies = (P.unasked ≡ None) × general.IsUnfinished P.rules blo
 -- ---- the states of a turn; a query whose check does not stand here is never asked
 
 -- the replies are accepted, and this is the answer that they state
-abbrev pub Accepts : Version → ℕ → List Update → Turn → Answer → Type 0
-Accepts version depth stream t answer = OfKind version depth stream t.query
+abbrev pub Accepts : ℕ → List Update → Turn → Answer → Type 0
+Accepts depth stream t answer = OfKind depth stream t.query
     (λ kind. general.IsAccepted (kind.protocol t.block) t.block t.replies answer)
 
 -- the replies have this fault, and no byte too many was taken
-abbrev pub IsFaulty : Version → ℕ → List Update → Turn → Fault → Type 0
-IsFaulty version depth stream t fault = OfKind version depth stream t.query
+abbrev pub IsFaulty : ℕ → List Update → Turn → Fault → Type 0
+IsFaulty depth stream t fault = OfKind depth stream t.query
     (λ kind. general.IsFaulty (kind.protocol t.block) t.block t.replies fault)
 
 -- no fault so far
-abbrev pub IsUnfinished : Version → ℕ → List Update → Turn → Type 0
-IsUnfinished version depth stream t = OfKind version depth stream t.query
+abbrev pub IsUnfinished : ℕ → List Update → Turn → Type 0
+IsUnfinished depth stream t = OfKind depth stream t.query
     (λ kind. general.IsUnfinished (kind.protocol t.block).rules t.block t.replies)
 
 -- the query has to be asked, there is no fault so far, and a reply is missing or not whole yet
-abbrev pub IsWaiting : Version → ℕ → List Update → Turn → Type 0
-IsWaiting version depth stream t = OfKind version depth stream t.query
+abbrev pub IsWaiting : ℕ → List Update → Turn → Type 0
+IsWaiting depth stream t = OfKind depth stream t.query
     (λ kind. IsDue (kind.protocol t.block) t.block t.replies)
 
 -- a turn whose replies are accepted
-pub record Accepted (version : Version) (depth : ℕ) (stream : List Update) : Type 0 where
+pub record Accepted (depth : ℕ) (stream : List Update) : Type 0 where
   pub turn : Turn
   pub answer : Answer
-  pub accepts : Accepts version depth stream turn answer
+  pub accepts : Accepts depth stream turn answer
 
 -- ---- the turns of a run
 
@@ -65,8 +63,8 @@ said_by (built kind) t = asked_unless (kind.protocol t.block).unasked
 said_by missing t = []
 
 -- what was said in a turn
-abbrev pub said_in_turn : Version → ℕ → List Update → Turn → List TalkEvent
-said_in_turn version depth stream t = said_by (row_of version depth stream t.query) t
+abbrev pub said_in_turn : ℕ → List Update → Turn → List TalkEvent
+said_in_turn depth stream t = said_by (row_of depth stream t.query) t
 
 module _ (task : Task) (x : Exchange) where
   -- the legal records of the stream
@@ -78,7 +76,7 @@ module _ (task : Task) (x : Exchange) where
   IsLegalToEnd = (records task.depth task.form x.stream).fault ≡ None
 
   abbrev pub Done : Type 0
-  Done = List (Accepted (version_of task) task.depth updates)
+  Done = List (Accepted task.depth updates)
 
   abbrev pub turns_of : Done → List Turn
   turns_of done = map (λ a. a.turn) done
@@ -88,7 +86,7 @@ module _ (task : Task) (x : Exchange) where
 
   -- the farewell, which comes once every query was accepted
   abbrev pub farewell : Done → List TalkEvent
-  farewell done = if length done == length task.queries.items then bye_sent (version_of task) else []
+  farewell done = if length done == length task.queries.items then bye_sent else []
 
   -- these are the task's first queries in order, each with its own block of the challenges that the seed gives
   pub record AreTurns (turns : List Turn) : Type 0 where
@@ -101,5 +99,5 @@ module _ (task : Task) (x : Exchange) where
   pub record Reached (turns : List Turn) (rest : List TalkEvent) : Type 0 where
     pub are_turns : AreTurns turns
     pub legal : IsLegalToEnd
-    pub talk : x.talk ≡ stream_sent (version_of task) task.depth updates ++ flat_map
-        (said_in_turn (version_of task) task.depth updates) turns ++ rest
+    pub talk : x.talk ≡ stream_sent task.depth updates ++ flat_map
+        (said_in_turn task.depth updates) turns ++ rest

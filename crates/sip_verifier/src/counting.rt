@@ -5,7 +5,6 @@ ghost use Rattle.std.specs.Prelude.{ℕ, List, All};
 ghost use Rattle.sip_vector.specs.declared.update.Update.{Update};
 ghost use Rattle.sip_vector.specs.Answers.{Answer, Fits};
 ghost use Rattle.sip_vector.specs.Streams.{IsLegal};
-ghost use Rattle.sip_wire.specs.declared.version.Version.{Version};
 ghost use Rattle.sip_verifier.specs.declared.status.Status.{Status};
 ghost use Rattle.sip_verifier.specs.declared.task.Task.{Task};
 ghost use Rattle.sip_verifier.specs.CountClause.{CountsFor, CountClause};
@@ -22,8 +21,8 @@ pub fn records_are_legal()
 
 /// Where a turn's replies are accepted and state an answer, that answer is counted.
 pub fn accepted_turns_are_counted()
-    ensures { (version : Version) (depth : ℕ) (stream : List Update) (t : Turn) (answer : Answer) → Fits depth t.query
-        → IsLegal depth stream → Accepts version depth stream t answer → CountsFor version depth stream t answer }
+    ensures { (depth : ℕ) (stream : List Update) (t : Turn) (answer : Answer) → Fits depth t.query
+        → IsLegal depth stream → Accepts depth stream t answer → CountsFor depth stream t answer }
 {}
 
 /// Each report of a verifying command is counted, where its queries can be asked.

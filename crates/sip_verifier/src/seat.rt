@@ -8,13 +8,13 @@ ghost use Rattle.sip_verifier.specs.Tasks.{CanBeAsked};
 
 use sip_field::{M61, Seat};
 use sip_tree::Root;
-use sip_vector::{CAP, Query, Side, Update};
+use sip_vector::{Query, Side, Update};
 
 /// The running number of one query, with its challenges.
 #[derive(Drop)]
 pub(crate) enum Running {
     /// Of a sub-vector: the root of the tree over side 0.
-    Root(Root<M61, CAP>),
+    Root(Root<M61, 32>),
 }
 
 impl Default for Running {
@@ -41,7 +41,7 @@ impl Default for QuerySeat {
 
 impl QuerySeat {
     /// The seat of a query with these challenges, before any update.
-    pub(crate) fn begin(query: Query, block: Seat<M61, CAP>) -> QuerySeat
+    pub(crate) fn begin(query: Query, block: Seat<M61, 32>) -> QuerySeat
         requires built { IsTrue (is_built query) }
         ensures query { result.query ≡ query }
         ensures block { block_of result ≡ block }
@@ -56,7 +56,7 @@ impl QuerySeat {
     }
 
     /// The challenges.
-    pub(crate) fn block(&self) -> &Seat<M61, CAP>
+    pub(crate) fn block(&self) -> &Seat<M61, 32>
         ensures { result.now ≡ block_of self.now }
     {
         match &self.running {

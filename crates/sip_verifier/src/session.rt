@@ -1,13 +1,12 @@
 //! The queries of a run, asked one after another.
 
-ghost use Rattle.std.specs.Prelude.{◌≡◌, ◌≢◌, ◌<◌, ◌≤◌, ◌^◌, All, ℕ, List, [], ◌∷◌, true, false, length, drop, vec_len, IsTrue};
+ghost use Rattle.std.specs.Prelude.{◌≡◌, ◌≢◌, ◌<◌, ◌≤◌, ◌^◌, ℕ, List, [], ◌∷◌, true, false, length, drop, vec_len, IsTrue};
 ghost use Rattle.std.specs.List.{list_all};
 ghost use Rattle.sip_ports.specs.Ports.{Lasts, Rose};
 ghost use Rattle.sip_vector.specs.declared.query.Query.{Query as AnyQuery};
 ghost use Rattle.sip_vector.specs.declared.update.Update.{Update as AnyUpdate};
 ghost use Rattle.sip_vector.specs.Answers.{Fits};
 ghost use Rattle.sip_vector.specs.Streams.{IsLegal};
-ghost use Rattle.sip_wire.specs.Versions.{Speaks, deepest, speaks};
 ghost use Rattle.sip_verifier.specs.Asking.{AnswersCount, Asks};
 ghost use Rattle.sip_verifier.specs.inside.Questions.{has_room};
 ghost use Rattle.sip_verifier.specs.declared.seat.QuerySeat.{QuerySeat as AnySeat};
@@ -20,10 +19,12 @@ use crate::asking::{ask_seat, found_in, verdict_of};
 use crate::seat::QuerySeat;
 use sip_ports::{Link, Sink};
 use sip_vector::{Entry, Query};
-use sip_subvec::MOST_ENTRIES;
-use sip_wire::{Frame, Reason, Version};
+use sip_wire::{Frame, Reason};
 use std::alloc::Global;
 use std::marker::Model;
+
+/// How many entries an answer may have.
+const MOST_ENTRIES: u64 = 65536;
 
 /// Why there is no session.
 #[derive(Clone, Copy, Debug, PartialEq, Eq)]
@@ -61,7 +62,6 @@ pub enum SessionFault {
 #[derive(Drop)]
 pub struct Session {
     seats: Seats,
-    version: Version,
     // The number of queries that were asked.
     asked: usize,
     frame: Frame,
@@ -70,8 +70,6 @@ pub struct Session {
     found: usize,
     is_spent: bool,
     ghost within: { asked ≤ length seats.seats },
-    ghost shallow: { seats.depth ≤ deepest version },
-    ghost spoken: { IsTrue (list_all (λ s. speaks version s.query) seats.seats) },
     ghost shown: { found ≤ vec_len entries },
     ghost room: { IsTrue (list_all (λ s. has_room (vec_len entries) s.query) seats.seats) },
 }
@@ -82,7 +80,7 @@ impl Model for Session {
 
     ghost Value = { Sitting };
 
-    ghost view = { λ s. record { version = s.version; depth = s.seats.depth; left = drop s.asked s.seats.seats; entries = take s.found s.entries.items; spent = s.is_spent } };
+    ghost view = { λ s. record { depth = s.seats.depth; left = drop s.asked s.seats.seats; entries = take s.found s.entries.items; spent = s.is_spent } };
 }
 
 /// How many entries an answer to this query may have.
@@ -115,17 +113,16 @@ fn most_entries(seats: &[QuerySeat]) -> usize
 }
 
 impl Session {
-    /// A session that asks the queries of these seats in order, in a version in which each can be asked.
+    /// A session that asks the queries of these seats in order.
     ///
-    /// Takes a frame of 8,709 bytes and 16 bytes for each entry that the longest answer may have, at most 65,536. After that no
+    /// Takes a frame of 6,661 bytes and 16 bytes for each entry that the longest answer may have, at most 65,536. After that no
     /// call takes memory.
     ///
     /// # Errors
     ///
     /// `OutOfMemory`; the seats are then dropped.
-    pub fn new(alloc: Global, version: Version, seats: Seats) -> Result<Session, SessionStart>
-        requires { All (λ s. Speaks version seats.depth s.query) seats.seats }
-        ensures { Starts version seats result }
+    pub fn new(alloc: Global, seats: Seats) -> Result<Session, SessionStart>
+        ensures { Starts seats result }
     {
         let Ok(frame) = Frame::new(alloc) else {
             return Err(SessionStart::OutOfMemory);
@@ -136,7 +133,6 @@ impl Session {
         };
         Ok(Session {
             seats,
-            version,
             asked: 0,
             frame,
             entries,
@@ -165,12 +161,11 @@ impl Session {
         requires live { self.old.spent ≡ false }
         ensures asks { (stream : List AnyUpdate) (query : AnyQuery) (seat : AnySeat)
             → IsNext self.old.depth stream self.old.left query seat
-            → Asks self.old.version self.old.depth stream query (block_of seat) (L.talk link.old)
+            → Asks self.old.depth stream query (block_of seat) (L.talk link.old)
             (L.talk link.new) self.new.entries result }
         ensures fits { (seat : AnySeat) (more : List AnySeat) → self.old.left ≡ seat ∷ more
             → Fits self.old.depth seat.query }
         ensures next { self.new.left ≡ drop 1 self.old.left }
-        ensures version { self.new.version ≡ self.old.version }
         ensures depth { self.new.depth ≡ self.old.depth }
         ensures spent { self.new.spent ≡ is_over result }
         ensures cleared { is_over result ≡ true → self.new.entries ≡ [] }
@@ -181,7 +176,7 @@ impl Session {
     {
         let seats = self.seats.all();
         let seat = &seats[self.asked];
-        let asked = ask_seat(self.version, seat, &mut self.entries, &mut self.frame, link);
+        let asked = ask_seat(seat, &mut self.entries, &mut self.frame, link);
         self.asked += 1;
         self.found = found_in(self.entries.len(), &asked);
         self.is_spent = asked.is_err();
@@ -208,15 +203,14 @@ impl Session {
         requires live { self.old.spent ≡ false }
         ensures asks { (stream : List AnyUpdate) (query : AnyQuery) (seat : AnySeat)
             → IsNext self.old.depth stream self.old.left query seat
-            → Asks self.old.version self.old.depth stream query (block_of seat) (L.talk link.old)
+            → Asks self.old.depth stream query (block_of seat) (L.talk link.old)
             (L.talk link.new) self.new.entries result }
         ensures count { (stream : List AnyUpdate) (query : AnyQuery) (seat : AnySeat)
             → IsNext self.old.depth stream self.old.left query seat
             → IsLegal self.old.depth stream
-            → AnswersCount self.old.version self.old.depth stream query (block_of seat) (L.talk link.old)
+            → AnswersCount self.old.depth stream query (block_of seat) (L.talk link.old)
             (L.talk link.new) self.new.entries result }
         ensures next { self.new.left ≡ drop 1 self.old.left }
-        ensures version { self.new.version ≡ self.old.version }
         ensures depth { self.new.depth ≡ self.old.depth }
         ensures spent { self.new.spent ≡ is_over result }
         ensures cleared { is_over result ≡ true → self.new.entries ≡ [] }

@@ -14,7 +14,7 @@ pub record Taken (old new : Option (List TalkEvent)) (s next : HelperState) (got
   pub state : next ≡ after_turn s turn
   pub going : next.done ≡ false
   pub talk : GoesOn old new (turn_talk s turn)
-  pub whole : got ≡ spelling s.version turn.message
+  pub whole : got ≡ spelling turn.message
 
 -- nothing more is taken
 pub record StopsTurn (old new : Option (List TalkEvent)) (s : HelperState) (at : ℕ) (status : HelpStatus) : Type 0 where

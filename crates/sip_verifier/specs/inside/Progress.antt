@@ -6,7 +6,6 @@ use Rattle.sip_vector.specs.declared.query.Query.{Query}
 use Rattle.sip_vector.specs.declared.update.Update.{Update}
 use Rattle.sip_vector.specs.Answers.{Answer}
 use Rattle.sip_wire.specs.declared.message.Reason.{Reason}
-use Rattle.sip_wire.specs.declared.version.Version.{Version}
 use Rattle.sip_verifier.specs.declared.status.Port.TheVariants as ports
 use Rattle.sip_verifier.specs.declared.status.Status.{Status}
 use Rattle.sip_verifier.specs.declared.status.Status.TheVariants as statuses
@@ -23,22 +22,22 @@ use Rattle.sip_verifier.specs.VerdictClause.{VerdictClause}
 
 -- ---- one query, which has this number
 
-module _ (version : Version) (depth : ℕ) (stream : List Update) (query : Query) (block : List ℕ) (number : ℕ) (old new blank full : Option (List TalkEvent)) where
+module _ (depth : ℕ) (stream : List Update) (query : Query) (block : List ℕ) (number : ℕ) (old new blank full : Option (List TalkEvent)) where
   -- its replies were accepted, and its line was written
   pub record Passes : Type 0 where
     pub answer : Answer
-    pub answered : IsAnswered version depth stream query block old new answer
+    pub answered : IsAnswered depth stream query block old new answer
     pub wrote : GoesOn blank full (outs (line query answer))
 
   -- its replies were rejected, and the line of the rejection was written
   pub record Fails (round : ℕ) (reason : Reason) : Type 0 where
-    pub rejected : IsRejected version depth stream query block old new round reason
+    pub rejected : IsRejected depth stream query block old new round reason
     pub wrote : GoesOn blank full (outs (rejection number round reason))
 
   -- its replies were accepted, and a front of its line was written
   pub record PassesInPart : Type 0 where
     pub answer : Answer
-    pub answered : IsAnswered version depth stream query block old new answer
+    pub answered : IsAnswered depth stream query block old new answer
     pub part : List ℕ
     pub front : IsPrefix part (line query answer)
     pub wrote : GoesOn blank full (outs part)
@@ -47,14 +46,14 @@ module _ (version : Version) (depth : ℕ) (stream : List Update) (query : Query
   pub record FailsInPart : Type 0 where
     pub round : ℕ
     pub reason : Reason
-    pub rejected : IsRejected version depth stream query block old new round reason
+    pub rejected : IsRejected depth stream query block old new round reason
     pub part : List ℕ
     pub front : IsPrefix part (rejection number round reason)
     pub wrote : GoesOn blank full (outs part)
 
   -- it has no verdict, and nothing was written
   pub record HasNone : Type 0 where
-    pub interrupted : IsInterrupted version depth stream query block old new
+    pub interrupted : IsInterrupted depth stream query block old new
     pub same : full ≡ blank
 
   -- what came of it
@@ -74,35 +73,35 @@ pub record AreFirst (queries : List Query) (blocks : List (List ℕ)) (turns : L
   pub at_blocks : map (λ t. t.block) turns ≡ take (length turns) blocks
 
 -- the first queries were accepted, and their lines were written
-pub record Passed (version : Version) (depth : ℕ) (stream : List Update) (queries : List Query) (blocks : List (List ℕ)) (old new blank full : Option (List TalkEvent)) (done : List (Accepted version depth stream)) : Type 0 where
+pub record Passed (depth : ℕ) (stream : List Update) (queries : List Query) (blocks : List (List ℕ)) (old new blank full : Option (List TalkEvent)) (done : List (Accepted depth stream)) : Type 0 where
   pub first : AreFirst queries blocks (map (λ a. a.turn) done)
-  pub talk : GoesOn old new (flat_map (said_in_turn version depth stream) (map (λ a. a.turn) done))
+  pub talk : GoesOn old new (flat_map (said_in_turn depth stream) (map (λ a. a.turn) done))
   pub report : GoesOn blank full (outs (flat_map (λ a. line a.turn.query a.answer) done))
 
 -- so many queries were accepted, and their lines were written
-pub record PassedBy (version : Version) (depth : ℕ) (stream : List Update) (queries : List Query) (blocks : List (List ℕ)) (old new blank full : Option (List TalkEvent)) (count : ℕ) : Type 0 where
-  pub done : List (Accepted version depth stream)
+pub record PassedBy (depth : ℕ) (stream : List Update) (queries : List Query) (blocks : List (List ℕ)) (old new blank full : Option (List TalkEvent)) (count : ℕ) : Type 0 where
+  pub done : List (Accepted depth stream)
   pub counted : length done ≡ count
-  pub passed : Passed version depth stream queries blocks old new blank full done
+  pub passed : Passed depth stream queries blocks old new blank full done
 
 -- the first queries were accepted, and the one behind them was the last, with this end
-pub record EndsWith (version : Version) (depth : ℕ) (stream : List Update) (queries : List Query) (blocks : List (List ℕ)) (old new blank full : Option (List TalkEvent)) (status : Status) : Type 0 where
-  pub done : List (Accepted version depth stream)
+pub record EndsWith (depth : ℕ) (stream : List Update) (queries : List Query) (blocks : List (List ℕ)) (old new blank full : Option (List TalkEvent)) (status : Status) : Type 0 where
+  pub done : List (Accepted depth stream)
   pub mid : Option (List TalkEvent)
   pub half : Option (List TalkEvent)
-  pub passed : Passed version depth stream queries blocks old mid blank half done
+  pub passed : Passed depth stream queries blocks old mid blank half done
   pub query : Query
   pub block : List ℕ
   pub next_query : List Query
   pub next_block : List (List ℕ)
   pub asks : drop (length done) queries ≡ query ∷ next_query
   pub at : drop (length done) blocks ≡ block ∷ next_block
-  pub checks : Checks version depth stream query block (suc (length done)) mid new half full (Err status)
+  pub checks : Checks depth stream query block (suc (length done)) mid new half full (Err status)
 
 -- what came of all queries
-abbrev pub ChecksAll : Version → ℕ → List Update → List Query → List (List ℕ) → Option (List TalkEvent) → Option (List TalkEvent) → Option (List TalkEvent) → Option (List TalkEvent) → Result (Unit {0}) Status → Type 0
-ChecksAll version depth stream queries blocks old new blank full (Ok _) = PassedBy version depth stream queries blocks old new blank full (length queries)
-ChecksAll version depth stream queries blocks old new blank full (Err status) = EndsWith version depth stream queries blocks old new blank full status
+abbrev pub ChecksAll : ℕ → List Update → List Query → List (List ℕ) → Option (List TalkEvent) → Option (List TalkEvent) → Option (List TalkEvent) → Option (List TalkEvent) → Result (Unit {0}) Status → Type 0
+ChecksAll depth stream queries blocks old new blank full (Ok _) = PassedBy depth stream queries blocks old new blank full (length queries)
+ChecksAll depth stream queries blocks old new blank full (Err status) = EndsWith depth stream queries blocks old new blank full status
 
 -- ---- the run
 

@@ -29,18 +29,25 @@ update_all-requires g c =
     let block : List Update = c.loop-at.block in
     let small : Update → Type 0 = λ v. nat_abs v.delta ≤ 8 in
     let deep : length c.loop.root.seat ≤ most_depth = search rules in
-    let few : c.loop.counter < 8000 = c.loop-test.true in
-    (omega arith, (deep, (subst (λ d. All (λ u. u.item < 2 ^ d) block) (sym c.loop-at.invariant.seat) c.loop-at.invariant.items,
-    λ k le.
-      let part : nat_abs (total_after c.loop.root.total (take k block)) ≤ nat_abs c.loop.root.total + 8 * length (take k block) =
-        bounded c.loop.root.total (take k block) (All-take small k block c.loop-at.invariant.deltas) in
-      let size : length (take k block) ≡ k = length-take-le k block le in
-      omega (arith, part, size, le, few, c.loop-at.invariant.long, c.loop.invariant.total))))
+    let few : c.loop.counter < 8000 = c.loop-test.true in (
+      omega arith,
+      (
+        deep,
+        (
+          subst (λ d. All (λ u. u.item < 2 ^ d) block) (sym c.loop-at.invariant.seat) c.loop-at.invariant.items,
+          λ k le.
+              let part : nat_abs (total_after c.loop.root.total (take k block)) ≤ nat_abs c.loop.root.total + 8 * length (take k block) =
+              bounded c.loop.root.total (take k block) (All-take small k block c.loop-at.invariant.deltas) in
+              let size : length (take k block) ≡ k = length-take-le k block le in
+              omega (arith, part, size, le, few, c.loop-at.invariant.long, c.loop.invariant.total),
+        ),
+      ),
+    )
 
 pub loop-preserved : goal.loop-preserved
 loop-preserved g c =
     let all : nat_abs (total_after c.loop.root.total c.loop-at.block) ≤ nat_abs c.loop.root.total + 8 * length c.loop-at.block =
-      bounded c.loop.root.total c.loop-at.block c.loop-at.invariant.deltas in
+    bounded c.loop.root.total c.loop-at.block c.loop-at.invariant.deltas in
     let sum : nat_abs c.update_all.new.self.total ≡ nat_abs (total_after c.loop.root.total c.loop-at.block) = ap nat_abs c.update_all.ensures.total in
     record {
       seat = ap length c.update_all.ensures.seat ∙ c.loop-at.invariant.seat;

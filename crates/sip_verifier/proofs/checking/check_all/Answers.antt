@@ -14,7 +14,7 @@ returns-in_err-check_query-clause-checks g c = λ stream same all.
     let checks = c.check_query.ensures.checks stream s.seat (record { more = s.more; first = c.loop-query.invariant.left ∙ s.is; asks = s.asks; stands = rw c.loop-query.invariant.depth s.stands }) in
     let p = err_from_is_err_and c.from_residual.result c.from_residual.ensures.1 in
     rw (p.1, p.2)
-    (ends_with c.args.session.now.version c.args.session.now.depth stream c.args.queries.now _ _ _ _ _ _ _ c.loop-query.query-index _ s.next_query _ s.next_block _ c.check_query.result _ c.in_err-check_query.was (omega arith) (c.loop-query.invariant.passed stream same all) s.queries_from s.blocks_from
+    (ends_with c.args.session.now.depth stream c.args.queries.now _ _ _ _ _ _ _ c.loop-query.query-index _ s.next_query _ s.next_block _ c.check_query.result _ c.in_err-check_query.was (omega arith) (c.loop-query.invariant.passed stream same all) s.queries_from s.blocks_from
     (rw c.loop-query.invariant.depth at checks))
 
 pub loop-query-preserved : goal.loop-query-preserved
@@ -26,7 +26,7 @@ loop-query-preserved g c = record {
   passed = λ stream same all.
       let s = next_seat c.args.session.now.depth stream c.args.session.now.left c.args.queries.now _ c.loop-query.query-index _ same all (drop-cons c.args.queries.now c.loop-query.query-index (Sub 0 0) c.loop-query-test.true) in
       let checks = c.check_query.ensures.checks stream s.seat (record { more = s.more; first = c.loop-query.invariant.left ∙ s.is; asks = s.asks; stands = rw c.loop-query.invariant.depth s.stands }) in
-      passed_more c.args.session.now.version c.args.session.now.depth stream c.args.queries.now _ _ _ _ _ _ _ c.loop-query.query-index _ s.next_query _ s.next_block _ c.check_query.result _ c.in_ok-check_query.was (c.loop-query.invariant.passed stream same all) s.queries_from s.blocks_from
+      passed_more c.args.session.now.depth stream c.args.queries.now _ _ _ _ _ _ _ c.loop-query.query-index _ s.next_query _ s.next_block _ c.check_query.result _ c.in_ok-check_query.was (c.loop-query.invariant.passed stream same all) s.queries_from s.blocks_from
       (rw c.loop-query.invariant.depth at checks);
   peer = search rules;
   report = search rules;

@@ -1,5 +1,5 @@
 -- The records that are read of bytes are a legal stream.
-use Rattle.std.proofs.Common.{◌≡◌, ◌≢◌, ℕ, ◌^◌, ◌<◌, ◌≤◌, Bool, true, false, List, [], ◌∷◌, ◌++◌, length, pos, Option, Some, None, refl, ap, arith, if◌then◌else◌}
+use Rattle.std.proofs.Common.{◌≡◌, ◌≢◌, ℕ, ◌+◌, ◌^◌, ◌<◌, ◌≤◌, Bool, true, false, List, [], ◌∷◌, ◌++◌, length, pos, Option, Some, None, refl, ap, arith, if◌then◌else◌}
 use Rattle.std.specs.Prelude.{nat_le, nat_lt, slice_index, option_and_then}
 use Rattle.std.proofs.lemmas.Bool.Decides.{nat_tests}
 use Rattle.std.proofs.lemmas.List.Elements.{All-append, All-cons, All-nil}
@@ -10,9 +10,9 @@ use Rattle.sip_vector.specs.Answers.{is_zero}
 use Rattle.sip_vector.specs.Streams.{same_side, weight, most_weight, IsLegal}
 use Rattle.sip_vector.proofs.Sides.{weight-append, weight-one_other_side}
 use Rattle.sip_stream.specs.declared.form.Form.{Form}
+use Rattle.sip_stream.specs.declared.form.Form.TheVariants.{Binary, Text}
 use Rattle.sip_stream.specs.declared.why.Why.{Why}
 use Rattle.sip_stream.specs.declared.why.Why.TheVariants.{Truncated, BadLine, BadSide, BadItem, ZeroDelta, TooHeavy}
-use Rattle.sip_stream.specs.Layouts.{Layout, of_bytes, of_line, layout_of, record_size}
 use Rattle.sip_stream.specs.Lines.{numbers_at, parts_at, most_line}
 use Rattle.sip_stream.specs.Records.{update_fault, said, said_fault, update_at, fault_at, records_after, records, pieces_of}
 
@@ -59,30 +59,30 @@ line_parts : {P N : Type 0} (depth : ℕ) (before : List Update) (read : P → O
 line_parts depth before read fault say none passes None e = absurd (cc)
 line_parts depth before read fault say none passes (Some p) e = line_said depth before fault say none passes (read p) e
 
-record_passed : (depth : ℕ) (layout : Layout) (before : List Update) (piece : List ℕ) → fault_at layout depth before piece ≡ None → update_fault depth before (update_at layout piece) ≡ None
-record_passed depth (of_bytes width) before piece e =
-    let long = passed (nat_lt (length piece) (record_size width)) Truncated _ e in
+record_passed : (depth : ℕ) (form : Form) (before : List Update) (piece : List ℕ) → fault_at form depth before piece ≡ None → update_fault depth before (update_at form piece) ≡ None
+record_passed depth Binary before piece e =
+    let long = passed (nat_lt (length piece) 13) Truncated _ e in
     (passed (nat_lt 1 (slice_index piece 0)) BadSide _ long.1).1
-record_passed depth of_line before piece e =
+record_passed depth Text before piece e =
     line_parts depth before (λ (p : List ℕ × List ℕ). numbers_at p.0) (said_fault depth before) said (record { side = First; item = 0; delta = pos 0 }) (λ n none. (passed (nat_lt 1 n.side) BadSide _ none).1)
     (parts_at 10 piece) (passed (nat_lt most_line (length piece)) BadLine _ e).1
 
 -- ---- all records
 
 -- by the fault of the first record
-by_fault : (depth : ℕ) (form : Form) (before : List Update) (piece : List ℕ) (more : List (List ℕ)) (fault : Option Why) → fault_at (layout_of form) depth before piece ≡ fault → IsLegal depth before
-    → (fault_at (layout_of form) depth before piece ≡ None → IsLegal depth (records_after depth form (before ++ update_at (layout_of form) piece ∷ []) more).legal) → IsLegal depth (records_after depth form before (piece ∷ more)).legal
+by_fault : (depth : ℕ) (form : Form) (before : List Update) (piece : List ℕ) (more : List (List ℕ)) (fault : Option Why) → fault_at form depth before piece ≡ fault → IsLegal depth before
+    → (fault_at form depth before piece ≡ None → IsLegal depth (records_after depth form (before ++ update_at form piece ∷ []) more).legal) → IsLegal depth (records_after depth form before (piece ∷ more)).legal
 by_fault depth form before piece more None is legal later = rw (is, records_after) (later is)
 by_fault depth form before piece more (Some why) is legal later = rw (is, records_after) legal
 
 legal_after : (depth : ℕ) (form : Form) (before : List Update) (pieces : List (List ℕ)) → IsLegal depth before → IsLegal depth (records_after depth form before pieces).legal
 legal_after depth form before [] legal = legal
 legal_after depth form before (piece ∷ more) legal =
-    by_fault depth form before piece more (fault_at (layout_of form) depth before piece) refl legal
-    (λ none. legal_after depth form (before ++ update_at (layout_of form) piece ∷ []) more (legal_next depth before (update_at (layout_of form) piece) legal (record_passed depth (layout_of form) before piece none)))
+    by_fault depth form before piece more (fault_at form depth before piece) refl legal
+    (λ none. legal_after depth form (before ++ update_at form piece ∷ []) more (legal_next depth before (update_at form piece) legal (record_passed depth form before piece none)))
 
 pub records_legal : (depth : ℕ) (form : Form) (bytes : List ℕ) → IsLegal depth (records depth form bytes).legal
-records_legal depth form bytes = legal_after depth form [] (pieces_of (layout_of form) bytes) (record {
+records_legal depth form bytes = legal_after depth form [] (pieces_of form bytes) (record {
   items = All-nil (λ (v : Update). v.item < 2 ^ depth);
   deltas = All-nil (λ (v : Update). v.delta ≢ pos 0);
   first = omega arith;

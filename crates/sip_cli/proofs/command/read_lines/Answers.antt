@@ -1,0 +1,21 @@
+use Rattle.std.proofs.Common.{refl, arith}
+use Rattle.sip_cli.specs.declared.verb.Verb.TheVariants.{Lines}
+use Rattle.sip_cli.proofs.Stopping.{refused_more, whole_end, no_word}
+use Rattle.sip_cli.proofs.command.read_lines.Goals as goal
+
+pub returns-in_default-clause-refused : goal.returns-in_default-clause-refused
+returns-in_default-clause-refused c = λ fitted.
+    let named = fitted.1.1 0 (omega arith) in
+    let more = fitted.1.0 in
+    absurd (c.in_default.ensures (omega arith) named.0 named.1)
+
+pub returns-in_default-depth_at-clause-refused : goal.returns-in_default-depth_at-clause-refused
+returns-in_default-depth_at-clause-refused c = λ fitted.
+    let deep = fitted.1.1 1 (omega arith) in
+    absurd (c.in_default-depth_at.ensures fitted.1.0 deep.0 deep.2)
+
+pub returns-then-has_word-clause-refused : goal.returns-then-has_word-clause-refused
+returns-then-has_word-clause-refused c = λ fitted. refused_more Lines c.args.words.now 3 fitted refl refl (c.has_word.ensures.0 c.if-has_word.true)
+
+pub returns-clause-command : goal.returns-clause-command
+returns-clause-command c = λ fitted. (whole_end Lines c.args.words.now fitted refl (no_word _ 3 _ c.has_word.ensures c.if-has_word.false), c.in-Some.ensures, c.in-Some-depth_at.ensures.1)
