@@ -5,21 +5,21 @@ use crate::row::{At, Failing, Given, first_run};
 use sip_verifier::{Port, Status};
 use std::test::Fail;
 
-// A port, the chunk, how many calls the first run makes on the port, and the least and most events that were said before
-// one of them.
+// A port, the chunk, the first call on the port that the first run does not make, and the least and most events that were
+// said before one of the others.
 //
 // With a byte a call the stream has 39 bytes and an end, the seed 32, the talk 119 and the line 12. With as many bytes a
 // call as are asked for these are 3 records and the end, the seed, and the line; the link has 6 frames out, and 3 frames
 // in of a header and a body each. The opening is 5 bytes, and the farewell the last 3.
 const PORTS: [(At, usize, u64, usize, usize); 8] = [
-    (At::First, 1, 40, 5, 5),
-    (At::Second, 1, 32, 0, 0),
-    (At::Peer, 1, 119, 0, 118),
-    (At::Report, 1, 12, 116, 116),
-    (At::First, 10_000, 4, 5, 5),
-    (At::Second, 10_000, 1, 0, 0),
-    (At::Peer, 10_000, 12, 0, 116),
-    (At::Report, 10_000, 1, 116, 116),
+    (At::First, 1, 41, 5, 5),
+    (At::Second, 1, 33, 0, 0),
+    (At::Peer, 1, 120, 0, 118),
+    (At::Report, 1, 13, 116, 116),
+    (At::First, 10_000, 5, 5, 5),
+    (At::Second, 10_000, 2, 0, 0),
+    (At::Peer, 10_000, 13, 0, 116),
+    (At::Report, 10_000, 2, 116, 116),
 ];
 
 // What the talk has once the last reply came.
@@ -31,8 +31,8 @@ const BEFORE_FAREWELL: usize = 116;
 fn each_call_fails_once(rt: HostRuntime) -> Result<(), Fail> {
     let alloc = rt.alloc();
     let row = first_run();
-    for (at, chunk, count, least, most) in PORTS {
-        for number in 1..=count {
+    for (at, chunk, after, least, most) in PORTS {
+        for number in 1..after {
             let shown = check_cut(&rt, alloc, &row, chunk, Failing { at, number })?;
             let (said, written) = (shown.peer.talk().len(), shown.report.bytes().len());
             let case = Case {
@@ -43,7 +43,7 @@ fn each_call_fails_once(rt: HostRuntime) -> Result<(), Fail> {
             case.holds(&rt, written == 0 || said >= BEFORE_FAREWELL);
             case.holds(&rt, written == 0 || number > 1);
         }
-        let number = count + 1;
+        let number = after;
         check_not_made(&rt, alloc, &row, chunk, Failing { at, number })?;
     }
     Ok(())

@@ -3,7 +3,7 @@
 use crate::case::Case;
 use crate::frames::*;
 use crate::ones::{pairs_of_ones, rows_of_ones};
-use crate::row::{Given, Row, Said, bytes_of};
+use crate::row::{Given, Row, Said};
 use sip_verifier::Status;
 use sip_wire::Reason;
 use std::alloc::Global;
@@ -27,30 +27,46 @@ const UPDATE_65536: [u8; 18] = [0x02, 0, 0x0f, 0, 1, 0, 0, 1, 0, 0, 0, 0, 0, 0, 
 
 const ENTRY_65536: [u8; 17] = [0x13, 0, 0x0e, 0, 1, 0, 1, 0, 0, 0, 0, 0, 0, 0, 0, 0, 1];
 
+// That entry, and no siblings behind it.
+const ENTRY_AND_NO_SIBLINGS: [u8; 21] = [
+    0x13, 0, 0x0e, 0, 1, 0, 1, 0, 0, 0, 0, 0, 0, 0, 0, 0, 1, 0x14, 0, 1, 0,
+];
+
 // Too many entries.
 const REFUSE_2: [u8; 4] = [0x18, 0, 1, 2];
 
+// An update of each item, as records or as frames of them, or an entry of each, and more bytes behind them.
+fn ones_and(alloc: Global, header: &[u8], front: &[u8], more: &[u8]) -> Result<Vec<u8>, Fail> {
+    let mut bytes = rows_of_ones(alloc, MOST_ENTRIES, header, front)?;
+    bytes.extend_from_slice(more)?;
+    Ok(bytes)
+}
+
+// What a verifier says up to its query, with one more update in a frame of its own or with none.
+fn said(alloc: Global, one_more: &[u8]) -> Result<Vec<u8>, Fail> {
+    let updates = ones_and(alloc, &UPDATES_OF_512, &[0], one_more)?;
+    let mut bytes = OPEN_17.to_vec(alloc)?;
+    bytes.extend_from_slice(&updates)?;
+    bytes.extend_from_slice(&END_STREAM)?;
+    bytes.extend_from_slice(&SUB_0_131071)?;
+    Ok(bytes)
+}
+
 // Helps with the updates that are given, behind which one more may stand, and shows this answer. The verifier leaves then.
 fn check_help(rt: &impl Abort, alloc: Global, one_more: &[u8], answer: &[u8]) -> Result<(), Fail> {
-    let updates = rows_of_ones(alloc, MOST_ENTRIES, &UPDATES_OF_512, &[0])?;
+    let heard = said(alloc, one_more)?;
     let row = Row {
         name: "the whole interval",
         given: Given {
             words: "help from to",
             stream: &[],
             seed: &[],
-            replies: &[&OPEN_17, &updates, one_more, &END_STREAM, &SUB_0_131071],
+            replies: &[&heard],
         },
         status: Status::PeerClosed,
         code: 4,
         report: "",
-        sent: &[
-            Said::In(&OPEN_17),
-            Said::In(&updates),
-            Said::In(one_more),
-            Said::In(&END_STREAM),
-            Said::In(&SUB_0_131071),
-        ],
+        sent: &[Said::In(&heard)],
         then: &[Said::Out(answer), Said::Ended],
     };
     row.check_in(rt, alloc, 10_000)
@@ -60,13 +76,21 @@ fn check_help(rt: &impl Abort, alloc: Global, one_more: &[u8], answer: &[u8]) ->
 #[test]
 fn help_gives_the_most_entries_and_refuses_one_more(rt: HostRuntime) -> Result<(), Fail> {
     let alloc = rt.alloc();
-    let rows = rows_of_ones(alloc, MOST_ENTRIES, &ENTRIES_OF_512, &[])?;
-    let entries = bytes_of(alloc, &[&rows, &NO_SIBLINGS])?;
+    let entries = ones_and(alloc, &ENTRIES_OF_512, &[], &NO_SIBLINGS)?;
     check_help(&rt, alloc, &[], &entries)?;
     check_help(&rt, alloc, &UPDATE_65536, &REFUSE_2)
 }
 
-// The line of the whole interval.
+// The replies to the whole interval.
+fn replies_of_most(alloc: Global) -> Result<Vec<u8>, Fail> {
+    let mut replies = rows_of_ones(alloc, MOST_ENTRIES, &ENTRIES_OF_512, &[])?;
+    for _ in 0..17 {
+        replies.extend_from_slice(&NO_SIBLINGS)?;
+    }
+    Ok(replies)
+}
+
+// Its line.
 fn line_of_most(alloc: Global) -> Result<String, Fail> {
     let pairs = pairs_of_ones(alloc, MOST_ENTRIES)?;
     let mut line = String::from_str(alloc, "sub:0:131071")?;
@@ -80,17 +104,13 @@ fn line_of_most(alloc: Global) -> Result<String, Fail> {
 fn verify_writes_the_most_entries(rt: HostRuntime) -> Result<(), Fail> {
     let alloc = rt.alloc();
     let stream = rows_of_ones(alloc, MOST_ENTRIES, &[], &[0])?;
-    let entries = rows_of_ones(alloc, MOST_ENTRIES, &ENTRIES_OF_512, &[])?;
+    let replies = replies_of_most(alloc)?;
     let line = line_of_most(alloc)?;
-    let none: &[u8] = &NO_SIBLINGS;
     let given = Given {
         words: "verify s seed a b - 17 sub:0:131071",
         stream: &stream,
         seed: &ZERO_SEED,
-        replies: &[
-            &entries, none, none, none, none, none, none, none, none, none, none, none, none, none,
-            none, none, none, none,
-        ],
+        replies: &[&replies],
     };
     let shown = given.run(alloc, 10_000, None)?;
     let case = Case {
@@ -106,17 +126,17 @@ fn verify_writes_the_most_entries(rt: HostRuntime) -> Result<(), Fail> {
 #[test]
 fn verify_rejects_one_entry_more(rt: HostRuntime) -> Result<(), Fail> {
     let alloc = rt.alloc();
-    let records = rows_of_ones(alloc, MOST_ENTRIES, &[], &[0])?;
-    let stream = bytes_of(alloc, &[&records, &UPDATE_65536[5..]])?;
-    let updates = rows_of_ones(alloc, MOST_ENTRIES, &UPDATES_OF_512, &[0])?;
-    let entries = rows_of_ones(alloc, MOST_ENTRIES, &ENTRIES_OF_512, &[])?;
+    let stream = ones_and(alloc, &[], &[0], &UPDATE_65536[5..])?;
+    let sent = said(alloc, &UPDATE_65536)?;
+    let taken = ones_and(alloc, &ENTRIES_OF_512, &[], &ENTRY_65536)?;
+    let replies = ones_and(alloc, &ENTRIES_OF_512, &[], &ENTRY_AND_NO_SIBLINGS)?;
     let row = Row {
         name: "one entry more",
         given: Given {
             words: "verify s seed a b - 17 sub:0:131071",
             stream: &stream,
             seed: &ZERO_SEED,
-            replies: &[&entries, &ENTRY_65536, &NO_SIBLINGS],
+            replies: &[&replies],
         },
         status: Status::Rejected {
             query: 1,
@@ -125,14 +145,8 @@ fn verify_rejects_one_entry_more(rt: HostRuntime) -> Result<(), Fail> {
         },
         code: 1,
         report: "rejected query 1 round 0 TooMany\n",
-        sent: &[
-            Said::Out(&OPEN_17),
-            Said::Out(&updates),
-            Said::Out(&UPDATE_65536),
-            Said::Out(&END_STREAM),
-            Said::Out(&SUB_0_131071),
-        ],
-        then: &[Said::In(&entries), Said::In(&ENTRY_65536)],
+        sent: &[Said::Out(&sent)],
+        then: &[Said::In(&taken)],
     };
     row.check_in(&rt, alloc, 10_000)
 }
