@@ -2,7 +2,6 @@
 
 ghost use Rattle.std.specs.Prelude.{◌≡◌, ◌<◌, ◌≤◌, false, length, IfOk, if◌then◌else◌};
 
-use crate::case::Case;
 use crate::frames::*;
 use sip_field::{Field, M61, Seat};
 use sip_ports::MemoryLink;
@@ -170,11 +169,11 @@ fn judge_all(
         }
         for chunk in [1, 10_000] {
             let mut link = MemoryLink::new(alloc, bytes.clone()?, chunk, Vec::new(alloc));
-            let case = Case {
-                name: "row",
-                number: index as u64,
-            };
-            case.holds(rt, judge(lo, hi, &mut link, &mut frame) == *verdict);
+            assert_eq!(rt;
+                judge(lo, hi, &mut link, &mut frame),
+                *verdict,
+                "row {index}"
+            );
         }
     }
     Ok(())
@@ -228,17 +227,13 @@ fn no_sibling_is_asked_for_by_all_items(rt: HostRuntime) -> Result<(), Fail> {
 fn a_link_that_fails_is_not_closed(rt: HostRuntime) -> Result<(), Fail> {
     let alloc = rt.alloc();
     let mut frame = Frame::new(alloc)?;
-    for (number, round) in [(1, 0), (2, 0), (3, 0), (4, 0), (5, 1), (6, 1)] {
+    for (call, round) in [(1, 0), (2, 0), (3, 0), (4, 0), (5, 1), (6, 1)] {
         let mut bytes = ENTRY_2.to_vec(alloc)?;
         bytes.extend_from_slice(&SIBLINGS_3_1)?;
         bytes.extend_from_slice(&NO_SIBLINGS)?;
-        let mut link = MemoryLink::new(alloc, bytes, 10_000, vec![in alloc; number]?);
+        let mut link = MemoryLink::new(alloc, bytes, 10_000, vec![in alloc; call]?);
         let verdict = judge(1, 2, &mut link, &mut frame);
-        let case = Case {
-            name: "call",
-            number,
-        };
-        case.holds(&rt, verdict == Err((round, Stop::PeerFault)));
+        assert_eq!(rt; verdict, Err((round, Stop::PeerFault)), "call {call}");
     }
     Ok(())
 }

@@ -1,4 +1,3 @@
-use crate::case::Case;
 use crate::duel::duel;
 use crate::ones::rows_of_ones;
 use sip_verifier::Status;
@@ -15,12 +14,8 @@ fn check(
     lines: &str,
 ) -> Result<(), Fail> {
     let shown = duel(alloc, words, stream)?;
-    let case = Case {
-        name: words,
-        number: 10_000,
-    };
-    case.ends(rt, shown.status, Status::Accepted);
-    case.writes(rt, shown.report.bytes(), lines.as_bytes());
+    assert_eq!(rt; shown.status, Status::Accepted, "at {words}");
+    assert_eq!(rt; shown.report.bytes(), lines.as_bytes(), "at {words}");
     Ok(())
 }
 
@@ -49,8 +44,8 @@ fn sixteen_queries(rt: HostRuntime) -> Result<(), Fail> {
     check(
         &rt,
         rt.alloc(),
-        "verify text:s seed a b - 3 sub:0:0 sub:1:1 sub:1:2 sub:2:3 sub:0:3 sub:0:7 sub:4:7 \
-         sub:6:6 sub:7:7 sub:4:5 sub:3:6 sub:1:6 sub:2:7 sub:0:6 sub:5:5 sub:2:2",
+        "verify text:s seed a b - 3 sub:0:0 sub:1:1 sub:1:2 sub:2:3 sub:0:3 sub:0:7 sub:4:7 sub:6:6 \
+         sub:7:7 sub:4:5 sub:3:6 sub:1:6 sub:2:7 sub:0:6 sub:5:5 sub:2:2",
         EIGHT.as_bytes(),
         "sub:0:0 0:3\nsub:1:1 none\nsub:1:2 2:5\nsub:2:3 2:5 3:1\nsub:0:3 0:3 2:5 3:1\n\
          sub:0:7 0:3 2:5 3:1 6:-2\nsub:4:7 6:-2\nsub:6:6 6:-2\nsub:7:7 none\nsub:4:5 none\n\

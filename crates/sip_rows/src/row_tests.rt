@@ -236,8 +236,8 @@ fn runs_that_say_nothing(rt: HostRuntime) -> Result<(), Fail> {
         refused("verify s seed a b - 33 sub:1:2", 6),
         refused("verify s seed a b r 2 sub:1:2", 5),
         refused(
-            "verify s seed a b - 2 sub:0:0 sub:0:0 sub:0:0 sub:0:0 sub:0:0 sub:0:0 sub:0:0 sub:0:0 \
-             sub:0:0 sub:0:0 sub:0:0 sub:0:0 sub:0:0 sub:0:0 sub:0:0 sub:0:0 sub:0:0",
+            "verify s seed a b - 2 sub:0:0 sub:0:0 sub:0:0 sub:0:0 sub:0:0 sub:0:0 sub:0:0 sub:0:0 sub:0:0 \
+             sub:0:0 sub:0:0 sub:0:0 sub:0:0 sub:0:0 sub:0:0 sub:0:0 sub:0:0",
             23,
         ),
     ];
