@@ -12,18 +12,17 @@ use Rattle.sip_verifier.specs.declared.session.SessionFault.{SessionFault}
 use Rattle.sip_verifier.specs.declared.session.Verdict.{Verdict}
 use Rattle.sip_verifier.specs.declared.session.Verdict.TheVariants as verdicts
 use Rattle.sip_verifier.specs.Asking.{AnswersCount, Asks, IsAnswered, IsCounted}
-use Rattle.sip_verifier.specs.QuerySeats.{block_of, can_be_asked, is_seat}
-use Rattle.sip_verifier.specs.declared.seat.QuerySeat.{QuerySeat}
+use Rattle.sip_verifier.specs.QuerySeats.{Seated, can_be_asked, is_seat}
 use Rattle.sip_verifier.proofs.CountedTurns.{turn_counts}
 use Rattle.sip_verifier.proofs.SeatsHead.{fits-asked}
 
 -- the query of the first seat that is left fits the depth
-pub left_fits : (depth n : ℕ) (seats : List QuerySeat) (seat : QuerySeat) (more : List QuerySeat) → IsTrue (list_all (is_seat depth) seats) → drop n seats ≡ seat ∷ more → Fits depth seat.query
+pub left_fits : (depth n : ℕ) (seats : List Seated) (seat : Seated) (more : List Seated) → IsTrue (list_all (is_seat depth) seats) → drop n seats ≡ seat ∷ more → Fits depth seat.query
 left_fits depth zero [] seat more all e = absurd cc
 left_fits depth zero (x ∷ seats) seat more all e =
     let same : x ≡ seat = cc in
-    let is = subst (λ (s : QuerySeat). IsTrue (is_seat depth s)) same (and_parts (is_seat depth x) (list_all (is_seat depth) seats) all).0 in
-    fits-asked depth seat.query (and_parts (can_be_asked depth seat.query) (length (block_of seat) == depth) is).0
+    let is = subst (λ (s : Seated). IsTrue (is_seat depth s)) same (and_parts (is_seat depth x) (list_all (is_seat depth) seats) all).0 in
+    fits-asked depth seat.query (and_parts (can_be_asked depth seat.query) (length seat.block == depth) is).0
 left_fits depth (suc n) [] seat more all e = absurd cc
 left_fits depth (suc n) (x ∷ seats) seat more all e = left_fits depth n seats seat more (and_parts (is_seat depth x) (list_all (is_seat depth) seats) all).1 e
 

@@ -16,7 +16,6 @@ use Rattle.sip_vector.specs.declared.update.Entry.{Entry}
 use Rattle.sip_vector.specs.declared.update.Update.{Update}
 use Rattle.sip_vector.specs.Answers.{Answer}
 use Rattle.sip_wire.specs.declared.message.Reason.{Reason}
-use Rattle.sip_verifier.specs.declared.seat.QuerySeat.{QuerySeat}
 use Rattle.sip_verifier.specs.declared.session.SessionFault.{SessionFault}
 use Rattle.sip_verifier.specs.declared.session.SessionFault.TheVariants as faults
 use Rattle.sip_verifier.specs.declared.status.Port.TheVariants as ports
@@ -28,7 +27,7 @@ use Rattle.sip_verifier.specs.Draws.{blocks}
 use Rattle.sip_verifier.specs.inside.Ending.{status_of_fault, status_of_report}
 use Rattle.sip_verifier.specs.Moments.{counts}
 use Rattle.sip_verifier.specs.inside.Progress.{Checks, ChecksAll, Passes, PassesInPart, FailsInPart, AreFirst, PassedBy, EndsWith}
-use Rattle.sip_verifier.specs.QuerySeats.{StandsFor, block_of}
+use Rattle.sip_verifier.specs.QuerySeats.{Seated, StandsFor}
 use Rattle.sip_verifier.specs.Reports.{line, rejection}
 use Rattle.sip_verifier.specs.Seats.{AreSeats, Seating}
 use Rattle.sip_verifier.specs.Statuses.{FaultClause}
@@ -148,23 +147,23 @@ module _ (depth : ℕ) (stream : List Update) (queries : List Query) (blocks : L
 -- ---- the seat of a query
 
 -- the seat of this number, which is within the list
-pub record NextSeat (depth : ℕ) (stream : List Update) (seats : List QuerySeat) (queries : List Query) (count : ℕ) (query : Query) : Type 0 where
-  pub seat : QuerySeat
-  pub more : List QuerySeat
+pub record NextSeat (depth : ℕ) (stream : List Update) (seats : List Seated) (queries : List Query) (count : ℕ) (query : Query) : Type 0 where
+  pub seat : Seated
+  pub more : List Seated
   pub is : drop count seats ≡ seat ∷ more
   pub asks : seat.query ≡ query
   pub stands : StandsFor depth stream seat
   pub next_query : List Query
   pub next_block : List (List ℕ)
   pub queries_from : drop count queries ≡ query ∷ next_query
-  pub blocks_from : drop count (map block_of seats) ≡ block_of seat ∷ next_block
+  pub blocks_from : drop count (map (λ (s : Seated). s.block) seats) ≡ seat.block ∷ next_block
 
-next_seat_of : (depth : ℕ) (stream : List Update) (seats rest : List QuerySeat) (queries more : List Query) (count : ℕ) (query : Query) → drop count seats ≡ rest → map (λ seat. seat.query) seats ≡ queries → All (StandsFor depth stream) rest
+next_seat_of : (depth : ℕ) (stream : List Update) (seats rest : List Seated) (queries more : List Query) (count : ℕ) (query : Query) → drop count seats ≡ rest → map (λ seat. seat.query) seats ≡ queries → All (StandsFor depth stream) rest
     → drop count queries ≡ query ∷ more → NextSeat depth stream seats queries count query
 next_seat_of depth stream seats [] queries more count query is same all from =
-    absurd (let e : [] ≡ query ∷ more = ap (λ (l : List QuerySeat). map (λ (s : QuerySeat). s.query) l) (sym is) ∙ sym (drop-map (λ (s : QuerySeat). s.query) count seats) ∙ ap (λ (l : List Query). drop count l) same ∙ from in cc)
+    absurd (let e : [] ≡ query ∷ more = ap (λ (l : List Seated). map (λ (s : Seated). s.query) l) (sym is) ∙ sym (drop-map (λ (s : Seated). s.query) count seats) ∙ ap (λ (l : List Query). drop count l) same ∙ from in cc)
 next_seat_of depth stream seats (seat ∷ rest) queries more count query is same all from =
-    let e : seat.query ∷ map (λ (s : QuerySeat). s.query) rest ≡ query ∷ more = ap (λ (l : List QuerySeat). map (λ (s : QuerySeat). s.query) l) (sym is) ∙ sym (drop-map (λ (s : QuerySeat). s.query) count seats) ∙ ap (λ (l : List Query). drop count l) same ∙ from in
+    let e : seat.query ∷ map (λ (s : Seated). s.query) rest ≡ query ∷ more = ap (λ (l : List Seated). map (λ (s : Seated). s.query) l) (sym is) ∙ sym (drop-map (λ (s : Seated). s.query) count seats) ∙ ap (λ (l : List Query). drop count l) same ∙ from in
     record {
       seat = seat;
       more = rest;
@@ -172,26 +171,26 @@ next_seat_of depth stream seats (seat ∷ rest) queries more count query is same
       asks = cc;
       stands = all 0 seat (omega arith);
       next_query = more;
-      next_block = map block_of rest;
+      next_block = map (λ (s : Seated). s.block) rest;
       queries_from = from;
-      blocks_from = drop-map block_of count seats ∙ ap (λ (l : List QuerySeat). map block_of l) is;
+      blocks_from = drop-map (λ (s : Seated). s.block) count seats ∙ ap (λ (l : List Seated). map (λ (s : Seated). s.block) l) is;
     }
 
 -- a query has its seat
-pub next_seat : (depth : ℕ) (stream : List Update) (seats : List QuerySeat) (queries more : List Query) (count : ℕ) (query : Query) → map (λ seat. seat.query) seats ≡ queries → All (StandsFor depth stream) seats
+pub next_seat : (depth : ℕ) (stream : List Update) (seats : List Seated) (queries more : List Query) (count : ℕ) (query : Query) → map (λ seat. seat.query) seats ≡ queries → All (StandsFor depth stream) seats
     → drop count queries ≡ query ∷ more → NextSeat depth stream seats queries count query
 next_seat depth stream seats queries more count query same all from = next_seat_of depth stream seats (drop count seats) queries more count query refl same (All-drop (StandsFor depth stream) count seats all) from
 
 -- what came of all queries of a task, whose seats the session had
-pub all_checked : (task : Task) (stream : List Update) (challenges : List ℕ) (seats : Seating) (depth : ℕ) (left : List QuerySeat) (queries : List Query) (old new blank full : Option (List TalkEvent)) {r s : Result (Unit {0}) Status} → r ≡ s → depth ≡ seats.depth
+pub all_checked : (task : Task) (stream : List Update) (challenges : List ℕ) (seats : Seating) (depth : ℕ) (left : List Seated) (queries : List Query) (old new blank full : Option (List TalkEvent)) {r s : Result (Unit {0}) Status} → r ≡ s → depth ≡ seats.depth
     → left ≡ seats.seats → queries ≡ task.queries.items → AreSeats task.depth task.queries.items (blocks task challenges) stream seats
-    → ((stream : List Update) → map (λ seat. seat.query) left ≡ queries → All (StandsFor depth stream) left → ChecksAll depth stream queries (map block_of left) old new blank full r)
+    → ((stream : List Update) → map (λ seat. seat.query) left ≡ queries → All (StandsFor depth stream) left → ChecksAll depth stream queries (map (λ (s : Seated). s.block) left) old new blank full r)
     → ChecksAll task.depth stream task.queries.items (blocks task challenges) old new blank full s
 all_checked task stream challenges seats depth left queries old new blank full {r = r} {s = s} ends deep its same are came =
     let levels : depth ≡ task.depth = deep ∙ are.levels in
     let stand = subst (λ (n : ℕ). All (StandsFor n stream) left) (sym levels) (subst (All (StandsFor task.depth stream)) (sym its) are.stand) in
-    let checks = came stream (ap (λ (seats : List QuerySeat). map (λ (s : QuerySeat). s.query) seats) its ∙ are.asked ∙ sym same) stand in
-    let at_blocks : map block_of left ≡ blocks task challenges = ap (λ (seats : List QuerySeat). map block_of seats) its ∙ are.at_blocks in
+    let checks = came stream (ap (λ (seats : List Seated). map (λ (s : Seated). s.query) seats) its ∙ are.asked ∙ sym same) stand in
+    let at_blocks : map (λ (s : Seated). s.block) left ≡ blocks task challenges = ap (λ (seats : List Seated). map (λ (s : Seated). s.block) seats) its ∙ are.at_blocks in
     subst (ChecksAll task.depth stream task.queries.items (blocks task challenges) old new blank full) ends
     (subst (λ (n : ℕ). ChecksAll n stream task.queries.items (blocks task challenges) old new blank full r) levels
     (subst (λ (qs : List Query). ChecksAll depth stream qs (blocks task challenges) old new blank full r) same (subst (λ (bs : List (List ℕ)). ChecksAll depth stream queries bs old new blank full r) at_blocks checks)))

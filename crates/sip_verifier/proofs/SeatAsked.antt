@@ -20,13 +20,13 @@ use Rattle.sip_replies.specs.Protocols.{Protocol}
 use Rattle.sip_subvec.specs.AcceptsSub.{Stated}
 use Rattle.sip_subvec.specs.Asking.{most_answer}
 use Rattle.sip_subvec.specs.Protocol.{sub_asked, sub_protocol}
-use Rattle.sip_verifier.specs.declared.seat.QuerySeat.{QuerySeat}
-use Rattle.sip_verifier.specs.declared.seat.Running.{Running}
-use Rattle.sip_verifier.specs.declared.seat.Running.TheVariants.{Root}
 use Rattle.sip_verifier.specs.Asking.{Asks}
 use Rattle.sip_verifier.specs.inside.Questions as questions
 use Rattle.sip_verifier.specs.inside.Questions.{found_in, verdict_of}
-use Rattle.sip_verifier.specs.QuerySeats.{RunsOn, StandsFor, block_of, can_be_asked, is_seat}
+use Rattle.sip_verifier.specs.declared.seat.Running.{Running}
+use Rattle.sip_verifier.specs.declared.seat.Running.TheVariants.{Root}
+use Rattle.sip_verifier.specs.inside.Running.{block_of, numbers_of}
+use Rattle.sip_verifier.specs.QuerySeats.{RunningNumbers, Seated, root_is, RunsOn, StandsFor, can_be_asked, is_seat}
 use Rattle.sip_verifier.proofs.QueryAsked.{IsProtocol, asks}
 use Rattle.sip_verifier.proofs.Seating.{Has}
 use Rattle.sip_verifier.proofs.SeatsHead.{seat-fits}
@@ -44,29 +44,30 @@ sub_fits lo hi d order within shallow =
     let c : nat_le lo hi ≡ true = grind (arith, nat_tests) in
     rw (a, b, c) refl
 
-pub sub_has_spelling : (s : QuerySeat) (lo hi : ℕ) → s.query ≡ Sub lo hi
-    → IsTrue (is_seat (length (block_of s)) s) → length (block_of s) ≤ 32
+pub sub_has_spelling : (s : Seated) (lo hi : ℕ) → s.query ≡ Sub lo hi
+    → IsTrue (is_seat (length s.block) s) → length s.block ≤ 32
     → IsTrue (fits (messages.Query s.query))
 sub_has_spelling s lo hi is seat shallow =
-    let fit = rw is at (seat-fits (length (block_of s)) s (block_of s) seat refl) in
-    rw is (sub_fits lo hi (length (block_of s)) fit.0 fit.1 shallow)
+    let fit = rw is at (seat-fits (length s.block) s s.block seat refl) in
+    rw is (sub_fits lo hi (length s.block) fit.0 fit.1 shallow)
 
 -- its answer has room
-pub sub_has_room : (s : QuerySeat) (lo hi room : ℕ) → s.query ≡ Sub lo hi
+pub sub_has_room : (s : Seated) (lo hi room : ℕ) → s.query ≡ Sub lo hi
     → IsTrue (questions.has_room room s.query) → most_answer lo hi ≤ room
 sub_has_room s lo hi room is has = leb-true (most_answer lo hi) room
     (subst (λ (q : Query). IsTrue (questions.has_room room q)) is has)
 
 -- its protocol is that of the stream for which its root stands
-sub_is_protocol : (depth : ℕ) (stream : List Update) (query : Query) (running : Running)
-    (lo hi value : ℕ) (block : List ℕ) → query ≡ Sub lo hi → Has running block value
-    → RunsOn depth stream query running
+sub_is_protocol : (depth : ℕ) (stream : List Update) (query : Query) (block : List ℕ)
+    (running : RunningNumbers) (lo hi value : ℕ) → query ≡ Sub lo hi → running ≡ root_is value
+    → RunsOn depth stream query block running
     → IsProtocol depth stream query block (sub_protocol (sub_asked m61_modulus value lo hi block))
-sub_is_protocol depth stream (Sub low high) (Root root) lo hi value block is has stands =
+sub_is_protocol depth stream (Sub low high) block (root_is found) lo hi value is has stands =
     let same_lo : low ≡ lo = cc in
     let same_hi : high ≡ hi = cc in
+    let same_value : found ≡ value = cc in
     let same = stands.same in
-    rw (sym same_lo, sym same_hi, sym has.0, sym has.1, same)
+    rw (sym same_lo, sym same_hi, sym same_value, same)
     (record {
       said = λ replies. refl;
       accepts = λ replies answer a. a;
@@ -74,33 +75,36 @@ sub_is_protocol depth stream (Sub low high) (Root root) lo hi value block is has
           fault f. f;
       waits = λ replies w. w;
     })
-sub_is_protocol depth stream (Range side low high) running lo hi value block is has stands = absurd
+sub_is_protocol depth stream (Range side low high) block running lo hi value is has stands = absurd
     stands
-sub_is_protocol depth stream (F2 side) running lo hi value block is has stands = absurd stands
-sub_is_protocol depth stream Inner running lo hi value block is has stands = absurd stands
-sub_is_protocol depth stream (Heavy side at_least) running lo hi value block is has stands = absurd
+sub_is_protocol depth stream (F2 side) block running lo hi value is has stands = absurd stands
+sub_is_protocol depth stream Inner block running lo hi value is has stands = absurd stands
+sub_is_protocol depth stream (Heavy side at_least) block running lo hi value is has stands = absurd
     stands
 
-block_is : (running : Running) (query : Query) (value : ℕ) (block : List ℕ)
-    → Has running block value → block_of (record { query = query; running = running }) ≡ block
-block_is (Root root) query value block has = has.0
+of_root : (running : Running) (block : List ℕ) (value : ℕ) → Has running block value
+    → (block_of running ≡ block) × (numbers_of running ≡ root_is value)
+of_root (Root root) block value has = (has.0, ap root_is has.1)
 
-pub sub_asks : (depth : ℕ) (stream : List Update) (s : QuerySeat) (lo hi value : ℕ)
+pub sub_asks : (depth : ℕ) (stream : List Update) (s : Seated) (running : Running) (lo hi value : ℕ)
     (block at : List ℕ) (old new before now : Option (List TalkEvent)) (places : List Entry)
     (result : Result Said AskStop)
-    → s.query ≡ Sub lo hi → Has s.running block value → at ≡ block → StandsFor depth stream s
+    → s.query ≡ Sub lo hi → s.block ≡ block_of running → s.running ≡ numbers_of running
+    → Has running block value → at ≡ block → StandsFor depth stream s
     → Answers (sub_protocol (sub_asked m61_modulus value lo hi block)) s.query at old new before now
     places result → result ≢ Err stops.KeepFault
-    → result ≢ Err stops.KeepOutOfMemory → Asks depth stream s.query (block_of s) old new
+    → result ≢ Err stops.KeepOutOfMemory → Asks depth stream s.query s.block old new
     (take (found_in (length places) result) places) (verdict_of result)
-sub_asks depth stream s lo hi value block at old new before now places result is has same stands
-    answers kept free =
+sub_asks depth stream s running lo hi value block at old new before now places result is seen keeps
+    has same stands answers kept free =
+    let root = of_root running block value has in
+    let own = seen ∙ root.0 in
     let P : Protocol Stated = sub_protocol (sub_asked m61_modulus value lo hi block) in
-    let own = subst (λ (b : List ℕ). Answers P s.query b old new before now places result) same
+    let given = subst (λ (b : List ℕ). Answers P s.query b old new before now places result) same
     answers in
+    let runs = subst (λ (b : List ℕ). RunsOn depth stream s.query b s.running) own stands in
     subst (λ (b : List ℕ). Asks depth stream s.query b old new
-    (take (found_in (length places) result) places) (verdict_of result))
-    (sym (block_is s.running s.query value block has))
+    (take (found_in (length places) result) places) (verdict_of result)) (sym own)
     (asks depth stream s.query block old new before now P
-    (sub_is_protocol depth stream s.query s.running lo hi value block is has stands) places
-    result own kept free)
+    (sub_is_protocol depth stream s.query block s.running lo hi value is (keeps ∙ root.1) runs)
+    places result given kept free)

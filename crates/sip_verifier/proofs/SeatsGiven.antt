@@ -14,31 +14,23 @@ use Rattle.sip_vector.specs.declared.query.Query.TheVariants.{Sub, Range, F2, In
 use Rattle.sip_vector.specs.declared.update.Side.TheVariants.{First}
 use Rattle.sip_vector.specs.Pieces.{pieces, cut}
 use Rattle.sip_vector.proofs.Sides.{vector-nil}
-use Rattle.sip_verifier.specs.QuerySeats.{RunsOn, StandsFor, block_of, is_seat}
+use Rattle.sip_verifier.specs.QuerySeats.{Seated, root_is, RunsOn, StandsFor, is_seat}
 use Rattle.sip_verifier.specs.Tasks.{CanBeAsked}
-use Rattle.sip_verifier.specs.declared.seat.QuerySeat.{QuerySeat}
-use Rattle.sip_verifier.specs.declared.seat.Running.{Running}
-use Rattle.sip_verifier.specs.declared.seat.Running.TheVariants.{Root}
-use Rattle.sip_verifier.proofs.Seating.{Has}
 
 -- ---- one seat
 
 -- a query with a root of zeros, one level for each challenge
-new-running : (depth : ℕ) (query : Query) (running : Running) (seat : List ℕ) (value : ℕ) → CanBeAsked depth query → Has running seat value → length seat ≡ depth
-    → RootStandsFor m61_modulus seat value (replicate (2 ^ length seat) (pos 0)) → IsTrue (is_seat depth (record { query = query; running = running })) × RunsOn depth [] query running
-new-running depth (Sub lo hi) (Root root) seat value can has size stands =
+pub new-seat : (depth : ℕ) (query : Query) (block : List ℕ) (value : ℕ) → CanBeAsked depth query → length block ≡ depth
+    → RootStandsFor m61_modulus block value (replicate (2 ^ length block) (pos 0))
+    → IsTrue (is_seat depth (record { query = query; block = block; running = root_is value })) × RunsOn depth [] query block (root_is value)
+new-seat depth (Sub lo hi) block value can size stands =
     let ends = and_from _ _ (le-leb lo hi can.1.0) (lt-ltb hi (2 ^ depth) can.1.1) in
-    let levels : length root.seat ≡ depth = ap length has.0 ∙ size in
-    let zeros = subst (λ n. RootStandsFor m61_modulus seat value (replicate (2 ^ n) (pos 0))) size stands in
-    (and_from _ _ ends (eq-eqb (length root.seat) depth levels), rw (has.0, has.1, vector-nil depth First) zeros)
-new-running depth (Range side lo hi) running seat value can has size stands = absurd (let no = can.0 in cc)
-new-running depth (F2 side) running seat value can has size stands = absurd (let no = can.0 in cc)
-new-running depth Inner running seat value can has size stands = absurd (let no = can.0 in cc)
-new-running depth (Heavy side least) running seat value can has size stands = absurd (let no = can.0 in cc)
-
-pub new-seat : (depth : ℕ) (s : QuerySeat) (seat : List ℕ) (value : ℕ) → CanBeAsked depth s.query → Has s.running seat value → length seat ≡ depth
-    → RootStandsFor m61_modulus seat value (replicate (2 ^ length seat) (pos 0)) → IsTrue (is_seat depth s) × StandsFor depth [] s
-new-seat depth s seat value can has size stands = new-running depth s.query s.running seat value can has size stands
+    let zeros = subst (λ n. RootStandsFor m61_modulus block value (replicate (2 ^ n) (pos 0))) size stands in
+    (and_from _ _ ends (eq-eqb (length block) depth size), rw (vector-nil depth First) zeros)
+new-seat depth (Range side lo hi) block value can size stands = absurd (let no = can.0 in cc)
+new-seat depth (F2 side) block value can size stands = absurd (let no = can.0 in cc)
+new-seat depth Inner block value can size stands = absurd (let no = can.0 in cc)
+new-seat depth (Heavy side least) block value can size stands = absurd (let no = can.0 in cc)
 
 -- ---- blocks
 
@@ -70,32 +62,32 @@ block-size k n i xs lt size =
 -- ---- all of them
 
 -- the seats of the first so many queries, in order
-pub record AreGiven (depth levels index : ℕ) (queries : List Query) (numbers : List ℕ) (seats : List QuerySeat) : Type 0 where
+pub record AreGiven (depth levels index : ℕ) (queries : List Query) (numbers : List ℕ) (seats : List Seated) : Type 0 where
   pub asked : map (λ s. s.query) seats ≡ take index queries
-  pub at_blocks : map block_of seats ≡ pieces levels index numbers
+  pub at_blocks : map (λ (s : Seated). s.block) seats ≡ pieces levels index numbers
   pub each : IsTrue (list_all (is_seat depth) seats)
   pub stand : All (StandsFor depth []) seats
 
 -- one more
-pub given-more : (depth levels index : ℕ) (queries : List Query) (numbers : List ℕ) (seats : List QuerySeat) (d : Query) (s : QuerySeat) → AreGiven depth levels index queries numbers seats
-    → index < length queries → s.query ≡ get_or queries index d → block_of s ≡ take levels (drop (index * levels) numbers) → IsTrue (is_seat depth s) × StandsFor depth [] s
+pub given-more : (depth levels index : ℕ) (queries : List Query) (numbers : List ℕ) (seats : List Seated) (d : Query) (s : Seated) → AreGiven depth levels index queries numbers seats
+    → index < length queries → s.query ≡ get_or queries index d → s.block ≡ take levels (drop (index * levels) numbers) → IsTrue (is_seat depth s) × StandsFor depth [] s
     → AreGiven depth levels (index + 1) queries numbers (seats ++ s ∷ [])
 given-more depth levels index queries numbers seats d s given lt query block one = record {
-  asked = map-append (λ (x : QuerySeat). x.query) seats (s ∷ []) ∙ ap (λ l. l ++ s.query ∷ []) given.asked ∙ ap (λ q. take index queries ++ q ∷ []) query ∙ sym (take_more queries index d lt);
-  at_blocks = map-append block_of seats (s ∷ []) ∙ ap (λ l. l ++ block_of s ∷ []) given.at_blocks ∙ ap (λ b. pieces levels index numbers ++ b ∷ []) block ∙ sym (pieces-more levels index numbers);
+  asked = map-append (λ (x : Seated). x.query) seats (s ∷ []) ∙ ap (λ l. l ++ s.query ∷ []) given.asked ∙ ap (λ q. take index queries ++ q ∷ []) query ∙ sym (take_more queries index d lt);
+  at_blocks = map-append (λ (x : Seated). x.block) seats (s ∷ []) ∙ ap (λ l. l ++ s.block ∷ []) given.at_blocks ∙ ap (λ b. pieces levels index numbers ++ b ∷ []) block ∙ sym (pieces-more levels index numbers);
   each = list_all-append (is_seat depth) seats (s ∷ []) ∙ and_from _ _ given.each (and_from _ _ one.0 refl);
   stand = All-push (StandsFor depth []) seats s given.stand one.1;
 }
 
 -- how many there are
-pub given-count : (depth levels index : ℕ) (queries : List Query) (numbers : List ℕ) (seats : List QuerySeat) → AreGiven depth levels index queries numbers seats → index ≤ length queries → length seats ≡ index
-given-count depth levels index queries numbers seats given le = sym (length-map seats (λ (s : QuerySeat). s.query)) ∙ ap length given.asked ∙ length-take-le index queries le
+pub given-count : (depth levels index : ℕ) (queries : List Query) (numbers : List ℕ) (seats : List Seated) → AreGiven depth levels index queries numbers seats → index ≤ length queries → length seats ≡ index
+given-count depth levels index queries numbers seats given le = sym (length-map seats (λ (s : Seated). s.query)) ∙ ap length given.asked ∙ length-take-le index queries le
 
 -- the last one is there
-pub given-asked : (depth levels index : ℕ) (queries : List Query) (numbers : List ℕ) (seats : List QuerySeat) → AreGiven depth levels index queries numbers seats → length queries ≤ index → map (λ s. s.query) seats ≡ queries
+pub given-asked : (depth levels index : ℕ) (queries : List Query) (numbers : List ℕ) (seats : List Seated) → AreGiven depth levels index queries numbers seats → length queries ≤ index → map (λ s. s.query) seats ≡ queries
 given-asked depth levels index queries numbers seats given le = given.asked ∙ take_all index queries le
 
-pub given-blocks : (depth levels index : ℕ) (queries : List Query) (numbers : List ℕ) (seats : List QuerySeat) → AreGiven depth levels index queries numbers seats → index ≡ length queries → 1 ≤ depth → levels ≡ depth → length numbers ≡ depth * length queries
-    → map block_of seats ≡ cut depth numbers
+pub given-blocks : (depth levels index : ℕ) (queries : List Query) (numbers : List ℕ) (seats : List Seated) → AreGiven depth levels index queries numbers seats → index ≡ length queries → 1 ≤ depth → levels ≡ depth → length numbers ≡ depth * length queries
+    → map (λ (s : Seated). s.block) seats ≡ cut depth numbers
 given-blocks depth levels index queries numbers seats given whole some same size =
     given.at_blocks ∙ ap (λ k. pieces k index numbers) same ∙ ap (λ n. pieces depth n numbers) whole ∙ sym (cut-whole depth (length queries) numbers some size)

@@ -6,24 +6,23 @@ use Rattle.std.proofs.Math.Seq.{take-append_seam}
 use Rattle.std.proofs.lemmas.Bool.{and_from, and_parts, eqb-true}
 use Rattle.std.proofs.lemmas.List.Elements.{All-nil, All-cons, All-head, All-tail}
 use Rattle.sip_vector.specs.declared.update.Update.{Update}
-use Rattle.sip_verifier.specs.QuerySeats.{StandsFor, block_of, is_seat, can_be_asked}
-use Rattle.sip_verifier.specs.declared.seat.QuerySeat.{QuerySeat}
+use Rattle.sip_verifier.specs.QuerySeats.{Seated, StandsFor, is_seat, can_be_asked}
 
 -- what an update makes of a seat
-pub record IsRaised (u : Update) (old new : QuerySeat) : Type 0 where
+pub record IsRaised (u : Update) (old new : Seated) : Type 0 where
   pub query : new.query ≡ old.query
-  pub block : block_of new ≡ block_of old
+  pub block : new.block ≡ old.block
   pub stands : (depth : ℕ) (stream : List Update) → StandsFor depth stream old → StandsFor depth (stream ++ u ∷ []) new
 
 -- it has come to the first so many seats, and the others are as they were
-abbrev pub RaisedTo : Update → ℕ → List QuerySeat → List QuerySeat → Type 0
+abbrev pub RaisedTo : Update → ℕ → List Seated → List Seated → Type 0
 RaisedTo u zero old new = new ≡ old
 RaisedTo u (suc k) [] new = new ≡ []
 RaisedTo u (suc k) (s ∷ old) [] = ⊥
 RaisedTo u (suc k) (s ∷ old) (s' ∷ new) = IsRaised u s s' × RaisedTo u k old new
 
 -- one more seat
-raised-next : (u : Update) (k : ℕ) (old new : List QuerySeat) (d s : QuerySeat) → RaisedTo u k old new → k < length new → IsRaised u (get_or new k d) s → RaisedTo u (suc k) old (set new k s)
+raised-next : (u : Update) (k : ℕ) (old new : List Seated) (d s : Seated) → RaisedTo u k old new → k < length new → IsRaised u (get_or new k d) s → RaisedTo u (suc k) old (set new k s)
 raised-next u zero [] new d s so lt one = absurd (omega (arith, ap length so))
 raised-next u zero (x ∷ old) [] d s so lt one = absurd (omega (arith, lt))
 raised-next u zero (x ∷ old) (y ∷ new) d s so lt one = let same : y ≡ x = cc in let rest : new ≡ old = cc in (subst (λ z. IsRaised u z s) same one, rest)
@@ -31,35 +30,35 @@ raised-next u (suc k) [] new d s so lt one = absurd (omega (arith, ap length so)
 raised-next u (suc k) (x ∷ old) [] d s so lt one = absurd so
 raised-next u (suc k) (x ∷ old) (y ∷ new) d s so lt one = (so.0, raised-next u k old new d s so.1 (omega (arith, lt)) one)
 
-pub raised-more : (u : Update) (k : ℕ) (old new : List QuerySeat) (d s : QuerySeat) → RaisedTo u k old new → k < length new → IsRaised u (get_or new k d) s → RaisedTo u (k + 1) old (set new k s)
+pub raised-more : (u : Update) (k : ℕ) (old new : List Seated) (d s : Seated) → RaisedTo u k old new → k < length new → IsRaised u (get_or new k d) s → RaisedTo u (k + 1) old (set new k s)
 raised-more u k old new d s so lt one = let next : suc k ≡ k + 1 = omega arith in subst (λ n. RaisedTo u n old (set new k s)) next (raised-next u k old new d s so lt one)
 
 -- the queries stay
-pub raised-queries : (u : Update) (k : ℕ) (old new : List QuerySeat) → RaisedTo u k old new → map (λ s. s.query) new ≡ map (λ s. s.query) old
-raised-queries u zero old new so = ap (map (λ (s : QuerySeat). s.query)) so
-raised-queries u (suc k) [] new so = ap (map (λ (s : QuerySeat). s.query)) so
+pub raised-queries : (u : Update) (k : ℕ) (old new : List Seated) → RaisedTo u k old new → map (λ s. s.query) new ≡ map (λ s. s.query) old
+raised-queries u zero old new so = ap (map (λ (s : Seated). s.query)) so
+raised-queries u (suc k) [] new so = ap (map (λ (s : Seated). s.query)) so
 raised-queries u (suc k) (x ∷ old) [] so = absurd so
 raised-queries u (suc k) (x ∷ old) (y ∷ new) so = let one = so.0.query in let more = raised-queries u k old new so.1 in rw (one, more) refl
 
 -- so do the challenges
-pub raised-blocks : (u : Update) (k : ℕ) (old new : List QuerySeat) → RaisedTo u k old new → map block_of new ≡ map block_of old
-raised-blocks u zero old new so = ap (map block_of) so
-raised-blocks u (suc k) [] new so = ap (map block_of) so
+pub raised-blocks : (u : Update) (k : ℕ) (old new : List Seated) → RaisedTo u k old new → map (λ (s : Seated). s.block) new ≡ map (λ (s : Seated). s.block) old
+raised-blocks u zero old new so = ap (map (λ (s : Seated). s.block)) so
+raised-blocks u (suc k) [] new so = ap (map (λ (s : Seated). s.block)) so
 raised-blocks u (suc k) (x ∷ old) [] so = absurd so
 raised-blocks u (suc k) (x ∷ old) (y ∷ new) so = let one = so.0.block in let more = raised-blocks u k old new so.1 in rw (one, more) refl
 
 -- seats stay seats
-pub raised-seats : (u : Update) (depth k : ℕ) (old new : List QuerySeat) → RaisedTo u k old new → IsTrue (list_all (is_seat depth) old) → IsTrue (list_all (is_seat depth) new)
+pub raised-seats : (u : Update) (depth k : ℕ) (old new : List Seated) → RaisedTo u k old new → IsTrue (list_all (is_seat depth) old) → IsTrue (list_all (is_seat depth) new)
 raised-seats u depth zero old new so all = subst (λ l. IsTrue (list_all (is_seat depth) l)) (sym so) all
 raised-seats u depth (suc k) [] new so all = subst (λ l. IsTrue (list_all (is_seat depth) l)) (sym so) all
 raised-seats u depth (suc k) (x ∷ old) [] so all = absurd so
 raised-seats u depth (suc k) (x ∷ old) (y ∷ new) so all =
     let both = and_parts (is_seat depth x) (list_all (is_seat depth) old) all in
-    let here : is_seat depth y ≡ is_seat depth x = ap (λ q. can_be_asked depth q && (length (block_of y) == depth)) so.0.query ∙ ap (λ (b : List ℕ). can_be_asked depth x.query && (length b == depth)) so.0.block in
+    let here : is_seat depth y ≡ is_seat depth x = ap (λ q. can_be_asked depth q && (length y.block == depth)) so.0.query ∙ ap (λ (b : List ℕ). can_be_asked depth x.query && (length b == depth)) so.0.block in
     and_from _ _ (here ∙ both.0) (raised-seats u depth k old new so.1 both.1)
 
 -- all of them stand for the longer stream in the end
-pub raised-stand : (u : Update) (k : ℕ) (old new : List QuerySeat) (depth : ℕ) (stream : List Update) → RaisedTo u k old new → length old ≤ k → All (StandsFor depth stream) old → All (StandsFor depth (stream ++ u ∷ [])) new
+pub raised-stand : (u : Update) (k : ℕ) (old new : List Seated) (depth : ℕ) (stream : List Update) → RaisedTo u k old new → length old ≤ k → All (StandsFor depth stream) old → All (StandsFor depth (stream ++ u ∷ [])) new
 raised-stand u zero [] new depth stream so le all = subst (All (StandsFor depth (stream ++ u ∷ []))) (sym so) (All-nil (StandsFor depth (stream ++ u ∷ [])))
 raised-stand u zero (x ∷ old) new depth stream so le all = absurd (omega (arith, le))
 raised-stand u (suc k) [] new depth stream so le all = subst (All (StandsFor depth (stream ++ u ∷ []))) (sym so) (All-nil (StandsFor depth (stream ++ u ∷ [])))
@@ -69,13 +68,13 @@ raised-stand u (suc k) (x ∷ old) (y ∷ new) depth stream so le all =
     All-cons (StandsFor depth (stream ++ u ∷ [])) y new here (raised-stand u k old new depth stream so.1 (omega (arith, le)) (All-tail (StandsFor depth stream) x old all))
 
 -- a seat has a challenge for each level
-pub seat-levels : (depth k : ℕ) (seats : List QuerySeat) (d : QuerySeat) → IsTrue (list_all (is_seat depth) seats) → k < length seats → length (block_of (get_or seats k d)) ≡ depth
+pub seat-levels : (depth k : ℕ) (seats : List Seated) (d : Seated) → IsTrue (list_all (is_seat depth) seats) → k < length seats → length (get_or seats k d).block ≡ depth
 seat-levels depth k [] d all lt = absurd (omega (arith, lt))
 seat-levels depth zero (x ∷ seats) d all lt =
     let both = and_parts (is_seat depth x) (list_all (is_seat depth) seats) all in
-    eqb-true _ _ (and_parts (can_be_asked depth x.query) (length (block_of x) == depth) both.0).1
+    eqb-true _ _ (and_parts (can_be_asked depth x.query) (length x.block == depth) both.0).1
 seat-levels depth (suc k) (x ∷ seats) d all lt = seat-levels depth k seats d (and_parts (is_seat depth x) (list_all (is_seat depth) seats) all).1 (omega (arith, lt))
 
 -- the places of as many seats hold them
-pub refilled : (old new : List QuerySeat) → length new ≡ length old → refill (length old) old new ≡ new
+pub refilled : (old new : List Seated) → length new ≡ length old → refill (length old) old new ≡ new
 refilled old new len = ap (λ n. take n (new ++ drop (length new) old)) (sym len) ∙ take-append_seam new (drop (length new) old)

@@ -1,4 +1,4 @@
--- A query's seat: its challenges, its running number, and which streams that stands for.
+-- A query's seat: its challenges, its running numbers, and which streams these stand for.
 use Rattle.std.specs.Prelude.{ℕ, ◌^◌, ◌==◌, Bool, false, ◌&&◌, nat_le, nat_lt, List, length}
 use Rattle.sip_field.specs.Moduli.{m61_modulus}
 use Rattle.sip_tree.specs.StandsFor.{RootStandsFor}
@@ -7,26 +7,31 @@ use Rattle.sip_vector.specs.declared.query.Query.TheVariants.{Sub}
 use Rattle.sip_vector.specs.declared.update.Side.TheVariants.{First}
 use Rattle.sip_vector.specs.declared.update.Update.{Update}
 use Rattle.sip_vector.specs.Streams.{vector}
-use Rattle.sip_verifier.specs.declared.seat.QuerySeat.{QuerySeat}
-use Rattle.sip_verifier.specs.declared.seat.Running.{Running}
-use Rattle.sip_verifier.specs.declared.seat.Running.TheVariants.{Root}
 
--- the challenges of a seat
-abbrev pub block_of : QuerySeat → List ℕ
-block_of s = elim s.running [ Root root ↦ root.seat ]
+-- the running numbers of a seat, by what they are
+pub data RunningNumbers : Type 0 where
+  -- the root of a side's vector
+  root_is : ℕ → RunningNumbers
+
+-- what is seen of a seat: its query, a block of challenges, and what it keeps of a stream
+pub record Seated : Type 0 where
+  pub query : Query
+  pub block : List ℕ
+  pub running : RunningNumbers
 
 -- the query is one for a sub-vector that fits the depth, and there is a challenge for each level
 abbrev pub can_be_asked : ℕ → Query → Bool
 can_be_asked depth (Sub lo hi) = nat_le lo hi && nat_lt hi (2 ^ depth)
 can_be_asked depth _ = false
 
-abbrev pub is_seat : ℕ → QuerySeat → Bool
-is_seat depth s = can_be_asked depth s.query && (length (block_of s) == depth)
+abbrev pub is_seat : ℕ → Seated → Bool
+is_seat depth s = can_be_asked depth s.query && (length s.block == depth)
 
--- the running number of a query is that of the stream
-abbrev pub RunsOn : ℕ → List Update → Query → Running → Type 0
-RunsOn depth stream (Sub lo hi) (Root root) = RootStandsFor m61_modulus root.seat root.value (vector depth stream First)
-RunsOn depth stream _ running = ⊥
+-- the running numbers of a query, at its block, are those of the stream
+abbrev pub RunsOn : ℕ → List Update → Query → List ℕ → RunningNumbers → Type 0
+RunsOn depth stream (Sub lo hi) block (root_is value) =
+    RootStandsFor m61_modulus block value (vector depth stream First)
+RunsOn depth stream _ block running = ⊥
 
-abbrev pub StandsFor : ℕ → List Update → QuerySeat → Type 0
-StandsFor depth stream s = RunsOn depth stream s.query s.running
+abbrev pub StandsFor : ℕ → List Update → Seated → Type 0
+StandsFor depth stream s = RunsOn depth stream s.query s.block s.running

@@ -1,19 +1,19 @@
 -- What is seen of a session.
 use Rattle.std.specs.Prelude.{◌≡◌, ℕ, Bool, true, false, List, [], Result, Ok, Err}
 use Rattle.sip_vector.specs.declared.update.Entry.{Entry}
-use Rattle.sip_verifier.specs.declared.seat.QuerySeat.{QuerySeat}
 use Rattle.sip_verifier.specs.declared.session.SessionFault.{SessionFault}
 use Rattle.sip_verifier.specs.declared.session.SessionStart.{SessionStart}
 use Rattle.sip_verifier.specs.declared.session.SessionStart.TheVariants as starts
 use Rattle.sip_verifier.specs.declared.session.Verdict.{Verdict}
 use Rattle.sip_verifier.specs.declared.session.Verdict.TheVariants as verdicts
+use Rattle.sip_verifier.specs.QuerySeats.{Seated}
 use Rattle.sip_verifier.specs.Seats.{Seating}
 
 -- The depth, the seats whose queries were not asked yet, the entries of the last answer of pairs, and whether the session is
 -- over before its time: a call failed, or replies were rejected.
 pub record Sitting : Type 0 where
   pub depth : ℕ
-  pub left : List QuerySeat
+  pub left : List Seated
   pub entries : List Entry
   pub spent : Bool
 

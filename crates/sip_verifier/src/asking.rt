@@ -5,7 +5,7 @@ ghost use Rattle.sip_ports.specs.Ports.{Lasts, Rose};
 ghost use Rattle.sip_vector.specs.declared.update.Update.{Update as AnyUpdate};
 ghost use Rattle.sip_verifier.specs.Asking.{Asks};
 ghost use Rattle.sip_verifier.specs.inside.Questions.{found_in, has_room, verdict_of};
-ghost use Rattle.sip_verifier.specs.QuerySeats.{StandsFor, block_of, is_seat};
+ghost use Rattle.sip_verifier.specs.QuerySeats.{StandsFor, is_seat};
 
 use crate::seat::{QuerySeat, Running};
 use crate::session::{SessionFault, Verdict};
@@ -22,10 +22,10 @@ pub(crate) fn ask_seat<L: Link>(
     frame: &mut Frame,
     link: &mut L,
 ) -> Result<Said, AskStop>
-    requires seat { IsTrue (is_seat (length (block_of seat.now)) seat.now) }
+    requires seat { IsTrue (is_seat (length seat.now.block) seat.now) }
     requires room { IsTrue (has_room (length entries.old) seat.now.query) }
     ensures asks { (depth : ℕ) (stream : List AnyUpdate) → StandsFor depth stream seat.now
-        → Asks depth stream seat.now.query (block_of seat.now) (L.talk link.old) (L.talk link.new)
+        → Asks depth stream seat.now.query seat.now.block (L.talk link.old) (L.talk link.new)
         (take (found_in (length entries.new) result) entries.new) (verdict_of result) }
     ensures places { length entries.new ≡ length entries.old }
     ensures lasts { Lasts L.faults L.is_sure link.old link.new }

@@ -3,12 +3,11 @@
 ghost use Rattle.std.specs.Prelude.{◌≡◌, ◌<◌, ◌≤◌, ℕ, List, false, length, map, drop, All, OnOk};
 ghost use Rattle.sip_ports.specs.Ports.{Lasts};
 ghost use Rattle.sip_vector.specs.declared.update.Update.{Update as AnyUpdate};
-ghost use Rattle.sip_verifier.specs.declared.seat.QuerySeat.{QuerySeat as AnySeat};
 ghost use Rattle.sip_verifier.specs.Exchanges.{TakesAtMost};
 ghost use Rattle.sip_verifier.specs.Moments.{counts, moment};
 ghost use Rattle.sip_verifier.specs.NextSeat.{IsNext};
 ghost use Rattle.sip_verifier.specs.inside.Progress.{Checks, ChecksAll, status_of};
-ghost use Rattle.sip_verifier.specs.QuerySeats.{StandsFor, block_of};
+ghost use Rattle.sip_verifier.specs.QuerySeats.{Seated, StandsFor};
 ghost use Rattle.sip_verifier.specs.RunClause.{RunClause};
 ghost use Rattle.sip_verifier.specs.Statuses.{Stops, stops_asking};
 ghost use Rattle.sip_verifier.specs.Tasks.{CanBeDone};
@@ -32,9 +31,9 @@ fn check_query<L: Link, K: Sink, C: Sink>(
 ) -> Result<(), Status>
     requires left { 0 < length session.old.left }
     requires live { session.old.spent ≡ false }
-    ensures checks { (stream : List AnyUpdate) (seat : AnySeat)
+    ensures checks { (stream : List AnyUpdate) (seat : Seated)
         → IsNext session.old.depth stream session.old.left query.now seat
-        → Checks session.old.depth stream query.now (block_of seat) number
+        → Checks session.old.depth stream query.now seat.block number
         (L.talk peer.old) (L.talk peer.new) (K.talk report.old) (K.talk report.new) result }
     ensures next { session.new.left ≡ drop 1 session.old.left }
     ensures depth { session.new.depth ≡ session.old.depth }
@@ -75,7 +74,7 @@ fn check_all<L: Link, K: Sink, C: Sink>(
     ensures checks { (stream : List AnyUpdate)
         → map (λ seat. seat.query) session.old.left ≡ queries.now
         → All (StandsFor session.old.depth stream) session.old.left
-        → ChecksAll session.old.depth stream queries.now (map block_of session.old.left)
+        → ChecksAll session.old.depth stream queries.now (map (λ seat. seat.block) session.old.left)
         (L.talk peer.old) (L.talk peer.new) (K.talk report.old) (K.talk report.new) result }
     ensures fault { (first firsts second seconds : ℕ) → Stops stops_asking
         (counts first second (L.faults peer.old) (K.faults report.old))

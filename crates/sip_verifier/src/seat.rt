@@ -2,19 +2,41 @@
 
 ghost use Rattle.std.specs.Prelude.{◌≡◌, ◌<◌, ◌^◌, ℕ, List, [], ◌∷◌, ◌++◌, length, IsTrue};
 ghost use Rattle.sip_vector.specs.declared.update.Update.{Update as AnyUpdate};
-ghost use Rattle.sip_verifier.specs.QuerySeats.{StandsFor, block_of, is_seat};
+ghost use Rattle.sip_vector.specs.declared.query.Query.{Query as AnyQuery};
+ghost use Rattle.sip_verifier.specs.QuerySeats.{StandsFor, is_seat};
+ghost use Rattle.sip_verifier.specs.inside.Running.{RunsFor, block_of};
 ghost use Rattle.sip_vector.specs.Built.{is_built};
 ghost use Rattle.sip_verifier.specs.Tasks.{CanBeAsked};
 
 use sip_field::{M61, Seat};
 use sip_tree::Root;
 use sip_vector::{Query, Side, Update};
+use std::marker::Model;
 
 /// The running number of one query, with its challenges.
 #[derive(Drop)]
 pub(crate) enum Running {
     /// Of a sub-vector: the root of the tree over side 0.
     Root(Root<M61, 32>),
+}
+
+impl Running {
+    // Adds an update, where it is of a side that the number is of.
+    fn update(&mut self, update: &Update)
+        requires { update.now.item < 2 ^ length (block_of self.old) }
+        ensures block { block_of self.new ≡ block_of self.old }
+        ensures runs { (depth : ℕ) (stream : List AnyUpdate) (query : AnyQuery)
+            → RunsFor depth stream query self.old
+            → RunsFor depth (stream ++ update.now ∷ []) query self.new }
+    {
+        match self {
+            Running::Root(root) => {
+                if update.side == Side::First {
+                    root.update(update.item as u64, update.delta);
+                }
+            }
+        }
+    }
 }
 
 impl Default for Running {
@@ -28,6 +50,16 @@ impl Default for Running {
 pub(crate) struct QuerySeat {
     pub(crate) query: Query,
     pub(crate) running: Running,
+}
+
+impl Model for QuerySeat {
+    ghost use Rattle.sip_verifier.specs.QuerySeats.{Seated};
+
+    ghost Value = { Seated };
+
+    ghost use Rattle.sip_verifier.specs.inside.Running.{block_of, numbers_of};
+
+    ghost view = { λ s. record { query = s.query; block = block_of s.running; running = numbers_of s.running } };
 }
 
 impl Default for QuerySeat {
@@ -44,7 +76,7 @@ impl QuerySeat {
     pub(crate) fn begin(query: Query, block: Seat<M61, 32>) -> QuerySeat
         requires built { IsTrue (is_built query) }
         ensures query { result.query ≡ query }
-        ensures block { block_of result ≡ block }
+        ensures block { result.block ≡ block }
         ensures stands { (depth : ℕ) → CanBeAsked depth query → length block ≡ depth
             → IsTrue (is_seat depth result) × StandsFor depth [] result }
     {
@@ -57,7 +89,7 @@ impl QuerySeat {
 
     /// The challenges.
     pub(crate) fn block(&self) -> &Seat<M61, 32>
-        ensures { result.now ≡ block_of self.now }
+        ensures { result.now ≡ self.now.block }
     {
         match &self.running {
             Running::Root(root) => &root.seat,
@@ -66,18 +98,12 @@ impl QuerySeat {
 
     /// Adds an update to the running number, where it is of a side that the query asks about.
     pub(crate) fn update(&mut self, update: &Update)
-        requires { update.now.item < 2 ^ length (block_of self.old) }
+        requires { update.now.item < 2 ^ length self.old.block }
         ensures query { self.new.query ≡ self.old.query }
-        ensures block { block_of self.new ≡ block_of self.old }
+        ensures block { self.new.block ≡ self.old.block }
         ensures stands { (depth : ℕ) (stream : List AnyUpdate) → StandsFor depth stream self.old
             → StandsFor depth (stream ++ update.now ∷ []) self.new }
     {
-        match &mut self.running {
-            Running::Root(root) => {
-                if update.side == Side::First {
-                    root.update(update.item as u64, update.delta);
-                }
-            }
-        }
+        self.running.update(update);
     }
 }

@@ -9,9 +9,8 @@ ghost use Rattle.sip_vector.specs.Answers.{Fits};
 ghost use Rattle.sip_vector.specs.Streams.{IsLegal};
 ghost use Rattle.sip_verifier.specs.Asking.{AnswersCount, Asks};
 ghost use Rattle.sip_verifier.specs.inside.Questions.{has_room};
-ghost use Rattle.sip_verifier.specs.declared.seat.QuerySeat.{QuerySeat as AnySeat};
 ghost use Rattle.sip_verifier.specs.NextSeat.{IsNext};
-ghost use Rattle.sip_verifier.specs.QuerySeats.{block_of};
+ghost use Rattle.sip_verifier.specs.QuerySeats.{Seated};
 ghost use Rattle.sip_verifier.specs.Sittings.{Starts, is_over};
 
 use crate::Seats;
@@ -159,11 +158,11 @@ impl Session {
     fn judge<L: Link>(&mut self, link: &mut L) -> Result<Verdict, SessionFault>
         requires left { 0 < length self.old.left }
         requires live { self.old.spent ≡ false }
-        ensures asks { (stream : List AnyUpdate) (query : AnyQuery) (seat : AnySeat)
+        ensures asks { (stream : List AnyUpdate) (query : AnyQuery) (seat : Seated)
             → IsNext self.old.depth stream self.old.left query seat
-            → Asks self.old.depth stream query (block_of seat) (L.talk link.old)
+            → Asks self.old.depth stream query seat.block (L.talk link.old)
             (L.talk link.new) self.new.entries result }
-        ensures fits { (seat : AnySeat) (more : List AnySeat) → self.old.left ≡ seat ∷ more
+        ensures fits { (seat : Seated) (more : List Seated) → self.old.left ≡ seat ∷ more
             → Fits self.old.depth seat.query }
         ensures next { self.new.left ≡ drop 1 self.old.left }
         ensures depth { self.new.depth ≡ self.old.depth }
@@ -201,14 +200,14 @@ impl Session {
     ) -> Result<Verdict, SessionFault>
         requires left { 0 < length self.old.left }
         requires live { self.old.spent ≡ false }
-        ensures asks { (stream : List AnyUpdate) (query : AnyQuery) (seat : AnySeat)
+        ensures asks { (stream : List AnyUpdate) (query : AnyQuery) (seat : Seated)
             → IsNext self.old.depth stream self.old.left query seat
-            → Asks self.old.depth stream query (block_of seat) (L.talk link.old)
+            → Asks self.old.depth stream query seat.block (L.talk link.old)
             (L.talk link.new) self.new.entries result }
-        ensures count { (stream : List AnyUpdate) (query : AnyQuery) (seat : AnySeat)
+        ensures count { (stream : List AnyUpdate) (query : AnyQuery) (seat : Seated)
             → IsNext self.old.depth stream self.old.left query seat
             → IsLegal self.old.depth stream
-            → AnswersCount self.old.depth stream query (block_of seat) (L.talk link.old)
+            → AnswersCount self.old.depth stream query seat.block (L.talk link.old)
             (L.talk link.new) self.new.entries result }
         ensures next { self.new.left ≡ drop 1 self.old.left }
         ensures depth { self.new.depth ≡ self.old.depth }

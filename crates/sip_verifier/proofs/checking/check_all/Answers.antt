@@ -1,10 +1,10 @@
 -- Each query has its seat, and what came of it is added to what came of those before.
-use Rattle.std.proofs.Common.{List, ap, drop, rules, arith, ◌∙◌}
+use Rattle.std.proofs.Common.{◌≡◌, List, length, ap, drop, rules, arith, sym, ◌∙◌}
 use Rattle.std.proofs.Math.Seq.{drop-cons}
 use Rattle.std.proofs.lemmas.List.{drop-drop}
 use Rattle.std.proofs.lemmas.Result.{err_from_is_err_and}
 use Rattle.sip_vector.specs.declared.query.Query.TheVariants.{Sub}
-use Rattle.sip_verifier.specs.declared.seat.QuerySeat.{QuerySeat}
+use Rattle.sip_verifier.specs.QuerySeats.{Seated}
 use Rattle.sip_verifier.proofs.QueriesChecked.{passed_more, ends_with, next_seat}
 use Rattle.sip_verifier.proofs.checking.check_all.Goals as goal
 
@@ -17,10 +17,15 @@ returns-in_err-check_query-clause-checks g c = λ stream same all.
     (ends_with c.args.session.now.depth stream c.args.queries.now _ _ _ _ _ _ _ c.loop-query.query-index _ s.next_query _ s.next_block _ c.check_query.result _ c.in_err-check_query.was (omega arith) (c.loop-query.invariant.passed stream same all) s.queries_from s.blocks_from
     (rw c.loop-query.invariant.depth at checks))
 
+pub returns-clause-checks : goal.returns-clause-checks
+returns-clause-checks g c = λ stream same all.
+    let end : c.loop-query.query-index ≡ length c.args.queries.now = omega arith in
+    rw (sym end) (c.loop-query.invariant.passed stream same all)
+
 pub loop-query-preserved : goal.loop-query-preserved
 loop-query-preserved g c = record {
   number = search rules;
-  left = c.check_query.ensures.next ∙ ap (λ (seats : List QuerySeat). drop 1 seats) c.loop-query.invariant.left ∙ drop-drop 1 c.loop-query.query-index c.args.session.now.left;
+  left = c.check_query.ensures.next ∙ ap (λ (seats : List Seated). drop 1 seats) c.loop-query.invariant.left ∙ drop-drop 1 c.loop-query.query-index c.args.session.now.left;
   depth = search rules;
   live = rw c.in_ok-check_query.was at c.check_query.ensures.goes_on;
   passed = λ stream same all.

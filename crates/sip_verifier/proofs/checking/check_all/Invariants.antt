@@ -4,7 +4,7 @@ use Rattle.std.specs.Prelude.{map, All}
 use Rattle.sip_ports.specs.Ports.{Lasts}
 use Rattle.sip_vector.specs.declared.update.Update.{Update}
 use Rattle.sip_verifier.specs.inside.Progress.{PassedBy}
-use Rattle.sip_verifier.specs.QuerySeats.{StandsFor, block_of}
+use Rattle.sip_verifier.specs.QuerySeats.{Seated, StandsFor}
 use Rattle.sip_verifier.proofs.checking.check_all.Given as goal
 
 abbrev pub invariant-loop-query : goal.invariant-loop-query
@@ -14,7 +14,7 @@ invariant-loop-query g l = record {
   depth : l.session.depth ≡ l.fn.session.depth;
   live : l.session.spent ≡ false;
   passed : (stream : List Update) → map (λ seat. seat.query) l.fn.session.left ≡ l.fn.queries → All (StandsFor l.fn.session.depth stream) l.fn.session.left
-      → PassedBy l.fn.session.depth stream l.fn.queries (map block_of l.fn.session.left) (g.L.Sink.talk l.fn.peer) (g.L.Sink.talk l.peer) (g.K.Sink.talk l.fn.report) (g.K.Sink.talk l.report) l.query-index;
+      → PassedBy l.fn.session.depth stream l.fn.queries (map (λ (s : Seated). s.block) l.fn.session.left) (g.L.Sink.talk l.fn.peer) (g.L.Sink.talk l.peer) (g.K.Sink.talk l.fn.report) (g.K.Sink.talk l.report) l.query-index;
   peer : Lasts g.L.Sink.faults g.L.Sink.is_sure l.fn.peer l.peer;
   report : Lasts g.K.Sink.faults g.K.Sink.is_sure l.fn.report l.report;
   keep : l.keep ≡ l.fn.keep;

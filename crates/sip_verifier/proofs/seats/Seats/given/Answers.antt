@@ -4,7 +4,7 @@ use Rattle.std.proofs.lemmas.List.{length-map, take-map, drop-map}
 use Rattle.std.proofs.lemmas.List.Elements.{All-nil}
 use Rattle.sip_field.specs.Elements.{m61_number}
 use Rattle.sip_vector.specs.declared.query.Query.TheVariants.{Sub}
-use Rattle.sip_verifier.specs.QuerySeats.{StandsFor, block_of}
+use Rattle.sip_verifier.specs.QuerySeats.{StandsFor}
 use Rattle.sip_verifier.proofs.SeatsGiven.{block-size, given-more, given-count, given-asked, given-blocks}
 use Rattle.sip_verifier.proofs.seats.Seats.given.Goals as goal
 
@@ -23,7 +23,7 @@ loop-index-preserved c =
     let first = c.loop-index.index * c.get-levels.result in
     let levels : (first + c.get-levels.result) - first ≡ c.get-levels.result = omega arith in
     let cut_out = ap (take c.get-levels.result) (drop-map m61_number first c.args.challenges.now) ∙ take-map m61_number c.get-levels.result (drop first c.args.challenges.now) in
-    let block : block_of c.begin.result ≡ take c.get-levels.result
+    let block : c.begin.result.block ≡ take c.get-levels.result
     (drop (c.loop-index.index * c.get-levels.result) (map m61_number c.args.challenges.now)) =
     c.begin.ensures.block ∙ c.in-Some.ensures.same
     ∙ ap (λ k. map m61_number (take k (drop first c.args.challenges.now))) levels

@@ -3,7 +3,7 @@ use Rattle.std.proofs.Common.{◌≡◌, ◌∙◌, ◌<◌, ◌≤◌, ◌+◌,
 use Rattle.std.proofs.lemmas.Result.{err_from_is_err_and}
 use Rattle.sip_ports.specs.Ports.{GoesOn, SendsWhole, outs}
 use Rattle.sip_verifier.specs.Seats.{AreSeats, Seating}
-use Rattle.sip_verifier.specs.declared.seat.QuerySeat.{QuerySeat}
+use Rattle.sip_verifier.specs.QuerySeats.{Seated}
 use Rattle.sip_verifier.proofs.Sends.{sends_more, sends_short}
 use Rattle.sip_verifier.proofs.SeatsHead.{ask, asks, head_up_to, head-whole, head-split, head-done}
 use Rattle.sip_verifier.proofs.seats.Seats.put_transcript_head.Goals as goal
@@ -22,12 +22,13 @@ returns-in_err-put_ask-clause-talk g c = λ depth queries blocks stream are.
     let seats = c.args.self.now.seats in
     let lt : c.loop-seat.seat-index < length seats = subst (λ l. c.loop-seat.seat-index < length l) items (search rules) in
     let p = err_from_is_err_and c.from_residual-in_err-put_ask.result c.from_residual-in_err-put_ask.ensures.1 in
-    let asked = rw c.block.ensures at c.put_ask.ensures.talk in
+    let own = ap (λ (s : Seated). s.query) c.seat.view_is in
+    let asked = rw own at (rw c.block.ensures at c.put_ask.ensures.talk) in
     let front = rw c.in_err-put_ask.was at (sends_more (g.K.Sink.talk c.args.sink.now) (g.K.Sink.talk c.loop-seat.sink) (g.K.Sink.talk c.put_ask.new.sink) c.put_ask.result (head_up_to c.args.self.now c.loop-seat.seat-index) (ask c.seat-item.result) c.loop-seat.invariant.talk asked) in
     let here : get_or c.self.inside.seats.items c.loop-seat.seat-index c.seat-item.result ≡ c.seat-item.result = search rules in
     let one : get_or seats c.loop-seat.seat-index c.seat-item.result ≡ c.seat-item.result = subst (λ l. get_or l c.loop-seat.seat-index c.seat-item.result ≡ c.seat-item.result) items here in
     let whole = head-whole depth queries blocks stream c.args.self.now are ∙ head-split c.args.self.now c.loop-seat.seat-index c.seat-item.result lt
-    ∙ ap (λ (s : QuerySeat). (head_up_to c.args.self.now c.loop-seat.seat-index ++ ask s) ++ asks (drop (c.loop-seat.seat-index + 1) seats)) one in
+    ∙ ap (λ (s : Seated). (head_up_to c.args.self.now c.loop-seat.seat-index ++ ask s) ++ asks (drop (c.loop-seat.seat-index + 1) seats)) one in
     subst (SendsWhole (g.K.Sink.talk c.args.sink.now) (g.K.Sink.talk c.put_ask.new.sink) c.from_residual-in_err-put_ask.result) (sym whole)
     (sends_short _ _ c.from_residual-in_err-put_ask.result p.0 _ (asks (drop (c.loop-seat.seat-index + 1) seats)) p.1 front.0 front.1 front.2)
 

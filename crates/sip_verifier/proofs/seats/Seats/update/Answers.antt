@@ -2,9 +2,8 @@
 use Rattle.std.proofs.Common.{◌≡◌, ◌<◌, ◌≤◌, ◌∙◌, List, [], ◌∷◌, ◌++◌, All, length, map, sym, ap, subst, arith}
 use Rattle.std.specs.Prelude.{IsTrue}
 use Rattle.std.specs.List.{list_all}
-use Rattle.sip_verifier.specs.QuerySeats.{StandsFor, block_of, is_seat}
+use Rattle.sip_verifier.specs.QuerySeats.{Seated, StandsFor, is_seat}
 use Rattle.sip_verifier.specs.Seats.{AreSeats, Seating}
-use Rattle.sip_verifier.specs.declared.seat.QuerySeat.{QuerySeat}
 use Rattle.sip_verifier.proofs.SeatsRaised.{RaisedTo, raised-more, raised-queries, raised-blocks, raised-seats, raised-stand, refilled, seat-levels}
 use Rattle.sip_verifier.proofs.seats.Seats.update.Goals as goal
 
@@ -12,7 +11,7 @@ pub update-requires : goal.update-requires
 update-requires c =
     let depth = c.self.inside.depth in
     let items = ap (λ (s : Seating). s.seats) c.self.view_is in
-    let each = subst (λ (l : List QuerySeat). IsTrue (list_all (is_seat depth) l)) items c.self.inside.each in
+    let each = subst (λ (l : List Seated). IsTrue (list_all (is_seat depth) l)) items c.self.inside.each in
     let all = raised-seats c.args.update.now depth _ _ _ c.loop-seat.invariant each in
     let inside : c.loop-seat.seat-index < length c.loop-seat.seat-items = omega arith in
     let levels = seat-levels depth c.loop-seat.seat-index c.loop-seat.seat-items c.seat-item.result all inside in
@@ -28,10 +27,10 @@ pub invariant_of-self-inside : goal.invariant_of-self-inside
 invariant_of-self-inside c =
     let old = c.self.inside.seats.items in
     let items = ap (λ (s : Seating). s.seats) c.self.view_is in
-    let raised = subst (λ (l : List QuerySeat). RaisedTo c.args.update.now c.loop-seat.seat-index l c.loop-seat.seat-items) (sym items) c.loop-seat.invariant in
+    let raised = subst (λ (l : List Seated). RaisedTo c.args.update.now c.loop-seat.seat-index l c.loop-seat.seat-items) (sym items) c.loop-seat.invariant in
     let len : length c.loop-seat.seat-items ≡ length old = c.loop-seat.auto.seat-items ∙ ap length c.deref_mut-seat-items.ensures.value in
     let same = refilled old c.loop-seat.seat-items len in (
-      subst (λ (l : List QuerySeat). 0 < length l) (sym same) (omega (arith, len, c.self.inside.some)),
+      subst (λ (l : List Seated). 0 < length l) (sym same) (omega (arith, len, c.self.inside.some)),
       (subst (λ l. IsTrue (list_all (is_seat c.self.inside.depth) l)) (sym same) (raised-seats c.args.update.now c.self.inside.depth _ old c.loop-seat.seat-items raised c.self.inside.each), tt),
     )
 
@@ -40,13 +39,13 @@ returns-clause-stands c = λ depth queries blocks stream seen.
     let old = c.self.inside.seats.items in
     let items = ap (λ (s : Seating). s.seats) c.self.view_is in
     let are = subst (AreSeats depth queries blocks stream) (sym c.self.view_is) seen in
-    let raised = subst (λ (l : List QuerySeat). RaisedTo c.args.update.now c.loop-seat.seat-index l c.loop-seat.seat-items) (sym items) c.loop-seat.invariant in
+    let raised = subst (λ (l : List Seated). RaisedTo c.args.update.now c.loop-seat.seat-index l c.loop-seat.seat-items) (sym items) c.loop-seat.invariant in
     let len : length c.loop-seat.seat-items ≡ length old = c.loop-seat.auto.seat-items ∙ ap length c.deref_mut-seat-items.ensures.value in
     let end : length old ≤ c.loop-seat.seat-index = omega (arith, ap length c.deref_mut-seat-items.ensures.value) in
     let same = refilled old c.loop-seat.seat-items len in
     record {
       levels = are.levels;
-      asked = ap (λ (l : List QuerySeat). map (λ (s : QuerySeat). s.query) l) same ∙ raised-queries c.args.update.now _ old c.loop-seat.seat-items raised ∙ are.asked;
-      at_blocks = ap (λ (l : List QuerySeat). map block_of l) same ∙ raised-blocks c.args.update.now _ old c.loop-seat.seat-items raised ∙ are.at_blocks;
+      asked = ap (λ (l : List Seated). map (λ (s : Seated). s.query) l) same ∙ raised-queries c.args.update.now _ old c.loop-seat.seat-items raised ∙ are.asked;
+      at_blocks = ap (λ (l : List Seated). map (λ (s : Seated). s.block) l) same ∙ raised-blocks c.args.update.now _ old c.loop-seat.seat-items raised ∙ are.at_blocks;
       stand = subst (All (StandsFor depth (stream ++ c.args.update.now ∷ []))) (sym same) (raised-stand c.args.update.now _ old c.loop-seat.seat-items depth stream raised end are.stand);
     }
