@@ -13,7 +13,7 @@ use Rattle.sip_verifier.specs.declared.session.Verdict.{Verdict}
 use Rattle.sip_verifier.specs.declared.session.Verdict.TheVariants as verdicts
 use Rattle.sip_verifier.specs.Asking.{AnswersCount, Asks, IsAnswered, IsCounted}
 use Rattle.sip_verifier.specs.QuerySeats.{Seated, can_be_asked, is_seat}
-use Rattle.sip_verifier.proofs.CountedTurns.{turn_counts}
+use Rattle.sip_verifier.proofs.CountedQuestions.{question_counts}
 use Rattle.sip_verifier.proofs.SeatsHead.{fits-asked}
 
 -- the query of the first seat that is left fits the depth
@@ -28,7 +28,7 @@ left_fits depth (suc n) (x ∷ seats) seat more all e = left_fits depth n seats 
 
 module _ (depth : ℕ) (stream : List Update) (query : Query) (block : List ℕ) (old new : Option (List TalkEvent)) (fits : Fits depth query) (legal : IsLegal depth stream) where
   answered_counts : (answer : Answer) → IsAnswered depth stream query block old new answer → IsCounted depth stream query block old new answer
-  answered_counts answer is = record { replies = is.replies; talk = is.talk; counts = turn_counts depth stream query block is.replies answer fits legal is.accepted }
+  answered_counts answer is = record { replies = is.replies; talk = is.talk; counts = question_counts depth stream query block is.replies answer fits legal is.accepted }
 
   pub answers_count : (entries : List Entry) (result : Result Verdict SessionFault) → Asks depth stream query block old new entries result → AnswersCount depth stream query block old new entries result
   answers_count entries (Ok (verdicts.Number n)) asks = answered_counts (number n) asks

@@ -23,7 +23,7 @@ use Rattle.sip_verifier.specs.Reports.{report_of}
 use Rattle.sip_verifier.specs.Statuses.{IsListed}
 use Rattle.sip_verifier.specs.Talks.{bye_sent, stream_sent}
 use Rattle.sip_replies.specs.Talks.{ending}
-use Rattle.sip_verifier.specs.Turns.{Turn, said_in_turn, updates, turns_of, AreTurns, Reached}
+use Rattle.sip_verifier.specs.Questions.{Question, said_for, updates, questions_of, AreQuestions, Reached}
 use Rattle.sip_verifier.specs.VerdictClause.{AllWritten, OneFaulty, VerdictClause}
 use Rattle.sip_verifier.proofs.Blocks.{none_drawn, block_sizes}
 use Rattle.sip_verifier.proofs.HeardTalks.{IsHeard, replied, heard-talk, last_is}
@@ -40,55 +40,55 @@ module _ (task : Task) (x : Exchange) (some : 1 ≤ task.depth) (most : task.dep
   same_challenges : (other : List ℕ) → drawn task x.seed ≡ Some other → other ≡ honest.challenges
   same_challenges other is = let own = honest.drawn in cc
 
-  are_first : (turns : List Turn) → AreTurns task x turns → AreFirst task.depth (updates task x) turns task.queries.items (blocks task honest.challenges)
-  are_first turns are = record {
+  are_first : (questions : List Question) → AreQuestions task x questions → AreFirst task.depth (updates task x) questions task.queries.items (blocks task honest.challenges)
+  are_first questions are = record {
     queries_are = are.queries;
-    blocks_are = are.blocks ∙ ap (λ (c : List ℕ). take (length turns) (blocks task c)) (same_challenges are.challenges are.drawn);
+    blocks_are = are.blocks ∙ ap (λ (c : List ℕ). take (length questions) (blocks task c)) (same_challenges are.challenges are.drawn);
   }
 
-  -- the honest bytes begin with what was heard in turns
-  front : (turns : List Turn) (rest : List TalkEvent)
-      → All (IsHeard task.depth (updates task x)) turns → Reached task x turns rest
+  -- the honest bytes begin with what was heard for questions
+  front : (questions : List Question) (rest : List TalkEvent)
+      → All (IsHeard task.depth (updates task x)) questions → Reached task x questions rest
       → all_honest task.depth (updates task x) task.queries.items
-      (blocks task honest.challenges) ≡ replied turns ++ (heard rest ++ honest.heard.0)
-  front turns rest few reached =
-      honest.heard.1 ∙ ap (λ (l : List ℕ). l ++ honest.heard.0) (ap heard reached.talk ∙ heard-talk task.depth (updates task x) turns rest few)
-      ∙ append_assoc (replied turns) (heard rest) honest.heard.0
+      (blocks task honest.challenges) ≡ replied questions ++ (heard rest ++ honest.heard.0)
+  front questions rest few reached =
+      honest.heard.1 ∙ ap (λ (l : List ℕ). l ++ honest.heard.0) (ap heard reached.talk ∙ heard-talk task.depth (updates task x) questions rest few)
+      ∙ append_assoc (replied questions) (heard rest) honest.heard.0
 
   accepted_report : AllWritten task x → x.report ≡ report_of task.depth (updates task x) task.queries.items
   accepted_report v =
-      let turns = turns_of task x v.done in
-      let are = v.reached.are_turns in
-      let count : length turns ≡ length v.done = length-map v.done (λ a. a.turn) in
-      let all : take (length turns) task.queries.items ≡ task.queries.items = take_all (length turns) task.queries.items (omega (arith, count, v.all)) in
+      let questions = questions_of task x v.done in
+      let are = v.reached.are_questions in
+      let count : length questions ≡ length v.done = length-map v.done (λ a. a.question) in
+      let all : take (length questions) task.queries.items ≡ task.queries.items = take_all (length questions) task.queries.items (omega (arith, count, v.all)) in
       v.report
-      ∙ done_honest task.depth (updates task x) some most legal v.done task.queries.items (blocks task honest.challenges) (heard bye_sent ++ honest.heard.0) can (are_first turns are)
-      (front turns bye_sent (done_heard task.depth (updates task x) v.done) v.reached)
+      ∙ done_honest task.depth (updates task x) some most legal v.done task.queries.items (blocks task honest.challenges) (heard bye_sent ++ honest.heard.0) can (are_first questions are)
+      (front questions bye_sent (done_heard task.depth (updates task x) v.done) v.reached)
       ∙ ap (report_of task.depth (updates task x)) (are.queries ∙ all)
 
   -- the link did not end
-  not_ended : (turns : List Turn) (reason : Reason) → Reached task x turns (ending reason) → reason ≢ reasons.Closed
-  not_ended turns reason reached closed =
+  not_ended : (questions : List Question) (reason : Reason) → Reached task x questions (ending reason) → reason ≢ reasons.Closed
+  not_ended questions reason reached closed =
       let talk : x.talk ≡ (stream_sent task.depth (updates task x) ++ flat_map
-      (said_in_turn task.depth (updates task x)) turns) ++ Ended ∷ [] =
+      (said_for task.depth (updates task x)) questions) ++ Ended ∷ [] =
       reached.talk ∙ ap (λ (r : Reason). (stream_sent task.depth (updates task x) ++ flat_map
-      (said_in_turn task.depth (updates task x)) turns) ++ ending r) closed in
+      (said_for task.depth (updates task x)) questions) ++ ending r) closed in
       last_is (λ (e : TalkEvent). e ≢ Ended) (stream_sent task.depth (updates task x) ++ flat_map
-      (said_in_turn task.depth (updates task x)) turns) Ended
+      (said_for task.depth (updates task x)) questions) Ended
       (subst (All (λ (e : TalkEvent). e ≢ Ended)) talk honest.lasts) refl
 
   not_rejected : (query round : ℕ) (reason : Reason) → OneFaulty task x query round reason → ⊥
   not_rejected query round reason v =
       let last = v.last in
-      let turns = turns_of task x v.done ++ last ∷ [] in
-      let few = All-append (IsHeard task.depth (updates task x)) (turns_of task x v.done)
+      let questions = questions_of task x v.done ++ last ∷ [] in
+      let few = All-append (IsHeard task.depth (updates task x)) (questions_of task x v.done)
       (last ∷ []) (done_heard task.depth (updates task x) v.done)
       (All-cons (IsHeard task.depth (updates task x)) last []
       (faulty_heard task.depth (updates task x) last.query last.block last.replies
       (record { round = round; reason = reason }) v.faulty)
       (All-nil (IsHeard task.depth (updates task x)))) in
       none_faulty task.depth (updates task x) some most legal v.done last (record { round = round; reason = reason }) task.queries.items (blocks task honest.challenges) (heard (ending reason) ++ honest.heard.0) can
-      (are_first turns v.reached.are_turns) v.faulty (not_ended turns reason v.reached) (front turns (ending reason) few v.reached)
+      (are_first questions v.reached.are_questions) v.faulty (not_ended questions reason v.reached) (front questions (ending reason) few v.reached)
 
   some_drawn : drawn task x.seed ≡ None → ⊥
   some_drawn none = let is = honest.drawn in cc

@@ -13,16 +13,16 @@ use Rattle.sip_verifier.specs.declared.status.Port.TheVariants as ports
 use Rattle.sip_verifier.specs.declared.status.Status.{Status}
 use Rattle.sip_verifier.specs.declared.status.Status.TheVariants as statuses
 use Rattle.sip_verifier.specs.declared.task.Task.{Task}
-use Rattle.sip_verifier.specs.CountClause.{FewFor, CountsFor, Written, turns_written, lines_written, IsRejection, AreInTalk, CountClause}
+use Rattle.sip_verifier.specs.CountClause.{FewFor, CountsFor, Written, questions_written, lines_written, IsRejection, AreInTalk, CountClause}
 use Rattle.sip_replies.specs.Talks.{IsPrefix, ending}
 use Rattle.sip_verifier.specs.Exchanges.{Exchange}
 use Rattle.sip_verifier.specs.Reports.{line, rejection}
 use Rattle.sip_verifier.specs.Statuses.{IsListed}
 use Rattle.sip_verifier.specs.Talks.{bye_sent}
 use Rattle.sip_verifier.specs.Tasks.{CanBeAsked}
-use Rattle.sip_verifier.specs.Turns.{Turn, updates, Done, turns_of, lines, Reached}
+use Rattle.sip_verifier.specs.Questions.{Question, updates, Done, questions_of, lines, Reached}
 use Rattle.sip_verifier.specs.VerdictClause.{OneFaulty, WereReached, PartWritten, PartRejected, CutInLine, VerdictClause}
-use Rattle.sip_verifier.proofs.CountedTurns.{few_wrong, turn_counts}
+use Rattle.sip_verifier.proofs.CountedQuestions.{few_wrong, question_counts}
 use Rattle.sip_verifier.proofs.LegalRecords.{records_legal}
 
 module _ (task : Task) (x : Exchange) (can : All (CanBeAsked task.depth) task.queries.items) where
@@ -40,59 +40,59 @@ module _ (task : Task) (x : Exchange) (can : All (CanBeAsked task.depth) task.qu
       (few_wrong task.depth (updates task x) q (All-head (CanBeAsked task.depth) q queries all)
       legal) (few_of queries (All-tail (CanBeAsked task.depth) q queries all))
 
-  -- what was written of accepted turns
+  -- what was written of accepted questions
   written_of : Done task x → List Written
-  written_of done = map (λ a. record { turn = a.turn; answer = a.answer }) done
+  written_of done = map (λ a. record { question = a.question; answer = a.answer }) done
 
-  turns_same : (done : Done task x) → turns_written (written_of done) ≡ turns_of task x done
+  questions_same : (done : Done task x) → questions_written (written_of done) ≡ questions_of task x done
   unfolding written_of
-  turns_same [] = refl
-  turns_same (a ∷ done) = ap (λ ts. a.turn ∷ ts) (turns_same done)
+  questions_same [] = refl
+  questions_same (a ∷ done) = ap (λ ts. a.question ∷ ts) (questions_same done)
 
   lines_same : (done : Done task x) → lines_written (written_of done) ≡ lines task x done
   unfolding written_of
   lines_same [] = refl
-  lines_same (a ∷ done) = ap (λ ls. line a.turn.query a.answer ++ ls) (lines_same done)
+  lines_same (a ∷ done) = ap (λ ls. line a.question.query a.answer ++ ls) (lines_same done)
 
-  counted_of : (done : Done task x) → All (Fits task.depth) (map (λ (t : Turn). t.query) (turns_of task x done)) → All (λ (w : Written). CountsFor task.depth (updates task x) w.turn w.answer) (written_of done)
+  counted_of : (done : Done task x) → All (Fits task.depth) (map (λ (t : Question). t.query) (questions_of task x done)) → All (λ (w : Written). CountsFor task.depth (updates task x) w.question w.answer) (written_of done)
   unfolding written_of
-  counted_of [] all = All-nil (λ (w : Written). CountsFor task.depth (updates task x) w.turn w.answer)
+  counted_of [] all = All-nil (λ (w : Written). CountsFor task.depth (updates task x) w.question w.answer)
   counted_of (a ∷ done) all =
-      All-cons (λ (w : Written). CountsFor task.depth (updates task x) w.turn w.answer) (record { turn = a.turn; answer = a.answer }) (written_of done)
-      (turn_counts task.depth (updates task x) a.turn.query a.turn.block a.turn.replies a.answer (All-head (Fits task.depth) a.turn.query _ all) legal a.accepts)
-      (counted_of done (All-tail (Fits task.depth) a.turn.query _ all))
+      All-cons (λ (w : Written). CountsFor task.depth (updates task x) w.question w.answer) (record { question = a.question; answer = a.answer }) (written_of done)
+      (question_counts task.depth (updates task x) a.question.query a.question.block a.question.replies a.answer (All-head (Fits task.depth) a.question.query _ all) legal a.accepts)
+      (counted_of done (All-tail (Fits task.depth) a.question.query _ all))
 
-  -- the queries of turns that were reached fit
-  all_fit : (turns : List Turn) (rest : List TalkEvent) → Reached task x turns rest → All (Fits task.depth) (map (λ (t : Turn). t.query) turns)
-  all_fit turns rest reached = subst (All (Fits task.depth)) (sym reached.are_turns.queries) (All-take (Fits task.depth) (length turns) task.queries.items fits)
+  -- the queries of questions that were reached fit
+  all_fit : (questions : List Question) (rest : List TalkEvent) → Reached task x questions rest → All (Fits task.depth) (map (λ (t : Question). t.query) questions)
+  all_fit questions rest reached = subst (All (Fits task.depth)) (sym reached.are_questions.queries) (All-take (Fits task.depth) (length questions) task.queries.items fits)
 
-  front_fits : (turns more : List Turn) → All (Fits task.depth) (map (λ (t : Turn). t.query) (turns ++ more)) → All (Fits task.depth) (map (λ (t : Turn). t.query) turns)
+  front_fits : (questions more : List Question) → All (Fits task.depth) (map (λ (t : Question). t.query) (questions ++ more)) → All (Fits task.depth) (map (λ (t : Question). t.query) questions)
   front_fits [] more all = All-nil (Fits task.depth)
-  front_fits (t ∷ turns) more all =
-      All-cons (Fits task.depth) t.query (map (λ (t : Turn). t.query) turns) (All-head (Fits task.depth) t.query _ all) (front_fits turns more (All-tail (Fits task.depth) t.query _ all))
+  front_fits (t ∷ questions) more all =
+      All-cons (Fits task.depth) t.query (map (λ (t : Question). t.query) questions) (All-head (Fits task.depth) t.query _ all) (front_fits questions more (All-tail (Fits task.depth) t.query _ all))
 
-  talk_fits : (turns : List Turn) → AreInTalk task x turns → All (Fits task.depth) (map (λ (t : Turn). t.query) turns)
-  talk_fits turns (inl none) = subst (λ (ts : List Turn). All (Fits task.depth) (map (λ (t : Turn). t.query) ts)) (sym none) (All-nil (Fits task.depth))
-  talk_fits turns (inr (after, rest, reached)) = front_fits turns (option_to_list after) (all_fit (turns ++ option_to_list after) rest reached)
+  talk_fits : (questions : List Question) → AreInTalk task x questions → All (Fits task.depth) (map (λ (t : Question). t.query) questions)
+  talk_fits questions (inl none) = subst (λ (ts : List Question). All (Fits task.depth) (map (λ (t : Question). t.query) ts)) (sym none) (All-nil (Fits task.depth))
+  talk_fits questions (inr (after, rest, reached)) = front_fits questions (option_to_list after) (all_fit (questions ++ option_to_list after) rest reached)
 
-  -- the clause, by the turns whose lines are written and what may follow them
-  clause_of : (done : Done task x) → AreInTalk task x (turns_of task x done) → (rejected : List ℕ) → IsRejection rejected → IsPrefix x.report (lines task x done ++ rejected) → CountClause task x
+  -- the clause, by the questions whose lines are written and what may follow them
+  clause_of : (done : Done task x) → AreInTalk task x (questions_of task x done) → (rejected : List ℕ) → IsRejection rejected → IsPrefix x.report (lines task x done ++ rejected) → CountClause task x
   clause_of done reached rejected is report = record {
     few = few_of task.queries.items can;
     lines = written_of done;
-    turns = subst (AreInTalk task x) (sym (turns_same done)) reached;
+    questions = subst (AreInTalk task x) (sym (questions_same done)) reached;
     rejected = rejected;
     is_rejection = is;
     report = subst (λ (ls : List ℕ). IsPrefix x.report (ls ++ rejected)) (sym (lines_same done)) report;
-    counted = counted_of done (talk_fits (turns_of task x done) reached);
+    counted = counted_of done (talk_fits (questions_of task x done) reached);
   }
 
-  were_in_talk : (done : Done task x) → WereReached task x done → AreInTalk task x (turns_of task x done)
-  were_in_talk done (inl none) = inl (ap (turns_of task x) none)
-  were_in_talk done (inr (rest, reached)) = inr (None, rest, subst (λ (ts : List Turn). Reached task x ts rest) (sym (append-nil (turns_of task x done))) reached)
+  were_in_talk : (done : Done task x) → WereReached task x done → AreInTalk task x (questions_of task x done)
+  were_in_talk done (inl none) = inl (ap (questions_of task x) none)
+  were_in_talk done (inr (rest, reached)) = inr (None, rest, subst (λ (ts : List Question). Reached task x ts rest) (sym (append-nil (questions_of task x done))) reached)
 
   -- a report of whole lines
-  whole : (done : Done task x) → AreInTalk task x (turns_of task x done) → x.report ≡ lines task x done → CountClause task x
+  whole : (done : Done task x) → AreInTalk task x (questions_of task x done) → x.report ≡ lines task x done → CountClause task x
   whole done reached report = clause_of done reached [] (inl refl) ([], ap (λ (ls : List ℕ). ls ++ []) (sym report))
 
   nothing : x.report ≡ [] → CountClause task x
@@ -105,11 +105,11 @@ module _ (task : Task) (x : Exchange) (can : All (CanBeAsked task.depth) task.qu
   part_written : (done : Done task x) (part : List ℕ) → PartWritten task x done part → x.report ≡ lines task x done ++ part → CountClause task x
   part_written done part w report =
       let all = done ++ w.next ∷ [] in
-      let turns : turns_of task x all ≡ turns_of task x done ++ w.next.turn ∷ [] = map-append _ done (w.next ∷ []) in
-      let ends : lines task x all ≡ lines task x done ++ line w.next.turn.query w.next.answer = flat_map-append _ done (w.next ∷ []) ∙ ap (λ (l : List ℕ). lines task x done ++ l) (append-nil _) in
+      let questions : questions_of task x all ≡ questions_of task x done ++ w.next.question ∷ [] = map-append _ done (w.next ∷ []) in
+      let ends : lines task x all ≡ lines task x done ++ line w.next.question.query w.next.answer = flat_map-append _ done (w.next ∷ []) ∙ ap (λ (l : List ℕ). lines task x done ++ l) (append-nil _) in
       clause_of all
-      (inr (None, [], subst (λ (ts : List Turn). Reached task x ts []) (sym turns ∙ sym (append-nil (turns_of task x all))) w.reached)) [] (inl refl)
-      (w.front.0, append-nil _ ∙ ends ∙ front_of (lines task x done) part (line w.next.turn.query w.next.answer) w.front.0 report w.front.1)
+      (inr (None, [], subst (λ (ts : List Question). Reached task x ts []) (sym questions ∙ sym (append-nil (questions_of task x all))) w.reached)) [] (inl refl)
+      (w.front.0, append-nil _ ∙ ends ∙ front_of (lines task x done) part (line w.next.question.query w.next.answer) w.front.0 report w.front.1)
 
   -- a report that ends in a part of a rejection's line
   part_rejected : (done : Done task x) (part : List ℕ) → PartRejected task x done part → x.report ≡ lines task x done ++ part → CountClause task x

@@ -13,7 +13,7 @@ use Rattle.sip_wire.specs.declared.version.Version.TheVariants.{One}
 use Rattle.sip_wire.specs.Spelling.{spelling}
 use Rattle.sip_replies.specs.Talks.{sent, exchanged, asked}
 use Rattle.sip_verifier.specs.Talks.{stream_sent, opening_sent, update_frames}
-use Rattle.sip_verifier.specs.Turns.{Turn, said_in_turn}
+use Rattle.sip_verifier.specs.Questions.{Question, said_for}
 use Rattle.sip_replies.specs.Replies.{joined}
 
 -- what follows something that was sent
@@ -44,39 +44,39 @@ heard-asked One query block replies few =
     after_sent (flat_map spelling (messages.Query query ∷ [])) (exchanged One replies block)
     ∙ heard-exchanged replies block (omega arith)
 
--- what was heard in a turn are its replies
-abbrev pub IsHeard : ℕ → List Update → Turn → Type 0
-IsHeard depth stream t = heard (said_in_turn depth stream t) ≡ joined t.replies
+-- what was heard for a question are its replies
+abbrev pub IsHeard : ℕ → List Update → Question → Type 0
+IsHeard depth stream t = heard (said_for depth stream t) ≡ joined t.replies
 
--- the reply bytes of turns
-abbrev pub replied : List Turn → List ℕ
-replied turns = flat_map (λ t. joined t.replies) turns
+-- the reply bytes of questions
+abbrev pub replied : List Question → List ℕ
+replied questions = flat_map (λ t. joined t.replies) questions
 
-heard-turns : (depth : ℕ) (stream : List Update) (turns : List Turn)
-    → All (IsHeard depth stream) turns
-    → heard (flat_map (said_in_turn depth stream) turns) ≡ replied turns
-heard-turns depth stream [] each = refl
-heard-turns depth stream (t ∷ turns) each =
-    heard-append (said_in_turn depth stream t) (flat_map (said_in_turn depth stream) turns)
-    ∙ ap (λ l. l ++ heard (flat_map (said_in_turn depth stream) turns))
-    (All-head (IsHeard depth stream) t turns each)
+heard-questions : (depth : ℕ) (stream : List Update) (questions : List Question)
+    → All (IsHeard depth stream) questions
+    → heard (flat_map (said_for depth stream) questions) ≡ replied questions
+heard-questions depth stream [] each = refl
+heard-questions depth stream (t ∷ questions) each =
+    heard-append (said_for depth stream t) (flat_map (said_for depth stream) questions)
+    ∙ ap (λ l. l ++ heard (flat_map (said_for depth stream) questions))
+    (All-head (IsHeard depth stream) t questions each)
     ∙ ap (λ l. joined t.replies ++ l)
-    (heard-turns depth stream turns (All-tail (IsHeard depth stream) t turns each))
+    (heard-questions depth stream questions (All-tail (IsHeard depth stream) t questions each))
 
 heard-stream : (depth : ℕ) (stream : List Update) → heard (stream_sent depth stream) ≡ []
 heard-stream depth stream = before_sent (opening_sent depth stream) (flat_map spelling (messages.EndStream ∷ [])) ∙ heard-outs (flat_map spelling (messages.Open 1 depth ∷ update_frames stream))
 
-pub heard-talk : (depth : ℕ) (stream : List Update) (turns : List Turn) (rest : List TalkEvent)
-    → All (IsHeard depth stream) turns
-    → heard (stream_sent depth stream ++ flat_map (said_in_turn depth stream) turns ++ rest)
-    ≡ replied turns ++ heard rest
-heard-talk depth stream turns rest each =
-    let said : List TalkEvent = flat_map (said_in_turn depth stream) turns in
+pub heard-talk : (depth : ℕ) (stream : List Update) (questions : List Question) (rest : List TalkEvent)
+    → All (IsHeard depth stream) questions
+    → heard (stream_sent depth stream ++ flat_map (said_for depth stream) questions ++ rest)
+    ≡ replied questions ++ heard rest
+heard-talk depth stream questions rest each =
+    let said : List TalkEvent = flat_map (said_for depth stream) questions in
     heard-append (stream_sent depth stream ++ said) rest
     ∙ ap (λ l. l ++ heard rest)
     (heard-append (stream_sent depth stream) said
     ∙ ap (λ l. l ++ heard said) (heard-stream depth stream)
-    ∙ heard-turns depth stream turns each)
+    ∙ heard-questions depth stream questions each)
 
 -- the last event of a talk in which each event is such
 pub last_is : (P : TalkEvent → Type 0) (talk : List TalkEvent) (event : TalkEvent) → All P (talk ++ event ∷ []) → P event

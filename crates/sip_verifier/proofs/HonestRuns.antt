@@ -14,13 +14,13 @@ use Rattle.sip_replies.specs.Talks.{asked_unless}
 use Rattle.sip_replies.specs.Replies as replied
 use Rattle.sip_replies.specs.Replies.{Fault, IsAccepted, IsStated, joined}
 use Rattle.sip_verifier.specs.CompletenessClause.{honest_bytes, HasFewEntries}
-use Rattle.sip_verifier.specs.Kinds.{Row, built, missing, row_of, Holds}
+use Rattle.sip_verifier.specs.Kinds.{KindRow, built, missing, kind_row, Holds}
 use Rattle.sip_verifier.specs.Reports.{line, report_of}
-use Rattle.sip_verifier.specs.Turns.{Turn, Accepted, IsFaulty, said_by}
+use Rattle.sip_verifier.specs.Questions.{Question, Accepted, IsFaulty, said_by_kind}
 use Rattle.sip_verifier.proofs.HeardTalks.{IsHeard, heard-asked, replied}
-use Rattle.sip_verifier.proofs.HonestTurns.{turn_done, turn_faulty}
+use Rattle.sip_verifier.proofs.HonestQuestions.{question_done, question_faulty}
 
--- ---- what is heard in a turn
+-- ---- what is heard for a question
 
 heard_accepted : {S : Type 0} (P : Protocol S) (query : Query) (block : List ℕ)
     (replies : List (List ℕ)) (given : Answer) (unasked : Option Answer)
@@ -32,18 +32,18 @@ heard_accepted P query block replies given None stated =
     heard-asked P.rules.version query block replies (omega (arith, stated.all))
 heard_accepted P query block replies given (Some known) none = sym (ap joined none.0)
 
-turn_heard : (row : Row) (query : Query) (block : List ℕ) (replies : List (List ℕ)) (given : Answer)
+question_heard : (row : KindRow) (query : Query) (block : List ℕ) (replies : List (List ℕ)) (given : Answer)
     → Holds (λ kind. IsAccepted (kind.protocol block) block replies given) row
-    → heard (said_by row (record { query = query; block = block; replies = replies }))
+    → heard (said_by_kind row (record { query = query; block = block; replies = replies }))
     ≡ joined replies
-turn_heard (built kind) query block replies given accepted =
+question_heard (built kind) query block replies given accepted =
     let P = kind.protocol block in
     heard_accepted P query block replies given P.unasked accepted
-turn_heard missing query block replies given accepted = absurd accepted
+question_heard missing query block replies given accepted = absurd accepted
 
-fault_heard : (row : Row) (query : Query) (block : List ℕ) (replies : List (List ℕ)) (fault : Fault)
+fault_heard : (row : KindRow) (query : Query) (block : List ℕ) (replies : List (List ℕ)) (fault : Fault)
     → Holds (λ kind. replied.IsFaulty (kind.protocol block) block replies fault) row
-    → heard (said_by row (record { query = query; block = block; replies = replies }))
+    → heard (said_by_kind row (record { query = query; block = block; replies = replies }))
     ≡ joined replies
 fault_heard (built kind) query block replies fault faulty =
     let P = kind.protocol block in
@@ -57,20 +57,20 @@ pub faulty_heard : (depth : ℕ) (stream : List Update) (query : Query) (block :
     → IsFaulty depth stream (record { query = query; block = block; replies = replies }) fault
     → IsHeard depth stream (record { query = query; block = block; replies = replies })
 faulty_heard depth stream query block replies fault faulty =
-    fault_heard (row_of depth stream query) query block replies fault faulty
+    fault_heard (kind_row depth stream query) query block replies fault faulty
 
 module _ (depth : ℕ) (stream : List Update) where
-  -- the turns of accepted ones
-  abbrev pub their_turns : List (Accepted depth stream) → List Turn
-  their_turns done = map (λ (a : Accepted depth stream). a.turn) done
+  -- the questions of accepted ones
+  abbrev pub their_questions : List (Accepted depth stream) → List Question
+  their_questions done = map (λ (a : Accepted depth stream). a.question) done
 
   pub done_heard : (done : List (Accepted depth stream))
-      → All (IsHeard depth stream) (their_turns done)
+      → All (IsHeard depth stream) (their_questions done)
   done_heard [] = All-nil (IsHeard depth stream)
   done_heard (a ∷ done) =
-      let t = a.turn in
-      All-cons (IsHeard depth stream) t (their_turns done)
-      (turn_heard (row_of depth stream t.query) t.query t.block t.replies a.answer a.accepts)
+      let t = a.question in
+      All-cons (IsHeard depth stream) t (their_questions done)
+      (question_heard (kind_row depth stream t.query) t.query t.block t.replies a.answer a.accepts)
       (done_heard done)
 
   -- these queries can be asked, have few enough entries in their answers, and have whole blocks
@@ -86,29 +86,29 @@ module _ (depth : ℕ) (stream : List Update) where
     sizes = All-tail (λ (c : List ℕ). length c ≡ depth) b blocks can.sizes;
   }
 
-  abbrev queries_of : List Turn → List Query
-  queries_of turns = map (λ (t : Turn). t.query) turns
+  abbrev queries_of : List Question → List Query
+  queries_of questions = map (λ (t : Question). t.query) questions
 
-  abbrev blocks_of : List Turn → List (List ℕ)
-  blocks_of turns = map (λ (t : Turn). t.block) turns
+  abbrev blocks_of : List Question → List (List ℕ)
+  blocks_of questions = map (λ (t : Question). t.block) questions
 
-  -- the turns are the first of these queries, at their blocks
-  pub record AreFirst (turns : List Turn) (queries : List Query) (blocks : List (List ℕ)) : Type 0 where
-    pub queries_are : queries_of turns ≡ take (length turns) queries
-    pub blocks_are : blocks_of turns ≡ take (length turns) blocks
+  -- the questions are the first of these queries, at their blocks
+  pub record AreFirst (questions : List Question) (queries : List Query) (blocks : List (List ℕ)) : Type 0 where
+    pub queries_are : queries_of questions ≡ take (length questions) queries
+    pub blocks_are : blocks_of questions ≡ take (length questions) blocks
 
-  -- the first turn is the first query at the first block
-  record Begins (t : Turn) (turns : List Turn) (queries : List Query) (blocks : List (List ℕ)) : Type 0 where
+  -- the first question is the first query at the first block
+  record Begins (t : Question) (questions : List Question) (queries : List Query) (blocks : List (List ℕ)) : Type 0 where
     more : List Query
     others : List (List ℕ)
     queries_are : queries ≡ t.query ∷ more
     blocks_are : blocks ≡ t.block ∷ others
-    rest : AreFirst turns more others
+    rest : AreFirst questions more others
 
-  begins : (t : Turn) (turns : List Turn) (queries : List Query) (blocks : List (List ℕ)) → AreFirst (t ∷ turns) queries blocks → Begins t turns queries blocks
-  begins t turns [] blocks first = absurd (let e = first.queries_are in cc)
-  begins t turns (q ∷ queries) [] first = absurd (let e = first.blocks_are in cc)
-  begins t turns (q ∷ queries) (b ∷ blocks) first =
+  begins : (t : Question) (questions : List Question) (queries : List Query) (blocks : List (List ℕ)) → AreFirst (t ∷ questions) queries blocks → Begins t questions queries blocks
+  begins t questions [] blocks first = absurd (let e = first.queries_are in cc)
+  begins t questions (q ∷ queries) [] first = absurd (let e = first.blocks_are in cc)
+  begins t questions (q ∷ queries) (b ∷ blocks) first =
       let e = first.queries_are in
       let f = first.blocks_are in
       let same_query : t.query ≡ q = cc in
@@ -126,40 +126,40 @@ module _ (depth : ℕ) (stream : List Update) where
   all_honest queries blocks = flat_map (honest_bytes depth stream) (zip queries blocks)
 
   module _ (some : 1 ≤ depth) (most : depth ≤ 32) (legal : IsLegal depth stream) where
-    -- the first turn, where it is accepted
-    first_done : (a : Accepted depth stream) (queries : List Query) (blocks : List (List ℕ)) (later rest : List ℕ) → CanBeAsked (a.turn.query ∷ queries) (a.turn.block ∷ blocks)
-        → all_honest (a.turn.query ∷ queries) (a.turn.block ∷ blocks) ≡ (joined a.turn.replies ++ later) ++ rest → (all_honest queries blocks ≡ later ++ rest) × (a.answer ≡ answer depth stream a.turn.query)
+    -- the first question, where it is accepted
+    first_done : (a : Accepted depth stream) (queries : List Query) (blocks : List (List ℕ)) (later rest : List ℕ) → CanBeAsked (a.question.query ∷ queries) (a.question.block ∷ blocks)
+        → all_honest (a.question.query ∷ queries) (a.question.block ∷ blocks) ≡ (joined a.question.replies ++ later) ++ rest → (all_honest queries blocks ≡ later ++ rest) × (a.answer ≡ answer depth stream a.question.query)
     first_done a queries blocks later rest can heard =
-        turn_done depth stream some most legal a.turn.query a.turn.block a.turn.replies a.answer (all_honest queries blocks) (later ++ rest)
-        (All-head (Fits depth) a.turn.query queries can.fits) (All-head (HasFewEntries depth stream) a.turn.query queries can.few) (All-head (λ (c : List ℕ). length c ≡ depth) a.turn.block blocks can.sizes)
-        a.accepts (heard ∙ append_assoc (joined a.turn.replies) later rest)
+        question_done depth stream some most legal a.question.query a.question.block a.question.replies a.answer (all_honest queries blocks) (later ++ rest)
+        (All-head (Fits depth) a.question.query queries can.fits) (All-head (HasFewEntries depth stream) a.question.query queries can.few) (All-head (λ (c : List ℕ). length c ≡ depth) a.question.block blocks can.sizes)
+        a.accepts (heard ∙ append_assoc (joined a.question.replies) later rest)
 
-    -- accepted turns have the stream's answers
-    pub done_honest : (done : List (Accepted depth stream)) (queries : List Query) (blocks : List (List ℕ)) (rest : List ℕ) → CanBeAsked queries blocks → AreFirst (their_turns done) queries blocks
-        → all_honest queries blocks ≡ replied (their_turns done) ++ rest → flat_map (λ (a : Accepted depth stream). line a.turn.query a.answer) done ≡ report_of depth stream (queries_of (their_turns done))
+    -- accepted questions have the stream's answers
+    pub done_honest : (done : List (Accepted depth stream)) (queries : List Query) (blocks : List (List ℕ)) (rest : List ℕ) → CanBeAsked queries blocks → AreFirst (their_questions done) queries blocks
+        → all_honest queries blocks ≡ replied (their_questions done) ++ rest → flat_map (λ (a : Accepted depth stream). line a.question.query a.answer) done ≡ report_of depth stream (queries_of (their_questions done))
     done_honest [] queries blocks rest can first heard = refl
     done_honest (a ∷ done) queries blocks rest can first heard =
-        let b = begins a.turn (their_turns done) queries blocks first in
-        let asked = subst (λ (x : List Query). CanBeAsked x (a.turn.block ∷ b.others)) b.queries_are (subst (λ (x : List (List ℕ)). CanBeAsked queries x) b.blocks_are can) in
-        let bytes : all_honest (a.turn.query ∷ b.more) (a.turn.block ∷ b.others) ≡ all_honest queries blocks = ap (λ (x : List Query). all_honest x (a.turn.block ∷ b.others)) (sym b.queries_are) ∙ ap (all_honest queries) (sym b.blocks_are) in
-        let here = first_done a b.more b.others (replied (their_turns done)) rest asked (bytes ∙ heard) in
-        let later = done_honest done b.more b.others rest (can_rest a.turn.query b.more a.turn.block b.others asked) b.rest here.0 in
-        ap (λ (y : Answer). line a.turn.query y ++ flat_map (λ (d : Accepted depth stream). line d.turn.query d.answer) done) here.1
-        ∙ ap (λ (l : List ℕ). line a.turn.query (answer depth stream a.turn.query) ++ l) later
+        let b = begins a.question (their_questions done) queries blocks first in
+        let asked = subst (λ (x : List Query). CanBeAsked x (a.question.block ∷ b.others)) b.queries_are (subst (λ (x : List (List ℕ)). CanBeAsked queries x) b.blocks_are can) in
+        let bytes : all_honest (a.question.query ∷ b.more) (a.question.block ∷ b.others) ≡ all_honest queries blocks = ap (λ (x : List Query). all_honest x (a.question.block ∷ b.others)) (sym b.queries_are) ∙ ap (all_honest queries) (sym b.blocks_are) in
+        let here = first_done a b.more b.others (replied (their_questions done)) rest asked (bytes ∙ heard) in
+        let later = done_honest done b.more b.others rest (can_rest a.question.query b.more a.question.block b.others asked) b.rest here.0 in
+        ap (λ (y : Answer). line a.question.query y ++ flat_map (λ (d : Accepted depth stream). line d.question.query d.answer) done) here.1
+        ∙ ap (λ (l : List ℕ). line a.question.query (answer depth stream a.question.query) ++ l) later
 
     -- and none after them has a fault, but that of the end of the link
-    pub none_faulty : (done : List (Accepted depth stream)) (last : Turn) (fault : Fault) (queries : List Query) (blocks : List (List ℕ)) (rest : List ℕ) → CanBeAsked queries blocks → AreFirst (their_turns done ++ last ∷ []) queries blocks
-        → IsFaulty depth stream last fault → fault.reason ≢ reasons.Closed → all_honest queries blocks ≡ replied (their_turns done ++ last ∷ []) ++ rest → ⊥
+    pub none_faulty : (done : List (Accepted depth stream)) (last : Question) (fault : Fault) (queries : List Query) (blocks : List (List ℕ)) (rest : List ℕ) → CanBeAsked queries blocks → AreFirst (their_questions done ++ last ∷ []) queries blocks
+        → IsFaulty depth stream last fault → fault.reason ≢ reasons.Closed → all_honest queries blocks ≡ replied (their_questions done ++ last ∷ []) ++ rest → ⊥
     none_faulty [] last fault queries blocks rest can first faulty other heard =
         let b = begins last [] queries blocks first in
         let asked = subst (λ (x : List Query). CanBeAsked x (last.block ∷ b.others)) b.queries_are (subst (λ (x : List (List ℕ)). CanBeAsked queries x) b.blocks_are can) in
         let bytes : all_honest (last.query ∷ b.more) (last.block ∷ b.others) ≡ all_honest queries blocks = ap (λ (x : List Query). all_honest x (last.block ∷ b.others)) (sym b.queries_are) ∙ ap (all_honest queries) (sym b.blocks_are) in
-        turn_faulty depth stream some most legal last.query last.block last.replies fault (all_honest b.more b.others) rest
+        question_faulty depth stream some most legal last.query last.block last.replies fault (all_honest b.more b.others) rest
         (All-head (Fits depth) last.query b.more asked.fits) (All-head (HasFewEntries depth stream) last.query b.more asked.few) (All-head (λ (c : List ℕ). length c ≡ depth) last.block b.others asked.sizes)
         faulty other (bytes ∙ heard ∙ ap (λ (l : List ℕ). l ++ rest) (append-nil (joined last.replies)))
     none_faulty (a ∷ done) last fault queries blocks rest can first faulty other heard =
-        let b = begins a.turn (their_turns done ++ last ∷ []) queries blocks first in
-        let asked = subst (λ (x : List Query). CanBeAsked x (a.turn.block ∷ b.others)) b.queries_are (subst (λ (x : List (List ℕ)). CanBeAsked queries x) b.blocks_are can) in
-        let bytes : all_honest (a.turn.query ∷ b.more) (a.turn.block ∷ b.others) ≡ all_honest queries blocks = ap (λ (x : List Query). all_honest x (a.turn.block ∷ b.others)) (sym b.queries_are) ∙ ap (all_honest queries) (sym b.blocks_are) in
-        let here = first_done a b.more b.others (replied (their_turns done ++ last ∷ [])) rest asked (bytes ∙ heard) in
-        none_faulty done last fault b.more b.others rest (can_rest a.turn.query b.more a.turn.block b.others asked) b.rest faulty other here.0
+        let b = begins a.question (their_questions done ++ last ∷ []) queries blocks first in
+        let asked = subst (λ (x : List Query). CanBeAsked x (a.question.block ∷ b.others)) b.queries_are (subst (λ (x : List (List ℕ)). CanBeAsked queries x) b.blocks_are can) in
+        let bytes : all_honest (a.question.query ∷ b.more) (a.question.block ∷ b.others) ≡ all_honest queries blocks = ap (λ (x : List Query). all_honest x (a.question.block ∷ b.others)) (sym b.queries_are) ∙ ap (all_honest queries) (sym b.blocks_are) in
+        let here = first_done a b.more b.others (replied (their_questions done ++ last ∷ [])) rest asked (bytes ∙ heard) in
+        none_faulty done last fault b.more b.others rest (can_rest a.question.query b.more a.question.block b.others asked) b.rest faulty other here.0

@@ -19,12 +19,12 @@ pub mod RunTalks
 pub mod StreamPromises
 pub mod QueryPromises
 pub mod LegalRecords
-pub mod CountedTurns
+pub mod CountedQuestions
 pub mod CountedReports
 pub mod Blocks
 pub mod HeardTalks
 pub mod HonestReplies
-pub mod HonestTurns
+pub mod HonestQuestions
 pub mod HonestRuns
 pub mod CompleteRuns
 mod RoomForAnswers

@@ -22,7 +22,7 @@ use Rattle.sip_verifier.specs.declared.status.Port.TheVariants as ports
 use Rattle.sip_verifier.specs.declared.status.Status.{Status}
 use Rattle.sip_verifier.specs.declared.status.Status.TheVariants as statuses
 use Rattle.sip_verifier.specs.declared.task.Task.{Task}
-use Rattle.sip_verifier.specs.Asking.{Asks, IsAnswered, IsRejected, turn_of}
+use Rattle.sip_verifier.specs.Asking.{Asks, IsAnswered, IsRejected, question_of}
 use Rattle.sip_verifier.specs.Draws.{blocks}
 use Rattle.sip_verifier.specs.inside.Ending.{status_of_fault, status_of_report}
 use Rattle.sip_verifier.specs.Moments.{counts}
@@ -31,7 +31,7 @@ use Rattle.sip_verifier.specs.QuerySeats.{Seated, StandsFor}
 use Rattle.sip_verifier.specs.Reports.{line, rejection}
 use Rattle.sip_verifier.specs.Seats.{AreSeats, Seating}
 use Rattle.sip_verifier.specs.Statuses.{FaultClause}
-use Rattle.sip_verifier.specs.Turns.{Turn, Accepted, said_in_turn}
+use Rattle.sip_verifier.specs.Questions.{Question, Accepted, said_for}
 
 -- what a write to the report becomes
 abbrev pub OnReport : Result (Unit {0}) PortStop → Result (Unit {0}) Status → Type 0
@@ -79,17 +79,17 @@ fault_checked depth stream query block number old new blank entries faults.OutOf
 
 -- ---- the queries so far
 
--- one turn more
-pub first_more : (queries more : List Query) (blocks others : List (List ℕ)) (turns : List Turn) (query : Query) (block : List ℕ) (replies : List (List ℕ)) → AreFirst queries blocks turns
-    → drop (length turns) queries ≡ query ∷ more → drop (length turns) blocks ≡ block ∷ others → AreFirst queries blocks (turns ++ turn_of query block replies ∷ [])
-first_more queries more blocks others turns query block replies first asks at =
-    let turn = turn_of query block replies in
-    let count : length (turns ++ turn ∷ []) ≡ length turns + 1 = length-append turns (turn ∷ []) in
-    let asked : take (length turns + 1) queries ≡ take (length turns) queries ++ query ∷ [] = take-add (length turns) 1 queries ∙ ap (λ (l : List Query). take (length turns) queries ++ take 1 l) asks in
-    let placed : take (length turns + 1) blocks ≡ take (length turns) blocks ++ block ∷ [] = take-add (length turns) 1 blocks ∙ ap (λ (l : List (List ℕ)). take (length turns) blocks ++ take 1 l) at in
+-- one question more
+pub first_more : (queries more : List Query) (blocks others : List (List ℕ)) (questions : List Question) (query : Query) (block : List ℕ) (replies : List (List ℕ)) → AreFirst queries blocks questions
+    → drop (length questions) queries ≡ query ∷ more → drop (length questions) blocks ≡ block ∷ others → AreFirst queries blocks (questions ++ question_of query block replies ∷ [])
+first_more queries more blocks others questions query block replies first asks at =
+    let question = question_of query block replies in
+    let count : length (questions ++ question ∷ []) ≡ length questions + 1 = length-append questions (question ∷ []) in
+    let asked : take (length questions + 1) queries ≡ take (length questions) queries ++ query ∷ [] = take-add (length questions) 1 queries ∙ ap (λ (l : List Query). take (length questions) queries ++ take 1 l) asks in
+    let placed : take (length questions + 1) blocks ≡ take (length questions) blocks ++ block ∷ [] = take-add (length questions) 1 blocks ∙ ap (λ (l : List (List ℕ)). take (length questions) blocks ++ take 1 l) at in
     record {
-      asked = map-append (λ (t : Turn). t.query) turns (turn ∷ []) ∙ ap (λ (l : List Query). l ++ query ∷ []) first.asked ∙ sym asked ∙ ap (λ (n : ℕ). take n queries) (sym count);
-      at_blocks = map-append (λ (t : Turn). t.block) turns (turn ∷ []) ∙ ap (λ (l : List (List ℕ)). l ++ block ∷ []) first.at_blocks ∙ sym placed ∙ ap (λ (n : ℕ). take n blocks) (sym count);
+      asked = map-append (λ (t : Question). t.query) questions (question ∷ []) ∙ ap (λ (l : List Query). l ++ query ∷ []) first.asked ∙ sym asked ∙ ap (λ (n : ℕ). take n queries) (sym count);
+      at_blocks = map-append (λ (t : Question). t.block) questions (question ∷ []) ∙ ap (λ (l : List (List ℕ)). l ++ block ∷ []) first.at_blocks ∙ sym placed ∙ ap (λ (n : ℕ). take n blocks) (sym count);
     }
 
 -- a concatenation over one element more
@@ -102,21 +102,21 @@ module _ (depth : ℕ) (stream : List Update) (queries : List Query) (blocks : L
       → Checks depth stream query block number mid new half full r → PassedBy depth stream queries blocks old new blank full (count + 1)
   passed_more count query more block others number r u went so asks at checks =
       let passes : Passes depth stream query block number mid new half full = subst (Checks depth stream query block number mid new half full) went checks in
-      let turns = map (λ (a : Accepted depth stream). a.turn) so.done in
-      let turn = turn_of query block passes.answered.replies in
-      let one : Accepted depth stream = record { turn = turn; answer = passes.answer; accepts = passes.answered.accepted } in
-      let is : length turns ≡ count = length-map so.done (λ (a : Accepted depth stream). a.turn) ∙ so.counted in
-      let first : AreFirst queries blocks (turns ++ turn ∷ []) =
-      first_more queries more blocks others turns query block passes.answered.replies so.passed.first (ap (λ (n : ℕ). drop n queries) is ∙ asks) (ap (λ (n : ℕ). drop n blocks) is ∙ at) in
-      let same : map (λ (a : Accepted depth stream). a.turn) (so.done ++ one ∷ []) ≡ turns ++ turn ∷ [] = map-append (λ (a : Accepted depth stream). a.turn) so.done (one ∷ []) in
-      let said : flat_map (said_in_turn depth stream) turns ++ said_in_turn depth stream turn
-      ≡ flat_map (said_in_turn depth stream) (map (λ (a : Accepted depth stream). a.turn)
-      (so.done ++ one ∷ [])) = sym (ap (λ (l : List Turn). flat_map
-      (said_in_turn depth stream) l) same ∙ flat_map_snoc
-      (said_in_turn depth stream) turns turn) in
-      let lines = flat_map (λ (a : Accepted depth stream). line a.turn.query a.answer) so.done in
-      let wrote : outs lines ++ outs (line query passes.answer) ≡ outs (flat_map (λ (a : Accepted depth stream). line a.turn.query a.answer) (so.done ++ one ∷ [])) =
-      sym (ap outs (flat_map_snoc (λ (a : Accepted depth stream). line a.turn.query a.answer) so.done one) ∙ outs-append lines (line query passes.answer)) in
+      let questions = map (λ (a : Accepted depth stream). a.question) so.done in
+      let question = question_of query block passes.answered.replies in
+      let one : Accepted depth stream = record { question = question; answer = passes.answer; accepts = passes.answered.accepted } in
+      let is : length questions ≡ count = length-map so.done (λ (a : Accepted depth stream). a.question) ∙ so.counted in
+      let first : AreFirst queries blocks (questions ++ question ∷ []) =
+      first_more queries more blocks others questions query block passes.answered.replies so.passed.first (ap (λ (n : ℕ). drop n queries) is ∙ asks) (ap (λ (n : ℕ). drop n blocks) is ∙ at) in
+      let same : map (λ (a : Accepted depth stream). a.question) (so.done ++ one ∷ []) ≡ questions ++ question ∷ [] = map-append (λ (a : Accepted depth stream). a.question) so.done (one ∷ []) in
+      let said : flat_map (said_for depth stream) questions ++ said_for depth stream question
+      ≡ flat_map (said_for depth stream) (map (λ (a : Accepted depth stream). a.question)
+      (so.done ++ one ∷ [])) = sym (ap (λ (l : List Question). flat_map
+      (said_for depth stream) l) same ∙ flat_map_snoc
+      (said_for depth stream) questions question) in
+      let lines = flat_map (λ (a : Accepted depth stream). line a.question.query a.answer) so.done in
+      let wrote : outs lines ++ outs (line query passes.answer) ≡ outs (flat_map (λ (a : Accepted depth stream). line a.question.query a.answer) (so.done ++ one ∷ [])) =
+      sym (ap outs (flat_map_snoc (λ (a : Accepted depth stream). line a.question.query a.answer) so.done one) ∙ outs-append lines (line query passes.answer)) in
       record {
         done = so.done ++ one ∷ [];
         counted = length-append so.done (one ∷ []) ∙ ap (λ (n : ℕ). n + 1) so.counted;

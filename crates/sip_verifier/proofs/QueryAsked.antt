@@ -16,9 +16,9 @@ use Rattle.sip_replies.specs.Protocols.{Protocol}
 use Rattle.sip_replies.specs.Replies as replied
 use Rattle.sip_replies.specs.Replies.{Fault}
 use Rattle.sip_replies.specs.Talks.{IsPrefix, asked, asked_unless, ending}
-use Rattle.sip_verifier.specs.Asking.{turn_of, IsAnswered, IsRejected, IsInterrupted, Asks}
-use Rattle.sip_verifier.specs.inside.Questions.{found_in, verdict_of}
-use Rattle.sip_verifier.specs.Turns.{Accepts, IsDue, IsFaulty, IsWaiting, said_in_turn}
+use Rattle.sip_verifier.specs.Asking.{question_of, IsAnswered, IsRejected, IsInterrupted, Asks}
+use Rattle.sip_verifier.specs.inside.Judging.{found_in, verdict_of}
+use Rattle.sip_verifier.specs.Questions.{Accepts, IsDue, IsFaulty, IsWaiting, said_for}
 
 -- no more are shown than there are
 take-min : {X : Type 0} (n : ℕ) (xs : List X) → take (min n (length xs)) xs ≡ take n xs
@@ -29,24 +29,24 @@ take-min (suc n) (x ∷ xs) =
     ap (λ (k : ℕ). take k (x ∷ xs)) one ∙ ap (λ (l : List _). x ∷ l) (take-min n xs)
 
 -- This is the protocol of the query's kind: what is said and what holds by it is so of the query's
--- turns.
+-- questions.
 pub record IsProtocol (depth : ℕ) (stream : List Update) (query : Query) (block : List ℕ)
     {S : Type 0} (P : Protocol S) : Type 0 where
   pub said : (replies : List (List ℕ))
       → asked_unless P.unasked P.rules.version query block replies
-      ≡ said_in_turn depth stream (turn_of query block replies)
+      ≡ said_for depth stream (question_of query block replies)
   pub accepts : (replies : List (List ℕ)) (answer : Answer)
       → replied.IsAccepted P block replies answer
-      → Accepts depth stream (turn_of query block replies) answer
+      → Accepts depth stream (question_of query block replies) answer
   pub faulty : (replies : List (List ℕ)) (fault : Fault) → replied.IsFaulty P block replies fault
-      → IsFaulty depth stream (turn_of query block replies) fault
+      → IsFaulty depth stream (question_of query block replies) fault
   pub waits : (replies : List (List ℕ)) → IsDue P block replies
-      → IsWaiting depth stream (turn_of query block replies)
+      → IsWaiting depth stream (question_of query block replies)
 
 module _ (depth : ℕ) (stream : List Update) (query : Query) (block : List ℕ) (old new before now : Option (List TalkEvent)) {S : Type 0} (P : Protocol S) (is : IsProtocol depth stream query block P) where
   asked_is : P.unasked ≡ None → (replies : List (List ℕ))
       → asked P.rules.version query block replies
-      ≡ said_in_turn depth stream (turn_of query block replies)
+      ≡ said_for depth stream (question_of query block replies)
   asked_is due replies =
       ap (λ (u : Option Answer). asked_unless u P.rules.version query block replies) (sym due)
       ∙ is.said replies

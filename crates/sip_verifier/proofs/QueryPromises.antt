@@ -20,25 +20,25 @@ use Rattle.sip_verifier.specs.declared.status.Port.TheVariants as ports
 use Rattle.sip_verifier.specs.declared.status.Status.{Status}
 use Rattle.sip_verifier.specs.declared.status.Status.TheVariants as statuses
 use Rattle.sip_verifier.specs.declared.task.Task.{Task}
-use Rattle.sip_verifier.specs.Asking.{turn_of}
+use Rattle.sip_verifier.specs.Asking.{question_of}
 use Rattle.sip_verifier.specs.Draws.{drawn, blocks}
 use Rattle.sip_verifier.specs.inside.Ending.{status_of_link}
 use Rattle.sip_replies.specs.Talks.{IsPrefix, ending}
 use Rattle.sip_verifier.specs.Exchanges.{Exchange}
-use Rattle.sip_verifier.specs.Kinds.{Row, built, missing, row_of, Holds}
+use Rattle.sip_verifier.specs.Kinds.{KindRow, built, missing, kind_row, Holds}
 use Rattle.sip_verifier.specs.Moments.{Counts}
 use Rattle.sip_verifier.specs.inside.Progress.{Fails, PassesInPart, FailsInPart, HasNone, AreFirst, Passed, PassedBy, EndsWith, Ended, status_of}
 use Rattle.sip_verifier.specs.Reports.{line, rejection}
 use Rattle.sip_verifier.specs.Statuses.{FaultClause, IsListed}
 use Rattle.sip_verifier.specs.Talks.{stream_sent, bye_sent}
 use Rattle.sip_verifier.specs.TalkClause.{EndsAtFault, IsUnderWay}
-use Rattle.sip_verifier.specs.Turns.{Turn, Accepted, Accepts, IsDue, IsFaulty, IsWaiting, said_in_turn, updates, IsLegalToEnd, Done, turns_of, lines, farewell, AreTurns, Reached}
+use Rattle.sip_verifier.specs.Questions.{Question, Accepted, Accepts, IsDue, IsFaulty, IsWaiting, said_for, updates, IsLegalToEnd, Done, questions_of, lines, farewell, AreQuestions, Reached}
 use Rattle.sip_verifier.specs.VerdictClause.{OneFaulty, PartWritten, PartRejected, CutInLine, NoneLeft}
 use Rattle.sip_verifier.proofs.QueriesChecked.{first_more, flat_map_snoc}
 use Rattle.sip_verifier.proofs.RunTalks.{Adds, said_is, written_is, front_before}
 
--- a turn that waits is unfinished
-waits_unfinished : (row : Row) (block : List ℕ) (replies : List (List ℕ))
+-- a question that waits is unfinished
+waits_unfinished : (row : KindRow) (block : List ℕ) (replies : List (List ℕ))
     → Holds (λ kind. IsDue (kind.protocol block) block replies) row
     → Holds (λ kind. replied.IsUnfinished (kind.protocol block).rules block replies) row
 waits_unfinished (built kind) block replies waits = waits.1
@@ -64,17 +64,17 @@ module _ (task : Task) (x : Exchange) where
   abbrev streamed : List TalkEvent
   streamed = stream_sent task.depth (updates task x)
 
-  -- a list of turns, said
-  abbrev said : List Turn → List TalkEvent
-  said turns = flat_map (said_in_turn task.depth (updates task x)) turns
+  -- a list of questions, said
+  abbrev said : List Question → List TalkEvent
+  said questions = flat_map (said_for task.depth (updates task x)) questions
 
   -- the seed gave these challenges, and the stream was legal and sent; these queries were accepted, then this was said and this was written
   pub record Came (challenges : List ℕ) (done : Done task x) (rest : List TalkEvent) (part : List ℕ) : Type 0 where
     pub draws : drawn task x.seed ≡ Some challenges
     pub legal : IsLegalToEnd task x
-    pub first : AreFirst task.queries.items (blocks task challenges) (turns_of task x done)
+    pub first : AreFirst task.queries.items (blocks task challenges) (questions_of task x done)
     pub talk : x.talk ≡ stream_sent task.depth (updates task x) ++ flat_map
-        (said_in_turn task.depth (updates task x)) (turns_of task x done) ++ rest
+        (said_for task.depth (updates task x)) (questions_of task x done) ++ rest
     pub report : x.report ≡ lines task x done ++ part
 
   pub came : (challenges : List ℕ) (done : Done task x) (rest : List TalkEvent) (part : List ℕ) (t0 t1 t2 t3 r0 r1 r2 : Option (List TalkEvent)) → drawn task x.seed ≡ Some challenges → IsLegalToEnd task x
@@ -84,7 +84,7 @@ module _ (task : Task) (x : Exchange) where
     draws = draws;
     legal = legal;
     first = passed.first;
-    talk = said_is t0 t3 _ x.talk (GoesOn-trans t0 t2 t3 _ rest (GoesOn-trans t0 t1 t2 streamed (said (turns_of task x done)) went passed.talk) goes) told;
+    talk = said_is t0 t3 _ x.talk (GoesOn-trans t0 t2 t3 _ rest (GoesOn-trans t0 t1 t2 streamed (said (questions_of task x done)) went passed.talk) goes) told;
     report = written_is r0 r2 (lines task x done ++ part) x.report
         (subst (GoesOn r0 r2) (sym (outs-append (lines task x done) part)) (GoesOn-trans r0 r1 r2 (outs (lines task x done)) (outs part) passed.report writes)) wrote;
   }
@@ -96,8 +96,8 @@ module _ (task : Task) (x : Exchange) where
     good : (drawn task x.seed ≢ None) × IsLegalToEnd task x
     good = (is_drawn, c.legal)
 
-    reached : Reached task x (turns_of task x done) rest
-    reached = record { are_turns = record { challenges = challenges; drawn = c.draws; queries = c.first.asked; blocks = c.first.at_blocks }; legal = c.legal; talk = c.talk }
+    reached : Reached task x (questions_of task x done) rest
+    reached = record { are_questions = record { challenges = challenges; drawn = c.draws; queries = c.first.asked; blocks = c.first.at_blocks }; legal = c.legal; talk = c.talk }
 
     -- this is the query behind those that were accepted
     pub record Next (query : Query) (block : List ℕ) : Type 0 where
@@ -106,127 +106,127 @@ module _ (task : Task) (x : Exchange) where
       pub asks : drop (length done) task.queries.items ≡ query ∷ more
       pub at : drop (length done) (blocks task challenges) ≡ block ∷ others
 
-    are_turns : {query : Query} {block : List ℕ} (replies : List (List ℕ)) → Next query block → AreTurns task x (turns_of task x done ++ turn_of query block replies ∷ [])
-    are_turns {query = query} {block = block} replies next =
-        let count : length (turns_of task x done) ≡ length done = length-map done (λ (a : Accepted task.depth (updates task x)). a.turn) in
-        let first : AreFirst task.queries.items (blocks task challenges) (turns_of task x done ++ turn_of query block replies ∷ []) =
-        first_more task.queries.items next.more (blocks task challenges) next.others (turns_of task x done) query block replies c.first (ap (λ (n : ℕ). drop n task.queries.items) count ∙ next.asks)
+    are_questions : {query : Query} {block : List ℕ} (replies : List (List ℕ)) → Next query block → AreQuestions task x (questions_of task x done ++ question_of query block replies ∷ [])
+    are_questions {query = query} {block = block} replies next =
+        let count : length (questions_of task x done) ≡ length done = length-map done (λ (a : Accepted task.depth (updates task x)). a.question) in
+        let first : AreFirst task.queries.items (blocks task challenges) (questions_of task x done ++ question_of query block replies ∷ []) =
+        first_more task.queries.items next.more (blocks task challenges) next.others (questions_of task x done) query block replies c.first (ap (λ (n : ℕ). drop n task.queries.items) count ∙ next.asks)
         (ap (λ (n : ℕ). drop n (blocks task challenges)) count ∙ next.at) in
         record { challenges = challenges; drawn = c.draws; queries = first.asked; blocks = first.at_blocks }
 
-    were_reached : (done ≡ []) ⊎ ((end : List TalkEvent) × Reached task x (turns_of task x done) end)
+    were_reached : (done ≡ []) ⊎ ((end : List TalkEvent) × Reached task x (questions_of task x done) end)
     were_reached = inr (rest, reached)
 
     module _ {query : Query} {block : List ℕ} (next : Next query block) (replies : List (List ℕ)) where
-      abbrev turn : Turn
-      turn = turn_of query block replies
+      abbrev question : Question
+      question = question_of query block replies
 
-      abbrev all_turns : List Turn
-      all_turns = turns_of task x done ++ turn ∷ []
+      abbrev all_questions : List Question
+      all_questions = questions_of task x done ++ question ∷ []
 
-      -- with that query's turn
-      reached_more : (end : List TalkEvent) → rest ≡ said_in_turn task.depth
-          (updates task x) turn ++ end → Reached task x all_turns end
+      -- with that query's question
+      reached_more : (end : List TalkEvent) → rest ≡ said_for task.depth
+          (updates task x) question ++ end → Reached task x all_questions end
       reached_more end is = record {
-        are_turns = are_turns replies next;
+        are_questions = are_questions replies next;
         legal = c.legal;
-        talk = c.talk ∙ ap (λ (l : List TalkEvent). streamed ++ said (turns_of task x done) ++ l) is
-            ∙ regroup streamed (said (turns_of task x done))
-            (said_in_turn task.depth (updates task x) turn) end
+        talk = c.talk ∙ ap (λ (l : List TalkEvent). streamed ++ said (questions_of task x done) ++ l) is
+            ∙ regroup streamed (said (questions_of task x done))
+            (said_for task.depth (updates task x) question) end
             ∙ ap (λ (l : List TalkEvent). streamed ++ l ++ end)
-            (sym (flat_map_snoc (said_in_turn task.depth (updates task x))
-            (turns_of task x done) turn));
+            (sym (flat_map_snoc (said_for task.depth (updates task x))
+            (questions_of task x done) question));
       }
 
       -- ---- its replies have a fault
 
-      module _ (round : ℕ) (reason : Reason) (faulty : IsFaulty task.depth (updates task x) turn
+      module _ (round : ℕ) (reason : Reason) (faulty : IsFaulty task.depth (updates task x) question
           (record { round = round; reason = reason }))
-          (is : rest ≡ said_in_turn task.depth (updates task x) turn ++ ending reason) where
+          (is : rest ≡ said_for task.depth (updates task x) question ++ ending reason) where
         ends_at_fault : EndsAtFault task x (record { round = round; reason = reason })
-        ends_at_fault = record { done = done; last = turn; faulty = faulty; reached = reached_more (ending reason) is }
+        ends_at_fault = record { done = done; last = question; faulty = faulty; reached = reached_more (ending reason) is }
 
         one_faulty : part ≡ rejection (suc (length done)) round reason → OneFaulty task x (suc (length done)) round reason
         one_faulty all = record {
           done = done;
           number = refl;
-          last = turn;
+          last = question;
           faulty = faulty;
           reached = reached_more (ending reason) is;
           report = c.report ∙ ap (λ (l : List ℕ). lines task x done ++ l) all;
         }
 
         part_rejected : IsPrefix part (rejection (suc (length done)) round reason) → PartRejected task x done part
-        part_rejected front = record { last = turn; fault = record { round = round; reason = reason }; faulty = faulty; reached = reached_more (ending reason) is; front = front }
+        part_rejected front = record { last = question; fault = record { round = round; reason = reason }; faulty = faulty; reached = reached_more (ending reason) is; front = front }
 
       -- ---- its replies are accepted, and nothing was said since
 
-      module _ (answer : Answer) (accepts : Accepts task.depth (updates task x) turn answer)
-          (is : rest ≡ said_in_turn task.depth (updates task x) turn ++ []) where
+      module _ (answer : Answer) (accepts : Accepts task.depth (updates task x) question answer)
+          (is : rest ≡ said_for task.depth (updates task x) question ++ []) where
         abbrev one : Accepted task.depth (updates task x)
-        one = record { turn = turn; answer = answer; accepts = accepts }
+        one = record { question = question; answer = answer; accepts = accepts }
 
         part_written : IsPrefix part (line query answer) → PartWritten task x done part
         part_written front = record { next = one; reached = reached_more [] is; front = front }
 
-        with_one : turns_of task x (done ++ one ∷ []) ≡ all_turns
-        with_one = map-append (λ (a : Accepted task.depth (updates task x)). a.turn) done (one ∷ [])
+        with_one : questions_of task x (done ++ one ∷ []) ≡ all_questions
+        with_one = map-append (λ (a : Accepted task.depth (updates task x)). a.question) done (one ∷ [])
 
-        -- the talk is that of all turns
-        talk_is : streamed ++ said all_turns ≡ x.talk
+        -- the talk is that of all questions
+        talk_is : streamed ++ said all_questions ≡ x.talk
         talk_is = let r = reached_more [] is in sym (r.talk ∙ append-nil _)
 
         way_accepted : IsUnderWay task x
         way_accepted = record {
           done = done ++ one ∷ [];
-          reached = inr ([], subst (λ (ts : List Turn). Reached task x ts []) (sym with_one) (reached_more [] is));
+          reached = inr ([], subst (λ (ts : List Question). Reached task x ts []) (sym with_one) (reached_more [] is));
           current = None;
           unfinished = tt;
-          turns = λ _. subst (AreTurns task x) (sym (append-nil _ ∙ with_one)) (are_turns replies next);
+          questions = λ _. subst (AreQuestions task x) (sym (append-nil _ ∙ with_one)) (are_questions replies next);
           order = (
             farewell task x (done ++ one ∷ []),
-            ap (λ (ts : List Turn). streamed ++ said ts ++ farewell task x (done ++ one ∷ [])) (append-nil _ ∙ with_one) ∙ ap (λ (l : List TalkEvent). l ++ farewell task x (done ++ one ∷ [])) talk_is,
+            ap (λ (ts : List Question). streamed ++ said ts ++ farewell task x (done ++ one ∷ [])) (append-nil _ ∙ with_one) ∙ ap (λ (l : List TalkEvent). l ++ farewell task x (done ++ one ∷ [])) talk_is,
           );
           legal = λ not. absurd (not c.legal);
-          written = λ more. absurd (more ([], ap (λ (ts : List Turn). streamed ++ said ts) with_one ∙ talk_is ∙ sym (append-nil x.talk)));
+          written = λ more. absurd (more ([], ap (λ (ts : List Question). streamed ++ said ts) with_one ∙ talk_is ∙ sym (append-nil x.talk)));
         }
 
       -- ---- it waits for replies, and nothing was written
 
-      module _ (waits : IsWaiting task.depth (updates task x) turn)
-          (order : IsPrefix rest (said_in_turn task.depth (updates task x) turn))
+      module _ (waits : IsWaiting task.depth (updates task x) question)
+          (order : IsPrefix rest (said_for task.depth (updates task x) question))
           (blank : part ≡ []) where
         only_lines : x.report ≡ lines task x done
         only_lines = c.report ∙ ap (λ (l : List ℕ). lines task x done ++ l) blank ∙ append-nil _
 
-        front_of_turns : IsPrefix x.talk (streamed ++ said all_turns)
-        front_of_turns = (
+        front_of_questions : IsPrefix x.talk (streamed ++ said all_questions)
+        front_of_questions = (
           order.0,
           ap (λ (l : List TalkEvent). streamed ++ l)
-              (flat_map_snoc (said_in_turn task.depth (updates task x)) (turns_of task x done) turn)
-              ∙ ap (λ (l : List TalkEvent). streamed ++ (said (turns_of task x done) ++ l)) order.1
-              ∙ sym (append_assoc streamed (said (turns_of task x done)) (rest ++ order.0)) ∙ sym (append_assoc (streamed ++ said (turns_of task x done)) rest order.0)
+              (flat_map_snoc (said_for task.depth (updates task x)) (questions_of task x done) question)
+              ∙ ap (λ (l : List TalkEvent). streamed ++ (said (questions_of task x done) ++ l)) order.1
+              ∙ sym (append_assoc streamed (said (questions_of task x done)) (rest ++ order.0)) ∙ sym (append_assoc (streamed ++ said (questions_of task x done)) rest order.0)
               ∙ ap (λ (l : List TalkEvent). l ++ order.0) (sym c.talk),
         )
 
-        in_order : IsPrefix x.talk (streamed ++ said all_turns ++ farewell task x done)
-        in_order = front_before x.talk (streamed ++ said all_turns) (farewell task x done) front_of_turns
+        in_order : IsPrefix x.talk (streamed ++ said all_questions ++ farewell task x done)
+        in_order = front_before x.talk (streamed ++ said all_questions) (farewell task x done) front_of_questions
 
         way_waiting : IsUnderWay task x
         way_waiting = record {
           done = done;
           reached = were_reached;
-          current = Some turn;
-          unfinished = waits_unfinished (row_of task.depth (updates task x) query) block replies
+          current = Some question;
+          unfinished = waits_unfinished (kind_row task.depth (updates task x) query) block replies
               waits;
-          turns = λ _. are_turns replies next;
+          questions = λ _. are_questions replies next;
           order = in_order;
           legal = λ not. absurd (not c.legal);
           written = λ _. only_lines;
         }
 
         none_left : NoneLeft task x
-        none_left = record { done = done; current = Some turn; waits = waits; reached = were_reached; order = in_order; report = only_lines }
+        none_left = record { done = done; current = Some question; waits = waits; reached = were_reached; order = in_order; report = only_lines }
 
     -- ---- every query was accepted
 
@@ -238,13 +238,13 @@ module _ (task : Task) (x : Exchange) where
       all_lines = c.report ∙ ap (λ (l : List ℕ). lines task x done ++ l) blank ∙ append-nil _
 
       module _ (front : IsPrefix rest bye_sent) where
-        order_at_bye : IsPrefix x.talk (streamed ++ said (turns_of task x done ++ []) ++ farewell task x done)
+        order_at_bye : IsPrefix x.talk (streamed ++ said (questions_of task x done ++ []) ++ farewell task x done)
         order_at_bye = (
           front.0,
-          ap (λ (ts : List Turn). streamed ++ said ts ++ farewell task x done)
-              (append-nil (turns_of task x done)) ∙ ap (λ (l : List TalkEvent). streamed ++ said
-              (turns_of task x done) ++ l) (farewell_is all ∙ front.1)
-              ∙ sym (append_assoc (streamed ++ said (turns_of task x done)) rest front.0) ∙ ap (λ (l : List TalkEvent). l ++ front.0) (sym c.talk),
+          ap (λ (ts : List Question). streamed ++ said ts ++ farewell task x done)
+              (append-nil (questions_of task x done)) ∙ ap (λ (l : List TalkEvent). streamed ++ said
+              (questions_of task x done) ++ l) (farewell_is all ∙ front.1)
+              ∙ sym (append_assoc (streamed ++ said (questions_of task x done)) rest front.0) ∙ ap (λ (l : List TalkEvent). l ++ front.0) (sym c.talk),
         )
 
         way_at_bye : IsUnderWay task x
@@ -253,7 +253,7 @@ module _ (task : Task) (x : Exchange) where
           reached = were_reached;
           current = None;
           unfinished = tt;
-          turns = λ _. subst (AreTurns task x) (sym (append-nil _)) reached.are_turns;
+          questions = λ _. subst (AreQuestions task x) (sym (append-nil _)) reached.are_questions;
           order = order_at_bye;
           legal = λ not. absurd (not c.legal);
           written = λ _. all_lines;
@@ -275,7 +275,7 @@ module _ (task : Task) (x : Exchange) where
       -- all went well
       pub at_end : (before now : Counts) → rest ≡ bye_sent → x.unread ≡ [] → Ended task x before now statuses.Accepted
       at_end before now is read =
-          let whole : Reached task x (turns_of task x done) bye_sent = subst (Reached task x (turns_of task x done)) is reached in
+          let whole : Reached task x (questions_of task x done) bye_sent = subst (Reached task x (questions_of task x done)) is reached in
           record {
             verdict = record { done = done; all = all; reached = whole; report = all_lines; read = read };
             talk = record { done = done; all = all; reached = whole };
@@ -295,8 +295,8 @@ module _ (task : Task) (x : Exchange) where
 
       -- its line was not written whole
       module _ (p : PassesInPart task.depth (updates task x) e.query e.block (suc (length e.done)) e.mid t3 e.half r2) where
-        passing : Came challenges e.done (said_in_turn task.depth (updates task x)
-            (turn_of e.query e.block p.answered.replies) ++ []) p.part
+        passing : Came challenges e.done (said_for task.depth (updates task x)
+            (question_of e.query e.block p.answered.replies) ++ []) p.part
         passing = its (subst (GoesOn e.mid t3) (sym (append-nil _)) p.answered.talk) p.wrote
 
         written_in_part : PartWritten task x e.done p.part
@@ -310,8 +310,8 @@ module _ (task : Task) (x : Exchange) where
 
       -- the line of its rejection was not written whole
       module _ (p : FailsInPart task.depth (updates task x) e.query e.block (suc (length e.done)) e.mid t3 e.half r2) where
-        failing : Came challenges e.done (said_in_turn task.depth (updates task x)
-            (turn_of e.query e.block p.rejected.replies) ++ ending p.reason) p.part
+        failing : Came challenges e.done (said_for task.depth (updates task x)
+            (question_of e.query e.block p.rejected.replies) ++ ending p.reason) p.part
         failing = its p.rejected.talk p.wrote
 
         rejected_in_part : PartRejected task x e.done p.part
@@ -338,8 +338,8 @@ module _ (task : Task) (x : Exchange) where
       rejects : (before now : Counts) (round : ℕ) (reason : Reason) → Fails task.depth (updates task x) e.query e.block (suc (length e.done)) e.mid t3 e.half r2 round reason
           → Ended task x before now (statuses.Rejected (suc (length e.done)) round reason)
       rejects before now round reason f =
-          let c : Came challenges e.done (said_in_turn task.depth (updates task x)
-          (turn_of e.query e.block f.rejected.replies) ++ ending reason)
+          let c : Came challenges e.done (said_for task.depth (updates task x)
+          (question_of e.query e.block f.rejected.replies) ++ ending reason)
           (rejection (suc (length e.done)) round reason) = its f.rejected.talk f.wrote in
           record {
             verdict = one_faulty c (its_next c) f.rejected.replies round reason f.rejected.faulty refl refl;

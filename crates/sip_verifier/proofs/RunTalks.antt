@@ -17,7 +17,7 @@ use Rattle.sip_verifier.specs.Gathering.{Refuses}
 use Rattle.sip_verifier.specs.Moments.{Moment, IsTold}
 use Rattle.sip_verifier.specs.inside.Progress.{Checks, PassesInPart, FailsInPart, PassedBy, EndsWith}
 use Rattle.sip_verifier.specs.Reports.{line, rejection}
-use Rattle.sip_verifier.specs.Turns.{Accepted}
+use Rattle.sip_verifier.specs.Questions.{Accepted}
 
 -- a talk that is told before and after, with these events between
 abbrev pub Adds : Option (List TalkEvent) → Option (List TalkEvent) → List TalkEvent → Type 0
@@ -124,7 +124,7 @@ module _ (depth : ℕ) (stream : List Update) (query : Query) (block : List ℕ)
 -- accepted queries move on the link and on the report
 pub passed_moves : (depth : ℕ) (stream : List Update) (queries : List Query) (blocks : List (List ℕ)) (old new blank full : Option (List TalkEvent)) (count : ℕ) → PassedBy depth stream queries blocks old new blank full count
     → Moves old new × Reports blank full
-passed_moves depth stream queries blocks old new blank full count so = ((_, so.passed.talk), (flat_map (λ (a : Accepted depth stream). line a.turn.query a.answer) so.done, so.passed.report))
+passed_moves depth stream queries blocks old new blank full count so = ((_, so.passed.talk), (flat_map (λ (a : Accepted depth stream). line a.question.query a.answer) so.done, so.passed.report))
 
 -- the queries up to the last one move on the link and on the report
 pub ends_moves : (depth : ℕ) (stream : List Update) (queries : List Query) (blocks : List (List ℕ)) (old new blank full : Option (List TalkEvent)) (status : Status) → EndsWith depth stream queries blocks old new blank full status

@@ -21,8 +21,8 @@ use Rattle.sip_subvec.specs.AcceptsSub.{Stated}
 use Rattle.sip_subvec.specs.Asking.{most_answer}
 use Rattle.sip_subvec.specs.Protocol.{sub_asked, sub_protocol}
 use Rattle.sip_verifier.specs.Asking.{Asks}
-use Rattle.sip_verifier.specs.inside.Questions as questions
-use Rattle.sip_verifier.specs.inside.Questions.{found_in, verdict_of}
+use Rattle.sip_verifier.specs.inside.Judging as judging
+use Rattle.sip_verifier.specs.inside.Judging.{found_in, verdict_of}
 use Rattle.sip_verifier.specs.declared.seat.Running.{Running}
 use Rattle.sip_verifier.specs.declared.seat.Running.TheVariants.{Root}
 use Rattle.sip_verifier.specs.inside.Running.{block_of, numbers_of}
@@ -53,9 +53,9 @@ sub_has_spelling s lo hi is seat shallow =
 
 -- its answer has room
 pub sub_has_room : (s : Seated) (lo hi room : ℕ) → s.query ≡ Sub lo hi
-    → IsTrue (questions.has_room room s.query) → most_answer lo hi ≤ room
+    → IsTrue (judging.has_places room s.query) → most_answer lo hi ≤ room
 sub_has_room s lo hi room is has = leb-true (most_answer lo hi) room
-    (subst (λ (q : Query). IsTrue (questions.has_room room q)) is has)
+    (subst (λ (q : Query). IsTrue (judging.has_places room q)) is has)
 
 -- its protocol is that of the stream for which its root stands
 sub_is_protocol : (depth : ℕ) (stream : List Update) (query : Query) (block : List ℕ)

@@ -19,7 +19,7 @@ use Rattle.sip_verifier.specs.Sittings.{Starts}
 use Rattle.sip_verifier.specs.Statuses.{FaultClause}
 use Rattle.sip_verifier.specs.Talks.{stream_sent}
 use Rattle.sip_verifier.specs.TalkClause.{IsUnderWay, before_end}
-use Rattle.sip_verifier.specs.Turns.{updates, IsLegalToEnd, farewell, AreTurns}
+use Rattle.sip_verifier.specs.Questions.{updates, IsLegalToEnd, farewell, AreQuestions}
 use Rattle.sip_verifier.specs.VerdictClause.{NoneLeft}
 use Rattle.sip_verifier.proofs.RunTalks.{Adds, said_is, nothing_new, front_before}
 use Rattle.sip_verifier.proofs.StreamSent.{IsPrefix-trans, stream_sent-front}
@@ -39,7 +39,7 @@ module _ (task : Task) (x : Exchange) where
     reached = inl refl;
     current = None;
     unfinished = tt;
-    turns = λ some. absurd (some e);
+    questions = λ some. absurd (some e);
     order = empty_front _ e;
     legal = λ _. empty_front _ e;
     written = λ more. absurd (more (empty_front _ e));
@@ -50,8 +50,8 @@ module _ (task : Task) (x : Exchange) where
   is_drawn : HasSeed task x.stream x.seed → drawn task x.seed ≢ None
   is_drawn seed none = let some = seed.1 in cc
 
-  no_turn : HasSeed task x.stream x.seed → AreTurns task x []
-  no_turn seed = record { challenges = seed.0; drawn = seed.1; queries = refl; blocks = refl }
+  no_question : HasSeed task x.stream x.seed → AreQuestions task x []
+  no_question seed = record { challenges = seed.0; drawn = seed.1; queries = refl; blocks = refl }
 
   -- a front of what is sent while the stream is read, and nothing after it
   in_order : IsPrefix x.talk streamed → IsPrefix x.talk (streamed ++ [] ++ farewell task x [])
@@ -63,7 +63,7 @@ module _ (task : Task) (x : Exchange) where
     reached = inl refl;
     current = None;
     unfinished = tt;
-    turns = λ _. no_turn seed;
+    questions = λ _. no_question seed;
     order = in_order order;
     legal = illegal;
     written = λ more. absurd (more (order.0, append-nil _ ∙ order.1));

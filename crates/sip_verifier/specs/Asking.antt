@@ -13,33 +13,33 @@ use Rattle.sip_verifier.specs.declared.session.SessionFault.TheVariants as fault
 use Rattle.sip_verifier.specs.declared.session.Verdict.{Verdict}
 use Rattle.sip_verifier.specs.declared.session.Verdict.TheVariants as verdicts
 use Rattle.sip_verifier.specs.CountClause.{CountsFor}
-use Rattle.sip_verifier.specs.Turns.{Turn, Accepts, IsFaulty, IsWaiting, said_in_turn}
+use Rattle.sip_verifier.specs.Questions.{Question, Accepts, IsFaulty, IsWaiting, said_for}
 
--- a turn of a query and its block
-abbrev pub turn_of : Query → List ℕ → List (List ℕ) → Turn
-turn_of query block replies = record { query = query; block = block; replies = replies }
+-- the question of a query at its block, with these replies
+abbrev pub question_of : Query → List ℕ → List (List ℕ) → Question
+question_of query block replies = record { query = query; block = block; replies = replies }
 
 module _ (depth : ℕ) (stream : List Update) (query : Query) (block : List ℕ) (old new : Option (List TalkEvent)) where
   -- all replies came and are accepted, and they state this answer
   pub record IsAnswered (answer : Answer) : Type 0 where
     pub replies : List (List ℕ)
-    pub talk : GoesOn old new (said_in_turn depth stream (turn_of query block replies))
-    pub accepted : Accepts depth stream (turn_of query block replies) answer
+    pub talk : GoesOn old new (said_for depth stream (question_of query block replies))
+    pub accepted : Accepts depth stream (question_of query block replies) answer
 
   -- the replies that came have this first fault
   pub record IsRejected (round : ℕ) (reason : Reason) : Type 0 where
     pub replies : List (List ℕ)
-    pub talk : GoesOn old new (said_in_turn depth stream
-        (turn_of query block replies) ++ ending reason)
-    pub faulty : IsFaulty depth stream (turn_of query block replies) (record { round = round; reason = reason })
+    pub talk : GoesOn old new (said_for depth stream
+        (question_of query block replies) ++ ending reason)
+    pub faulty : IsFaulty depth stream (question_of query block replies) (record { round = round; reason = reason })
 
   -- the talk stopped, a reply is missing or not whole, and none has a fault so far
   pub record IsInterrupted : Type 0 where
     pub replies : List (List ℕ)
     pub said : List TalkEvent
     pub talk : GoesOn old new said
-    pub order : IsPrefix said (said_in_turn depth stream (turn_of query block replies))
-    pub waits : IsWaiting depth stream (turn_of query block replies)
+    pub order : IsPrefix said (said_for depth stream (question_of query block replies))
+    pub waits : IsWaiting depth stream (question_of query block replies)
 
   -- What was answered, where the entries are those that the session shows then. Nothing is kept of a talk yet, so keeping it
   -- cannot fail.
@@ -54,8 +54,8 @@ module _ (depth : ℕ) (stream : List Update) (query : Query) (block : List ℕ)
   -- an answer counts for the replies that came
   pub record IsCounted (answer : Answer) : Type 0 where
     pub replies : List (List ℕ)
-    pub talk : GoesOn old new (said_in_turn depth stream (turn_of query block replies))
-    pub counts : CountsFor depth stream (turn_of query block replies) answer
+    pub talk : GoesOn old new (said_for depth stream (question_of query block replies))
+    pub counts : CountsFor depth stream (question_of query block replies) answer
 
   -- So does each answer that is given.
   abbrev pub AnswersCount : List Entry → Result Verdict SessionFault → Type 0

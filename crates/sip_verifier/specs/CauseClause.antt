@@ -19,7 +19,7 @@ use Rattle.sip_verifier.specs.Draws.{drawn}
 use Rattle.sip_verifier.specs.Exchanges.{Exchange}
 use Rattle.sip_verifier.specs.Moments.{Counts}
 use Rattle.sip_verifier.specs.Statuses.{FaultClause}
-use Rattle.sip_verifier.specs.Turns.{IsLegalToEnd, updates}
+use Rattle.sip_verifier.specs.Questions.{IsLegalToEnd, updates}
 
 module _ (task : Task) (x : Exchange) where
   -- the seed gives challenges, and the stream is legal to its end

@@ -16,20 +16,20 @@ use Rattle.sip_verifier.specs.declared.task.Task.{Task}
 use Rattle.sip_verifier.specs.Draws.{drawn, blocks}
 use Rattle.sip_replies.specs.Talks.{IsPrefix}
 use Rattle.sip_verifier.specs.Exchanges.{Exchange}
-use Rattle.sip_verifier.specs.Kinds.{Row, built, missing, row_of, OfKind}
+use Rattle.sip_verifier.specs.Kinds.{KindRow, built, missing, kind_row, OfKind}
 use Rattle.sip_verifier.specs.Moments.{Counts}
 use Rattle.sip_verifier.specs.Reports.{report_of}
-use Rattle.sip_verifier.specs.Turns.{updates, IsLegalToEnd}
+use Rattle.sip_verifier.specs.Questions.{updates, IsLegalToEnd}
 
 -- what an honest helper replies, by the row of a query
-abbrev pub honest_in : Row → List ℕ → List (List ℕ)
+abbrev pub honest_in : KindRow → List ℕ → List (List ℕ)
 honest_in (built kind) block = kind.honest block
 honest_in missing block = []
 
 -- the bytes of all honest replies to a query at its block
 abbrev pub honest_bytes : ℕ → List Update → Query × List ℕ → List ℕ
 honest_bytes depth stream (query, block) = flat_map (λ b. b)
-    (honest_in (row_of depth stream query) block)
+    (honest_in (kind_row depth stream query) block)
 
 -- the query's check stands here, and its answer has no more entries than may be sent
 abbrev pub HasFewEntries : ℕ → List Update → Query → Type 0

@@ -21,7 +21,7 @@ use Rattle.sip_replies.specs.Talks.{IsPrefix}
 use Rattle.sip_verifier.specs.Exchanges.{Exchange}
 use Rattle.sip_verifier.specs.Kinds.{Kind, OfKind}
 use Rattle.sip_verifier.specs.Reports.{line, rejection}
-use Rattle.sip_verifier.specs.Turns.{Turn, updates, Reached}
+use Rattle.sip_verifier.specs.Questions.{Question, updates, Reached}
 
 -- ---- one query
 
@@ -40,42 +40,42 @@ FewFor depth stream query = OfKind depth stream query (λ kind.
     → fooled m61_modulus depth (accepts_in kind) kind.is_right strategy
     ≤ bound_of depth kind * m61_modulus ^ (depth - 1))
 
--- what a call that writes this answer for a turn promises of a helper that lies
-abbrev pub CountsFor : ℕ → List Update → Turn → Answer → Type 0
-CountsFor depth stream t written = OfKind depth stream t.query (λ kind.
+-- what a call that writes this answer for a question promises of a helper that lies
+abbrev pub CountsFor : ℕ → List Update → Question → Answer → Type 0
+CountsFor depth stream q written = OfKind depth stream q.query (λ kind.
     FewAndCounted m61_modulus depth (bound_of depth kind)
-    (accepts_in kind) kind.is_right t.block t.replies (Some written)
-    (answer depth stream t.query))
+    (accepts_in kind) kind.is_right q.block q.replies (Some written)
+    (answer depth stream q.query))
 
 -- ---- a run
 
--- an answer that a line has, and the turn that it is the answer to
+-- an answer that a line has, and the question that it is the answer to
 pub record Written : Type 0 where
-  pub turn : Turn
+  pub question : Question
   pub answer : Answer
 
--- their turns
-abbrev pub turns_written : List Written → List Turn
-turns_written lines = map (λ w. w.turn) lines
+-- their questions
+abbrev pub questions_written : List Written → List Question
+questions_written lines = map (λ w. w.question) lines
 
 -- the lines of answers
 abbrev pub lines_written : List Written → List ℕ
-lines_written lines = flat_map (λ w. line w.turn.query w.answer) lines
+lines_written lines = flat_map (λ w. line w.question.query w.answer) lines
 
 -- nothing, or the line of a rejection
 abbrev pub IsRejection : List ℕ → Type 0
 IsRejection bytes = (bytes ≡ []) ⊎ ((query round : ℕ) × (reason : Reason) × (bytes ≡ rejection query round reason))
 
 module _ (task : Task) (x : Exchange) where
-  -- the talk has these turns, and perhaps one more
-  abbrev pub AreInTalk : List Turn → Type 0
-  AreInTalk turns = (turns ≡ []) ⊎ ((after : Option Turn) × (rest : List TalkEvent) × Reached task x (turns ++ option_to_list after) rest)
+  -- the talk has these questions, and perhaps one more
+  abbrev pub AreInTalk : List Question → Type 0
+  AreInTalk questions = (questions ≡ []) ⊎ ((after : Option Question) × (rest : List TalkEvent) × Reached task x (questions ++ option_to_list after) rest)
 
   pub record CountClause : Type 0 where
     pub few : All (FewFor task.depth (updates task x)) task.queries.items
     pub lines : List Written
-    pub turns : AreInTalk (turns_written lines)
+    pub questions : AreInTalk (questions_written lines)
     pub rejected : List ℕ
     pub is_rejection : IsRejection rejected
     pub report : IsPrefix x.report (lines_written lines ++ rejected)
-    pub counted : All (λ w. CountsFor task.depth (updates task x) w.turn w.answer) lines
+    pub counted : All (λ w. CountsFor task.depth (updates task x) w.question w.answer) lines

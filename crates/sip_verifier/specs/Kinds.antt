@@ -43,23 +43,23 @@ sub_kind numbers lo hi = record {
 }
 
 -- whether a query's check stands here
-pub data Row : Type 1 where
-  built : Kind → Row
-  missing : Row
+pub data KindRow : Type 1 where
+  built : Kind → KindRow
+  missing : KindRow
 
 -- The table of kinds: to build one is to change its row.
-abbrev pub row_of : ℕ → List Update → Query → Row
-row_of depth stream (Sub lo hi) = built (sub_kind (vector depth stream First) lo hi)
-row_of depth stream (Range side lo hi) = missing
-row_of depth stream (F2 side) = missing
-row_of depth stream Inner = missing
-row_of depth stream (Heavy side at_least) = missing
+abbrev pub kind_row : ℕ → List Update → Query → KindRow
+kind_row depth stream (Sub lo hi) = built (sub_kind (vector depth stream First) lo hi)
+kind_row depth stream (Range side lo hi) = missing
+kind_row depth stream (F2 side) = missing
+kind_row depth stream Inner = missing
+kind_row depth stream (Heavy side at_least) = missing
 
 -- this holds of the kind in a row; of a check that doesn't stand here nothing holds
-abbrev pub Holds : (Kind → Type 0) → Row → Type 0
+abbrev pub Holds : (Kind → Type 0) → KindRow → Type 0
 Holds of_kind (built kind) = of_kind kind
 Holds of_kind missing = ⊥
 
 -- this holds of the query's kind
 abbrev pub OfKind : ℕ → List Update → Query → (Kind → Type 0) → Type 0
-OfKind depth stream query of_kind = Holds of_kind (row_of depth stream query)
+OfKind depth stream query of_kind = Holds of_kind (kind_row depth stream query)

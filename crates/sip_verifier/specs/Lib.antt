@@ -5,7 +5,7 @@ pub mod Moments
 pub mod Statuses
 pub mod Exchanges
 pub mod Kinds
-pub mod Turns
+pub mod Questions
 pub mod VerdictClause
 pub mod TalkClause
 pub mod CauseClause

@@ -19,43 +19,43 @@ use Rattle.sip_verifier.specs.declared.task.Task.{Task}
 use Rattle.sip_replies.specs.Talks.{IsPrefix, ending}
 use Rattle.sip_verifier.specs.Exchanges.{Exchange}
 use Rattle.sip_verifier.specs.Talks.{whole_frames, opening_sent, stream_sent, bye_sent}
-use Rattle.sip_verifier.specs.Turns.{Turn, IsFaulty, IsUnfinished, said_in_turn, updates, IsLegalToEnd, Done, turns_of, lines, farewell, AreTurns, Reached}
+use Rattle.sip_verifier.specs.Questions.{Question, IsFaulty, IsUnfinished, said_for, updates, IsLegalToEnd, Done, questions_of, lines, farewell, AreQuestions, Reached}
 use Rattle.sip_verifier.specs.VerdictClause.{WereReached}
 
 module _ (task : Task) (x : Exchange) where
   -- the whole talk
-  pub record IsWhole : Type 0 where
+  pub record IsWholeTalk : Type 0 where
     pub done : Done task x
     pub all : length done ≡ length task.queries.items
-    pub reached : Reached task x (turns_of task x done) bye_sent
+    pub reached : Reached task x (questions_of task x done) bye_sent
 
   -- the talk up to a fault of the replies to a query, after those to the queries before were
   -- accepted
   pub record EndsAtFault (fault : Fault) : Type 0 where
     pub done : Done task x
-    pub last : Turn
+    pub last : Question
     pub faulty : IsFaulty task.depth (updates task x) last fault
-    pub reached : Reached task x (turns_of task x done ++ last ∷ []) (ending fault.reason)
+    pub reached : Reached task x (questions_of task x done ++ last ∷ []) (ending fault.reason)
 
   -- what was said while the stream was read
   abbrev pub before_end : List TalkEvent
   before_end = opening_sent task.depth (whole_frames (updates task x))
 
-  -- The talk stopped somewhere: it has some accepted turns, each of them whole, and then a front of
+  -- The talk stopped somewhere: it has some accepted questions, each of them whole, and then a front of
   -- one that is under way or of the farewell.
   pub record IsUnderWay : Type 0 where
     pub done : Done task x
     pub reached : WereReached task x done
-    pub current : Option Turn
+    pub current : Option Question
     pub unfinished : IfSome current (IsUnfinished task.depth (updates task x))
-    pub turns : x.talk ≢ [] → AreTurns task x (turns_of task x done ++ option_to_list current)
+    pub questions : x.talk ≢ [] → AreQuestions task x (questions_of task x done ++ option_to_list current)
     pub order : IsPrefix x.talk (stream_sent task.depth (updates task x) ++ flat_map
-        (said_in_turn task.depth (updates task x))
-        (turns_of task x done ++ option_to_list current) ++ farewell task x done)
+        (said_for task.depth (updates task x))
+        (questions_of task x done ++ option_to_list current) ++ farewell task x done)
     pub legal : ¬ IsLegalToEnd task x → IsPrefix x.talk before_end
-    -- what is said after the accepted turns is said only once all their lines were written
+    -- what is said after the accepted questions is said only once all their lines were written
     pub written : ¬ IsPrefix x.talk (stream_sent task.depth (updates task x) ++ flat_map
-        (said_in_turn task.depth (updates task x)) (turns_of task x done))
+        (said_for task.depth (updates task x)) (questions_of task x done))
         → x.report ≡ lines task x done
 
   -- the talk stopped somewhere, or at a fault
@@ -63,7 +63,7 @@ module _ (task : Task) (x : Exchange) where
   Stopped = IsUnderWay ⊎ ((fault : Fault) × EndsAtFault fault)
 
   abbrev pub TalkClause : Status → Type 0
-  TalkClause statuses.Accepted = IsWhole
+  TalkClause statuses.Accepted = IsWholeTalk
   TalkClause (statuses.Rejected query round reason) = EndsAtFault (record { round = round; reason = reason })
   TalkClause (statuses.Usage word) = x.talk ≡ []
   TalkClause (statuses.BadStream at why) = x.talk ≡ before_end

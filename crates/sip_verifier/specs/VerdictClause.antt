@@ -22,14 +22,14 @@ use Rattle.sip_replies.specs.Talks.{IsPrefix, ending}
 use Rattle.sip_verifier.specs.Exchanges.{Exchange}
 use Rattle.sip_verifier.specs.Reports.{line, rejection}
 use Rattle.sip_verifier.specs.Talks.{bye_sent, stream_sent}
-use Rattle.sip_verifier.specs.Turns.{Turn, Accepted, IsFaulty, IsWaiting, said_in_turn, updates, Done, turns_of, lines, farewell, Reached}
+use Rattle.sip_verifier.specs.Questions.{Question, Accepted, IsFaulty, IsWaiting, said_for, updates, Done, questions_of, lines, farewell, Reached}
 
 module _ (task : Task) (x : Exchange) where
   -- every query was accepted, and every line was written
   pub record AllWritten : Type 0 where
     pub done : Done task x
     pub all : length done ≡ length task.queries.items
-    pub reached : Reached task x (turns_of task x done) (bye_sent)
+    pub reached : Reached task x (questions_of task x done) (bye_sent)
     pub report : x.report ≡ lines task x done
     pub read : x.unread ≡ []
 
@@ -38,28 +38,28 @@ module _ (task : Task) (x : Exchange) where
   pub record OneFaulty (query round : ℕ) (reason : Reason) : Type 0 where
     pub done : Done task x
     pub number : query ≡ suc (length done)
-    pub last : Turn
+    pub last : Question
     pub faulty : IsFaulty task.depth (updates task x) last (record { round = round; reason = reason })
-    pub reached : Reached task x (turns_of task x done ++ last ∷ []) (ending reason)
+    pub reached : Reached task x (questions_of task x done ++ last ∷ []) (ending reason)
     pub report : x.report ≡ lines task x done ++ rejection query round reason
 
   -- these queries were accepted, as the talk shows
   abbrev pub WereReached : Done task x → Type 0
-  WereReached done = (done ≡ []) ⊎ ((rest : List TalkEvent) × Reached task x (turns_of task x done) rest)
+  WereReached done = (done ≡ []) ⊎ ((rest : List TalkEvent) × Reached task x (questions_of task x done) rest)
 
   -- a part of the line of the next query, whose replies were accepted, and after which nothing was
   -- said
   pub record PartWritten (done : Done task x) (part : List ℕ) : Type 0 where
     pub next : Accepted task.depth (updates task x)
-    pub reached : Reached task x (turns_of task x done ++ next.turn ∷ []) []
-    pub front : IsPrefix part (line next.turn.query next.answer)
+    pub reached : Reached task x (questions_of task x done ++ next.question ∷ []) []
+    pub front : IsPrefix part (line next.question.query next.answer)
 
   -- a part of the line of the rejection of the next query, whose replies have this first fault
   pub record PartRejected (done : Done task x) (part : List ℕ) : Type 0 where
-    pub last : Turn
+    pub last : Question
     pub fault : Fault
     pub faulty : IsFaulty task.depth (updates task x) last fault
-    pub reached : Reached task x (turns_of task x done ++ last ∷ []) (ending fault.reason)
+    pub reached : Reached task x (questions_of task x done ++ last ∷ []) (ending fault.reason)
     pub front : IsPrefix part (rejection (suc (length done)) fault.round fault.reason)
 
   -- The lines of the queries before a verdict that was reached, and a front of the line of that
@@ -76,12 +76,12 @@ module _ (task : Task) (x : Exchange) where
   -- of the talk can hide an accepted query.
   pub record NoneLeft : Type 0 where
     pub done : Done task x
-    pub current : Option Turn
+    pub current : Option Question
     pub waits : IfSome current (IsWaiting task.depth (updates task x))
     pub reached : WereReached done
     pub order : IsPrefix x.talk (stream_sent task.depth (updates task x) ++ flat_map
-        (said_in_turn task.depth (updates task x))
-        (turns_of task x done ++ option_to_list current) ++ farewell task x done)
+        (said_for task.depth (updates task x))
+        (questions_of task x done ++ option_to_list current) ++ farewell task x done)
     pub report : x.report ≡ lines task x done
 
   abbrev pub VerdictClause : Status → Type 0

@@ -2,6 +2,6 @@
 pub mod Running
 pub mod Drawing
 pub mod Sending
-pub mod Questions
+pub mod Judging
 pub mod Ending
 pub mod Progress

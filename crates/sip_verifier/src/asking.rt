@@ -4,7 +4,7 @@ ghost use Rattle.std.specs.Prelude.{◌≡◌, ◌≢◌, ◌≤◌, ℕ, List, 
 ghost use Rattle.sip_ports.specs.Ports.{Lasts, Rose};
 ghost use Rattle.sip_vector.specs.declared.update.Update.{Update as AnyUpdate};
 ghost use Rattle.sip_verifier.specs.Asking.{Asks};
-ghost use Rattle.sip_verifier.specs.inside.Questions.{found_in, has_room, verdict_of};
+ghost use Rattle.sip_verifier.specs.inside.Judging.{found_in, has_places, verdict_of};
 ghost use Rattle.sip_verifier.specs.QuerySeats.{StandsFor, is_seat};
 
 use crate::seat::{QuerySeat, Running};
@@ -23,7 +23,7 @@ pub(crate) fn ask_seat<L: Link>(
     link: &mut L,
 ) -> Result<Said, AskStop>
     requires seat { IsTrue (is_seat (length seat.now.block) seat.now) }
-    requires room { IsTrue (has_room (length entries.old) seat.now.query) }
+    requires room { IsTrue (has_places (length entries.old) seat.now.query) }
     ensures asks { (depth : ℕ) (stream : List AnyUpdate) → StandsFor depth stream seat.now
         → Asks depth stream seat.now.query seat.now.block (L.talk link.old) (L.talk link.new)
         (take (found_in (length entries.new) result) entries.new) (verdict_of result) }

@@ -11,7 +11,7 @@ ghost use Rattle.sip_verifier.specs.CountClause.{CountsFor, CountClause};
 ghost use Rattle.sip_verifier.specs.Exchanges.{Exchange};
 ghost use Rattle.sip_verifier.specs.Statuses.{IsListed};
 ghost use Rattle.sip_verifier.specs.Tasks.{CanBeAsked};
-ghost use Rattle.sip_verifier.specs.Turns.{Turn, Accepts, updates};
+ghost use Rattle.sip_verifier.specs.Questions.{Question, Accepts, updates};
 ghost use Rattle.sip_verifier.specs.VerdictClause.{VerdictClause};
 
 /// What is read of a stream is a legal stream.
@@ -19,9 +19,9 @@ pub fn records_are_legal()
     ensures { (task : Task) (x : Exchange) → IsLegal task.depth (updates task x) }
 {}
 
-/// Where a turn's replies are accepted and state an answer, that answer is counted.
-pub fn accepted_turns_are_counted()
-    ensures { (depth : ℕ) (stream : List Update) (t : Turn) (answer : Answer) → Fits depth t.query
+/// Where a question's replies are accepted and state an answer, that answer is counted.
+pub fn accepted_questions_are_counted()
+    ensures { (depth : ℕ) (stream : List Update) (t : Question) (answer : Answer) → Fits depth t.query
         → IsLegal depth stream → Accepts depth stream t answer → CountsFor depth stream t answer }
 {}
 

@@ -9,7 +9,7 @@
 //! | `Moments` | what the ports tell at one moment, and how often they have failed |
 //! | `Exchanges` | what one call moved through its ports |
 //! | `Kinds` | what is known of a query by its kind, one row a kind |
-//! | `Turns` | a query with its block and its reply bytes; when its replies are accepted, and their fault |
+//! | `Questions` | a query with its block and its reply bytes; when its replies are accepted, and their fault |
 //! | `VerdictClause` | which lines are written, and when |
 //! | `TalkClause` | in which order the bytes go |
 //! | `CauseClause` | when each other answer comes |
@@ -17,7 +17,7 @@
 //! | `CompletenessClause` | what an honest helper comes to |
 //! | `Statuses` | which statuses a run may answer, and which count of faults each needs to have risen |
 //! | `Promises`, `RunClause` | the five clauses together, and all that a run keeps |
-//! | `QuerySeats`, `Seats`, `NextSeat` | which streams the running numbers stand for, and whose turn is next |
+//! | `QuerySeats`, `Seats`, `NextSeat` | which streams the running numbers stand for, and which of them is next |
 //! | `Feeding` | what is still to send of a stream |
 //! | `Transcripts` | the head of a transcript |
 //! | `Gathering` | what a call did that reads the stream |

@@ -59,7 +59,11 @@ impl Model for QuerySeat {
 
     ghost use Rattle.sip_verifier.specs.inside.Running.{block_of, numbers_of};
 
-    ghost view = { λ s. record { query = s.query; block = block_of s.running; running = numbers_of s.running } };
+    ghost view = { λ s. record {
+      query = s.query;
+      block = block_of s.running;
+      running = numbers_of s.running;
+    } };
 }
 
 impl Default for QuerySeat {

@@ -8,7 +8,7 @@ ghost use Rattle.sip_vector.specs.declared.update.Update.{Update as AnyUpdate};
 ghost use Rattle.sip_vector.specs.Answers.{Fits};
 ghost use Rattle.sip_vector.specs.Streams.{IsLegal};
 ghost use Rattle.sip_verifier.specs.Asking.{AnswersCount, Asks};
-ghost use Rattle.sip_verifier.specs.inside.Questions.{has_room};
+ghost use Rattle.sip_verifier.specs.inside.Judging.{has_places};
 ghost use Rattle.sip_verifier.specs.NextSeat.{IsNext};
 ghost use Rattle.sip_verifier.specs.QuerySeats.{Seated};
 ghost use Rattle.sip_verifier.specs.Sittings.{Starts, is_over};
@@ -70,7 +70,7 @@ pub struct Session {
     is_spent: bool,
     ghost within: { asked ≤ length seats.seats },
     ghost shown: { found ≤ vec_len entries },
-    ghost room: { IsTrue (list_all (λ s. has_room (vec_len entries) s.query) seats.seats) },
+    ghost room: { IsTrue (list_all (λ s. has_places (vec_len entries) s.query) seats.seats) },
 }
 
 impl Model for Session {
@@ -84,7 +84,7 @@ impl Model for Session {
 
 /// How many entries an answer to this query may have.
 fn most_entries_of(query: &Query) -> usize
-    ensures { IsTrue (has_room result query.now) }
+    ensures { IsTrue (has_places result query.now) }
 {
     match query {
         Query::Sub { lo, hi } => (hi.saturating_sub(*lo).min(MOST_ENTRIES - 1) + 1) as usize,
@@ -102,7 +102,7 @@ fn greater(one: usize, other: usize) -> usize
 
 /// How many entries the longest answer of these seats may have.
 fn most_entries(seats: &[QuerySeat]) -> usize
-    ensures { IsTrue (list_all (λ s. has_room result s.query) seats.now) }
+    ensures { IsTrue (list_all (λ s. has_places result s.query) seats.now) }
 {
     let mut most = 0;
     for seat in seats.iter() {

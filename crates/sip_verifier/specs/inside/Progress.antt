@@ -17,7 +17,7 @@ use Rattle.sip_verifier.specs.Exchanges.{Exchange}
 use Rattle.sip_verifier.specs.Moments.{Counts}
 use Rattle.sip_verifier.specs.Reports.{line, rejection}
 use Rattle.sip_verifier.specs.TalkClause.{TalkClause}
-use Rattle.sip_verifier.specs.Turns.{Turn, Accepted, said_in_turn}
+use Rattle.sip_verifier.specs.Questions.{Question, Accepted, said_for}
 use Rattle.sip_verifier.specs.VerdictClause.{VerdictClause}
 
 -- ---- one query, which has this number
@@ -67,16 +67,16 @@ module _ (depth : ℕ) (stream : List Update) (query : Query) (block : List ℕ)
 
 -- ---- all queries
 
--- these turns are those of the first queries, each with its own block
-pub record AreFirst (queries : List Query) (blocks : List (List ℕ)) (turns : List Turn) : Type 0 where
-  pub asked : map (λ t. t.query) turns ≡ take (length turns) queries
-  pub at_blocks : map (λ t. t.block) turns ≡ take (length turns) blocks
+-- these questions are those of the first queries, each with its own block
+pub record AreFirst (queries : List Query) (blocks : List (List ℕ)) (questions : List Question) : Type 0 where
+  pub asked : map (λ q. q.query) questions ≡ take (length questions) queries
+  pub at_blocks : map (λ q. q.block) questions ≡ take (length questions) blocks
 
 -- the first queries were accepted, and their lines were written
 pub record Passed (depth : ℕ) (stream : List Update) (queries : List Query) (blocks : List (List ℕ)) (old new blank full : Option (List TalkEvent)) (done : List (Accepted depth stream)) : Type 0 where
-  pub first : AreFirst queries blocks (map (λ a. a.turn) done)
-  pub talk : GoesOn old new (flat_map (said_in_turn depth stream) (map (λ a. a.turn) done))
-  pub report : GoesOn blank full (outs (flat_map (λ a. line a.turn.query a.answer) done))
+  pub first : AreFirst queries blocks (map (λ a. a.question) done)
+  pub talk : GoesOn old new (flat_map (said_for depth stream) (map (λ a. a.question) done))
+  pub report : GoesOn blank full (outs (flat_map (λ a. line a.question.query a.answer) done))
 
 -- so many queries were accepted, and their lines were written
 pub record PassedBy (depth : ℕ) (stream : List Update) (queries : List Query) (blocks : List (List ℕ)) (old new blank full : Option (List TalkEvent)) (count : ℕ) : Type 0 where

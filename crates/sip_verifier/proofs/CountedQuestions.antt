@@ -24,7 +24,7 @@ use Rattle.sip_subvec.proofs.WrittenAnswers.{vector-small, written_counts}
 use Rattle.sip_verifier.specs.CountClause.{accepts_in, FewFor, CountsFor}
 use Rattle.sip_verifier.specs.Kinds.{sub_kind}
 use Rattle.sip_verifier.specs.Tasks.{CanBeAsked}
-use Rattle.sip_verifier.specs.Turns.{Accepts}
+use Rattle.sip_verifier.specs.Questions.{Accepts}
 
 -- ---- the same test, written twice
 
@@ -104,17 +104,17 @@ sub_counts depth lo hi stream block taken written entries order within legal acc
       (λ right. wrong (sym (same_answer written (pairs entries) other is same) ∙ ap pairs right));
 }
 
-pub turn_counts : (depth : ℕ) (stream : List Update) (query : Query) (block : List ℕ)
+pub question_counts : (depth : ℕ) (stream : List Update) (query : Query) (block : List ℕ)
     (taken : List (List ℕ)) (written : Answer) → Fits depth query → IsLegal depth stream
     → Accepts depth stream (record { query = query; block = block; replies = taken }) written
     → CountsFor depth stream (record { query = query; block = block; replies = taken }) written
-turn_counts depth stream (Sub lo hi) block taken written fits legal accepted =
+question_counts depth stream (Sub lo hi) block taken written fits legal accepted =
     let its = (accepted_is m61_modulus (root m61_modulus (vector depth stream First) block) lo hi
     block taken written).0 accepted in
     sub_counts depth lo hi stream block taken written its.0 fits.0 fits.1 legal its.1 its.2
-turn_counts depth stream (Range side lo hi) block taken written fits legal accepted = absurd
+question_counts depth stream (Range side lo hi) block taken written fits legal accepted = absurd
     accepted
-turn_counts depth stream (F2 side) block taken written fits legal accepted = absurd accepted
-turn_counts depth stream Inner block taken written fits legal accepted = absurd accepted
-turn_counts depth stream (Heavy side at_least) block taken written fits legal accepted = absurd
+question_counts depth stream (F2 side) block taken written fits legal accepted = absurd accepted
+question_counts depth stream Inner block taken written fits legal accepted = absurd accepted
+question_counts depth stream (Heavy side at_least) block taken written fits legal accepted = absurd
     accepted

@@ -12,11 +12,11 @@ use Rattle.sip_replies.specs.Talks.{asked_unless}
 use Rattle.sip_verifier.specs.declared.task.Task.{Task}
 use Rattle.sip_verifier.specs.Draws.{drawn, blocks}
 use Rattle.sip_verifier.specs.Exchanges.{Exchange}
-use Rattle.sip_verifier.specs.Kinds.{Row, built, missing, row_of, OfKind}
+use Rattle.sip_verifier.specs.Kinds.{KindRow, built, missing, kind_row, OfKind}
 use Rattle.sip_verifier.specs.Reports.{line}
 use Rattle.sip_verifier.specs.Talks.{stream_sent, bye_sent}
 
-pub record Turn : Type 0 where
+pub record Question : Type 0 where
   pub query : Query
   pub block : List ℕ
   pub replies : List (List ℕ)
@@ -26,45 +26,45 @@ abbrev pub IsDue : {S : Type 0} → Protocol S → List ℕ → List (List ℕ) 
 IsDue P block replies = (P.unasked ≡ None) × general.IsUnfinished P.rules block replies
     × general.IsMissing P.rules block replies
 
--- ---- the states of a turn; a query whose check does not stand here is never asked
+-- ---- the states of a question; a query whose check does not stand here is never asked
 
 -- the replies are accepted, and this is the answer that they state
-abbrev pub Accepts : ℕ → List Update → Turn → Answer → Type 0
-Accepts depth stream t answer = OfKind depth stream t.query
-    (λ kind. general.IsAccepted (kind.protocol t.block) t.block t.replies answer)
+abbrev pub Accepts : ℕ → List Update → Question → Answer → Type 0
+Accepts depth stream q answer = OfKind depth stream q.query
+    (λ kind. general.IsAccepted (kind.protocol q.block) q.block q.replies answer)
 
 -- the replies have this fault, and no byte too many was taken
-abbrev pub IsFaulty : ℕ → List Update → Turn → Fault → Type 0
-IsFaulty depth stream t fault = OfKind depth stream t.query
-    (λ kind. general.IsFaulty (kind.protocol t.block) t.block t.replies fault)
+abbrev pub IsFaulty : ℕ → List Update → Question → Fault → Type 0
+IsFaulty depth stream q fault = OfKind depth stream q.query
+    (λ kind. general.IsFaulty (kind.protocol q.block) q.block q.replies fault)
 
 -- no fault so far
-abbrev pub IsUnfinished : ℕ → List Update → Turn → Type 0
-IsUnfinished depth stream t = OfKind depth stream t.query
-    (λ kind. general.IsUnfinished (kind.protocol t.block).rules t.block t.replies)
+abbrev pub IsUnfinished : ℕ → List Update → Question → Type 0
+IsUnfinished depth stream q = OfKind depth stream q.query
+    (λ kind. general.IsUnfinished (kind.protocol q.block).rules q.block q.replies)
 
 -- the query has to be asked, there is no fault so far, and a reply is missing or not whole yet
-abbrev pub IsWaiting : ℕ → List Update → Turn → Type 0
-IsWaiting depth stream t = OfKind depth stream t.query
-    (λ kind. IsDue (kind.protocol t.block) t.block t.replies)
+abbrev pub IsWaiting : ℕ → List Update → Question → Type 0
+IsWaiting depth stream q = OfKind depth stream q.query
+    (λ kind. IsDue (kind.protocol q.block) q.block q.replies)
 
--- a turn whose replies are accepted
+-- a question whose replies are accepted
 pub record Accepted (depth : ℕ) (stream : List Update) : Type 0 where
-  pub turn : Turn
+  pub question : Question
   pub answer : Answer
-  pub accepts : Accepts depth stream turn answer
+  pub accepts : Accepts depth stream question answer
 
--- ---- the turns of a run
+-- ---- the questions of a run
 
 -- what was said for a query by its row: nothing, where its answer is known without a reply
-abbrev pub said_by : Row → Turn → List TalkEvent
-said_by (built kind) t = asked_unless (kind.protocol t.block).unasked
-    (kind.protocol t.block).rules.version t.query t.block t.replies
-said_by missing t = []
+abbrev pub said_by_kind : KindRow → Question → List TalkEvent
+said_by_kind (built kind) q = asked_unless (kind.protocol q.block).unasked
+    (kind.protocol q.block).rules.version q.query q.block q.replies
+said_by_kind missing q = []
 
--- what was said in a turn
-abbrev pub said_in_turn : ℕ → List Update → Turn → List TalkEvent
-said_in_turn depth stream t = said_by (row_of depth stream t.query) t
+-- what was said for a question
+abbrev pub said_for : ℕ → List Update → Question → List TalkEvent
+said_for depth stream q = said_by_kind (kind_row depth stream q.query) q
 
 module _ (task : Task) (x : Exchange) where
   -- the legal records of the stream
@@ -78,26 +78,26 @@ module _ (task : Task) (x : Exchange) where
   abbrev pub Done : Type 0
   Done = List (Accepted task.depth updates)
 
-  abbrev pub turns_of : Done → List Turn
-  turns_of done = map (λ a. a.turn) done
+  abbrev pub questions_of : Done → List Question
+  questions_of done = map (λ a. a.question) done
 
   abbrev pub lines : Done → List ℕ
-  lines done = flat_map (λ a. line a.turn.query a.answer) done
+  lines done = flat_map (λ a. line a.question.query a.answer) done
 
   -- the farewell, which comes once every query was accepted
   abbrev pub farewell : Done → List TalkEvent
   farewell done = if length done == length task.queries.items then bye_sent else []
 
   -- these are the task's first queries in order, each with its own block of the challenges that the seed gives
-  pub record AreTurns (turns : List Turn) : Type 0 where
+  pub record AreQuestions (questions : List Question) : Type 0 where
     pub challenges : List ℕ
     pub drawn : drawn task x.seed ≡ Some challenges
-    pub queries : map (λ t. t.query) turns ≡ take (length turns) task.queries.items
-    pub blocks : map (λ t. t.block) turns ≡ take (length turns) (blocks task challenges)
+    pub queries : map (λ q. q.query) questions ≡ take (length questions) task.queries.items
+    pub blocks : map (λ q. q.block) questions ≡ take (length questions) (blocks task challenges)
 
-  -- the whole stream was legal and was sent, and then these turns were taken, and then the rest was said
-  pub record Reached (turns : List Turn) (rest : List TalkEvent) : Type 0 where
-    pub are_turns : AreTurns turns
+  -- the whole stream was legal and was sent, and then these questions were taken, and then the rest was said
+  pub record Reached (questions : List Question) (rest : List TalkEvent) : Type 0 where
+    pub are_questions : AreQuestions questions
     pub legal : IsLegalToEnd
     pub talk : x.talk ≡ stream_sent task.depth updates ++ flat_map
-        (said_in_turn task.depth updates) turns ++ rest
+        (said_for task.depth updates) questions ++ rest

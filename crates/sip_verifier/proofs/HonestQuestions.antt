@@ -1,4 +1,4 @@
--- A turn that heard honest replies: where it was accepted its answer is the stream's own, and it has no fault.
+-- A question that heard honest replies: where it was accepted its answer is the stream's own, and it has no fault.
 use Rattle.std.proofs.Common.{◌≡◌, ◌≢◌, ℕ, ◌≤◌, List, ◌++◌, length, refl, ◌∙◌}
 use Rattle.sip_field.specs.Moduli.{m61_modulus}
 use Rattle.sip_vector.specs.declared.query.Query.{Query}
@@ -19,7 +19,7 @@ use Rattle.sip_subvec.proofs.HonestLaws.{shown_accepted}
 use Rattle.sip_subvec.proofs.HonestStreams.{legal_shown}
 use Rattle.sip_subvec.proofs.ProtocolTurns.{accepted_is}
 use Rattle.sip_verifier.specs.CompletenessClause.{honest_bytes, HasFewEntries}
-use Rattle.sip_verifier.specs.Turns.{Accepts, IsFaulty}
+use Rattle.sip_verifier.specs.Questions.{Accepts, IsFaulty}
 use Rattle.sip_verifier.proofs.HonestReplies as honest
 
 -- ---- a sub-vector
@@ -43,33 +43,33 @@ module _ (depth : ℕ) (stream : List Update) (lo hi : ℕ) (block : List ℕ) (
         refl,
       )
 
--- ---- turns
+-- ---- questions
 
 module _ (depth : ℕ) (stream : List Update) (some : 1 ≤ depth) (most : depth ≤ 32) (legal : IsLegal depth stream) where
-  -- an accepted turn that heard honest replies took them whole, and its answer is the stream's
-  pub turn_done : (query : Query) (block : List ℕ) (replies : List (List ℕ)) (written : Answer) (b a : List ℕ) → Fits depth query → HasFewEntries depth stream query → length block ≡ depth
+  -- an accepted question that heard honest replies took them whole, and its answer is the stream's
+  pub question_done : (query : Query) (block : List ℕ) (replies : List (List ℕ)) (written : Answer) (b a : List ℕ) → Fits depth query → HasFewEntries depth stream query → length block ≡ depth
       → Accepts depth stream (record { query = query; block = block; replies = replies }) written → honest_bytes depth stream (query, block) ++ b ≡ joined replies ++ a → (b ≡ a) × (written ≡ answer depth stream query)
-  turn_done (Sub lo hi) block replies written b a fits few size accepts agree =
+  question_done (Sub lo hi) block replies written b a fits few size accepts agree =
       let shown = legal_shown depth lo hi stream legal some most fits.0 fits.1 few in
       honest.stated_honest (sub_protocol_at depth stream lo hi block shown size) block
       (honest_replies m61_modulus (vector depth stream First) lo hi block)
       (answer depth stream (Sub lo hi)) (sub_honest depth stream lo hi block shown size) replies
       b a agree written accepts
-  turn_done (Range side lo hi) block replies written b a fits few size accepts agree = absurd accepts
-  turn_done (F2 side) block replies written b a fits few size accepts agree = absurd accepts
-  turn_done Inner block replies written b a fits few size accepts agree = absurd accepts
-  turn_done (Heavy side at_least) block replies written b a fits few size accepts agree = absurd accepts
+  question_done (Range side lo hi) block replies written b a fits few size accepts agree = absurd accepts
+  question_done (F2 side) block replies written b a fits few size accepts agree = absurd accepts
+  question_done Inner block replies written b a fits few size accepts agree = absurd accepts
+  question_done (Heavy side at_least) block replies written b a fits few size accepts agree = absurd accepts
 
-  -- a turn that heard honest replies has no fault, but that of the end of the link
-  pub turn_faulty : (query : Query) (block : List ℕ) (replies : List (List ℕ)) (fault : Fault) (b a : List ℕ) → Fits depth query → HasFewEntries depth stream query → length block ≡ depth
+  -- a question that heard honest replies has no fault, but that of the end of the link
+  pub question_faulty : (query : Query) (block : List ℕ) (replies : List (List ℕ)) (fault : Fault) (b a : List ℕ) → Fits depth query → HasFewEntries depth stream query → length block ≡ depth
       → IsFaulty depth stream (record { query = query; block = block; replies = replies }) fault → fault.reason ≢ reasons.Closed → honest_bytes depth stream (query, block) ++ b ≡ joined replies ++ a → ⊥
-  turn_faulty (Sub lo hi) block replies fault b a fits few size faulty other agree =
+  question_faulty (Sub lo hi) block replies fault b a fits few size faulty other agree =
       let shown = legal_shown depth lo hi stream legal some most fits.0 fits.1 few in
       honest.none_faulty (sub_protocol_at depth stream lo hi block shown size) block
       (honest_replies m61_modulus (vector depth stream First) lo hi block)
       (answer depth stream (Sub lo hi)) (sub_honest depth stream lo hi block shown size) replies
       b a agree fault faulty other
-  turn_faulty (Range side lo hi) block replies fault b a fits few size faulty other agree = absurd faulty
-  turn_faulty (F2 side) block replies fault b a fits few size faulty other agree = absurd faulty
-  turn_faulty Inner block replies fault b a fits few size faulty other agree = absurd faulty
-  turn_faulty (Heavy side at_least) block replies fault b a fits few size faulty other agree = absurd faulty
+  question_faulty (Range side lo hi) block replies fault b a fits few size faulty other agree = absurd faulty
+  question_faulty (F2 side) block replies fault b a fits few size faulty other agree = absurd faulty
+  question_faulty Inner block replies fault b a fits few size faulty other agree = absurd faulty
+  question_faulty (Heavy side at_least) block replies fault b a fits few size faulty other agree = absurd faulty

@@ -1,4 +1,4 @@
--- What a seat's question needs, and what comes of it. (For the proof of a session's turn alone.)
+-- What a seat's question needs, and what comes of it. (For the proof of a session's `judge` alone.)
 use Rattle.std.specs.Prelude.{ℕ, min, nat_le, Bool, true, Result, Ok, Err}
 use Rattle.sip_vector.specs.declared.query.Query.{Query}
 use Rattle.sip_vector.specs.declared.query.Query.TheVariants.{Sub}
@@ -13,9 +13,9 @@ use Rattle.sip_verifier.specs.declared.session.Verdict.{Verdict}
 use Rattle.sip_verifier.specs.declared.session.Verdict.TheVariants as verdicts
 
 -- an answer to this query has room in so many places
-abbrev pub has_room : ℕ → Query → Bool
-has_room room (Sub lo hi) = nat_le (most_answer lo hi) room
-has_room room _ = true
+abbrev pub has_places : ℕ → Query → Bool
+has_places room (Sub lo hi) = nat_le (most_answer lo hi) room
+has_places room _ = true
 
 -- how many of so many places have pairs of the answer
 abbrev pub found_in : ℕ → Result Said AskStop → ℕ

@@ -1,5 +1,0 @@
-use Rattle.sip_verifier.proofs.CountedTurns.{turn_counts}
-use Rattle.sip_verifier.proofs.counting.accepted_turns_are_counted.Goals as goal
-
-pub returns : goal.returns
-returns c = λ depth stream t written fits legal accepts. turn_counts depth stream t.query t.block t.replies written fits legal accepts
