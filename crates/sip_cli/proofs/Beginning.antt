@@ -1,5 +1,5 @@
 -- How words begin a command, and where they are refused.
-use Rattle.std.proofs.Common.{◌≡◌, ◌≢◌, IsTrue, ℕ, zero, suc, ◌+◌, ◌-◌, ◌<◌, ◌≤◌, List, [], ◌∷◌, ◌++◌, length, get_or, take, drop, sym, refl, ap, subst, ◌∙◌, inl, inr, arith}
+use Rattle.std.proofs.Common.{◌≡◌, ◌≢◌, ℕ, zero, suc, ◌+◌, ◌-◌, ◌<◌, ◌≤◌, List, [], ◌∷◌, ◌++◌, length, get_or, take, drop, sym, refl, ap, subst, ◌∙◌, inl, inr, arith}
 use Rattle.std.specs.Prelude.{codes, decimal}
 use Rattle.std.proofs.lemmas.Bool.{cases_lt}
 use Rattle.std.proofs.lemmas.List.{length-take-le, length-drop, length-append, get_or-take, get_or-drop, get_or_append_left, get_or-append_right}
@@ -14,7 +14,7 @@ use Rattle.sip_cli.specs.declared.verb.Verb.{Verb}
 use Rattle.sip_cli.specs.declared.verb.Verb.TheVariants.{Verify, Help, Gen, Lines}
 use Rattle.sip_cli.specs.Shapes.{IsOf, IsDepth, Asks}
 use Rattle.sip_cli.specs.Verbs.{verb_word, shapes, least_asked, most_asked}
-use Rattle.sip_cli.specs.Words.{word, IsWhole, Begins, IsRefusedAt}
+use Rattle.sip_cli.specs.Words.{word, IsCommandOf, BeginCommand, IsRefusedAt}
 
 -- words of a command to end with
 abbrev pub examples : Verb → List (List ℕ)
@@ -132,7 +132,7 @@ ended_asked verb words n b i low high =
     ]
 
 -- words that are begun begin a command
-pub begins : (verb : Verb) (words : List (List ℕ)) (n : ℕ) → Begun verb words n → Begins (take n words)
+pub begins : (verb : Verb) (words : List (List ℕ)) (n : ℕ) → Begun verb words n → BeginCommand (take n words)
 begins verb words n b =
     let long = ended_long verb words n b.within in
     let examples_are = examples_long verb in
@@ -149,7 +149,7 @@ begins verb words n b =
     )
 
 -- no words begin `verify`
-pub begins_none : (words : List (List ℕ)) → Begins (take 0 words)
+pub begins_none : (words : List (List ℕ)) → BeginCommand (take 0 words)
 begins_none words = (
   Verify,
   examples Verify,
@@ -189,8 +189,8 @@ reads_from words whole rest n more is k within =
 
 -- where no command of the verb has the words up to number n, they are refused at n
 pub refused : (verb : Verb) (words : List (List ℕ)) (n : ℕ) → Begun verb words n
-    → (n < length words → (whole : List (List ℕ)) → IsWhole verb whole → n < length whole → ((k : ℕ) → k ≤ n → word whole k ≡ word words k) → ⊥)
-    → (length words ≤ n → IsWhole verb words → ⊥)
+    → (n < length words → (whole : List (List ℕ)) → IsCommandOf verb whole → n < length whole → ((k : ℕ) → k ≤ n → word whole k ≡ word words k) → ⊥)
+    → (length words ≤ n → IsCommandOf verb words → ⊥)
     → IsRefusedAt words n
 refused verb words n b none short = record {
   before = begins verb words n b;
@@ -199,12 +199,12 @@ refused verb words n b none short = record {
       let reads = reads_from words whole rest n more refl in
       let same : verb ≡ other = verb_once verb other (sym b.first ∙ (sym (reads 0 (omega arith)) ∙ is.first)) in
       let counted = length-take-le (n + 1) words (omega arith) in
-      none more whole (subst (λ v. IsWhole v whole) (sym same) is) (omega (arith, length-append (take (n + 1) words) rest)) reads;
+      none more whole (subst (λ v. IsCommandOf v whole) (sym same) is) (omega (arith, length-append (take (n + 1) words) rest)) reads;
   short = λ least. (
     omega (arith, b.within),
     λ other is.
         let same : verb ≡ other = verb_once verb other (sym b.first ∙ is.first) in
-        short least (subst (λ v. IsWhole v words) (sym same) is),
+        short least (subst (λ v. IsCommandOf v words) (sym same) is),
   );
 }
 

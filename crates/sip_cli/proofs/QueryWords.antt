@@ -15,11 +15,11 @@ use Rattle.sip_cli.specs.Shapes.{Asks}
 use Rattle.sip_cli.proofs.Decimals.{digits}
 
 -- no element is c
-abbrev pub Lacks : ℕ → List ℕ → Type 0
-Lacks c xs = (i : ℕ) → i < length xs → get_or xs i 0 ≢ c
+abbrev pub HasNo : ℕ → List ℕ → Type 0
+HasNo c xs = (i : ℕ) → i < length xs → get_or xs i 0 ≢ c
 
 -- two texts that are cut at their first c are cut alike
-pub same_parts : (c : ℕ) (xs xs' ys ys' : List ℕ) → Lacks c xs → Lacks c xs' → xs ++ c ∷ ys ≡ xs' ++ c ∷ ys' → (xs ≡ xs') × (ys ≡ ys')
+pub same_parts : (c : ℕ) (xs xs' ys ys' : List ℕ) → HasNo c xs → HasNo c xs' → xs ++ c ∷ ys ≡ xs' ++ c ∷ ys' → (xs ≡ xs') × (ys ≡ ys')
 same_parts c [] [] ys ys' none none' same = (refl, cc)
 same_parts c [] (x ∷ xs') ys ys' none none' same = absurd (none' 0 (omega arith) cc)
 same_parts c (x ∷ xs) [] ys ys' none none' same = absurd (none 0 (omega arith) cc)
@@ -30,7 +30,7 @@ same_parts c (x ∷ xs) (x' ∷ xs') ys ys' none none' same =
     (cc, rest.1)
 
 -- a decimal number has no colon
-pub decimal_lacks_colon : (n : ℕ) → n < 2 ^ 64 → Lacks 58 (decimal n)
+pub decimal_lacks_colon : (n : ℕ) → n < 2 ^ 64 → HasNo 58 (decimal n)
 decimal_lacks_colon n small = not_in_digits digits (decimal n) 58 (digits_decimal digits n small) (λ within. omega arith)
 
 -- what follows `sub:`

@@ -11,20 +11,20 @@ use Rattle.sip_cli.specs.declared.command.Command.TheVariants as command
 use Rattle.sip_cli.specs.declared.verb.Verb.{Verb}
 use Rattle.sip_cli.specs.declared.verb.Verb.TheVariants as verb
 use Rattle.sip_cli.specs.Shapes.{Asks}
-use Rattle.sip_cli.specs.Words.{word, IsWhole, SaysTask, Spells, Begins, IsRefusedAt}
+use Rattle.sip_cli.specs.Words.{word, IsCommandOf, SaysTask, Spells, BeginCommand, IsRefusedAt}
 use Rattle.sip_cli.proofs.QueryWords.{query_once}
 use Rattle.sip_cli.proofs.StreamWords.{form_once}
 use Rattle.sip_cli.proofs.Beginning.{verb_once}
 use Rattle.sip_cli.proofs.Stopping.{depth_once}
 
 -- fewer words begin a command too
-pub begins_fewer : (words : List (List ℕ)) (m n : ℕ) → m ≤ n → Begins (take n words) → Begins (take m words)
+pub begins_fewer : (words : List (List ℕ)) (m n : ℕ) → m ≤ n → BeginCommand (take n words) → BeginCommand (take m words)
 begins_fewer words m n fewer (v, rest, is) =
     let parts = take-append-drop m (take n words) in
     let front = take-take m n words fewer in
     let split : take n words ≡ take m words ++ drop m (take n words) = sym (rw front at parts) in
     let whole : take n words ++ rest ≡ take m words ++ (drop m (take n words) ++ rest) = ap (λ ws. ws ++ rest) split ∙ append_assoc (take m words) (drop m (take n words)) rest in
-    (v, drop m (take n words) ++ rest, subst (IsWhole v) whole is)
+    (v, drop m (take n words) ++ rest, subst (IsCommandOf v) whole is)
 
 refused_before : (words : List (List ℕ)) (m n : ℕ) → m < n → IsRefusedAt words m → IsRefusedAt words n → ⊥
 refused_before words m n less first second =
@@ -45,7 +45,7 @@ refused_once words m n first second =
     ]
 
 -- the words of a command are whole
-pub whole_of : (words : List (List ℕ)) (c : Command) → Spells words c → (v : Verb) × IsWhole v words
+pub whole_of : (words : List (List ℕ)) (c : Command) → Spells words c → (v : Verb) × IsCommandOf v words
 whole_of words (command.Verify task) s = (verb.Verify, s.0)
 whole_of words command.Help s = (verb.Help, s)
 whole_of words (command.Gen depth) s = (verb.Gen, s.0)
@@ -56,7 +56,7 @@ pub spelled_not_refused : (words : List (List ℕ)) (c : Command) (n : ℕ) → 
 spelled_not_refused words c n s refused =
     let whole = whole_of words c s in
     elim (cases_lt n (length words)) [
-      | inl more ↦ refused.here more (whole.0, drop (n + 1) words, subst (IsWhole whole.0) (sym (take-append-drop (n + 1) words)) whole.1)
+      | inl more ↦ refused.here more (whole.0, drop (n + 1) words, subst (IsCommandOf whole.0) (sym (take-append-drop (n + 1) words)) whole.1)
       | inr least ↦ (refused.short least).1 whole.0 whole.1
     ]
 
@@ -77,7 +77,7 @@ task_once words task other s t =
     ap (λ d. task_of d task.form task.queries.items) depth ∙ (ap (λ f. task_of other.depth f task.queries.items) form ∙ ap (λ qs. task_of other.depth other.form qs) items)
 
 -- words have one verb
-pub verbs_agree : (words : List (List ℕ)) (v w : Verb) → IsWhole v words → IsWhole w words → v ≡ w
+pub verbs_agree : (words : List (List ℕ)) (v w : Verb) → IsCommandOf v words → IsCommandOf w words → v ≡ w
 verbs_agree words v w a b = verb_once v w (sym a.first ∙ b.first)
 
 -- words spell one command at most

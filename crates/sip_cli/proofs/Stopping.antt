@@ -14,7 +14,7 @@ use Rattle.sip_cli.specs.declared.verb.Verb.{Verb}
 use Rattle.sip_cli.specs.declared.verb.Verb.TheVariants.{Verify}
 use Rattle.sip_cli.specs.Shapes.{IsOf, IsDepth, Asks}
 use Rattle.sip_cli.specs.Verbs.{verb_word, shapes, least_asked, most_asked, most_queries}
-use Rattle.sip_cli.specs.Words.{word, IsWhole, IsRefusedAt}
+use Rattle.sip_cli.specs.Words.{word, IsCommandOf, IsRefusedAt}
 use Rattle.sip_cli.specs.inside.Progress.{HaveShapes, StopsInShapes, Fitted, AreAsked, StopsInQueries}
 use Rattle.sip_cli.proofs.Beginning.{Begun, refused}
 
@@ -37,7 +37,7 @@ begun_shapes verb words n first few have = record {
 pub refused_shape : (verb : Verb) (words : List (List ℕ)) (number : ℕ) → word words 0 ≡ verb_word verb → StopsInShapes (shapes verb) words number → IsRefusedAt words number
 refused_shape verb words number first stops =
     let within = stops.within in
-    let least_of = λ (ws : List (List ℕ)) (w : IsWhole verb ws). w.least in
+    let least_of = λ (ws : List (List ℕ)) (w : IsCommandOf verb ws). w.least in
     rw (stops.number_is) (refused verb words (stops.index + 1) (begun_shapes verb words stops.index first (omega arith) stops.before)
     (λ more whole is longer reads. stops.here (rw stops.number_is more) (rw stops.number_is (subst (IsOf (get_or (shapes verb) stops.index Name)) (reads (stops.index + 1) (omega arith)) (is.shaped stops.index within))))
     (λ least is. let enough = is.least in omega arith))
@@ -75,7 +75,7 @@ refused_query words d n fitted deep stops =
     (λ least is. let enough = is.least in let missing = stops.missing least in omega arith)
 
 -- words with all their shapes and no more are whole, where the verb asks no query
-pub whole_end : (verb : Verb) (words : List (List ℕ)) → Fitted verb words → least_asked verb ≡ 0 → length words ≤ 1 + length (shapes verb) → IsWhole verb words
+pub whole_end : (verb : Verb) (words : List (List ℕ)) → Fitted verb words → least_asked verb ≡ 0 → length words ≤ 1 + length (shapes verb) → IsCommandOf verb words
 whole_end verb words fitted none few = record {
   first = fitted.0;
   shaped = fitted.1.1;
@@ -85,7 +85,7 @@ whole_end verb words fitted none few = record {
 }
 
 -- words of `verify` with all their queries are whole
-pub whole_asked : (words : List (List ℕ)) (d : ℕ) (queries : List Query) → Fitted Verify words → IsDepth d (word words 6) → AreAsked words d queries (length words) → 8 ≤ length words → length words ≤ 7 + most_queries → IsWhole Verify words
+pub whole_asked : (words : List (List ℕ)) (d : ℕ) (queries : List Query) → Fitted Verify words → IsDepth d (word words 6) → AreAsked words d queries (length words) → 8 ≤ length words → length words ≤ 7 + most_queries → IsCommandOf Verify words
 whole_asked words d queries fitted deep asked enough few = record {
   first = fitted.0;
   shaped = fitted.1.1;

@@ -14,7 +14,8 @@ use Rattle.sip_verifier.specs.declared.status.Status.{Status}
 use Rattle.sip_verifier.specs.declared.status.Status.TheVariants as statuses
 
 -- The stream had these bytes to give in one form, and has `left` still; the report told `old`, and tells `new`.
-module _ (depth : ℕ) (from to : Form) (bytes : List ℕ) (left : Option (List ℕ)) (old new : Option (List TalkEvent)) where
+module _ (depth : ℕ) (from to : Form) (bytes : List ℕ) (left : Option (List ℕ))
+    (old new : Option (List TalkEvent)) where
   -- all legal records were written
   abbrev pub AllCopied : Type 0
   AllCopied = GoesOn old new (outs (copied depth from to bytes))
@@ -24,8 +25,11 @@ module _ (depth : ℕ) (from to : Form) (bytes : List ℕ) (left : Option (List 
   FrontCopied = (n : ℕ) × GoesOn old new (outs (take n (copied depth from to bytes)))
 
   abbrev pub CopyClause : Status → Type 0
-  CopyClause statuses.Wrote = ((records depth from bytes).fault ≡ None) × (left ≡ Some []) × AllCopied
-  CopyClause (statuses.BadStream at why) = ((records depth from bytes).fault ≡ Some why) × (at ≡ length (records depth from bytes).legal) × AllCopied
+  CopyClause statuses.Wrote =
+      ((records depth from bytes).fault ≡ None) × (left ≡ Some []) × AllCopied
+  CopyClause (statuses.BadStream at why) =
+      ((records depth from bytes).fault ≡ Some why)
+      × (at ≡ length (records depth from bytes).legal) × AllCopied
   CopyClause (statuses.ReadFault ports.First) = FrontCopied
   CopyClause (statuses.WriteFault ports.Report) = FrontCopied
   CopyClause statuses.OutOfMemory = FrontCopied

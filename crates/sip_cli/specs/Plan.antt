@@ -18,28 +18,35 @@ opening_of (stream.Made number count) depth = Made number count depth
 opening_of stream.Text depth = Path 1 5
 opening_of stream.File depth = Path 1 0
 
+-- gen NUMBER COUNT DEPTH, and lines STREAM DEPTH
+abbrev pub source_ports : Opening → PortPlan
+source_ports first =
+    record { first = first; second = Nothing; from = Nothing; to = Nothing; keep = Nothing }
+
 -- no port
 abbrev pub no_ports : PortPlan
-no_ports = record { first = Nothing; second = Nothing; from = Nothing; to = Nothing; keep = Nothing }
+no_ports = source_ports Nothing
 
 -- verify STREAM SEED FROM TO - DEPTH QUERY..
 abbrev pub verify_ports : Opening → PortPlan
-verify_ports first = record { first = first; second = Path 2 0; from = Path 3 0; to = Path 4 0; keep = Nothing }
+verify_ports first =
+    record no_ports { first = first; second = Path 2 0; from = Path 3 0; to = Path 4 0 }
 
 -- help FROM TO
 abbrev pub help_ports : PortPlan
-help_ports = record { first = Nothing; second = Nothing; from = Path 1 0; to = Path 2 0; keep = Nothing }
-
--- gen NUMBER COUNT DEPTH, and lines STREAM DEPTH
-abbrev pub source_ports : Opening → PortPlan
-source_ports first = record { first = first; second = Nothing; from = Nothing; to = Nothing; keep = Nothing }
+help_ports = record no_ports { from = Path 1 0; to = Path 2 0 }
 
 -- the ports of a command whose words these are
 abbrev pub Opens : List (List ℕ) → Command → PortPlan → Type 0
-Opens words (command.Verify task) plan = (s : Stream) × IsStreamWord s (word words 1) × (plan ≡ verify_ports (opening_of s task.depth))
+Opens words (command.Verify task) plan =
+    (s : Stream) × IsStreamWord s (word words 1) × (plan ≡ verify_ports (opening_of s task.depth))
 Opens words command.Help plan = plan ≡ help_ports
-Opens words (command.Gen depth) plan = (number : ℕ) × (count : ℕ) × (number < 2 ^ 64) × (count ≤ 10000000) × (word words 1 ≡ decimal number) × (word words 2 ≡ decimal count) × (plan ≡ source_ports (Made number count depth))
-Opens words (command.Lines form depth) plan = (s : Stream) × IsStreamWord s (word words 1) × (plan ≡ source_ports (opening_of s depth))
+Opens words (command.Gen depth) plan =
+    (number : ℕ) × (count : ℕ) × (number < 2 ^ 64) × (count ≤ 10000000)
+    × (word words 1 ≡ decimal number) × (word words 2 ≡ decimal count)
+    × (plan ≡ source_ports (Made number count depth))
+Opens words (command.Lines form depth) plan =
+    (s : Stream) × IsStreamWord s (word words 1) × (plan ≡ source_ports (opening_of s depth))
 
 -- the name of the file that an opening is on: a word without its first bytes, if there is such a word
 abbrev pub file_name : Opening → List (List ℕ) → Option (List ℕ)
@@ -51,7 +58,8 @@ file_name (Path n skip) words = option_map (drop skip) (slice_get words n)
 abbrev pub HasName : List (List ℕ) → Opening → Type 0
 HasName words Nothing = Unit {0}
 HasName words (Made number count depth) = Unit {0}
-HasName words (Path n skip) = (n < length words) × ((skip ≡ 0) ⊎ ((skip ≡ 5) × ((path : List ℕ) × (word words n ≡ codes "text:" ++ path))))
+HasName words (Path n skip) = (n < length words)
+    × ((skip ≡ 0) ⊎ ((skip ≡ 5) × ((path : List ℕ) × (word words n ≡ codes "text:" ++ path))))
 
 -- the same of all openings of a plan
 pub record HaveNames (words : List (List ℕ)) (plan : PortPlan) : Type 0 where

@@ -18,9 +18,12 @@ made_word number count = codes "made:" ++ decimal number ++ 58 ∷ decimal count
 
 -- The word names this stream. One that begins with `made:` or `text:` is read so alone.
 abbrev pub IsStreamWord : Stream → List ℕ → Type 0
-IsStreamWord (stream.Made number count) word = (number < 2 ^ 64) × (count ≤ 10000000) × (word ≡ made_word number count)
+IsStreamWord (stream.Made number count) word =
+    (number < 2 ^ 64) × (count ≤ 10000000) × (word ≡ made_word number count)
 IsStreamWord stream.Text word = (path : List ℕ) × (path ≢ []) × (word ≡ codes "text:" ++ path)
-IsStreamWord stream.File word = (word ≢ []) × (starts_with nat_eq word (codes "made:") ≡ false) × (starts_with nat_eq word (codes "text:") ≡ false)
+IsStreamWord stream.File word =
+    (word ≢ []) × (starts_with nat_eq word (codes "made:") ≡ false)
+    × (starts_with nat_eq word (codes "text:") ≡ false)
 
 -- a made stream is binary
 abbrev pub form_of : Stream → Form

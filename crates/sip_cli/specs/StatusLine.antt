@@ -31,14 +31,20 @@ line_of_status statuses.Served = []
 line_of_status statuses.Wrote = []
 line_of_status (statuses.Rejected query round reason) = []
 line_of_status (statuses.Usage word) = codes "sip: usage at word " ++ decimal word ++ 10 ∷ []
-line_of_status (statuses.BadStream at why) = codes "sip: bad stream at record " ++ decimal at ++ codes ": " ++ why_name why ++ 10 ∷ []
+line_of_status (statuses.BadStream at why) =
+    codes "sip: bad stream at record " ++ decimal at ++ codes ": " ++ why_name why ++ 10 ∷ []
 line_of_status statuses.BadSeed = codes "sip: seed too short" ++ 10 ∷ []
 line_of_status statuses.SeedSpent = codes "sip: seed spent" ++ 10 ∷ []
-line_of_status (statuses.BadTranscript offset) = codes "sip: bad transcript at offset " ++ decimal offset ++ 10 ∷ []
-line_of_status (statuses.BadFrame offset) = codes "sip: bad frame at offset " ++ decimal offset ++ 10 ∷ []
-line_of_status (statuses.TooWide query) = codes "sip: query " ++ decimal query ++ codes " too wide" ++ 10 ∷ []
-line_of_status (statuses.ReadFault port) = codes "sip: read fault on " ++ port_name port ++ 10 ∷ []
-line_of_status (statuses.WriteFault port) = codes "sip: write fault on " ++ port_name port ++ 10 ∷ []
+line_of_status (statuses.BadTranscript offset) =
+    codes "sip: bad transcript at offset " ++ decimal offset ++ 10 ∷ []
+line_of_status (statuses.BadFrame offset) =
+    codes "sip: bad frame at offset " ++ decimal offset ++ 10 ∷ []
+line_of_status (statuses.TooWide query) =
+    codes "sip: query " ++ decimal query ++ codes " too wide" ++ 10 ∷ []
+line_of_status (statuses.ReadFault port) =
+    codes "sip: read fault on " ++ port_name port ++ 10 ∷ []
+line_of_status (statuses.WriteFault port) =
+    codes "sip: write fault on " ++ port_name port ++ 10 ∷ []
 line_of_status statuses.PeerFault = codes "sip: peer fault" ++ 10 ∷ []
 line_of_status statuses.PeerClosed = codes "sip: peer closed" ++ 10 ∷ []
 line_of_status statuses.OutOfMemory = codes "sip: out of memory" ++ 10 ∷ []

@@ -1,5 +1,5 @@
 -- The commands: each is a verb, words of its shapes, and queries where it asks some.
-use Rattle.std.specs.Prelude.{ℕ, Bool, true, List, [], ◌∷◌, codes}
+use Rattle.std.specs.Prelude.{ℕ, List, [], ◌∷◌, codes}
 use Rattle.sip_cli.specs.declared.shape.Shape.{Shape}
 use Rattle.sip_cli.specs.declared.shape.Shape.TheVariants.{Name, Stream, NoRecord, Number, Depth}
 use Rattle.sip_cli.specs.declared.verb.Verb.{Verb}

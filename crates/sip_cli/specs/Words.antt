@@ -1,5 +1,5 @@
 -- The words of a command.
-use Rattle.std.specs.Prelude.{◌≡◌, ℕ, ◌+◌, ◌<◌, ◌≤◌, IsTrue, List, [], ◌++◌, length, take, slice_index_or}
+use Rattle.std.specs.Prelude.{◌≡◌, ℕ, ◌+◌, ◌<◌, ◌≤◌, List, [], ◌++◌, length, take, slice_index_or}
 use Rattle.sip_vector.specs.declared.query.Query.{Query}
 use Rattle.sip_vector.specs.declared.query.Query.TheVariants.{Inner}
 use Rattle.sip_verifier.specs.declared.task.Task.{Task}
@@ -16,10 +16,12 @@ abbrev pub word : List (List ℕ) → ℕ → List ℕ
 word words n = slice_index_or words n []
 
 -- The words are a command of this verb. Its queries fit the depth that word 6 says.
-pub record IsWhole (verb : Verb) (words : List (List ℕ)) : Type 0 where
+pub record IsCommandOf (verb : Verb) (words : List (List ℕ)) : Type 0 where
   pub first : word words 0 ≡ verb_word verb
-  pub shaped : (n : ℕ) → n < length (shapes verb) → IsOf (slice_index_or (shapes verb) n Name) (word words (n + 1))
-  pub asked : (n : ℕ) → length (shapes verb) < n → n < length words → (d : ℕ) × IsDepth d (word words 6) × (query : Query) × Asks d query (word words n)
+  pub shaped : (n : ℕ) → n < length (shapes verb)
+      → IsOf (slice_index_or (shapes verb) n Name) (word words (n + 1))
+  pub asked : (n : ℕ) → length (shapes verb) < n → n < length words
+      → (d : ℕ) × IsDepth d (word words 6) × (query : Query) × Asks d query (word words n)
   pub least : 1 + length (shapes verb) + least_asked verb ≤ length words
   pub most : length words ≤ 1 + length (shapes verb) + most_asked verb
 
@@ -28,22 +30,24 @@ pub record SaysTask (words : List (List ℕ)) (task : Task) : Type 0 where
   pub form : HasForm task.form (word words 1)
   pub depth : IsDepth task.depth (word words 6)
   pub count : length words ≡ 7 + length task.queries.items
-  pub queries : (i : ℕ) → i < length task.queries.items → Asks task.depth (slice_index_or task.queries.items i Inner) (word words (7 + i))
+  pub queries : (i : ℕ) → i < length task.queries.items
+      → Asks task.depth (slice_index_or task.queries.items i Inner) (word words (7 + i))
 
 -- the words are those of this command
 abbrev pub Spells : List (List ℕ) → Command → Type 0
-Spells words (command.Verify task) = IsWhole verb.Verify words × SaysTask words task
-Spells words command.Help = IsWhole verb.Help words
-Spells words (command.Gen depth) = IsWhole verb.Gen words × IsDepth depth (word words 3)
-Spells words (command.Lines form depth) = IsWhole verb.Lines words × HasForm form (word words 1) × IsDepth depth (word words 2)
+Spells words (command.Verify task) = IsCommandOf verb.Verify words × SaysTask words task
+Spells words command.Help = IsCommandOf verb.Help words
+Spells words (command.Gen depth) = IsCommandOf verb.Gen words × IsDepth depth (word words 3)
+Spells words (command.Lines form depth) =
+    IsCommandOf verb.Lines words × HasForm form (word words 1) × IsDepth depth (word words 2)
 
 -- some command begins with these words
-abbrev pub Begins : List (List ℕ) → Type 0
-Begins words = (verb : Verb) × (rest : List (List ℕ)) × IsWhole verb (words ++ rest)
+abbrev pub BeginCommand : List (List ℕ) → Type 0
+BeginCommand words = (verb : Verb) × (rest : List (List ℕ)) × IsCommandOf verb (words ++ rest)
 
 -- Word n, from 0, is the first one such that the words up to it begin no command; or all words begin one, but are
 -- none, and n is their number.
 pub record IsRefusedAt (words : List (List ℕ)) (n : ℕ) : Type 0 where
-  pub before : Begins (take n words)
-  pub here : n < length words → Begins (take (n + 1) words) → ⊥
-  pub short : length words ≤ n → (n ≡ length words) × ((verb : Verb) → IsWhole verb words → ⊥)
+  pub before : BeginCommand (take n words)
+  pub here : n < length words → BeginCommand (take (n + 1) words) → ⊥
+  pub short : length words ≤ n → (n ≡ length words) × ((verb : Verb) → IsCommandOf verb words → ⊥)

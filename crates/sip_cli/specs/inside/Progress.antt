@@ -1,5 +1,5 @@
 -- How far the words of a command were read.
-use Rattle.std.specs.Prelude.{◌≡◌, ℕ, ◌+◌, ◌<◌, ◌≤◌, IsTrue, List, length, slice_index_or}
+use Rattle.std.specs.Prelude.{◌≡◌, ℕ, ◌+◌, ◌<◌, ◌≤◌, List, length, slice_index_or}
 use Rattle.sip_vector.specs.declared.query.Query.{Query}
 use Rattle.sip_vector.specs.declared.query.Query.TheVariants.{Inner}
 use Rattle.sip_cli.specs.declared.shape.Shape.{Shape}
@@ -11,7 +11,8 @@ use Rattle.sip_cli.specs.Words.{word}
 
 -- there are n words behind the verb, and they have the first n shapes
 abbrev pub HaveShapes : List Shape → List (List ℕ) → ℕ → Type 0
-HaveShapes shapes words n = (n < length words) × ((i : ℕ) → i < n → IsOf (slice_index_or shapes i Name) (word words (i + 1)))
+HaveShapes shapes words n = (n < length words)
+    × ((i : ℕ) → i < n → IsOf (slice_index_or shapes i Name) (word words (i + 1)))
 
 -- the word of this number is the first behind the verb that has not its shape
 pub record StopsInShapes (shapes : List Shape) (words : List (List ℕ)) (number : ℕ) : Type 0 where
@@ -23,18 +24,22 @@ pub record StopsInShapes (shapes : List Shape) (words : List (List ℕ)) (number
 
 -- the words are the verb and words of its shapes, at least
 abbrev pub Fitted : Verb → List (List ℕ) → Type 0
-Fitted verb words = (word words 0 ≡ verb_word verb) × HaveShapes (shapes verb) words (length (shapes verb))
+Fitted verb words =
+    (word words 0 ≡ verb_word verb) × HaveShapes (shapes verb) words (length (shapes verb))
 
 -- the words from 7 up to n are these queries
-pub record AreAsked (words : List (List ℕ)) (depth : ℕ) (queries : List Query) (n : ℕ) : Type 0 where
+pub record AreAsked (words : List (List ℕ)) (depth : ℕ) (queries : List Query) (n : ℕ)
+    : Type 0 where
   pub within : n ≤ length words
   pub count : n ≡ 7 + length queries
-  pub each : (i : ℕ) → i < length queries → Asks depth (slice_index_or queries i Inner) (word words (7 + i))
+  pub each : (i : ℕ) → i < length queries
+      → Asks depth (slice_index_or queries i Inner) (word words (7 + i))
 
 -- the word of this number is the first behind the depth that asks no query, or one too many
 pub record StopsInQueries (words : List (List ℕ)) (depth : ℕ) (number : ℕ) : Type 0 where
   pub queries : List Query
   pub before : AreAsked words depth queries number
   pub most : number ≤ 7 + most_queries
-  pub here : number < 7 + most_queries → number < length words → (query : Query) → Asks depth query (word words number) → ⊥
+  pub here : number < 7 + most_queries → number < length words
+      → (query : Query) → Asks depth query (word words number) → ⊥
   pub missing : length words ≤ number → number ≡ 7
