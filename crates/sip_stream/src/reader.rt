@@ -39,11 +39,26 @@ impl Model for Reader {
 
     ghost Value = { Reading };
 
-    ghost view = { λ r. record { depth = r.depth; form = r.form; count = r.count; first = r.first; second = r.second; is_spent = r.is_spent } };
+    ghost view = { λ r. record {
+      depth = r.depth;
+      form = r.form;
+      count = r.count;
+      first = r.first;
+      second = r.second;
+      is_spent = r.is_spent;
+    } };
 
-    ghost invariant = { λ r. (r.first ≤ most_weight) × (r.second ≤ most_weight) × (r.count ≤ r.first + r.second) };
+    ghost invariant = { λ r. (r.first ≤ most_weight) × (r.second ≤ most_weight)
+        × (r.count ≤ r.first + r.second) };
 
-    ghost inverse = { λ r. record { depth = r.depth; form = r.form; count = r.count; first = r.first; second = r.second; is_spent = r.is_spent } };
+    ghost inverse = { λ r. record {
+      depth = r.depth;
+      form = r.form;
+      count = r.count;
+      first = r.first;
+      second = r.second;
+      is_spent = r.is_spent;
+    } };
 }
 
 impl Reader {

@@ -65,7 +65,8 @@ impl<F: Field> Model for Level<F> {
 
     ghost use Rattle.sip_vector.specs.Levels.{index_and_residue};
 
-    ghost view = { λ l. dense 0 (2 ^ l.folds_left) (map (index_and_residue F.number) l.spots.items) };
+    ghost view = { λ l. dense 0 (2 ^ l.folds_left)
+        (map (index_and_residue F.number) l.spots.items) };
 
     ghost invariant = { λ l. (l.folds_left ≤ most_depth) × IsSparse 0 0 (2 ^ l.folds_left)
         (map (index_and_residue F.number) l.spots.items) };

@@ -21,8 +21,9 @@ pub fn records_are_legal()
 
 /// Where a question's replies are accepted and state an answer, that answer is counted.
 pub fn accepted_questions_are_counted()
-    ensures { (depth : ℕ) (stream : List Update) (t : Question) (answer : Answer) → Fits depth t.query
-        → IsLegal depth stream → Accepts depth stream t answer → CountsFor depth stream t answer }
+    ensures { (depth : ℕ) (stream : List Update) (t : Question) (answer : Answer)
+        → Fits depth t.query → IsLegal depth stream → Accepts depth stream t answer
+        → CountsFor depth stream t answer }
 {}
 
 /// Each report of a verifying command is counted, where its queries can be asked.

@@ -37,7 +37,8 @@ impl Model for Feed {
 
     ghost view = { λ f. record { waiting = f.waiting.items; is_spent = f.is_spent } };
 
-    ghost invariant = { λ f. (array_vec_len f.waiting < 512) × IsTrue (list_all has_spelling f.waiting.items) };
+    ghost invariant = { λ f. (array_vec_len f.waiting < 512)
+        × IsTrue (list_all has_spelling f.waiting.items) };
 }
 
 impl Feed {

@@ -79,7 +79,12 @@ impl Model for Session {
 
     ghost Value = { Sitting };
 
-    ghost view = { λ s. record { depth = s.seats.depth; left = drop s.asked s.seats.seats; entries = take s.found s.entries.items; spent = s.is_spent } };
+    ghost view = { λ s. record {
+      depth = s.seats.depth;
+      left = drop s.asked s.seats.seats;
+      entries = take s.found s.entries.items;
+      spent = s.is_spent;
+    } };
 }
 
 /// How many entries an answer to this query may have.
