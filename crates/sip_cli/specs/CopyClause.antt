@@ -1,8 +1,9 @@
 -- What `gen` and `lines` promise.
 --
--- A copy is the spellings of a stream's legal records. It is whole exactly where the stream was legal to its end and was
--- read to it, and all was written. Of a stream with a record that is not legal the copy has the records before that one, and
--- the status names it. Where a port stopped, or memory ran out, the copy has a front of these bytes.
+-- A copy is the spellings of a stream's legal records. It is whole exactly where the stream was
+-- legal to its end and was read to it, and all was written. Of a stream with a record that is not
+-- legal the copy has the records before that one, and the status names it. Where a port stopped, or
+-- memory ran out, the copy has a front of these bytes.
 use Rattle.std.specs.Prelude.{◌≡◌, ℕ, List, [], length, take, Option, Some, None}
 use Rattle.sip_ports.specs.declared.port.TalkEvent.{TalkEvent}
 use Rattle.sip_ports.specs.Ports.{GoesOn, outs}
@@ -13,7 +14,8 @@ use Rattle.sip_verifier.specs.declared.status.Port.TheVariants as ports
 use Rattle.sip_verifier.specs.declared.status.Status.{Status}
 use Rattle.sip_verifier.specs.declared.status.Status.TheVariants as statuses
 
--- The stream had these bytes to give in one form, and has `left` still; the report told `old`, and tells `new`.
+-- The stream had these bytes to give in one form, and has `left` still; the report told `old`, and
+-- tells `new`.
 module _ (depth : ℕ) (from to : Form) (bytes : List ℕ) (left : Option (List ℕ))
     (old new : Option (List TalkEvent)) where
   -- all legal records were written

@@ -1,7 +1,7 @@
 -- What `help` promises.
 --
--- It serves a whole talk: each message that may come is answered by the reply that is owed, before more is received. The
--- status says how the talk ended.
+-- It serves a whole talk: each message that may come is answered by the reply that is owed, before
+-- more is received. The status says how the talk ended.
 use Rattle.std.specs.Prelude.{List, Option}
 use Rattle.sip_helper.specs.declared.status.HelpStatus.TheVariants as helps
 use Rattle.sip_helper.specs.Serving.{Serves}

@@ -12,7 +12,8 @@ use Rattle.sip_cli.specs.declared.stream.Stream.TheVariants as stream
 use Rattle.sip_cli.specs.Shapes.{IsStreamWord}
 use Rattle.sip_cli.specs.Words.{word}
 
--- What the stream of word 1 is opened on at a depth. The path of lines of text stands behind `text:`.
+-- What the stream of word 1 is opened on at a depth. The path of lines of text stands behind
+-- `text:`.
 abbrev pub opening_of : Stream → ℕ → Opening
 opening_of (stream.Made number count) depth = Made number count depth
 opening_of stream.Text depth = Path 1 5
@@ -48,13 +49,15 @@ Opens words (command.Gen depth) plan =
 Opens words (command.Lines form depth) plan =
     (s : Stream) × IsStreamWord s (word words 1) × (plan ≡ source_ports (opening_of s depth))
 
--- the name of the file that an opening is on: a word without its first bytes, if there is such a word
+-- the name of the file that an opening is on: a word without its first bytes, if there is such a
+-- word
 abbrev pub file_name : Opening → List (List ℕ) → Option (List ℕ)
 file_name Nothing words = None
 file_name (Made number count depth) words = None
 file_name (Path n skip) words = option_map (drop skip) (slice_get words n)
 
--- the name, if the opening is on a file, stands in a word: it is all of it, or what is behind `text:`
+-- the name, if the opening is on a file, stands in a word: it is all of it, or what is behind
+-- `text:`
 abbrev pub HasName : List (List ℕ) → Opening → Type 0
 HasName words Nothing = Unit {0}
 HasName words (Made number count depth) = Unit {0}

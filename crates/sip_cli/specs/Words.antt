@@ -45,8 +45,8 @@ Spells words (command.Lines form depth) =
 abbrev pub BeginCommand : List (List ℕ) → Type 0
 BeginCommand words = (verb : Verb) × (rest : List (List ℕ)) × IsCommandOf verb (words ++ rest)
 
--- Word n, from 0, is the first one such that the words up to it begin no command; or all words begin one, but are
--- none, and n is their number.
+-- Word n, from 0, is the first one such that the words up to it begin no command; or all words
+-- begin one, but are none, and n is their number.
 pub record IsRefusedAt (words : List (List ℕ)) (n : ℕ) : Type 0 where
   pub before : BeginCommand (take n words)
   pub here : n < length words → BeginCommand (take (n + 1) words) → ⊥

@@ -20,11 +20,17 @@ is_one_two _ = false
 
 -- a query whose wrong answer is accepted where its one challenge is 0
 abbrev pub zero_query : Asked
-zero_query = record { accepts = λ r all. pointwise nat_eq r (0 ∷ []); is_right = λ all. false; bound = 1 }
+zero_query =
+    record { accepts = λ r all. pointwise nat_eq r (0 ∷ []); is_right = λ all. false; bound = 1 }
 
 -- a query whose wrong answer is accepted where the one reply is the challenge
 abbrev pub guess_query : Asked
-guess_query = record { accepts = λ r all. pointwise (pointwise nat_eq) all (r ∷ []); is_right = λ all. false; bound = 1 }
+guess_query =
+    record {
+      accepts = λ r all. pointwise (pointwise nat_eq) all (r ∷ []);
+      is_right = λ all. false;
+      bound = 1;
+    }
 
 -- a reply before a challenge is known, and one after the challenge 1 alone
 abbrev pub two_replies : List ℕ → Option (List ℕ)

@@ -13,7 +13,8 @@ use Rattle.sip_field.specs.declared.drawing.SeedSpent.{SeedSpent}
 abbrev pub candidate : ℕ → ℕ
 candidate word = word / 2 ^ 3
 
--- the first candidate of the next words that isn't 2^61 - 1, with `tries` words at most, and the words that are left
+-- the first candidate of the next words that isn't 2^61 - 1, with `tries` words at most, and the
+-- words that are left
 unfoldable pub draw_within : ℕ → Stream → Option ℕ × Stream
 draw_within zero words = (None, words)
 draw_within (suc tries) words =
@@ -28,7 +29,8 @@ draw_one = draw_within 8
 -- none of the next n words gives a challenge
 unfoldable pub AllMissed : ℕ → Stream → Type 0
 AllMissed zero words = Unit {0}
-AllMissed (suc n) words = (candidate (next_u64 words).0 ≡ m61_modulus) × AllMissed n (next_u64 words).1
+AllMissed (suc n) words =
+    (candidate (next_u64 words).0 ≡ m61_modulus) × AllMissed n (next_u64 words).1
 
 -- a challenge before others, where none of the draws was spent
 abbrev pub before : Option ℕ → Option (List ℕ) → Option (List ℕ)
@@ -68,4 +70,6 @@ words_after (suc count) words = words_after count (draw_one words).1
 
 -- a list is drawn block by block
 abbrev pub DrawsInBlocks : Type 0
-DrawsInBlocks = (a b : ℕ) (words : Stream) → draw_list (a + b) words ≡ joined (draw_list a words) (draw_list b (words_after a words))
+DrawsInBlocks =
+    (a b : ℕ) (words : Stream) → draw_list (a + b) words
+    ≡ joined (draw_list a words) (draw_list b (words_after a words))

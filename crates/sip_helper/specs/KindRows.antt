@@ -31,4 +31,5 @@ unbuilt = record { refused_by = λ v. Some out_of_turn; honest = λ v revealed. 
 
 -- the messages of a reply by a row
 abbrev pub reply_by : HelpRow → Vectors → List ℕ → List Message
-reply_by row v revealed = elim (row.refused_by v) [ Some code ↦ refusal code | None ↦ row.honest v revealed ]
+reply_by row v revealed =
+    elim (row.refused_by v) [ Some code ↦ refusal code | None ↦ row.honest v revealed ]

@@ -1,8 +1,9 @@
 -- What a helper does on a link.
 --
--- It takes one message after another: the spelling of a message that may come is received, and the reply that is owed then is
--- sent, before more is received. It stops at a farewell, at bytes that are no frame, at a query of a kind that it does not answer,
--- at a message out of turn, at the end of the link, or where the link fails or memory runs out.
+-- It takes one message after another: the spelling of a message that may come is received, and the
+-- reply that is owed then is sent, before more is received. It stops at a farewell, at bytes that
+-- are no frame, at a query of a kind that it does not answer, at a message out of turn, at the end
+-- of the link, or where the link fails or memory runs out.
 use Rattle.std.specs.Prelude.{◌≡◌, ◌≢◌, ◌⊎◌, ℕ, ◌<◌, Bool, false, IsTrue, List, [], ◌∷◌, ◌++◌, length, take, Option, Err}
 use Rattle.sip_ports.specs.declared.port.TalkEvent.{TalkEvent}
 use Rattle.sip_ports.specs.declared.port.TalkEvent.TheVariants.{Ended}
@@ -74,10 +75,12 @@ pub record IsNoFrame (rest : List TalkEvent) : Type 0 where
   pub fault : WireFault
   pub shown : IsOfBytes fault
   pub read : read_frame places.ToHelper got ≡ Err fault
-  pub shortest : (front more : List ℕ) → got ≡ front ++ more → more ≢ [] → read_frame places.ToHelper front ≡ Err faults.Closed
+  pub shortest : (front more : List ℕ) → got ≡ front ++ more → more ≢ []
+      → read_frame places.ToHelper front ≡ Err faults.Closed
   pub said : rest ≡ ins got
 
--- a query of a kind that is not answered, wherever it stands: nothing is sent, as where the bytes are no frame
+-- a query of a kind that is not answered, wherever it stands: nothing is sent, as where the bytes
+-- are no frame
 pub record IsUnknown (rest : List TalkEvent) : Type 0 where
   pub message : Message
   pub is : IsMessage message
@@ -114,7 +117,8 @@ pub record IsRefusalCut (s : HelperState) (rest : List TalkEvent) : Type 0 where
   pub out : is_allowed s message ≡ false
   pub sent : ℕ
   pub short : sent < length (spelling (messages.Refuse out_of_turn))
-  pub said : rest ≡ ins (spelling message) ++ outs (take sent (spelling (messages.Refuse out_of_turn)))
+  pub said : rest ≡ ins (spelling message)
+      ++ outs (take sent (spelling (messages.Refuse out_of_turn)))
 
 -- what was under way is cut short
 abbrev pub IsCutShort : HelperState → List TalkEvent → Type 0
@@ -123,7 +127,8 @@ IsCutShort s rest = IsFramePart [] rest ⊎ IsReplyCut s rest ⊎ IsRefusalCut s
 -- `at` is how many bytes were received in the turns
 abbrev pub EndsBy : HelperState → ℕ → List TalkEvent → HelpStatus → Type 0
 EndsBy s at rest Served = rest ≡ ins (spelling messages.Bye)
-EndsBy s at rest (BadFrame offset) = (offset ≡ at) × (IsNoFrame rest ⊎ IsUnknown rest ⊎ IsRefused s rest)
+EndsBy s at rest (BadFrame offset) =
+    (offset ≡ at) × (IsNoFrame rest ⊎ IsUnknown rest ⊎ IsRefused s rest)
 EndsBy s at rest PeerClosed = IsFramePart (Ended ∷ []) rest
 EndsBy s at rest PeerFault = IsCutShort s rest
 EndsBy s at rest OutOfMemory = IsCutShort s rest

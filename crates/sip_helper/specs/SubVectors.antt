@@ -26,7 +26,8 @@ abbrev pub sub_query : SubVectorProver → Query
 sub_query s = Sub s.lo s.hi
 
 -- a prover has the level that these challenges lead to
-pub record HasLevel (depth : ℕ) (v : Vectors) (revealed : List ℕ) (s : SubVectorProver) : Type 0 where
+pub record HasLevel (depth : ℕ) (v : Vectors) (revealed : List ℕ)
+    (s : SubVectorProver) : Type 0 where
   pub within : s.hi < 2 ^ depth
   pub level : s.prover ≡ proving m61_modulus v.first.numbers s.lo s.hi revealed
   pub height : length s.prover.level ≡ 2 ^ (depth - length revealed)

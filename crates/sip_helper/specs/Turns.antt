@@ -1,7 +1,9 @@
--- The turns of a helper: what it has heard, which message may come next, and the reply that it owes.
+-- The turns of a helper: what it has heard, which message may come next, and the reply that it
+-- owes.
 --
--- Whether memory is refused is open: at an opening, at updates and at a query each of the two may happen. Where it is refused
--- at an opening or at updates, the helper has the weights from then on and no longer the vectors.
+-- Whether memory is refused is open: at an opening, at updates and at a query each of the two may
+-- happen. Where it is refused at an opening or at updates, the helper has the weights from then on
+-- and no longer the vectors.
 use Rattle.std.specs.Prelude.{ℕ, ◌+◌, ◌^◌, Bool, true, false, not, ◌&&◌, ◌||◌, nat_le, nat_lt, is_none, is_some, List, [], ◌∷◌, ◌++◌, length, fold, Option, Some, None, if◌then◌else◌}
 use Rattle.std.specs.List.{list_all, flat_map}
 use Rattle.std.specs.Option.{option_map, option_and_then}
@@ -23,16 +25,16 @@ use Rattle.sip_helper.specs.KindRows.{refusal, reply_by, want_of_memory}
 
 -- ---- the state
 
--- a query that is open, the challenges that were revealed behind it, whether its last reply was given or is owed, and whether
--- memory was refused for it
+-- a query that is open, the challenges that were revealed behind it, whether its last reply was
+-- given or is owed, and whether memory was refused for it
 pub record OpenQuery : Type 0 where
   pub query : Query
   pub revealed : List ℕ
   pub given : Bool
   pub refused : Bool
 
--- what was heard of the stream, the vectors and their weights, how many queries were asked and which one is open, whether the
--- talk is over, and whether a reply was cut short
+-- what was heard of the stream, the vectors and their weights, how many queries were asked and
+-- which one is open, whether the talk is over, and whether a reply was cut short
 pub record HelperState : Type 0 where
   pub heard : Heard
   pub vectors : Option Vectors
@@ -47,7 +49,16 @@ no_weight = record { first = 0; second = 0 }
 
 -- nothing was heard
 abbrev pub fresh : HelperState
-fresh = record { heard = Nothing; vectors = None; weights = no_weight; queries = 0; open_query = None; done = false; spent = false }
+fresh =
+    record {
+      heard = Nothing;
+      vectors = None;
+      weights = no_weight;
+      queries = 0;
+      open_query = None;
+      done = false;
+      spent = false;
+    }
 
 abbrev pub depth_of : Heard → ℕ
 depth_of Nothing = 0
@@ -70,11 +81,16 @@ zero_vectors depth = record { first = zero_vector depth; second = zero_vector de
 
 -- the vectors once these updates are added
 abbrev pub with_updates : Vectors → List Update → Vectors
-with_updates v us = record { first = fold (with_update First) v.first us; second = fold (with_update Second) v.second us }
+with_updates v us =
+    record {
+      first = fold (with_update First) v.first us;
+      second = fold (with_update Second) v.second us;
+    }
 
 -- the weights once these updates are added
 abbrev pub weights_after : Weights → List Update → Weights
-weights_after w us = record { first = w.first + weight us First; second = w.second + weight us Second }
+weights_after w us =
+    record { first = w.first + weight us First; second = w.second + weight us Second }
 
 -- no side is too heavy
 abbrev pub is_light : Weights → Bool
@@ -82,7 +98,8 @@ is_light w = nat_le w.first most_weight && nat_le w.second most_weight
 
 -- each item is below 2 ^ depth, and no side becomes too heavy
 abbrev pub stays_legal : ℕ → Weights → List Update → Bool
-stays_legal depth w us = list_all (λ u. nat_lt u.item (2 ^ depth)) us && is_light (weights_after w us)
+stays_legal depth w us =
+    list_all (λ u. nat_lt u.item (2 ^ depth)) us && is_light (weights_after w us)
 
 -- ---- which message may come next
 
@@ -97,7 +114,8 @@ is_known _ = true
 
 -- a query may be asked of a stream of this depth
 abbrev pub may_ask : ℕ → HelperState → Query → Bool
-may_ask depth s q = is_none s.open_query && nat_lt s.queries most_queries && is_built q && is_below depth q
+may_ask depth s q =
+    is_none s.open_query && nat_lt s.queries most_queries && is_built q && is_below depth q
 
 -- a challenge may be revealed: the last reply was given, and a level is left above it
 abbrev pub may_reveal : ℕ → OpenQuery → Bool
@@ -106,10 +124,12 @@ may_reveal depth o = o.given && nat_lt (length o.revealed + 1) depth
 -- the message may come next; one that may not is out of turn
 abbrev pub is_allowed : HelperState → Message → Bool
 is_allowed s (messages.Open version depth) = elim s.heard [ Nothing ↦ true | _ ↦ false ]
-is_allowed s (messages.Updates us) = elim s.heard [ Part depth ↦ stays_legal depth s.weights us.items | _ ↦ false ]
+is_allowed s (messages.Updates us) =
+    elim s.heard [ Part depth ↦ stays_legal depth s.weights us.items | _ ↦ false ]
 is_allowed s messages.EndStream = elim s.heard [ Part depth ↦ true | _ ↦ false ]
 is_allowed s (messages.Query q) = elim s.heard [ Whole depth ↦ may_ask depth s q | _ ↦ false ]
-is_allowed s (messages.Reveal r) = elim s.open_query [ Some o ↦ may_reveal (depth_of s.heard) o | None ↦ false ]
+is_allowed s (messages.Reveal r) =
+    elim s.open_query [ Some o ↦ may_reveal (depth_of s.heard) o | None ↦ false ]
 is_allowed s messages.Bye = true
 is_allowed s _ = false
 
@@ -123,11 +143,19 @@ with_challenge r o = record o { revealed = o.revealed ++ r ∷ []; given = false
 
 -- the state after a message that may come next, by whether memory is refused for it
 abbrev pub step : HelperState → Bool → Message → HelperState
-step s refused (messages.Open version depth) = record s { heard = Part depth; vectors = if refused then None else Some (zero_vectors depth) }
-step s refused (messages.Updates us) = record s { weights = weights_after s.weights us.items; vectors = if refused then None else option_map (λ v. with_updates v us.items) s.vectors }
+step s refused (messages.Open version depth) =
+    record s { heard = Part depth; vectors = if refused then None else Some (zero_vectors depth) }
+step s refused (messages.Updates us) =
+    record s {
+      weights = weights_after s.weights us.items;
+      vectors = if refused then None
+          else option_map (λ v. with_updates v us.items) s.vectors;
+    }
 step s refused messages.EndStream = record s { heard = Whole (depth_of s.heard) }
-step s refused (messages.Query q) = record s { queries = s.queries + 1; open_query = Some (newly_asked q refused) }
-step s refused (messages.Reveal r) = record s { open_query = option_map (with_challenge r) s.open_query }
+step s refused (messages.Query q) =
+    record s { queries = s.queries + 1; open_query = Some (newly_asked q refused) }
+step s refused (messages.Reveal r) =
+    record s { open_query = option_map (with_challenge r) s.open_query }
 step s refused messages.Bye = record s { done = true }
 step s refused _ = s
 
@@ -137,7 +165,8 @@ step s refused _ = s
 -- else the honest ones
 abbrev pub reply_to : Option Vectors → OpenQuery → List Message
 reply_to None o = refusal want_of_memory
-reply_to (Some v) o = if o.refused then refusal want_of_memory else reply_by (help_row o.query) v o.revealed
+reply_to (Some v) o =
+    if o.refused then refusal want_of_memory else reply_by (help_row o.query) v o.revealed
 
 -- that reply is a refusal
 abbrev pub is_refused : Option Vectors → OpenQuery → Bool
@@ -150,7 +179,8 @@ owes s = elim s.open_query [ Some o ↦ not o.given | None ↦ false ]
 
 -- the messages of the reply that is owed
 abbrev pub owed_messages : HelperState → List Message
-owed_messages s = elim s.open_query [ Some o ↦ if o.given then [] else reply_to s.vectors o | None ↦ [] ]
+owed_messages s =
+    elim s.open_query [ Some o ↦ if o.given then [] else reply_to s.vectors o | None ↦ [] ]
 
 -- its bytes
 abbrev pub owed : HelperState → List ℕ
@@ -165,4 +195,8 @@ after_reply depth vectors o =
 
 -- the state once the reply that is owed was given
 abbrev pub after_answer : HelperState → HelperState
-after_answer s = record s { open_query = option_and_then (after_reply (depth_of s.heard) s.vectors) s.open_query }
+after_answer s =
+    record s {
+      open_query = option_and_then
+          (after_reply (depth_of s.heard) s.vectors) s.open_query;
+    }

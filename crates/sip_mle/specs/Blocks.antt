@@ -6,4 +6,5 @@ use Rattle.sip_vector.specs.declared.update.Update.{Update}
 
 -- an extension after these updates, one after another
 abbrev pub point_after : ℕ → List ℕ → ℕ → List Update → ℕ
-point_after p challenges value updates = fold (λ v u. (v + residue p u.delta * chi p u.item challenges) % p) value updates
+point_after p challenges value updates =
+    fold (λ v u. (v + residue p u.delta * chi p u.item challenges) % p) value updates

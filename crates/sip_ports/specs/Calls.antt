@@ -43,7 +43,8 @@ failed_of-le fails (suc n) = omega (arith, failed_of-le fails n, one_if-le (fail
 pub failed_of-fits : (fails : List ℕ) (n : ℕ) → n < 2 ^ 64 → failed_of fails n < 2 ^ 64
 failed_of-fits fails n h = omega (arith, failed_of-le fails n)
 
-pub failed_of-more : (fails : List ℕ) (n : ℕ) → failed_of fails (n + 1) ≡ failed_of fails n + one_if (fails_at fails (n + 1))
+pub failed_of-more : (fails : List ℕ) (n : ℕ)
+    → failed_of fails (n + 1) ≡ failed_of fails n + one_if (fails_at fails (n + 1))
 failed_of-more fails n = rw add-one refl
 
 -- with no call to fail there is no fault, for good

@@ -13,13 +13,15 @@ Rose before now = min (before + 1) (2 ^ 64 - 1) ≤ now
 
 -- the count of faults never falls, and `Failed` is answered only where it rose
 -- one that never fails stays so
-pub record HasCause {P T : Type 0} (faults : P → ℕ) (is_sure : P → Type 0) (before now : P) (result : Result T PortStop) : Type 0 where
+pub record HasCause {P T : Type 0} (faults : P → ℕ) (is_sure : P → Type 0) (before now : P)
+    (result : Result T PortStop) : Type 0 where
   pub later : faults before ≤ faults now
   pub failed : IsErrOf result Failed → Rose (faults before) (faults now)
   pub sure : is_sure before → is_sure now
 
 -- the count of faults never falls, and one that never fails stays so, whatever was answered
-pub record Lasts {P : Type 0} (faults : P → ℕ) (is_sure : P → Type 0) (before now : P) : Type 0 where
+pub record Lasts {P : Type 0} (faults : P → ℕ) (is_sure : P → Type 0)
+    (before now : P) : Type 0 where
   pub later : faults before ≤ faults now
   pub sure : is_sure before → is_sure now
 
@@ -52,8 +54,10 @@ GoesOn (Some talk) None events = ⊥
 GoesOn (Some talk) (Some more) events = more ≡ talk ++ events
 
 -- `write(buf)` sent the n bytes that it took at `Ok(n)`, and nothing at `Err`
-abbrev pub Sends : {E : Type 0} → Option (List TalkEvent) → Option (List TalkEvent) → Result ℕ E → List ℕ → Type 0
-Sends old new r buf = MatchResult r (λ n. GoesOn old new (outs (take n buf))) (λ _. GoesOn old new [])
+abbrev pub Sends : {E : Type 0} → Option (List TalkEvent) → Option (List TalkEvent) → Result ℕ E
+    → List ℕ → Type 0
+Sends old new r buf =
+    MatchResult r (λ n. GoesOn old new (outs (take n buf))) (λ _. GoesOn old new [])
 
 -- what receiving n bytes adds to a talk: the bytes, or that the other end had closed
 abbrev pub received : ℕ → List ℕ → List TalkEvent
@@ -62,18 +66,21 @@ received zero (_ ∷ _) = Ended ∷ []
 received (suc n) buf = ins (take (suc n) buf)
 
 -- `recv(buf)` received the n bytes that it gave at `Ok(n)`, and nothing at `Err`
-abbrev pub Hears : {E : Type 0} → Option (List TalkEvent) → Option (List TalkEvent) → Result ℕ E → List ℕ → Type 0
+abbrev pub Hears : {E : Type 0} → Option (List TalkEvent) → Option (List TalkEvent) → Result ℕ E
+    → List ℕ → Type 0
 Hears old new r buf = MatchResult r (λ n. GoesOn old new (received n buf)) (λ _. GoesOn old new [])
 
 -- A whole read took the n bytes that it gave at `Ok(n)`, fewer than asked only at the end.
 -- At `Err` it took fewer bytes than asked, which stand at the front.
-abbrev pub ReadsWhole : {E : Type 0} → Option (List ℕ) → Option (List ℕ) → Result ℕ E → List ℕ → Type 0
+abbrev pub ReadsWhole : {E : Type 0} → Option (List ℕ) → Option (List ℕ) → Result ℕ E → List ℕ
+    → Type 0
 ReadsWhole old new r buf = MatchResult r
     (λ n. (n ≤ length buf) × Consumes old new (take n buf) × (n < length buf → IsAtEnd new))
     (λ _. (n : ℕ) × (n < length buf) × Consumes old new (take n buf))
 
 -- A whole write sent all at `Ok`, and at `Err` a shorter front.
-abbrev pub SendsWhole : {T E : Type 0} → Option (List TalkEvent) → Option (List TalkEvent) → Result T E → List ℕ → Type 0
+abbrev pub SendsWhole : {T E : Type 0} → Option (List TalkEvent) → Option (List TalkEvent)
+    → Result T E → List ℕ → Type 0
 SendsWhole old new r buf = MatchResult r
     (λ _. GoesOn old new (outs buf))
     (λ _. (n : ℕ) × (n < length buf) × GoesOn old new (outs (take n buf)))
@@ -82,16 +89,18 @@ SendsWhole old new r buf = MatchResult r
 abbrev pub ended_if : ℕ → ℕ → List TalkEvent
 ended_if came asked = if nat_lt came asked then Ended ∷ [] else []
 
--- A whole receive took the n bytes that it gave at `Ok(n)`, fewer than asked only where the other end had closed.
--- At `Err` it took fewer bytes than asked, which stand at the front.
-abbrev pub HearsWhole : {E : Type 0} → Option (List TalkEvent) → Option (List TalkEvent) → Result ℕ E → List ℕ → Type 0
+-- A whole receive took the n bytes that it gave at `Ok(n)`, fewer than asked only where the other
+-- end had closed. At `Err` it took fewer bytes than asked, which stand at the front.
+abbrev pub HearsWhole : {E : Type 0} → Option (List TalkEvent) → Option (List TalkEvent)
+    → Result ℕ E → List ℕ → Type 0
 HearsWhole old new r buf = MatchResult r
     (λ n. (n ≤ length buf) × GoesOn old new (ins (take n buf) ++ ended_if n (length buf)))
     (λ _. (n : ℕ) × (n < length buf) × GoesOn old new (ins (take n buf)))
 
 -- the count rose at `Failed`, which is the only failure, and stays otherwise
 abbrev pub Counts : {T : Type 0} → ℕ → ℕ → Result T PortStop → Type 0
-Counts before now r = MatchResult r (λ _. now ≡ before) (λ e. (e ≡ Failed) × (now ≡ min (before + 1) (2 ^ 64 - 1)))
+Counts before now r =
+    MatchResult r (λ _. now ≡ before) (λ e. (e ≡ Failed) × (now ≡ min (before + 1) (2 ^ 64 - 1)))
 
 -- what was written before, and then these bytes
 abbrev pub Writes : Option (List TalkEvent) → Option (List TalkEvent) → List ℕ → Type 0

@@ -1,5 +1,5 @@
--- What the calls did that ask: what was said on the link, and what was written to the keeper of what
--- is received.
+-- What the calls did that ask: what was said on the link, and what was written to the keeper of
+-- what is received.
 use Rattle.std.specs.Prelude.{◌≡◌, ◌≢◌, ◌<◌, ◌⊎◌, ℕ, List, [], ◌∷◌, ◌++◌, length, Option, None, Result, Ok, Err, is_ok, IsTrue}
 use Rattle.sip_ports.specs.declared.port.PortStop.{PortStop}
 use Rattle.sip_ports.specs.declared.port.PortStop.TheVariants as ports
@@ -80,7 +80,8 @@ module _ {X : Type 0} (read : List ℕ → Result X Reason)
     pub heard : GoesOn old new (ins bytes ++ ending reason)
     pub kept : GoesOn before now (outs bytes)
     pub says : read bytes ≡ Err reason
-    pub shortest : (front : List ℕ) (byte : ℕ) → bytes ≡ front ++ byte ∷ [] → reason ≢ reasons.Closed
+    pub shortest : (front : List ℕ) (byte : ℕ) → bytes ≡ front ++ byte ∷ []
+        → reason ≢ reasons.Closed
         → read front ≡ Err reasons.Closed
 
   -- the link stopped, and what came has no fault but that it is not whole
@@ -144,8 +145,8 @@ module _ {S : Type 0} (P : Protocol S) (query : Query) (block : List ℕ)
     pub unfinished : IsUnfinished P.rules block replies
     pub missing : IsMissing P.rules block replies
 
-  -- What came of the last reply could not be kept. The replies before it are whole and have no fault,
-  -- and no byte less ends the last one or shows a fault.
+  -- What came of the last reply could not be kept. The replies before it are whole and have no
+  -- fault, and no byte less ends the last one or shows a fault.
   pub record IsUnrecorded : Type 0 where
     pub due : P.unasked ≡ None
     pub earlier : List (List ℕ)

@@ -1,5 +1,5 @@
--- A small protocol whose answer is pairs: in each reply any number of values, one to a frame, and the
--- end of a level. Only tests have a check of it.
+-- A small protocol whose answer is pairs: in each reply any number of values, one to a frame, and
+-- the end of a level. Only tests have a check of it.
 use Rattle.std.specs.Prelude.{◌≡◌, ◌≢◌, ◌≤◌, ℕ, ◌==◌, Bool, true, false, nat_lt, ℤ, List, [], ◌∷◌, ◌++◌, length, take, slice_index, Some, None, Result, Ok, Err, if◌then◌else◌}
 use Rattle.sip_vector.specs.declared.update.Entry.{Entry}
 use Rattle.sip_vector.specs.Answers.{Answer, pairs}

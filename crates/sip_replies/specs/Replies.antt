@@ -140,8 +140,8 @@ pub record IsStated {S : Type 0} (P : Protocol S) (rs : List ℕ) (replies : Lis
   pub all : length replies ≡ length rs
   pub found : verdict P rs replies ≡ Ok answer
 
--- The replies are accepted with this answer. Where nothing is asked there are none, and the answer is
--- the one that is known.
+-- The replies are accepted with this answer. Where nothing is asked there are none, and the answer
+-- is the one that is known.
 abbrev pub IsAccepted : {S : Type 0} → Protocol S → List ℕ → List (List ℕ) → Answer → Type 0
 IsAccepted P rs replies answer = elim P.unasked [
   | None ↦ IsStated P rs replies answer

@@ -1,5 +1,5 @@
--- A small protocol with a number and a test in each round: the replies to a query for a sum, a claim
--- and a polynomial, and in each later reply a polynomial. Only tests have a check of it.
+-- A small protocol with a number and a test in each round: the replies to a query for a sum, a
+-- claim and a polynomial, and in each later reply a polynomial. Only tests have a check of it.
 use Rattle.std.specs.Prelude.{◌≡◌, ◌≢◌, ℕ, ◌+◌, ◌*◌, ◌%◌, ◌==◌, Bool, true, false, ℤ, Option, Some, None, is_none, Result, Ok, Err, if◌then◌else◌}
 use Rattle.sip_field.specs.Moduli.{m61_modulus}
 use Rattle.sip_field.specs.Residue.{residue}
@@ -99,7 +99,8 @@ open_claimed None s v reason e c = absurd cc
 open_claimed (Some w) s v reason e c = kind {X = More × SumState} reason e c
 
 open_if : (test : Bool) (x : More × SumState) (reason : Reason)
-    → ◌≡◌ {A = Result (More × SumState) Reason} (if test then Ok x else Err reasons.Sum) (Err reason)
+    → ◌≡◌ {A = Result (More × SumState) Reason} (if test then Ok x else Err reasons.Sum)
+    (Err reason)
     → reason ≢ reasons.Closed
 open_if true x reason e c = absurd cc
 open_if false x reason e c = let f = same {X = More × SumState} reasons.Sum reason e in cc

@@ -38,4 +38,5 @@ module _ (first second : MemorySource) (peer : MemoryLink) (report : MemorySink)
 
   -- how often these ports failed
   abbrev pub faults_of : Counts
-  faults_of = counts (source_faults first) (source_faults second) (link_faults peer) (sink_faults report)
+  faults_of =
+      counts (source_faults first) (source_faults second) (link_faults peer) (sink_faults report)

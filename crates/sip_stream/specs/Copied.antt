@@ -28,7 +28,8 @@ module _ (depth : ℕ) (from to : Form) (bytes : List ℕ) where
 
   abbrev pub fault_is : Option StreamFault → Option (List ℕ) → Type 0
   fault_is None left = ((records depth from bytes).fault ≡ None) × (left ≡ Some [])
-  fault_is (Some (faults.Bad at why)) left = ((records depth from bytes).fault ≡ Some why) × (at ≡ length legal)
+  fault_is (Some (faults.Bad at why)) left =
+      ((records depth from bytes).fault ≡ Some why) × (at ≡ length legal)
   fault_is (Some faults.ReadFault) left = Unit {0}
   fault_is (Some faults.OutOfMemory) left = Unit {0}
 
@@ -38,7 +39,9 @@ module _ (depth : ℕ) (from to : Form) (bytes : List ℕ) where
   were_read (Some (faults.Bad at why)) us = us ≡ legal
   were_read (Some _) us = (more : List Update) × (legal ≡ us ++ more)
 
-  abbrev pub CopiesOn : Option (List ℕ) → Option (List TalkEvent) → Option (List TalkEvent) → List ℕ → Result (Option StreamFault) PortStop → Type 0
+  abbrev pub CopiesOn : Option (List ℕ) → Option (List TalkEvent) → Option (List TalkEvent) → List ℕ
+      → Result (Option StreamFault) PortStop → Type 0
   CopiesOn left old new gathered (Ok stopped) =
-      (us : List Update) × were_read stopped us × fault_is stopped left × IsSentBut old new (all_spelled to us) gathered
+      (us : List Update) × were_read stopped us × fault_is stopped left
+      × IsSentBut old new (all_spelled to us) gathered
   CopiesOn left old new gathered (Err stop) = IsCut old new (all_spelled to legal)

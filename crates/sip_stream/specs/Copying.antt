@@ -1,4 +1,5 @@
--- What a copy of a stream writes: its legal records, each in the spelling of the form that is asked for.
+-- What a copy of a stream writes: its legal records, each in the spelling of the form that is asked
+-- for.
 use Rattle.std.specs.Prelude.{◌≡◌, ℕ, List, [], length, take, Option, Some, None, Result, Ok, Err}
 use Rattle.std.specs.List.{flat_map}
 use Rattle.sip_ports.specs.declared.port.PortStop.{PortStop}
@@ -22,16 +23,22 @@ all_spelled to us = flat_map (spelled to) us
 abbrev pub copied : ℕ → Form → Form → List ℕ → List ℕ
 copied depth from to bytes = all_spelled to (records depth from bytes).legal
 
--- Of a stream that was read to its end all records were written; of one with a record that is not legal those before it; and
--- where a port stopped, a front of these.
-abbrev pub Copies : ℕ → Form → Form → List ℕ → Option (List ℕ) → Option (List TalkEvent) → Option (List TalkEvent) → Result (Unit {0}) CopyStop → Type 0
+-- Of a stream that was read to its end all records were written; of one with a record that is not
+-- legal those before it; and where a port stopped, a front of these.
+abbrev pub Copies : ℕ → Form → Form → List ℕ → Option (List ℕ) → Option (List TalkEvent)
+    → Option (List TalkEvent) → Result (Unit {0}) CopyStop → Type 0
 Copies depth from to bytes left old new (Ok _) =
-    ((records depth from bytes).fault ≡ None) × (left ≡ Some []) × GoesOn old new (outs (copied depth from to bytes))
+    ((records depth from bytes).fault ≡ None) × (left ≡ Some [])
+    × GoesOn old new (outs (copied depth from to bytes))
 Copies depth from to bytes left old new (Err (stops.Bad at why)) =
-    ((records depth from bytes).fault ≡ Some why) × (at ≡ length (records depth from bytes).legal) × GoesOn old new (outs (copied depth from to bytes))
-Copies depth from to bytes left old new (Err stops.ReadFault) = (n : ℕ) × GoesOn old new (outs (take n (copied depth from to bytes)))
-Copies depth from to bytes left old new (Err stops.WriteFault) = (n : ℕ) × GoesOn old new (outs (take n (copied depth from to bytes)))
-Copies depth from to bytes left old new (Err stops.OutOfMemory) = (n : ℕ) × GoesOn old new (outs (take n (copied depth from to bytes)))
+    ((records depth from bytes).fault ≡ Some why) × (at ≡ length (records depth from bytes).legal)
+    × GoesOn old new (outs (copied depth from to bytes))
+Copies depth from to bytes left old new (Err stops.ReadFault) =
+    (n : ℕ) × GoesOn old new (outs (take n (copied depth from to bytes)))
+Copies depth from to bytes left old new (Err stops.WriteFault) =
+    (n : ℕ) × GoesOn old new (outs (take n (copied depth from to bytes)))
+Copies depth from to bytes left old new (Err stops.OutOfMemory) =
+    (n : ℕ) × GoesOn old new (outs (take n (copied depth from to bytes)))
 
 -- why a copy stops where its sink does
 abbrev pub stop_of_sink : PortStop → CopyStop

@@ -11,7 +11,9 @@ most_line = 40
 -- the bytes in front of the first such byte, and those behind it, where there is one
 abbrev pub parts_at : ℕ → List ℕ → Option (List ℕ × List ℕ)
 parts_at mark [] = None
-parts_at mark (b ∷ bs) = if b == mark then Some ([], bs) else option_map (λ parts. (b ∷ parts.0, parts.1)) (parts_at mark bs)
+parts_at mark (b ∷ bs) =
+    if b == mark then Some ([], bs)
+    else option_map (λ parts. (b ∷ parts.0, parts.1)) (parts_at mark bs)
 
 -- decimal digits, of which the first is 0 only where it is the only one
 abbrev pub is_decimal : List ℕ → Bool
@@ -35,17 +37,21 @@ abbrev pub below_zero : ℕ → Option ℤ
 below_zero zero = None
 below_zero (suc n) = if nat_lt n (2 ^ 63) then Some (negsuc n) else None
 
--- the number that a text writes so, with `-` in front of it where it is negative, where it is from -2^63 to 2^63 - 1
+-- the number that a text writes so, with `-` in front of it where it is negative, where it is from
+-- -2^63 to 2^63 - 1
 abbrev pub delta_at : List ℕ → Option ℤ
 delta_at [] = None
-delta_at (b ∷ bs) = if b == 45 then option_and_then below_zero (decimal_at bs) else option_and_then above_zero (decimal_at (b ∷ bs))
+delta_at (b ∷ bs) =
+    if b == 45 then option_and_then below_zero (decimal_at bs)
+    else option_and_then above_zero (decimal_at (b ∷ bs))
 
 -- three numbers, where there are three
 abbrev pub three : Option ℕ → Option ℕ → Option ℤ → Option Numbers
 three None item delta = None
 three (Some side) None delta = None
 three (Some side) (Some item) None = None
-three (Some side) (Some item) (Some delta) = Some (record { side = side; item = item; delta = delta })
+three (Some side) (Some item) (Some delta) =
+    Some (record { side = side; item = item; delta = delta })
 
 -- the numbers that a text says with one space between two of them; its side is any number
 abbrev pub numbers_at : List ℕ → Option Numbers
@@ -62,8 +68,10 @@ abbrev pub begun : List ℕ → List (List ℕ)
 begun [] = []
 begun (b ∷ bs) = (b ∷ bs) ∷ []
 
--- The lines of some bytes, the first one having begun so. A line is what comes up to and with the next line feed, or up
--- to and with its 41st byte.
+-- The lines of some bytes, the first one having begun so. A line is what comes up to and with the
+-- next line feed, or up to and with its 41st byte.
 abbrev pub lines_from : List ℕ → List ℕ → List (List ℕ)
 lines_from front [] = begun front
-lines_from front (b ∷ bs) = if (b == 10) || nat_le most_line (length front) then (front ++ b ∷ []) ∷ lines_from [] bs else lines_from (front ++ b ∷ []) bs
+lines_from front (b ∷ bs) =
+    if (b == 10) || nat_le most_line (length front) then (front ++ b ∷ []) ∷ lines_from [] bs
+    else lines_from (front ++ b ∷ []) bs

@@ -1,4 +1,5 @@
--- A stream that is made from a number: a linear congruential generator modulo 2^64, and the records that its states say.
+-- A stream that is made from a number: a linear congruential generator modulo 2^64, and the records
+-- that its states say.
 use Rattle.std.specs.Prelude.{ℕ, zero, suc, ◌+◌, ◌*◌, ◌/◌, ◌%◌, ◌^◌, ◌==◌, ℤ, pos, List, [], ◌∷◌, if◌then◌else◌}
 use Rattle.std.specs.List.{flat_map}
 use Rattle.sip_vector.specs.declared.update.Side.{Side}
@@ -14,8 +15,8 @@ next_state x = (x * 6364136223846793005 + 1442695040888963407) % 2 ^ 64
 unfoldable pub made_side : ℕ → Side
 made_side x = if x / 2 ^ 63 == 0 then First else Second
 
--- The item is the bits from 15 on, as many as there are levels; but where bits 8 and 9 are 0 it is bit 15 alone, so
--- items 0 and 1 are heavy.
+-- The item is the bits from 15 on, as many as there are levels; but where bits 8 and 9 are 0 it is
+-- bit 15 alone, so items 0 and 1 are heavy.
 unfoldable pub made_item : ℕ → ℕ → ℕ
 made_item depth x = if x / 2 ^ 8 % 4 == 0 then x / 2 ^ 15 % 2 else x / 2 ^ 15 % 2 ^ depth
 

@@ -21,13 +21,20 @@ pub record IsFirst (form : Form) (bytes piece rest : List ℕ) : Type 0 where
 
 -- what a record says: an update, which is then tested by what came before, or none
 abbrev pub Says : Form → List ℕ → Result Update Why → Type 0
-Says form piece (Ok u) = (update_at form piece ≡ u) × ((depth : ℕ) (before : List Update) → fault_at form depth before piece ≡ update_fault depth before u)
-Says form piece (Err why) = (depth : ℕ) (before : List Update) → fault_at form depth before piece ≡ Some why
+Says form piece (Ok u) =
+    (update_at form piece ≡ u)
+    × ((depth : ℕ) (before : List Update)
+    → fault_at form depth before piece ≡ update_fault depth before u)
+Says form piece (Err why) =
+    (depth : ℕ) (before : List Update) → fault_at form depth before piece ≡ Some why
 
 -- the first record was taken, or there is none
-abbrev pub ReadsPiece : Form → List ℕ → Option (List ℕ) → Result (Option (Result Update Why)) PortStop → Type 0
+abbrev pub ReadsPiece : Form → List ℕ → Option (List ℕ)
+    → Result (Option (Result Update Why)) PortStop → Type 0
 ReadsPiece form bytes left (Ok None) = (bytes ≡ []) × (left ≡ Some [])
-ReadsPiece form bytes left (Ok (Some answer)) = (piece rest : List ℕ) × (left ≡ Some rest) × IsFirst form bytes piece rest × Says form piece answer
+ReadsPiece form bytes left (Ok (Some answer)) =
+    (piece rest : List ℕ) × (left ≡ Some rest) × IsFirst form bytes piece rest
+    × Says form piece answer
 ReadsPiece form bytes left (Err stop) = TakesFront bytes left
 
 -- the first byte was taken, or there is none
@@ -45,9 +52,13 @@ pub record IsBegun (bytes front rest : List ℕ) : Type 0 where
 -- a line was taken up to its end, or a part of it
 abbrev pub TakesLine : List ℕ → List ℕ → Option (List ℕ) → Result LineEnd PortStop → Type 0
 TakesLine bytes front left (Ok Input) = IsBegun bytes front [] × (left ≡ Some [])
-TakesLine bytes front left (Ok Feed) = (rest : List ℕ) × IsBegun bytes front (10 ∷ rest) × (left ≡ Some rest) × (length front < 40)
-TakesLine bytes front left (Ok TooLong) = (byte : ℕ) × (rest : List ℕ) × IsBegun bytes front (byte ∷ rest) × (left ≡ Some rest) × (40 ≤ length front)
-TakesLine bytes front left (Err stop) = (rest : List ℕ) × IsBegun bytes front rest × (left ≡ Some rest)
+TakesLine bytes front left (Ok Feed) =
+    (rest : List ℕ) × IsBegun bytes front (10 ∷ rest) × (left ≡ Some rest) × (length front < 40)
+TakesLine bytes front left (Ok TooLong) =
+    (byte : ℕ) × (rest : List ℕ) × IsBegun bytes front (byte ∷ rest) × (left ≡ Some rest)
+    × (40 ≤ length front)
+TakesLine bytes front left (Err stop) =
+    (rest : List ℕ) × IsBegun bytes front rest × (left ≡ Some rest)
 
 -- what the text of a line says
 abbrev pub line_said : List ℕ → Result Update Why

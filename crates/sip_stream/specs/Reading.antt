@@ -27,7 +27,8 @@ weight_of r Second = r.second
 
 -- before the first record
 abbrev pub unread : ℕ → Form → Reading
-unread depth form = record { depth = depth; form = form; count = 0; first = 0; second = 0; is_spent = false }
+unread depth form =
+    record { depth = depth; form = form; count = 0; first = 0; second = 0; is_spent = false }
 
 -- a reader has read these legal records, and may go on
 pub record IsAfter (r : Reading) (stream : List Update) : Type 0 where
@@ -52,12 +53,17 @@ GoesOnAfter new before (Ok (Some u)) = IsAfter new (before ++ u ∷ [])
 GoesOnAfter new before (Ok None) = IsAfter new before
 GoesOnAfter new before (Err fault) = ⊤
 
--- The next record of the bytes that come after these legal ones: a legal one, the end, or one that is not legal. A
--- source that stopped has given a front of the bytes.
-abbrev pub Reads : ℕ → Form → List Update → List ℕ → Option (List ℕ) → Result (Option Update) StreamFault → Type 0
-Reads depth form before bytes left (Ok (Some u)) = (piece rest : List ℕ) × (left ≡ Some rest) × (bytes ≡ piece ++ rest) × (records_from depth form before bytes ≡ records_from depth form (before ++ u ∷ []) rest)
+-- The next record of the bytes that come after these legal ones: a legal one, the end, or one that
+-- is not legal. A source that stopped has given a front of the bytes.
+abbrev pub Reads : ℕ → Form → List Update → List ℕ → Option (List ℕ)
+    → Result (Option Update) StreamFault → Type 0
+Reads depth form before bytes left (Ok (Some u)) =
+    (piece rest : List ℕ) × (left ≡ Some rest) × (bytes ≡ piece ++ rest)
+    × (records_from depth form before bytes ≡ records_from depth form (before ++ u ∷ []) rest)
 Reads depth form before bytes left (Ok None) = (left ≡ Some []) × (bytes ≡ [])
-Reads depth form before bytes left (Err (faults.Bad at why)) = TakesFront bytes left × (at ≡ length before) × (records_from depth form before bytes ≡ record { legal = before; fault = Some why })
+Reads depth form before bytes left (Err (faults.Bad at why)) =
+    TakesFront bytes left × (at ≡ length before)
+    × (records_from depth form before bytes ≡ record { legal = before; fault = Some why })
 Reads depth form before bytes left (Err faults.ReadFault) = TakesFront bytes left
 Reads depth form before bytes left (Err faults.OutOfMemory) = TakesFront bytes left
 

@@ -1,5 +1,6 @@
--- The legal records that bytes begin with, in either form. A binary record has 13 bytes: the side, the item in four
--- bytes and the delta in eight, big endian, the delta in two's complement. A record in text is a line.
+-- The legal records that bytes begin with, in either form. A binary record has 13 bytes: the side,
+-- the item in four bytes and the delta in eight, big endian, the delta in two's complement. A
+-- record in text is a line.
 use Rattle.std.specs.Prelude.{ℕ, ◌^◌, ◌==◌, nat_le, nat_lt, pos, List, [], ◌∷◌, ◌++◌, length, drop, slice_index, Option, Some, None, option_and_then, if◌then◌else◌}
 use Rattle.std.specs.Int.{w64, cast_signed}
 use Rattle.byteorder.specs.Endian.{big_number}
@@ -34,7 +35,8 @@ record_at bytes = record {
 abbrev pub record_fault : ℕ → List Update → List ℕ → Option Why
 record_fault depth before bytes =
     if nat_lt (length bytes) 13 then Some Truncated else (
-    if nat_lt 1 (slice_index bytes 0) then Some BadSide else update_fault depth before (record_at bytes))
+    if nat_lt 1 (slice_index bytes 0) then Some BadSide
+    else update_fault depth before (record_at bytes))
 
 -- the update that three numbers say
 abbrev pub said : Numbers → Update
@@ -42,7 +44,8 @@ said n = record { side = if n.side == 0 then First else Second; item = n.item; d
 
 -- why three numbers say no legal update after these
 abbrev pub said_fault : ℕ → List Update → Numbers → Option Why
-said_fault depth before n = if nat_lt 1 n.side then Some BadSide else update_fault depth before (said n)
+said_fault depth before n =
+    if nat_lt 1 n.side then Some BadSide else update_fault depth before (said n)
 
 -- the update that a line says, and one of zeros where it says none
 abbrev pub line_at : List ℕ → Update
@@ -57,7 +60,8 @@ line_fault depth before line =
     if nat_lt most_line (length line) then Some BadLine else (
     elim (parts_at 10 line) [
       | None ↦ Some Truncated
-      | Some parts ↦ elim (numbers_at parts.0) [ None ↦ Some BadLine | Some n ↦ said_fault depth before n ]
+      | Some parts ↦ elim
+          (numbers_at parts.0) [ None ↦ Some BadLine | Some n ↦ said_fault depth before n ]
     ])
 
 -- the records that bytes are cut into

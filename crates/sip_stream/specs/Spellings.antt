@@ -14,13 +14,16 @@ abbrev pub side_number : Side → ℕ
 side_number First = 0
 side_number Second = 1
 
--- the side in one byte, the item in four and the delta in eight, big endian, the delta in two's complement
+-- the side in one byte, the item in four and the delta in eight, big endian, the delta in two's
+-- complement
 unfoldable pub record_bytes : Update → List ℕ
 record_bytes u = side_number u.side ∷ big_bytes 4 u.item ++ big_bytes 8 (cast_unsigned w64 u.delta)
 
 -- the side, a space, the item, a space, the delta, and a line feed
 unfoldable pub line_bytes : Update → List ℕ
-line_bytes u = decimal (side_number u.side) ++ codes " " ++ decimal u.item ++ codes " " ++ signed_decimal u.delta ++ 10 ∷ []
+line_bytes u =
+    decimal (side_number u.side) ++ codes " " ++ decimal u.item ++ codes " "
+    ++ signed_decimal u.delta ++ 10 ∷ []
 
 -- the spelling in a form
 abbrev pub spelled : Form → Update → List ℕ

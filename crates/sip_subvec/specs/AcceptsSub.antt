@@ -1,5 +1,5 @@
--- The check of a sub-vector over whole lists: what is stated, widened by siblings and folded level by level, must
--- give the root (Cormode, Thaler, Yi, PVLDB 5(1), section 4).
+-- The check of a sub-vector over whole lists: what is stated, widened by siblings and folded level
+-- by level, must give the root (Cormode, Thaler, Yi, PVLDB 5(1), section 4).
 use Rattle.std.specs.Prelude.{ℕ, ◌+◌, ◌-◌, ◌==◌, Bool, nat_eq, ℤ, pos, List, [], ◌∷◌, ◌++◌, map, fold, zip, option_to_list, Option, if◌then◌else◌}
 use Rattle.std.specs.List.{range_with_len}
 use Rattle.std.specs.Cmp.Lexicographic.{pointwise}
@@ -36,7 +36,8 @@ next_level p level x = up p (widened level x.0) x.1
 
 -- K_d
 abbrev pub folded : ℕ → ℕ → ℕ → List ℕ → Stated → List ℕ
-folded p lo hi challenges s = fold (next_level p) (stated_level p lo hi s.entries) (zip s.siblings challenges)
+folded p lo hi challenges s =
+    fold (next_level p) (stated_level p lo hi s.entries) (zip s.siblings challenges)
 
 -- K_d is the root alone
 abbrev pub gives_root : ℕ → ℕ → ℕ → ℕ → List ℕ → Stated → Bool

@@ -12,7 +12,8 @@ use Rattle.sip_subvec.specs.Replies.{most_entries, with_entries}
 
 -- ---- what is kept
 
--- the check of the sum, whether reply 0 is due or has come in part, and how many entries were written
+-- the check of the sum, whether reply 0 is due or has come in part, and how many entries were
+-- written
 pub record Asking : Type 0 where
   pub check : Kept
   pub is_first : Bool
@@ -20,7 +21,8 @@ pub record Asking : Type 0 where
 
 -- how far it is
 abbrev pub phase_of : Asking → Phase
-phase_of a = record { block = a.check.challenges; taken = a.check.level; revealed = a.check.revealed }
+phase_of a =
+    record { block = a.check.challenges; taken = a.check.level; revealed = a.check.revealed }
 
 -- reply 0 is not whole
 abbrev pub is_first_of : List Siblings → Bool
@@ -33,7 +35,8 @@ most_answer lo hi = min (hi + 1 - lo) most_entries
 
 -- The check was given all that replies state so far. Their entries are the first of the places,
 -- which have room for an answer.
-pub record SubStands (asked : SubAsked) (s : Stated) (a : Asking) (places : List Entry) : Type 0 where
+pub record SubStands (asked : SubAsked) (s : Stated) (a : Asking)
+    (places : List Entry) : Type 0 where
   pub field : asked.modulus ≡ m61_modulus
   pub taken : HasTaken m61_modulus asked.root asked.lo asked.hi asked.challenges s a.check
   pub first : a.is_first ≡ is_first_of s.siblings

@@ -1,4 +1,5 @@
--- The check of a sub-vector by one running sum: what is summed, what a check keeps, and what it has taken.
+-- The check of a sub-vector by one running sum: what is summed, what a check keeps, and what it has
+-- taken.
 use Rattle.std.specs.Prelude.{◌≡◌, ℕ, ◌+◌, ◌-◌, ◌*◌, ◌/◌, ◌%◌, ◌^◌, ◌<◌, ◌≤◌, ◌&&◌, Bool, true, false, nat_lt, List, [], ◌∷◌, length, sum_by, Option, Some, None, Result, Ok, Err}
 use Rattle.std.specs.List.{list_all}
 use Rattle.sip_field.specs.Residue.{residue}
@@ -15,7 +16,8 @@ use Rattle.sip_subvec.specs.Replies.{most_entries, with_entries, are_asked}
 
 -- the entries, each times its weight in the root
 abbrev pub entries_sum : ℕ → List ℕ → List Entry → ℕ
-entries_sum p challenges es = sum_by (λ e. residue p e.value * weight_above p challenges 0 e.index) es
+entries_sum p challenges es =
+    sum_by (λ e. residue p e.value * weight_above p challenges 0 e.index) es
 
 -- a sibling times the weight of the node at this index of its level, or 0 where it is not present
 abbrev pub sibling_term : ℕ → List ℕ → ℕ → Option ℕ → ℕ → ℕ
@@ -24,16 +26,21 @@ sibling_term p challenges level (Some x) index = x * weight_above p challenges l
 
 -- both siblings of a level, of which the interval goes from lo to hi
 abbrev pub level_sum : ℕ → List ℕ → ℕ → ℕ → ℕ → Siblings → ℕ
-level_sum p challenges level lo hi s = sibling_term p challenges level s.left (lo - 1) + sibling_term p challenges level s.right (hi + 1)
+level_sum p challenges level lo hi s =
+    sibling_term p challenges level s.left (lo - 1)
+    + sibling_term p challenges level s.right (hi + 1)
 
 -- the siblings of this level and those above it
 abbrev pub siblings_sum : ℕ → List ℕ → ℕ → ℕ → ℕ → List Siblings → ℕ
 siblings_sum p challenges level lo hi [] = 0
-siblings_sum p challenges level lo hi (s ∷ more) = level_sum p challenges level lo hi s + siblings_sum p challenges (level + 1) (lo / 2) (hi / 2) more
+siblings_sum p challenges level lo hi (s ∷ more) =
+    level_sum p challenges level lo hi s
+    + siblings_sum p challenges (level + 1) (lo / 2) (hi / 2) more
 
 -- all that is stated, each number times its weight, modulo p
 abbrev pub stated_sum : ℕ → ℕ → ℕ → List ℕ → Stated → ℕ
-stated_sum p lo hi challenges s = (entries_sum p challenges s.entries + siblings_sum p challenges 0 lo hi s.siblings) % p
+stated_sum p lo hi challenges s =
+    (entries_sum p challenges s.entries + siblings_sum p challenges 0 lo hi s.siblings) % p
 
 -- ---- the tests
 
@@ -49,8 +56,9 @@ pub record HasPassed (lo hi : ℕ) (s : Stated) : Type 0 where
 
 -- ---- a check
 
--- What a check keeps. `level` is the one whose siblings come next, which is how many replies' siblings were given, and
--- `lo` and `hi` are its interval; `revealed` counts the challenges that were revealed.
+-- What a check keeps. `level` is the one whose siblings come next, which is how many replies'
+-- siblings were given, and `lo` and `hi` are its interval; `revealed` counts the challenges that
+-- were revealed.
 pub record Kept : Type 0 where
   pub challenges : List ℕ
   pub root : ℕ
@@ -68,8 +76,10 @@ abbrev pub is_above : Option ℕ → ℕ → Bool
 is_above None i = true
 is_above (Some last) i = nat_lt last i
 
--- The check was started with this root, this interval and these challenges, and it was given what is stated, which passed.
-pub record HasTaken (p root lo hi : ℕ) (challenges : List ℕ) (s : Stated) (check : Kept) : Type 0 where
+-- The check was started with this root, this interval and these challenges, and it was given what
+-- is stated, which passed.
+pub record HasTaken (p root lo hi : ℕ) (challenges : List ℕ) (s : Stated)
+    (check : Kept) : Type 0 where
   pub whole : hi < 2 ^ length challenges
   pub order : lo ≤ hi
   pub passed : HasPassed lo hi s
@@ -87,7 +97,8 @@ pub record HasTaken (p root lo hi : ℕ) (challenges : List ℕ) (s : Stated) (c
 abbrev pub nothing : Stated
 nothing = record { entries = []; siblings = [] }
 
--- The challenges stay as they are, and this many levels and challenges more were given and revealed.
+-- The challenges stay as they are, and this many levels and challenges more were given and
+-- revealed.
 pub record Advances (old new : Kept) (levels reveals : ℕ) : Type 0 where
   pub challenges : new.challenges ≡ old.challenges
   pub level : new.level ≡ old.level + levels
@@ -99,8 +110,9 @@ entry_test check index = do
   _ ← needs (is_within check.lo check.hi index && is_above check.last index) reasons.BadOrder
   needs (nat_lt check.count most_entries) reasons.TooMany
 
--- A call answers as the definition of its test does. Where the test passes, `HasMore` holds of what the definition gives;
--- where it does not, the reason is the definition's, and the check is spent.
-abbrev pub AnswersAs : {X : Type 0} → Result X Reason → (X → Type 0) → Kept → Result (Unit {0}) Reason → Type 0
+-- A call answers as the definition of its test does. Where the test passes, `HasMore` holds of what
+-- the definition gives; where it does not, the reason is the definition's, and the check is spent.
+abbrev pub AnswersAs : {X : Type 0} → Result X Reason → (X → Type 0) → Kept
+    → Result (Unit {0}) Reason → Type 0
 AnswersAs (Ok x) HasMore check result = (result ≡ Ok tt) × HasMore x
 AnswersAs (Err reason) HasMore check result = (result ≡ Err reason) × (check.spent ≡ true)

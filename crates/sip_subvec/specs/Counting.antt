@@ -1,4 +1,5 @@
--- How many challenges a wrong sub-vector can be accepted at: what is counted, and what a call promises of it.
+-- How many challenges a wrong sub-vector can be accepted at: what is counted, and what a call
+-- promises of it.
 use Rattle.std.specs.Prelude.{ℕ, suc, ◌-◌, ◌/◌, ◌==◌, Bool, true, ◌&&◌, nat_le, nat_abs, ℤ, List, [], ◌∷◌, length, Option, Result, Ok, Err}
 use Rattle.std.specs.List.{list_all}
 use Rattle.std.specs.Ordering.{int_eq}
@@ -15,7 +16,8 @@ use Rattle.sip_subvec.specs.Replies.{are_asked, stated, accepts}
 
 -- ---- over what replies state
 
--- an entry's absolute value is 1 to (p - 1) / 2: such signed numbers have different residues modulo p
+-- an entry's absolute value is 1 to (p - 1) / 2: such signed numbers have different residues modulo
+-- p
 abbrev pub has_small_value : ℕ → Entry → Bool
 has_small_value p e = nat_le 1 (nat_abs e.value) && nat_le (nat_abs e.value) ((p - 1) / 2)
 
@@ -33,7 +35,9 @@ are_all_asked lo hi (s ∷ siblings) = are_asked lo hi s && are_all_asked (lo / 
 abbrev pub accepts_stated : ℕ → ℕ → ℕ → ℕ → List ℕ → Stated → Bool
 accepts_stated p root lo hi challenges s =
     (length s.siblings == length challenges)
-    && (rise_within lo hi s.entries && (list_all (has_small_value p) s.entries && (are_all_asked lo hi s.siblings && gives_root p root lo hi challenges s)))
+    && (rise_within lo hi s.entries
+    && (list_all (has_small_value p) s.entries
+    && (are_all_asked lo hi s.siblings && gives_root p root lo hi challenges s)))
 
 -- ---- over bytes
 
@@ -50,18 +54,22 @@ is_same_entry a b = (a.index == b.index) && int_eq a.value b.value
 
 -- the replies say the entries of these numbers that are not 0
 abbrev pub is_right : ℕ → ℕ → List ℤ → List (List ℕ) → Bool
-is_right lo hi numbers replies = pointwise is_same_entry (said lo hi replies) (nonzero_within lo hi numbers)
+is_right lo hi numbers replies =
+    pointwise is_same_entry (said lo hi replies) (nonzero_within lo hi numbers)
 
--- The replies are accepted modulo p. The bytes of a value leave room for those that are small modulo 2^61 - 1; over a lesser
--- modulus each value has to be small for it.
+-- The replies are accepted modulo p. The bytes of a value leave room for those that are small
+-- modulo 2^61 - 1; over a lesser modulus each value has to be small for it.
 abbrev pub accepts_small : ℕ → ℕ → ℕ → ℕ → List ℕ → List (List ℕ) → Bool
-accepts_small p root lo hi challenges replies = accepts p root lo hi challenges replies && list_all (has_small_value p) (said lo hi replies)
+accepts_small p root lo hi challenges replies =
+    accepts p root lo hi challenges replies && list_all (has_small_value p) (said lo hi replies)
 
 -- ---- on a call
 
--- What a call that writes the answer to a query for the entries of these numbers from lo to hi promises of a helper that lies:
--- `block` are the query's challenges, `taken` the replies of this run, and `written` the answer, if one was written.
-abbrev pub SubCountClause : ℕ → List ℤ → ℕ → ℕ → List ℕ → List (List ℕ) → Option (List Entry) → Type 0
+-- What a call that writes the answer to a query for the entries of these numbers from lo to hi
+-- promises of a helper that lies: `block` are the query's challenges, `taken` the replies of this
+-- run, and `written` the answer, if one was written.
+abbrev pub SubCountClause : ℕ → List ℤ → ℕ → ℕ → List ℕ → List (List ℕ) → Option (List Entry)
+    → Type 0
 SubCountClause d numbers lo hi block taken written =
     FewAndCounted m61_modulus d d (λ r. accepts m61_modulus (root m61_modulus numbers r) lo hi r)
     (is_right lo hi numbers) block taken written (nonzero_within lo hi numbers)

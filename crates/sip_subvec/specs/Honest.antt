@@ -1,7 +1,8 @@
 -- What an honest helper knows and says of a sub-vector.
 --
--- Reply 0 has the entries, in full frames and a last one of the rest, and the siblings of the lowest level. Each later reply has
--- the siblings of the level above, which the next challenge gives.
+-- Reply 0 has the entries, in full frames and a last one of the rest, and the siblings of the
+-- lowest level. Each later reply has the siblings of the level above, which the next challenge
+-- gives.
 use Rattle.std.specs.Prelude.{ℕ, ◌+◌, ◌-◌, ◌/◌, ◌%◌, ◌^◌, ◌==◌, ◌≡◌, ◌<◌, ◌≤◌, ℤ, nat_abs, All, List, [], ◌∷◌, ◌++◌, length, map, take, slice_index, Some, None, if◌then◌else◌}
 use Rattle.std.specs.List.{range_with_len, flat_map}
 use Rattle.sip_field.specs.Moduli.{m61_modulus}
@@ -35,9 +36,15 @@ learnt p s r = record { level = up p s.level r; lo = s.lo / 2; hi = s.hi / 2 }
 
 -- the level that these challenges lead to
 abbrev pub proving : ℕ → List ℤ → ℕ → ℕ → List ℕ → Proving
-proving p numbers lo hi prefix = record { level = tree p numbers prefix; lo = lo / 2 ^ length prefix; hi = hi / 2 ^ length prefix }
+proving p numbers lo hi prefix =
+    record {
+      level = tree p numbers prefix;
+      lo = lo / 2 ^ length prefix;
+      hi = hi / 2 ^ length prefix;
+    }
 
--- the true siblings of an interval of a level: the node left of it where lo is odd, and the one right of it where hi is even
+-- the true siblings of an interval of a level: the node left of it where lo is odd, and the one
+-- right of it where hi is even
 abbrev pub honest_siblings : List ℕ → ℕ → ℕ → Siblings
 honest_siblings level lo hi = record {
   left = if lo % 2 == 1 then Some (slice_index level (lo - 1)) else None;
@@ -64,7 +71,9 @@ opening_frames numbers lo hi (r ∷ prefix) = []
 
 -- the messages that are due once these challenges are revealed
 unfoldable pub honest_messages : ℕ → List ℤ → ℕ → ℕ → List ℕ → List Message
-honest_messages p numbers lo hi prefix = opening_frames numbers lo hi prefix ++ siblings_message (its_siblings (proving p numbers lo hi prefix)) ∷ []
+honest_messages p numbers lo hi prefix =
+    opening_frames numbers lo hi prefix
+    ++ siblings_message (its_siblings (proving p numbers lo hi prefix)) ∷ []
 
 -- their bytes
 abbrev pub honest_reply : ℕ → List ℤ → ℕ → ℕ → List ℕ → List ℕ
@@ -72,10 +81,13 @@ honest_reply p numbers lo hi prefix = flat_map spelling (honest_messages p numbe
 
 -- all replies: reply j is the one due once the first j challenges are revealed
 abbrev pub honest_replies : ℕ → List ℤ → ℕ → ℕ → List ℕ → List (List ℕ)
-honest_replies p numbers lo hi challenges = map (λ j. honest_reply p numbers lo hi (take j challenges)) (range_with_len 0 (length challenges))
+honest_replies p numbers lo hi challenges =
+    map (λ j. honest_reply p numbers lo hi (take j challenges))
+    (range_with_len 0 (length challenges))
 
--- The entries of an interval can be shown: the vector is of a depth and a field that messages have room for, its numbers are
--- no greater than an entry may be, and no more of them are asked for than an answer may have.
+-- The entries of an interval can be shown: the vector is of a depth and a field that messages have
+-- room for, its numbers are no greater than an entry may be, and no more of them are asked for than
+-- an answer may have.
 pub record CanBeShown (p depth lo hi : ℕ) (numbers : List ℤ) : Type 0 where
   pub some : 0 < p
   pub elements : p ≤ m61_modulus

@@ -8,6 +8,7 @@ pub record RootStandsFor (p : ℕ) (challenges : List ℕ) (value : ℕ) (number
   pub same : value ≡ root p numbers challenges
 
 -- likewise for the augmented root
-pub record AugRootStandsFor (p : ℕ) (challenges : List ℕ) (hash : ℕ) (total : ℤ) (numbers : List ℤ) : Type 0 where
+pub record AugRootStandsFor (p : ℕ) (challenges : List ℕ) (hash : ℕ) (total : ℤ)
+    (numbers : List ℤ) : Type 0 where
   pub whole : length numbers ≡ 2 ^ length challenges
   pub same : record { hash = hash; count = total } ≡ augroot p numbers challenges

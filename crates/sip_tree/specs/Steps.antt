@@ -13,13 +13,16 @@ IsBelow p s = (s.scale < p) × (s.shift < p)
 
 -- h * scale + shift is what these levels make of a residue h along the bits of e
 abbrev pub IsStep : ℕ → List ℕ → ℕ → Step → Type 0
-IsStep p challenges e s = (h : ℕ) → h < p → hash_weight_from p h e challenges ≡ (h * s.scale + s.shift) % p
+IsStep p challenges e s =
+    (h : ℕ) → h < p → hash_weight_from p h e challenges ≡ (h * s.scale + s.shift) % p
 
 -- entry e of a table is the step of e under these challenges
 abbrev pub HasSteps : ℕ → List ℕ → List Step → Type 0
-HasSteps p challenges table = (e : ℕ) → e < 2 ^ length challenges → IsStep p challenges e (slice_index_or table e no_step)
+HasSteps p challenges table =
+    (e : ℕ) → e < 2 ^ length challenges → IsStep p challenges e (slice_index_or table e no_step)
 
 -- table g is that of the seven challenges from 7 * g on, or of those that are left
 abbrev pub AreStepTables : ℕ → List ℕ → List (List Step) → Type 0
 AreStepTables p challenges tables =
-    (g : ℕ) → g < length tables → HasSteps p (take 7 (drop (7 * g) challenges)) (slice_index_or tables g [])
+    (g : ℕ) → g < length tables
+    → HasSteps p (take 7 (drop (7 * g) challenges)) (slice_index_or tables g [])

@@ -33,8 +33,16 @@ pub data Answer : Type 0 where
 
 -- the answer that the stream's own vectors give
 abbrev pub answer : ℕ → List Update → Query → Answer
-answer depth stream (Sub lo hi) = pairs (filter (λ e. is_within lo hi e.index && not (is_zero e.value)) (entries (vector depth stream First)))
-answer depth stream (Range side lo hi) = number (int_sum (map (λ e. e.value) (filter (λ e. is_within lo hi e.index) (entries (vector depth stream side)))))
+answer depth stream (Sub lo hi) =
+    pairs (filter (λ e. is_within lo hi e.index && not (is_zero e.value))
+    (entries (vector depth stream First)))
+answer depth stream (Range side lo hi) =
+    number (int_sum
+    (map (λ e. e.value)
+    (filter (λ e. is_within lo hi e.index) (entries (vector depth stream side)))))
 answer depth stream (F2 side) = number (int_sum (map (λ a. a *ℤ a) (vector depth stream side)))
-answer depth stream Inner = number (int_sum (map (λ x. x.0 *ℤ x.1) (zip (vector depth stream First) (vector depth stream Second))))
-answer depth stream (Heavy side at_least) = pairs (filter (λ e. int_le (pos at_least) e.value) (entries (vector depth stream side)))
+answer depth stream Inner =
+    number (int_sum
+    (map (λ x. x.0 *ℤ x.1) (zip (vector depth stream First) (vector depth stream Second))))
+answer depth stream (Heavy side at_least) =
+    pairs (filter (λ e. int_le (pos at_least) e.value) (entries (vector depth stream side)))

@@ -8,8 +8,14 @@ four = pos 3 ∷ pos 0 ∷ pos 5 ∷ pos 1 ∷ []
 
 -- three updates that add up to it
 abbrev pub stream : List Update
-stream = record { side = First; item = 0; delta = pos 3 } ∷ record { side = First; item = 2; delta = pos 5 } ∷ record { side = First; item = 3; delta = pos 1 } ∷ []
+stream =
+    record { side = First; item = 0; delta = pos 3 }
+    ∷ record { side = First; item = 2; delta = pos 5 }
+    ∷ record { side = First; item = 3; delta = pos 1 } ∷ []
 
 -- these, and updates of the other side that add up to (2, 7, 1, 0)
 abbrev pub both_sides : List Update
-both_sides = record { side = Second; item = 1; delta = pos 7 } ∷ record { side = Second; item = 0; delta = pos 2 } ∷ record { side = Second; item = 2; delta = pos 1 } ∷ stream
+both_sides =
+    record { side = Second; item = 1; delta = pos 7 }
+    ∷ record { side = Second; item = 0; delta = pos 2 }
+    ∷ record { side = Second; item = 2; delta = pos 1 } ∷ stream

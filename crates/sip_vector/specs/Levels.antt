@@ -14,7 +14,8 @@ index_and_residue number s = (s.index, number s.value)
 
 -- the indices and the residues that are not 0, at `least` and after it
 abbrev pub nonzero_from : ℕ → List ℕ → List (ℕ × ℕ)
-nonzero_from least residues = filter (λ s. nat_le least s.0 && not (s.1 == 0)) (enumerate_from 0 residues)
+nonzero_from least residues =
+    filter (λ s. nat_le least s.0 && not (s.1 == 0)) (enumerate_from 0 residues)
 
 -- the level above by each rule
 abbrev pub level_above : ℕ → Rule → ℕ → List ℕ → List ℕ

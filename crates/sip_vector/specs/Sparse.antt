@@ -9,4 +9,5 @@ dense zero n (e ∷ es) = slice_set (dense zero n es) e.0 e.1
 -- the indices rise from `least` on and are below n, and no element is `zero`
 abbrev pub IsSparse : {X : Type 0} → X → ℕ → ℕ → List (ℕ × X) → Type 0
 IsSparse zero least n [] = Unit {0}
-IsSparse zero least n (e ∷ es) = (least ≤ e.0) × (e.0 < n) × (e.1 ≢ zero) × IsSparse zero (suc e.0) n es
+IsSparse zero least n (e ∷ es) =
+    (least ≤ e.0) × (e.0 < n) × (e.1 ≢ zero) × IsSparse zero (suc e.0) n es

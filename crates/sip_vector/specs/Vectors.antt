@@ -35,7 +35,8 @@ with_added v index delta = record {
 
 -- what a side of a stream adds up to
 abbrev pub side_vector : ℕ → List Update → Side → SideVector
-side_vector depth stream side = record { depth = depth; numbers = vector depth stream side; weight = weight stream side }
+side_vector depth stream side =
+    record { depth = depth; numbers = vector depth stream side; weight = weight stream side }
 
 -- the same once an update of the stream is added, which may be of the other side
 abbrev pub with_update : Side → SideVector → Update → SideVector

@@ -19,7 +19,8 @@ use Rattle.sip_verifier.specs.Questions.{Question, Accepts, IsFaulty, IsWaiting,
 abbrev pub question_of : Query → List ℕ → List (List ℕ) → Question
 question_of query block replies = record { query = query; block = block; replies = replies }
 
-module _ (depth : ℕ) (stream : List Update) (query : Query) (block : List ℕ) (old new : Option (List TalkEvent)) where
+module _ (depth : ℕ) (stream : List Update) (query : Query) (block : List ℕ)
+    (old new : Option (List TalkEvent)) where
   -- all replies came and are accepted, and they state this answer
   pub record IsAnswered (answer : Answer) : Type 0 where
     pub replies : List (List ℕ)
@@ -31,7 +32,8 @@ module _ (depth : ℕ) (stream : List Update) (query : Query) (block : List ℕ)
     pub replies : List (List ℕ)
     pub talk : GoesOn old new (said_for depth stream
         (question_of query block replies) ++ ending reason)
-    pub faulty : IsFaulty depth stream (question_of query block replies) (record { round = round; reason = reason })
+    pub faulty : IsFaulty depth stream (question_of query block replies)
+        (record { round = round; reason = reason })
 
   -- the talk stopped, a reply is missing or not whole, and none has a fault so far
   pub record IsInterrupted : Type 0 where
@@ -41,8 +43,8 @@ module _ (depth : ℕ) (stream : List Update) (query : Query) (block : List ℕ)
     pub order : IsPrefix said (said_for depth stream (question_of query block replies))
     pub waits : IsWaiting depth stream (question_of query block replies)
 
-  -- What was answered, where the entries are those that the session shows then. Nothing is kept of a talk yet, so keeping it
-  -- cannot fail.
+  -- What was answered, where the entries are those that the session shows then. Nothing is kept of
+  -- a talk yet, so keeping it cannot fail.
   abbrev pub Asks : List Entry → Result Verdict SessionFault → Type 0
   Asks entries (Ok (verdicts.Number n)) = IsAnswered (number n)
   Asks entries (Ok verdicts.Pairs) = IsAnswered (pairs entries)

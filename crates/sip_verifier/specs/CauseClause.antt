@@ -36,7 +36,8 @@ module _ (task : Task) (x : Exchange) where
   CauseClause before now statuses.SeedSpent = (32 ≤ length x.seed) × (drawn task x.seed ≡ None)
   CauseClause before now (statuses.ReadFault ports.First) =
       (drawn task x.seed ≢ None) × FaultClause before now (statuses.ReadFault ports.First)
-  CauseClause before now (statuses.ReadFault port) = FaultClause before now (statuses.ReadFault port)
+  CauseClause before now (statuses.ReadFault port) =
+      FaultClause before now (statuses.ReadFault port)
   CauseClause before now (statuses.WriteFault port) =
       HasGoodInput × FaultClause before now (statuses.WriteFault port)
   CauseClause before now statuses.PeerFault =

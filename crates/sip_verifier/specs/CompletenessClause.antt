@@ -1,9 +1,9 @@
 -- Completeness.
 --
--- Take a seed that gives challenges, a legal stream, and queries whose check stands here and whose answers have no more entries
--- than may be sent.
--- Let the link give the bytes of honest replies at the run's blocks, or a front of them, and not end. If no port's count of faults
--- rises, then each query is accepted and the report has the stream's own answers; or memory ran out.
+-- Take a seed that gives challenges, a legal stream, and queries whose check stands here and whose
+-- answers have no more entries than may be sent. Let the link give the bytes of honest replies at
+-- the run's blocks, or a front of them, and not end. If no port's count of faults rises, then each
+-- query is accepted and the report has the stream's own answers; or memory ran out.
 use Rattle.std.specs.Prelude.{◌≡◌, ◌≢◌, ◌⊎◌, ℕ, List, [], flat_map, Some, All}
 use Rattle.std.specs.List.{zip}
 use Rattle.sip_ports.specs.declared.port.TalkEvent.TheVariants.{Ended}
@@ -43,16 +43,21 @@ pub record NoneRose (before now : Counts) : Type 0 where
   pub report : ¬ Rose before.report now.report
 
 module _ (task : Task) (x : Exchange) where
-  -- the seed and the stream are good, and what was heard is a front of honest replies, which the link's end did not cut
+  -- the seed and the stream are good, and what was heard is a front of honest replies, which the
+  -- link's end did not cut
   pub record IsHonest : Type 0 where
     pub challenges : List ℕ
     pub drawn : drawn task x.seed ≡ Some challenges
     pub legal : IsLegalToEnd task x
     pub few : All (HasFewEntries task.depth (updates task x)) task.queries.items
-    pub heard : IsPrefix (heard x.talk) (flat_map (honest_bytes task.depth (updates task x)) (zip task.queries.items (blocks task challenges)))
+    pub heard : IsPrefix (heard x.talk)
+        (flat_map (honest_bytes task.depth (updates task x))
+        (zip task.queries.items (blocks task challenges)))
     pub lasts : All (λ e. e ≢ Ended) x.talk
 
   abbrev pub CompletenessClause : Counts → Counts → Status → Type 0
   CompletenessClause before now status =
       IsHonest → NoneRose before now
-      → ((status ≡ statuses.Accepted) × (x.report ≡ report_of task.depth (updates task x) task.queries.items)) ⊎ (status ≡ statuses.OutOfMemory)
+      → ((status ≡ statuses.Accepted)
+      × (x.report ≡ report_of task.depth (updates task x) task.queries.items))
+      ⊎ (status ≡ statuses.OutOfMemory)

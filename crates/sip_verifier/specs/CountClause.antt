@@ -64,12 +64,16 @@ lines_written lines = flat_map (λ w. line w.question.query w.answer) lines
 
 -- nothing, or the line of a rejection
 abbrev pub IsRejection : List ℕ → Type 0
-IsRejection bytes = (bytes ≡ []) ⊎ ((query round : ℕ) × (reason : Reason) × (bytes ≡ rejection query round reason))
+IsRejection bytes =
+    (bytes ≡ []) ⊎ ((query round : ℕ) × (reason : Reason) × (bytes ≡ rejection query round reason))
 
 module _ (task : Task) (x : Exchange) where
   -- the talk has these questions, and perhaps one more
   abbrev pub AreInTalk : List Question → Type 0
-  AreInTalk questions = (questions ≡ []) ⊎ ((after : Option Question) × (rest : List TalkEvent) × Reached task x (questions ++ option_to_list after) rest)
+  AreInTalk questions =
+      (questions ≡ [])
+      ⊎ ((after : Option Question) × (rest : List TalkEvent)
+      × Reached task x (questions ++ option_to_list after) rest)
 
   pub record CountClause : Type 0 where
     pub few : All (FewFor task.depth (updates task x)) task.queries.items

@@ -8,9 +8,11 @@ use Rattle.sip_verifier.specs.declared.task.Task.{Task}
 abbrev pub challenge_count : Task → ℕ
 challenge_count task = task.depth * length task.queries.items
 
--- so many challenges of the first 32 bytes of a seed; none where there are fewer bytes, or where they are spent
+-- so many challenges of the first 32 bytes of a seed; none where there are fewer bytes, or where
+-- they are spent
 unfoldable pub challenges_of : ℕ → List ℕ → Option (List ℕ)
-challenges_of count seed = if nat_lt (length seed) 32 then None else draw_list count (seed_words (take 32 seed))
+challenges_of count seed =
+    if nat_lt (length seed) 32 then None else draw_list count (seed_words (take 32 seed))
 
 -- the challenges of a task
 abbrev pub drawn : Task → List ℕ → Option (List ℕ)

@@ -23,7 +23,9 @@ abbrev pub reveal_bytes : List ℕ
 reveal_bytes = 0x05 ∷ 0 ∷ 8 ∷ 0 ∷ 0 ∷ 0 ∷ 0 ∷ 0 ∷ 0 ∷ 0 ∷ 2 ∷ []
 
 abbrev pub whole_talk : List TalkEvent
-whole_talk = outs opening_bytes ++ ins reply_0 ++ outs reveal_bytes ++ ins reply_1 ++ outs (0x06 ∷ 0 ∷ 0 ∷ [])
+whole_talk =
+    outs opening_bytes ++ ins reply_0 ++ outs reveal_bytes ++ ins reply_1
+    ++ outs (0x06 ∷ 0 ∷ 0 ∷ [])
 
 -- a task of two queries at depth 2
 abbrev pub two_queries : Task

@@ -22,7 +22,8 @@ pub record Tells (old new : Moment) (x : Exchange) : Type 0 where
   pub unread : new.first ≡ Some x.unread
   pub seed : old.second ≡ Some x.seed
   pub talk : (had : List TalkEvent) × (old.talk ≡ Some had) × (new.talk ≡ Some (had ++ x.talk))
-  pub report : (had : List TalkEvent) × (old.report ≡ Some had) × (new.report ≡ Some (had ++ outs x.report))
+  pub report : (had : List TalkEvent) × (old.report ≡ Some had)
+      × (new.report ≡ Some (had ++ outs x.report))
 
 -- of the bytes that were left, at most so many were taken, from the front
 abbrev pub TakesAtMost : ℕ → Option (List ℕ) → Option (List ℕ) → Type 0

@@ -12,9 +12,11 @@ pub record Waiting : Type 0 where
   pub waiting : List Update
   pub is_spent : Bool
 
--- an update that a frame can have: its item has room in four bytes, and its delta is not 0 and has room in eight
+-- an update that a frame can have: its item has room in four bytes, and its delta is not 0 and has
+-- room in eight
 abbrev pub has_spelling : Update → Bool
-has_spelling u = nat_lt u.item (2 ^ 32) && not (is_zero u.delta) && nat_le (nat_abs u.delta) (2 ^ 63)
+has_spelling u =
+    nat_lt u.item (2 ^ 32) && not (is_zero u.delta) && nat_le (nat_abs u.delta) (2 ^ 63)
 
 -- with one more update the frame is full
 abbrev pub fills : List Update → Bool
@@ -22,12 +24,14 @@ fills waiting = length waiting + 1 == most_rows
 
 -- what goes out once this update comes behind those that wait: a frame, where it is full then
 abbrev pub due_with : List Update → Update → List ℕ
-due_with waiting u = if fills waiting then spelling (messages.Updates (record { items = waiting ++ u ∷ [] })) else []
+due_with waiting u =
+    if fills waiting then spelling (messages.Updates (record { items = waiting ++ u ∷ [] })) else []
 
 -- those that wait then
 abbrev pub waiting_with : List Update → Update → List Update
 waiting_with waiting u = if fills waiting then [] else waiting ++ u ∷ []
 
--- what goes out at the end of the stream: a frame of those that wait, where there are any, and the end
+-- what goes out at the end of the stream: a frame of those that wait, where there are any, and the
+-- end
 abbrev pub due_at_end : List Update → List ℕ
 due_at_end waiting = flat_map spelling (update_frames waiting ++ messages.EndStream ∷ [])

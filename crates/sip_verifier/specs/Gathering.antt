@@ -1,4 +1,5 @@
--- What a call did that draws the challenges, reads the stream and sends it, by the bytes that its ports had.
+-- What a call did that draws the challenges, reads the stream and sends it, by the bytes that its
+-- ports had.
 use Rattle.std.specs.Prelude.{◌≡◌, ◌⊎◌, ◌<◌, ◌≤◌, ℕ, List, [], length, Option, Some, None, Result, Ok, Err}
 use Rattle.sip_ports.specs.declared.port.TalkEvent.{TalkEvent}
 use Rattle.sip_ports.specs.Ports.{GoesOn}
@@ -25,8 +26,10 @@ module _ (task : Task) (bytes seed : List ℕ) where
   abbrev pub before_end : List TalkEvent
   before_end = opening_sent task.depth (whole_frames legal)
 
-  -- the seed gives these challenges, the stream was legal and was read to its end, all of it was sent, and the seats stand for it
-  pub record IsGathered (left : Option (List ℕ)) (old new : Option (List TalkEvent)) (seats : Seating) : Type 0 where
+  -- the seed gives these challenges, the stream was legal and was read to its end, all of it was
+  -- sent, and the seats stand for it
+  pub record IsGathered (left : Option (List ℕ)) (old new : Option (List TalkEvent))
+      (seats : Seating) : Type 0 where
     pub challenges : List ℕ
     pub draws : drawn task seed ≡ Some challenges
     pub to_end : EndsLegally
@@ -34,7 +37,8 @@ module _ (task : Task) (bytes seed : List ℕ) where
     pub talk : GoesOn old new (stream_sent task.depth legal)
     pub stand : AreSeats task.depth task.queries.items (blocks task challenges) legal seats
 
-  -- a front was sent of what a legal stream sends; with one that isn't legal it ends before the end of the stream
+  -- a front was sent of what a legal stream sends; with one that isn't legal it ends before the end
+  -- of the stream
   pub record IsCut (old new : Option (List TalkEvent)) : Type 0 where
     pub said : List TalkEvent
     pub talk : GoesOn old new said
@@ -55,13 +59,16 @@ module _ (task : Task) (bytes seed : List ℕ) where
   abbrev pub Refuses : Option (List TalkEvent) → Option (List TalkEvent) → Status → Type 0
   Refuses old new statuses.BadSeed = (length seed < 32) × (new ≡ old)
   Refuses old new statuses.SeedSpent = (32 ≤ length seed) × (drawn task seed ≡ None) × (new ≡ old)
-  Refuses old new (statuses.BadStream at why) = HasSeed × (at ≡ length legal) × ((records task.depth task.form bytes).fault ≡ Some why) × GoesOn old new before_end
+  Refuses old new (statuses.BadStream at why) =
+      HasSeed × (at ≡ length legal) × ((records task.depth task.form bytes).fault ≡ Some why)
+      × GoesOn old new before_end
   Refuses old new (statuses.ReadFault ports.First) = HasSeed × IsCutBefore old new
   Refuses old new (statuses.ReadFault ports.Second) = new ≡ old
   Refuses old new statuses.PeerFault = HasSeed × IsCut old new
   Refuses old new statuses.OutOfMemory = (new ≡ old) ⊎ (HasSeed × IsCut old new)
   Refuses old new _ = ⊥
 
-  abbrev pub Gathers : Option (List ℕ) → Option (List TalkEvent) → Option (List TalkEvent) → Result Seating Status → Type 0
+  abbrev pub Gathers : Option (List ℕ) → Option (List TalkEvent) → Option (List TalkEvent)
+      → Result Seating Status → Type 0
   Gathers left old new (Ok seats) = IsGathered left old new seats
   Gathers left old new (Err status) = Refuses old new status

@@ -1,4 +1,5 @@
--- The kinds of query: how the replies to one are read, when a helper that lies can win, and what an honest one replies.
+-- The kinds of query: how the replies to one are read, when a helper that lies can win, and what an
+-- honest one replies.
 use Rattle.std.specs.Prelude.{◌≤◌, ℕ, ℤ, Bool, List, length}
 use Rattle.sip_field.specs.Moduli.{m61_modulus}
 use Rattle.sip_vector.specs.declared.query.Query.{Query}

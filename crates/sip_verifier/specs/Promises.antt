@@ -10,7 +10,8 @@ use Rattle.sip_verifier.specs.TalkClause.{TalkClause}
 use Rattle.sip_verifier.specs.VerdictClause.{VerdictClause}
 
 -- the ports had failed so often `before`, and so often `now`
-pub record Promises (task : Task) (x : Exchange) (before now : Counts) (status : Status) : Type 0 where
+pub record Promises (task : Task) (x : Exchange) (before now : Counts)
+    (status : Status) : Type 0 where
   -- which lines are written, and when
   pub verdict : VerdictClause task x status
   -- in which order the bytes go

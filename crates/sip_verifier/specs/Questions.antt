@@ -88,14 +88,16 @@ module _ (task : Task) (x : Exchange) where
   abbrev pub farewell : Done → List TalkEvent
   farewell done = if length done == length task.queries.items then bye_sent else []
 
-  -- these are the task's first queries in order, each with its own block of the challenges that the seed gives
+  -- these are the task's first queries in order, each with its own block of the challenges that the
+  -- seed gives
   pub record AreQuestions (questions : List Question) : Type 0 where
     pub challenges : List ℕ
     pub drawn : drawn task x.seed ≡ Some challenges
     pub queries : map (λ q. q.query) questions ≡ take (length questions) task.queries.items
     pub blocks : map (λ q. q.block) questions ≡ take (length questions) (blocks task challenges)
 
-  -- the whole stream was legal and was sent, and then these questions were taken, and then the rest was said
+  -- the whole stream was legal and was sent, and then these questions were taken, and then the rest
+  -- was said
   pub record Reached (questions : List Question) (rest : List TalkEvent) : Type 0 where
     pub are_questions : AreQuestions questions
     pub legal : IsLegalToEnd

@@ -61,8 +61,10 @@ reason_name reasons.Root = codes "Root"
 -- the line of a rejection: the query's number, the round and the reason of the fault, a line feed
 abbrev pub rejection : ℕ → ℕ → Reason → List ℕ
 rejection query round reason =
-    codes "rejected query " ++ decimal query ++ codes " round " ++ decimal round ++ codes " " ++ reason_name reason ++ 10 ∷ []
+    codes "rejected query " ++ decimal query ++ codes " round " ++ decimal round ++ codes " "
+    ++ reason_name reason ++ 10 ∷ []
 
--- the report of a run whose queries were all accepted, with the answers that the stream's own vectors give
+-- the report of a run whose queries were all accepted, with the answers that the stream's own
+-- vectors give
 abbrev pub report_of : ℕ → List Update → List Query → List ℕ
 report_of depth stream queries = flat_map (λ q. line q (answer depth stream q)) queries

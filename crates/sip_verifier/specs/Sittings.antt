@@ -9,8 +9,8 @@ use Rattle.sip_verifier.specs.declared.session.Verdict.TheVariants as verdicts
 use Rattle.sip_verifier.specs.QuerySeats.{Seated}
 use Rattle.sip_verifier.specs.Seats.{Seating}
 
--- The depth, the seats whose queries were not asked yet, the entries of the last answer of pairs, and whether the session is
--- over before its time: a call failed, or replies were rejected.
+-- The depth, the seats whose queries were not asked yet, the entries of the last answer of pairs,
+-- and whether the session is over before its time: a call failed, or replies were rejected.
 pub record Sitting : Type 0 where
   pub depth : ℕ
   pub left : List Seated
@@ -23,8 +23,10 @@ is_over (Ok (verdicts.Rejected round reason)) = true
 is_over (Ok _) = false
 is_over (Err _) = true
 
--- A session has all seats to ask and shows no entries yet, or there is no memory for it. No query whose answer could be too wide stands here yet.
+-- A session has all seats to ask and shows no entries yet, or there is no memory for it. No query
+-- whose answer could be too wide stands here yet.
 abbrev pub Starts : Seating → Result Sitting SessionStart → Type 0
-Starts seats (Ok s) = (s.depth ≡ seats.depth) × (s.left ≡ seats.seats) × (s.entries ≡ []) × (s.spent ≡ false)
+Starts seats (Ok s) =
+    (s.depth ≡ seats.depth) × (s.left ≡ seats.seats) × (s.entries ≡ []) × (s.spent ≡ false)
 Starts seats (Err (starts.TooWide query)) = ⊥
 Starts seats (Err starts.OutOfMemory) = Unit {0}

@@ -41,14 +41,15 @@ module _ (task : Task) (x : Exchange) where
   abbrev pub before_end : List TalkEvent
   before_end = opening_sent task.depth (whole_frames (updates task x))
 
-  -- The talk stopped somewhere: it has some accepted questions, each of them whole, and then a front of
-  -- one that is under way or of the farewell.
+  -- The talk stopped somewhere: it has some accepted questions, each of them whole, and then a
+  -- front of one that is under way or of the farewell.
   pub record IsUnderWay : Type 0 where
     pub done : Done task x
     pub reached : WereReached task x done
     pub current : Option Question
     pub unfinished : IfSome current (IsUnfinished task.depth (updates task x))
-    pub questions : x.talk ≢ [] → AreQuestions task x (questions_of task x done ++ option_to_list current)
+    pub questions : x.talk ≢ []
+        → AreQuestions task x (questions_of task x done ++ option_to_list current)
     pub order : IsPrefix x.talk (stream_sent task.depth (updates task x) ++ flat_map
         (said_for task.depth (updates task x))
         (questions_of task x done ++ option_to_list current) ++ farewell task x done)
@@ -64,7 +65,8 @@ module _ (task : Task) (x : Exchange) where
 
   abbrev pub TalkClause : Status → Type 0
   TalkClause statuses.Accepted = IsWholeTalk
-  TalkClause (statuses.Rejected query round reason) = EndsAtFault (record { round = round; reason = reason })
+  TalkClause (statuses.Rejected query round reason) =
+      EndsAtFault (record { round = round; reason = reason })
   TalkClause (statuses.Usage word) = x.talk ≡ []
   TalkClause (statuses.BadStream at why) = x.talk ≡ before_end
   TalkClause statuses.BadSeed = x.talk ≡ []

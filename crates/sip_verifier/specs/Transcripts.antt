@@ -6,4 +6,6 @@ use Rattle.sip_wire.specs.Transcript.{head_bytes, ask_bytes}
 
 -- what a transcript begins with, and each query with its block of challenges
 abbrev pub head_of : ℕ → List Query → List (List ℕ) → List ℕ
-head_of depth queries blocks = head_bytes depth (length queries) ++ flat_map (λ ask. ask_bytes ask.0 ask.1) (zip queries blocks)
+head_of depth queries blocks =
+    head_bytes depth (length queries)
+    ++ flat_map (λ ask. ask_bytes ask.0 ask.1) (zip queries blocks)

@@ -39,13 +39,15 @@ module _ (task : Task) (x : Exchange) where
     pub done : Done task x
     pub number : query ≡ suc (length done)
     pub last : Question
-    pub faulty : IsFaulty task.depth (updates task x) last (record { round = round; reason = reason })
+    pub faulty : IsFaulty task.depth (updates task x) last
+        (record { round = round; reason = reason })
     pub reached : Reached task x (questions_of task x done ++ last ∷ []) (ending reason)
     pub report : x.report ≡ lines task x done ++ rejection query round reason
 
   -- these queries were accepted, as the talk shows
   abbrev pub WereReached : Done task x → Type 0
-  WereReached done = (done ≡ []) ⊎ ((rest : List TalkEvent) × Reached task x (questions_of task x done) rest)
+  WereReached done =
+      (done ≡ []) ⊎ ((rest : List TalkEvent) × Reached task x (questions_of task x done) rest)
 
   -- a part of the line of the next query, whose replies were accepted, and after which nothing was
   -- said

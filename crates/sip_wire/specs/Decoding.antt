@@ -31,7 +31,8 @@ FindsHead place bytes result = MatchResult result
     (λ x. Head place bytes x.0 x.1)
     (λ f. (frame_fault place bytes ≡ Some f) × IsOfBytes f × (asked place bytes ≡ 3))
 
--- a message stands in front of bytes: it fits, may stand there, and is spelled in front of what follows
+-- a message stands in front of bytes: it fits, may stand there, and is spelled in front of what
+-- follows
 pub record Spelled (place : Place) (bytes : List ℕ) (m : Message) (rest : List ℕ) : Type 0 where
   pub has_spelling : IsTrue (fits m)
   pub allowed : IsTrue (allows place (kind_of m))
@@ -46,19 +47,24 @@ pub record Took (place : Place) (got : List ℕ) (m : Message) : Type 0 where
   pub spelled : got ≡ spelling m
   pub read : read_frame place got ≡ Ok (m, [])
 
--- A fault is what reading the bytes answers. Where the link failed or memory ran out, the frame isn't whole.
+-- A fault is what reading the bytes answers. Where the link failed or memory ran out, the frame
+-- isn't whole.
 abbrev pub Fails : Place → List ℕ → ℕ → ℕ → WireFault → Type 0
-Fails place got before now faults.PeerFault = (read_frame place got ≡ Err faults.Closed) × Rose before now
+Fails place got before now faults.PeerFault =
+    (read_frame place got ≡ Err faults.Closed) × Rose before now
 Fails place got before now faults.OutOfMemory = read_frame place got ≡ Err faults.Closed
 Fails place got before now fault = read_frame place got ≡ Err fault
 
 -- What a call did that received these bytes, which the frame shows, and answered by them.
-pub record Decodes (place : Place) (old new : Option (List TalkEvent)) (before now : ℕ) (got : List ℕ) (result : Result Message WireFault) : Type 0 where
+pub record Decodes (place : Place) (old new : Option (List TalkEvent)) (before now : ℕ)
+    (got : List ℕ) (result : Result Message WireFault) : Type 0 where
   -- nothing else happened on the link
   pub heard : GoesOn old new (ins got ++ ended_by result)
   -- a message is one whose spelling was received, and a fault is that of the bytes
   pub answer : MatchResult result (Took place got) (Fails place got before now)
   -- where a message's spelling was received, that message is answered
-  pub only : (m : Message) → InRange m → IsTrue (fits m) → IsTrue (allows place (kind_of m)) → got ≡ spelling m → result ≡ Ok m
+  pub only : (m : Message) → InRange m → IsTrue (fits m) → IsTrue (allows place (kind_of m))
+      → got ≡ spelling m → result ≡ Ok m
   -- no byte was received that the answer does not need
-  pub short : (front more : List ℕ) → got ≡ front ++ more → more ≢ [] → read_frame place front ≡ Err faults.Closed
+  pub short : (front more : List ℕ) → got ≡ front ++ more → more ≢ []
+      → read_frame place front ≡ Err faults.Closed

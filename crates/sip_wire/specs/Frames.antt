@@ -10,9 +10,12 @@ use Rattle.sip_wire.specs.Faults.{IsOfLink, ended_by}
 abbrev pub frame_bytes : Frame → List ℕ
 frame_bytes f = take f.taken f.buffer.items
 
--- More bytes came behind those before: all that were asked for, or fewer where the link ended or stopped.
-pub record Receives (old new : Option (List TalkEvent)) (before after : List ℕ) (upto : ℕ) (result : Result Unit WireFault) : Type 0 where
+-- More bytes came behind those before: all that were asked for, or fewer where the link ended or
+-- stopped.
+pub record Receives (old new : Option (List TalkEvent)) (before after : List ℕ) (upto : ℕ)
+    (result : Result Unit WireFault) : Type 0 where
   pub more : List ℕ
   pub longer : after ≡ before ++ more
   pub heard : GoesOn old new (ins more ++ ended_by result)
-  pub whole : MatchResult result (λ _. length after ≡ upto) (λ f. (length after < upto) × IsOfLink f)
+  pub whole : MatchResult result (λ _. length after ≡ upto)
+      (λ f. (length after < upto) × IsOfLink f)

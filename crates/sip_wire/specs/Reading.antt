@@ -14,13 +14,16 @@ abbrev pub said_by : Kind → List ℕ → Message
 said_by kind body = message_from kind (mark_in (shape kind) body) (said_in (shape kind) body)
 
 -- what a frame says, by its kind and its fault, and what follows it
-abbrev pub read_of : Option Kind → Option WireFault → List ℕ → List ℕ → Result (Message × List ℕ) WireFault
+abbrev pub read_of : Option Kind → Option WireFault → List ℕ → List ℕ
+    → Result (Message × List ℕ) WireFault
 read_of kind (Some fault) frame rest = Err fault
 read_of (Some kind) None frame rest = Ok (said_by kind (drop 3 frame), rest)
 read_of None None frame rest = Err faults.BadKind
 
--- The message at the front of the bytes, and what follows its frame; or the fault. Closed says that the frame isn't whole.
+-- The message at the front of the bytes, and what follows its frame; or the fault. Closed says that
+-- the frame isn't whole.
 unfoldable pub read_frame : Place → List ℕ → Result (Message × List ℕ) WireFault
 read_frame place bytes =
     let n = asked place bytes in
-    read_of (kind_at (slice_index bytes 0)) (frame_fault place (take n bytes)) (take n bytes) (drop n bytes)
+    read_of (kind_at (slice_index bytes 0)) (frame_fault place (take n bytes)) (take n bytes)
+    (drop n bytes)

@@ -142,7 +142,9 @@ all_hold (f ∷ fs) (n ∷ ns) = f.holds n && all_hold fs ns
 
 -- the mark and the numbers fit a shape
 abbrev pub fits_shape : Shape → ℕ → List ℕ → Bool
-fits_shape s mark ns = s.is_mark mark && has_room (s.fields mark) ns && s.in_order mark ns && all_hold (s.fields mark) ns
+fits_shape s mark ns =
+    s.is_mark mark && has_room (s.fields mark) ns && s.in_order mark ns
+    && all_hold (s.fields mark) ns
 
 -- the body of a mark and numbers
 abbrev pub body_in : Shape → ℕ → List ℕ → List ℕ
@@ -156,7 +158,8 @@ fits m = fits_shape (shape (kind_of m)) (mark_of m) (numbers m)
 abbrev pub body_of : Message → List ℕ
 body_of m = body_in (shape (kind_of m)) (mark_of m) (numbers m)
 
--- the one spelling of a message that fits: the byte of its kind, the length of its body, and the body
+-- the one spelling of a message that fits: the byte of its kind, the length of its body, and the
+-- body
 unfoldable pub spelling : Message → List ℕ
 spelling m = byte_of (kind_of m) ∷ in_bytes 2 (length (body_of m)) ++ body_of m
 
@@ -178,7 +181,9 @@ said_in s body = numbers_in (s.fields (mark_in s body)) (drop s.mark_width body)
 unfoldable pub body_fault : Shape → List ℕ → Option WireFault
 body_fault s body =
     if not (mark_fits s (mark_in s body) (length body)) then Some faults.BadCount
-    else if not (s.in_order (mark_in s body) (said_in s body) && all_hold (s.fields (mark_in s body)) (said_in s body)) then Some faults.BadNumber
+    else if not
+    (s.in_order (mark_in s body) (said_in s body)
+    && all_hold (s.fields (mark_in s body)) (said_in s body)) then Some faults.BadNumber
     else None
 
 -- a mark and numbers are what stands in a body
@@ -194,7 +199,8 @@ ReadsBody kind body result = MatchResult result
     (λ f. body_fault (shape kind) body ≡ Some f)
 
 -- the same for rows behind their count
-abbrev pub ReadsRows : {T : Type 0} → (T → List ℕ) → (T → Type 0) → Shape → List ℕ → Result (ArrayVec T) WireFault → Type 0
+abbrev pub ReadsRows : {T : Type 0} → (T → List ℕ) → (T → Type 0) → Shape → List ℕ
+    → Result (ArrayVec T) WireFault → Type 0
 ReadsRows said in_range s body result = MatchResult result
     (λ v. Stands s body (length v.items) (flat_map said v.items) × All in_range v.items)
     (λ f. body_fault s body ≡ Some f)
@@ -216,12 +222,16 @@ kind_fault place (Some kind) bytes =
 
 -- the fault of what was received of a frame, up to the end of the link or of the frame
 unfoldable pub frame_fault : Place → List ℕ → Option WireFault
-frame_fault place bytes = if nat_lt (length bytes) 3 then Some faults.Closed else kind_fault place (kind_at (slice_index bytes 0)) bytes
+frame_fault place bytes =
+    if nat_lt (length bytes) 3 then Some faults.Closed
+    else kind_fault place (kind_at (slice_index bytes 0)) bytes
 
 -- how many bytes a frame has that begins so: three, and the body where kind and length pass
 abbrev pub asked_by : Place → Option Kind → List ℕ → ℕ
 asked_by place None bytes = 3
-asked_by place (Some kind) bytes = if allows place kind && (shape kind).has_length (length_in bytes) then 3 + length_in bytes else 3
+asked_by place (Some kind) bytes =
+    if allows place kind && (shape kind).has_length (length_in bytes) then 3 + length_in bytes
+    else 3
 
 -- the same, by the byte in front
 unfoldable pub asked : Place → List ℕ → ℕ

@@ -1,5 +1,5 @@
--- The table of frames: which byte stands for each kind, where it may stand, and the fields of its body. A frame is the byte of
--- its kind, the length of the body in two bytes, and the body.
+-- The table of frames: which byte stands for each kind, where it may stand, and the fields of its
+-- body. A frame is the byte of its kind, the length of the body in two bytes, and the body.
 use Rattle.std.specs.Prelude.{◌≡◌, ℕ, zero, suc, ◌+◌, ◌*◌, ◌-◌, ◌%◌, ◌^◌, nat_abs, Bool, true, false, not, ◌&&◌, ◌==◌, nat_lt, nat_le, List, [], ◌∷◌, ◌++◌, find, Option}
 use Rattle.std.specs.Int.{w64, cast_signed}
 use Rattle.std.specs.List.{list_any}
@@ -28,7 +28,10 @@ byte_of kinds.Refuse = 0x18
 
 -- each kind
 abbrev pub all_kinds : List Kind
-all_kinds = kinds.Open ∷ kinds.Updates ∷ kinds.EndStream ∷ kinds.Query ∷ kinds.Reveal ∷ kinds.Bye ∷ kinds.Claim ∷ kinds.Poly ∷ kinds.Entries ∷ kinds.Siblings ∷ kinds.Leaves ∷ kinds.Nodes ∷ kinds.LevelEnd ∷ kinds.Refuse ∷ []
+all_kinds =
+    kinds.Open ∷ kinds.Updates ∷ kinds.EndStream ∷ kinds.Query ∷ kinds.Reveal ∷ kinds.Bye
+    ∷ kinds.Claim ∷ kinds.Poly ∷ kinds.Entries ∷ kinds.Siblings ∷ kinds.Leaves ∷ kinds.Nodes
+    ∷ kinds.LevelEnd ∷ kinds.Refuse ∷ []
 
 -- the kind that a byte stands for
 abbrev pub kind_at : ℕ → Option Kind
@@ -162,7 +165,8 @@ query_codes = 1 ∷ 2 ∷ 3 ∷ 4 ∷ 5 ∷ []
 abbrev pub sibling_flags : List ℕ
 sibling_flags = 0 ∷ 1 ∷ 2 ∷ 3 ∷ []
 
--- the fields behind the code of a query: the sub-vector, the range, the second moment, the inner product, the heavy items
+-- the fields behind the code of a query: the sub-vector, the range, the second moment, the inner
+-- product, the heavy items
 abbrev pub query_fields : ℕ → List Field
 query_fields (suc zero) = index ∷ index ∷ []
 query_fields (suc (suc zero)) = side ∷ index ∷ index ∷ []
@@ -189,9 +193,10 @@ size (f ∷ fs) = f.width + size fs
 
 -- ---- shapes
 
--- What bodies look like. A body begins with a mark, in so many bytes: a count, the code of a query or the flags of
--- siblings. The mark of the other kinds is 0 and takes none. Behind it stand the fields that go with the mark.
--- `in_order` is what is asked of several numbers at once, and `has_length` says which lengths the marks give a body.
+-- What bodies look like. A body begins with a mark, in so many bytes: a count, the code of a query
+-- or the flags of siblings. The mark of the other kinds is 0 and takes none. Behind it stand the
+-- fields that go with the mark. `in_order` is what is asked of several numbers at once, and
+-- `has_length` says which lengths the marks give a body.
 pub record Shape : Type 0 where
   pub mark_width : ℕ
   pub is_mark : ℕ → Bool
@@ -211,7 +216,14 @@ marked marks fields in_order = record {
 
 -- the same fields in each body
 abbrev pub plain : List Field → Shape
-plain fs = record { mark_width = 0; is_mark = λ n. n == 0; fields = λ _. fs; in_order = λ _ _. true; has_length = λ n. n == size fs }
+plain fs =
+    record {
+      mark_width = 0;
+      is_mark = λ n. n == 0;
+      fields = λ _. fs;
+      in_order = λ _ _. true;
+      has_length = λ n. n == size fs;
+    }
 
 -- a count from 1 to `most` in two bytes, and that many rows
 abbrev pub counted : ℕ → List Field → Shape
@@ -220,7 +232,9 @@ counted most layout = record {
   is_mark = λ n. nat_le 1 n && nat_le n most;
   fields = λ n. repeat n layout;
   in_order = λ _ _. true;
-  has_length = λ n. nat_le (2 + size layout) n && nat_le n (2 + most * size layout) && ((n - 2) % size layout == 0);
+  has_length =
+      λ n. nat_le (2 + size layout) n && nat_le n (2 + most * size layout)
+      && ((n - 2) % size layout == 0);
 }
 
 -- the ends of an interval are in order

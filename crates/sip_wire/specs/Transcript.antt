@@ -1,4 +1,5 @@
--- A transcript: its head, which is what it begins with and each query with its challenges, and the replies.
+-- A transcript: its head, which is what it begins with and each query with its challenges, and the
+-- replies.
 use Rattle.std.specs.Prelude.{ℕ, List, [], ◌∷◌, ◌++◌, length}
 use Rattle.std.specs.List.{flat_map}
 use Rattle.sip_vector.specs.declared.query.Query.{Query}
@@ -23,4 +24,5 @@ ask_bytes query challenges = spelling (messages.Query query) ++ flat_map (in_byt
 
 -- a transcript: its head, and the bytes that were received from the helper, in order
 abbrev pub transcript : ℕ → List (Query × List ℕ) → List ℕ → List ℕ
-transcript depth asks replies = head_bytes depth (length asks) ++ flat_map (λ ask. ask_bytes ask.0 ask.1) asks ++ replies
+transcript depth asks replies =
+    head_bytes depth (length asks) ++ flat_map (λ ask. ask_bytes ask.0 ask.1) asks ++ replies

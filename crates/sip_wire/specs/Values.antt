@@ -29,12 +29,14 @@ side_at (suc _) = sides.Second
 -- so many rows, of the numbers that spell them
 abbrev pub updates_from : ℕ → List ℕ → List Update
 updates_from zero ns = []
-updates_from (suc k) (s ∷ i ∷ d ∷ ns) = record { side = side_at s; item = i; delta = cast_signed w64 d } ∷ updates_from k ns
+updates_from (suc k) (s ∷ i ∷ d ∷ ns) =
+    record { side = side_at s; item = i; delta = cast_signed w64 d } ∷ updates_from k ns
 updates_from (suc k) _ = []
 
 abbrev pub entries_from : ℕ → List ℕ → List Entry
 entries_from zero ns = []
-entries_from (suc k) (i ∷ v ∷ ns) = record { index = i; value = cast_signed w64 v } ∷ entries_from k ns
+entries_from (suc k) (i ∷ v ∷ ns) =
+    record { index = i; value = cast_signed w64 v } ∷ entries_from k ns
 entries_from (suc k) _ = []
 
 abbrev pub leaves_from : ℕ → List ℕ → List Leaf
@@ -52,14 +54,16 @@ abbrev pub query_from : ℕ → List ℕ → Query
 query_from (suc zero) (lo ∷ hi ∷ []) = queries.Sub lo hi
 query_from (suc (suc zero)) (side ∷ lo ∷ hi ∷ []) = queries.Range (side_at side) lo hi
 query_from (suc (suc (suc zero))) (side ∷ []) = queries.F2 (side_at side)
-query_from (suc (suc (suc (suc (suc zero))))) (side ∷ at_least ∷ []) = queries.Heavy (side_at side) at_least
+query_from (suc (suc (suc (suc (suc zero))))) (side ∷ at_least ∷ []) =
+    queries.Heavy (side_at side) at_least
 query_from _ _ = queries.Inner
 
 -- the siblings of these flags
 abbrev pub siblings_from : ℕ → List ℕ → Message
 siblings_from (suc zero) (left ∷ []) = messages.Siblings (Some left) None
 siblings_from (suc (suc zero)) (right ∷ []) = messages.Siblings None (Some right)
-siblings_from (suc (suc (suc zero))) (left ∷ right ∷ []) = messages.Siblings (Some left) (Some right)
+siblings_from (suc (suc (suc zero))) (left ∷ right ∷ []) =
+    messages.Siblings (Some left) (Some right)
 siblings_from _ _ = messages.Siblings None None
 
 -- the message of a kind, a mark and numbers

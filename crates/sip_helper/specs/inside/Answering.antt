@@ -20,14 +20,22 @@ is_memory _ = false
 -- the replies can be made from it; a refusal is the first reply and the last
 abbrev pub IsReady : ℕ → Option Vectors → List ℕ → Bool → Answerer → Type 0
 IsReady depth vectors revealed given (NoMemory query) = given ≡ false
-IsReady depth (Some v) revealed given (Refused query code) = (given ≡ false) × ((help_row query).refused_by v ≡ Some code)
-IsReady depth (Some v) revealed given (Honest prover) = ((help_row (query_proved prover)).refused_by v ≡ None) × HasLearnt depth v revealed prover
+IsReady depth (Some v) revealed given (Refused query code) =
+    (given ≡ false) × ((help_row query).refused_by v ≡ Some code)
+IsReady depth (Some v) revealed given (Honest prover) =
+    ((help_row (query_proved prover)).refused_by v ≡ None) × HasLearnt depth v revealed prover
 IsReady depth None revealed given (Refused query code) = ⊥
 IsReady depth None revealed given (Honest prover) = ⊥
 
 -- the open query that is kept so
 abbrev pub open_of : Asked → OpenQuery
-open_of a = record { query = query_of a.answerer; revealed = a.revealed.items; given = a.given; refused = is_memory a.answerer }
+open_of a =
+    record {
+      query = query_of a.answerer;
+      revealed = a.revealed.items;
+      given = a.given;
+      refused = is_memory a.answerer;
+    }
 
 -- a level is left to reply to, and the reply can be made
 pub record CanReply (depth : ℕ) (vectors : Option Vectors) (a : Asked) : Type 0 where

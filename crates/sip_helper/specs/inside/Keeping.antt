@@ -9,8 +9,10 @@ use Rattle.sip_helper.specs.inside.Answering.{CanReply}
 use Rattle.sip_helper.specs.inside.Legal.{HaveWeights}
 use Rattle.sip_helper.specs.Turns.{depth_of, is_light, most_queries, no_weight}
 
--- No side is too heavy, the vectors are those of the depth and the weights, and a query is open only behind the stream.
-pub record IsCoherent (heard : Heard) (weights : Weights) (vectors : Option Vectors) (queries : ℕ) (asked : Option Asked) : Type 0 where
+-- No side is too heavy, the vectors are those of the depth and the weights, and a query is open
+-- only behind the stream.
+pub record IsCoherent (heard : Heard) (weights : Weights) (vectors : Option Vectors) (queries : ℕ)
+    (asked : Option Asked) : Type 0 where
   pub deep : depth_of heard ≤ 32
   pub light : IsTrue (is_light weights)
   pub none : heard ≡ Nothing → weights ≡ no_weight

@@ -18,4 +18,6 @@ challenges_left (Some o) = 31 - length o.revealed
 
 -- an update weighs 1 at least, and a query has fewer than 32 challenges
 abbrev pub turns_left : HelperState → ℕ
-turns_left s = stream_left s.heard + (most_weight - s.weights.first) + (most_weight - s.weights.second) + 32 * (most_queries - s.queries) + challenges_left s.open_query
+turns_left s =
+    stream_left s.heard + (most_weight - s.weights.first) + (most_weight - s.weights.second)
+    + 32 * (most_queries - s.queries) + challenges_left s.open_query

@@ -8,7 +8,8 @@ use Rattle.sip_helper.specs.Serving.{Turn, IsTurn, EndsBy, after_turn, turn_talk
 use Rattle.sip_helper.specs.Turns.{HelperState}
 
 -- the turn was taken whole, and the talk is not over
-pub record Taken (old new : Option (List TalkEvent)) (s next : HelperState) (got : List ℕ) : Type 0 where
+pub record Taken (old new : Option (List TalkEvent)) (s next : HelperState)
+    (got : List ℕ) : Type 0 where
   pub turn : Turn
   pub is : IsTurn s turn
   pub state : next ≡ after_turn s turn
@@ -17,11 +18,13 @@ pub record Taken (old new : Option (List TalkEvent)) (s next : HelperState) (got
   pub whole : got ≡ spelling turn.message
 
 -- nothing more is taken
-pub record StopsTurn (old new : Option (List TalkEvent)) (s : HelperState) (at : ℕ) (status : HelpStatus) : Type 0 where
+pub record StopsTurn (old new : Option (List TalkEvent)) (s : HelperState) (at : ℕ)
+    (status : HelpStatus) : Type 0 where
   pub rest : List TalkEvent
   pub talk : GoesOn old new rest
   pub ends : EndsBy s at rest status
 
-abbrev pub TakesTurn : Option (List TalkEvent) → Option (List TalkEvent) → HelperState → HelperState → ℕ → List ℕ → Result Unit HelpStatus → Type 0
+abbrev pub TakesTurn : Option (List TalkEvent) → Option (List TalkEvent) → HelperState → HelperState
+    → ℕ → List ℕ → Result Unit HelpStatus → Type 0
 TakesTurn old new s next at got (Ok _) = Taken old new s next got
 TakesTurn old new s next at got (Err status) = StopsTurn old new s at status

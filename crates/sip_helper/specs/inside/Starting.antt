@@ -9,7 +9,8 @@ use Rattle.sip_helper.specs.inside.Legal.{HaveDepth}
 
 -- It starts where the query is not refused over the vectors: then it stands for the query and for
 -- them, and has learnt nothing yet. Else the code is the row's, or memory was refused.
-abbrev pub StartsProver : {P : Type 0} → (P → Query) → (ℕ → Vectors → List ℕ → P → Type 0) → Vectors → Query → Result P NotStarted → Type 0
+abbrev pub StartsProver : {P : Type 0} → (P → Query) → (ℕ → Vectors → List ℕ → P → Type 0) → Vectors
+    → Query → Result P NotStarted → Type 0
 StartsProver query has_learnt v q (Ok prover) =
     ((help_row q).refused_by v ≡ None)
     × (query prover ≡ q)

@@ -1,4 +1,5 @@
--- Entries as they are gathered: what a list of them adds up to, and how two rising lists are merged.
+-- Entries as they are gathered: what a list of them adds up to, and how two rising lists are
+-- merged.
 use Rattle.std.specs.Prelude.{◌≡◌, ◌≢◌, ℕ, suc, ◌+◌, ◌^◌, ◌<◌, ◌≤◌, ◌==◌, ℤ, pos, ◌+ℤ◌, nat_abs, List, [], ◌∷◌, ◌++◌, length, map, All, Option, Some, None, slice_set, if◌then◌else◌}
 use Rattle.sip_vector.specs.declared.update.Entry.{Entry}
 use Rattle.sip_vector.specs.Answers.{is_zero}
@@ -26,7 +27,8 @@ abs_sum (e ∷ es) = nat_abs e.value + abs_sum es
 -- these numbers once each entry's value is added to the number at its index
 abbrev pub raised : List ℤ → List Entry → List ℤ
 raised numbers [] = numbers
-raised numbers (e ∷ es) = raised (slice_set numbers e.index (number_at numbers e.index +ℤ e.value)) es
+raised numbers (e ∷ es) =
+    raised (slice_set numbers e.index (number_at numbers e.index +ℤ e.value)) es
 
 -- the indices do not fall, and are from `least` on and below n
 abbrev pub IsRising : ℕ → ℕ → List Entry → Type 0
@@ -38,10 +40,15 @@ abbrev pub with_last : List Entry → Entry → List Entry
 with_last es e = if is_zero e.value then es else es ++ e ∷ []
 
 -- e is taken from the front of one of the two lists, and no entry that is left has a lower index
-pub record IsTaken (list added : List Entry) (e : Entry) (list_left added_left : List Entry) : Type 0 where
-  pub sums : (k : ℕ) → sum_at list k +ℤ sum_at added k ≡ value_at e k +ℤ (sum_at list_left k +ℤ sum_at added_left k)
-  pub light : abs_sum list + abs_sum added ≡ nat_abs e.value + (abs_sum list_left + abs_sum added_left)
-  pub rising : (least n : ℕ) → IsRising least n list → IsRising least n added → (least ≤ e.index) × (e.index < n) × IsRising e.index n list_left × IsRising e.index n added_left
+pub record IsTaken (list added : List Entry) (e : Entry)
+    (list_left added_left : List Entry) : Type 0 where
+  pub sums : (k : ℕ) → sum_at list k +ℤ sum_at added k
+      ≡ value_at e k +ℤ (sum_at list_left k +ℤ sum_at added_left k)
+  pub light : abs_sum list + abs_sum added
+      ≡ nat_abs e.value + (abs_sum list_left + abs_sum added_left)
+  pub rising : (least n : ℕ) → IsRising least n list → IsRising least n added
+      → (least ≤ e.index) × (e.index < n) × IsRising e.index n list_left
+      × IsRising e.index n added_left
   pub shorter : length list + length added ≡ suc (length list_left + length added_left)
 
 -- entries below n with rising indices and without 0, which add up to what the two lists do
@@ -53,8 +60,10 @@ pub record IsMerged (n : ℕ) (list added merged : List Entry) : Type 0 where
 abbrev pub gathered : ℕ → List Entry → List Entry → List ℤ
 gathered depth list pending = raised (numbers_of depth (map as_pair list)) pending
 
--- a list without 0 and entries that wait, with the sum of what they show and a weight that bounds them
-pub record IsGathered (depth : ℕ) (list pending : List Entry) (total : ℤ) (weight : ℕ) : Type 0 where
+-- a list without 0 and entries that wait, with the sum of what they show and a weight that bounds
+-- them
+pub record IsGathered (depth : ℕ) (list pending : List Entry) (total : ℤ)
+    (weight : ℕ) : Type 0 where
   pub sparse : IsSparse (pos 0) 0 (2 ^ depth) (map as_pair list)
   pub within : All (λ e. e.index < 2 ^ depth) pending
   pub sums : total ≡ int_sum (gathered depth list pending)
@@ -68,7 +77,9 @@ IsBare es from to = (k : ℕ) → from ≤ k → k < to → sum_at es k ≡ pos 
 -- the first entry of a list below n at an index or after it
 abbrev pub IsFirstFrom : ℕ → List Entry → ℕ → Option Entry → Type 0
 IsFirstFrom n list from None = (k : ℕ) → from ≤ k → sum_at list k ≡ pos 0
-IsFirstFrom n list from (Some e) = (from ≤ e.index) × (e.index < n) × (e.value ≢ pos 0) × (sum_at list e.index ≡ e.value) × IsBare list from e.index
+IsFirstFrom n list from (Some e) =
+    (from ≤ e.index) × (e.index < n) × (e.value ≢ pos 0) × (sum_at list e.index ≡ e.value)
+    × IsBare list from e.index
 
 -- a rising list without 0 that shows what a vector shows
 pub record IsListOf (vector : SideVector) (list : List Entry) : Type 0 where
@@ -79,4 +90,6 @@ pub record IsListOf (vector : SideVector) (list : List Entry) : Type 0 where
 -- the first number that is not 0 from one index to another
 abbrev pub IsFirstOf : List ℤ → ℕ → ℕ → Option Entry → Type 0
 IsFirstOf numbers from hi None = (k : ℕ) → from ≤ k → k ≤ hi → number_at numbers k ≡ pos 0
-IsFirstOf numbers from hi (Some e) = (from ≤ e.index) × (e.index ≤ hi) × (e.value ≢ pos 0) × (number_at numbers e.index ≡ e.value) × ((k : ℕ) → from ≤ k → k < e.index → number_at numbers k ≡ pos 0)
+IsFirstOf numbers from hi (Some e) =
+    (from ≤ e.index) × (e.index ≤ hi) × (e.value ≢ pos 0) × (number_at numbers e.index ≡ e.value)
+    × ((k : ℕ) → from ≤ k → k < e.index → number_at numbers k ≡ pos 0)

@@ -20,7 +20,8 @@ pub record AreOf (task : Task) (seats : Seating) : Type 0 where
   pub stream : List Update
   pub stand : AreSeats task.depth task.queries.items at_blocks stream seats
 
--- the seats are those of the seed's challenges; a seed that gives none is short, or its 32 bytes are spent
+-- the seats are those of the seed's challenges; a seed that gives none is short, or its 32 bytes
+-- are spent
 abbrev pub Draws : Task → List ℕ → Result Seating Status → Type 0
 Draws task seed (Ok seats) = HasDrawn task seed seats
 Draws task seed (Err statuses.BadSeed) = length seed < 32

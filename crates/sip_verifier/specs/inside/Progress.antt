@@ -1,4 +1,5 @@
--- How far a run got with its queries once the stream was sent. (For the proof of a whole run alone.)
+-- How far a run got with its queries once the stream was sent. (For the proof of a whole run
+-- alone.)
 use Rattle.std.specs.Prelude.{◌≡◌, ◌⊎◌, ℕ, suc, List, ◌∷◌, length, map, take, drop, flat_map, Option, Result, Ok, Err}
 use Rattle.sip_ports.specs.declared.port.TalkEvent.{TalkEvent}
 use Rattle.sip_ports.specs.Ports.{GoesOn, outs}
@@ -22,7 +23,8 @@ use Rattle.sip_verifier.specs.VerdictClause.{VerdictClause}
 
 -- ---- one query, which has this number
 
-module _ (depth : ℕ) (stream : List Update) (query : Query) (block : List ℕ) (number : ℕ) (old new blank full : Option (List TalkEvent)) where
+module _ (depth : ℕ) (stream : List Update) (query : Query) (block : List ℕ) (number : ℕ)
+    (old new blank full : Option (List TalkEvent)) where
   -- its replies were accepted, and its line was written
   pub record Passes : Type 0 where
     pub answer : Answer
@@ -68,24 +70,31 @@ module _ (depth : ℕ) (stream : List Update) (query : Query) (block : List ℕ)
 -- ---- all queries
 
 -- these questions are those of the first queries, each with its own block
-pub record AreFirst (queries : List Query) (blocks : List (List ℕ)) (questions : List Question) : Type 0 where
+pub record AreFirst (queries : List Query) (blocks : List (List ℕ))
+    (questions : List Question) : Type 0 where
   pub asked : map (λ q. q.query) questions ≡ take (length questions) queries
   pub at_blocks : map (λ q. q.block) questions ≡ take (length questions) blocks
 
 -- the first queries were accepted, and their lines were written
-pub record Passed (depth : ℕ) (stream : List Update) (queries : List Query) (blocks : List (List ℕ)) (old new blank full : Option (List TalkEvent)) (done : List (Accepted depth stream)) : Type 0 where
+pub record Passed (depth : ℕ) (stream : List Update) (queries : List Query) (blocks : List (List ℕ))
+    (old new blank full : Option (List TalkEvent))
+    (done : List (Accepted depth stream)) : Type 0 where
   pub first : AreFirst queries blocks (map (λ a. a.question) done)
   pub talk : GoesOn old new (flat_map (said_for depth stream) (map (λ a. a.question) done))
   pub report : GoesOn blank full (outs (flat_map (λ a. line a.question.query a.answer) done))
 
 -- so many queries were accepted, and their lines were written
-pub record PassedBy (depth : ℕ) (stream : List Update) (queries : List Query) (blocks : List (List ℕ)) (old new blank full : Option (List TalkEvent)) (count : ℕ) : Type 0 where
+pub record PassedBy (depth : ℕ) (stream : List Update) (queries : List Query)
+    (blocks : List (List ℕ)) (old new blank full : Option (List TalkEvent))
+    (count : ℕ) : Type 0 where
   pub done : List (Accepted depth stream)
   pub counted : length done ≡ count
   pub passed : Passed depth stream queries blocks old new blank full done
 
 -- the first queries were accepted, and the one behind them was the last, with this end
-pub record EndsWith (depth : ℕ) (stream : List Update) (queries : List Query) (blocks : List (List ℕ)) (old new blank full : Option (List TalkEvent)) (status : Status) : Type 0 where
+pub record EndsWith (depth : ℕ) (stream : List Update) (queries : List Query)
+    (blocks : List (List ℕ)) (old new blank full : Option (List TalkEvent))
+    (status : Status) : Type 0 where
   pub done : List (Accepted depth stream)
   pub mid : Option (List TalkEvent)
   pub half : Option (List TalkEvent)
@@ -99,9 +108,13 @@ pub record EndsWith (depth : ℕ) (stream : List Update) (queries : List Query) 
   pub checks : Checks depth stream query block (suc (length done)) mid new half full (Err status)
 
 -- what came of all queries
-abbrev pub ChecksAll : ℕ → List Update → List Query → List (List ℕ) → Option (List TalkEvent) → Option (List TalkEvent) → Option (List TalkEvent) → Option (List TalkEvent) → Result (Unit {0}) Status → Type 0
-ChecksAll depth stream queries blocks old new blank full (Ok _) = PassedBy depth stream queries blocks old new blank full (length queries)
-ChecksAll depth stream queries blocks old new blank full (Err status) = EndsWith depth stream queries blocks old new blank full status
+abbrev pub ChecksAll : ℕ → List Update → List Query → List (List ℕ) → Option (List TalkEvent)
+    → Option (List TalkEvent) → Option (List TalkEvent) → Option (List TalkEvent)
+    → Result (Unit {0}) Status → Type 0
+ChecksAll depth stream queries blocks old new blank full (Ok _) =
+    PassedBy depth stream queries blocks old new blank full (length queries)
+ChecksAll depth stream queries blocks old new blank full (Err status) =
+    EndsWith depth stream queries blocks old new blank full status
 
 -- ---- the run
 

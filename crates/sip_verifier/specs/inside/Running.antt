@@ -15,5 +15,6 @@ abbrev pub numbers_of : Running → RunningNumbers
 numbers_of (Root root) = root_is root.value
 
 -- it is that of the stream for this query
-pub record RunsFor (depth : ℕ) (stream : List Update) (query : Query) (running : Running) : Type 0 where
+pub record RunsFor (depth : ℕ) (stream : List Update) (query : Query)
+    (running : Running) : Type 0 where
   pub runs : RunsOn depth stream query (block_of running) (numbers_of running)
