@@ -1,17 +1,16 @@
 -- How words begin a command, and where they are refused.
 use Rattle.std.proofs.Common.{◌≡◌, ◌≢◌, ℕ, zero, suc, ◌+◌, ◌-◌, ◌<◌, ◌≤◌, List, [], ◌∷◌, ◌++◌, length, get_or, take, drop, sym, refl, ap, subst, ◌∙◌, inl, inr, arith}
-use Rattle.std.specs.Prelude.{codes, decimal}
+use Rattle.std.specs.Prelude.{codes, decimal, ◌==◌, if◌then◌else◌}
 use Rattle.std.proofs.lemmas.Bool.{cases_lt}
 use Rattle.std.proofs.lemmas.List.{length-take-le, length-drop, length-append, get_or-take, get_or-drop, get_or_append_left, get_or-append_right}
 use Rattle.std.proofs.lemmas.Nat.{pow_pos}
-use Rattle.sip_stream.specs.declared.form.Form.TheVariants as forms
 use Rattle.sip_vector.specs.declared.query.Query.{Query}
 use Rattle.sip_vector.specs.declared.query.Query.TheVariants.{Sub}
 use Rattle.sip_verifier.specs.Reports.{query_word}
 use Rattle.sip_cli.specs.declared.shape.Shape.TheVariants.{Name}
 use Rattle.sip_cli.specs.declared.stream.Stream.TheVariants as stream
 use Rattle.sip_cli.specs.declared.verb.Verb.{Verb}
-use Rattle.sip_cli.specs.declared.verb.Verb.TheVariants.{Verify, Help, Gen, Lines}
+use Rattle.sip_cli.specs.declared.verb.Verb.TheVariants.{Verify, Help, Gen, Lines, Widen}
 use Rattle.sip_cli.specs.Shapes.{IsOf, IsDepth, Asks}
 use Rattle.sip_cli.specs.Verbs.{verb_word, shapes, least_asked, most_asked}
 use Rattle.sip_cli.specs.Words.{word, IsCommandOf, BeginCommand, IsRefusedAt}
@@ -22,6 +21,7 @@ examples Verify = codes "verify" ∷ codes "s" ∷ codes "s" ∷ codes "f" ∷ c
 examples Help = codes "help" ∷ codes "f" ∷ codes "t" ∷ []
 examples Gen = codes "gen" ∷ decimal 0 ∷ decimal 0 ∷ decimal 1 ∷ []
 examples Lines = codes "lines" ∷ codes "s" ∷ decimal 1 ∷ []
+examples Widen = codes "widen" ∷ codes "s" ∷ decimal 1 ∷ []
 
 -- they are as many as there have to be
 pub examples_long : (verb : Verb) → length (examples verb) ≡ 1 + length (shapes verb) + least_asked verb
@@ -29,26 +29,30 @@ examples_long Verify = refl
 examples_long Help = refl
 examples_long Gen = refl
 examples_long Lines = refl
+examples_long Widen = refl
 
 -- each has its shape
 pub examples_fit : (verb : Verb) (n : ℕ) → n < length (shapes verb) → IsOf (get_or (shapes verb) n Name) (word (examples verb) (n + 1))
-examples_fit Verify zero h = (forms.Binary, (stream.File, refl, (λ e. cc, refl, refl)))
+examples_fit Verify zero h = (stream.File, (λ e. cc, refl, refl, refl))
 examples_fit Verify (suc zero) h = λ e. cc
 examples_fit Verify (suc (suc zero)) h = λ e. cc
 examples_fit Verify (suc (suc (suc zero))) h = λ e. cc
 examples_fit Verify (suc (suc (suc (suc zero)))) h = refl
-examples_fit Verify (suc (suc (suc (suc (suc zero))))) h = (1, omega arith, (omega arith, omega arith, refl))
+examples_fit Verify (suc (suc (suc (suc (suc zero))))) h = (1, (omega arith, omega arith, refl))
 examples_fit Verify (suc (suc (suc (suc (suc (suc n)))))) h = absurd (omega arith)
 examples_fit Help zero h = λ e. cc
 examples_fit Help (suc zero) h = λ e. cc
 examples_fit Help (suc (suc n)) h = absurd (omega arith)
 examples_fit Gen zero h = (0, omega arith, omega arith, refl)
 examples_fit Gen (suc zero) h = (0, omega arith, omega arith, refl)
-examples_fit Gen (suc (suc zero)) h = (1, omega arith, (omega arith, omega arith, refl))
+examples_fit Gen (suc (suc zero)) h = (1, (omega arith, omega arith, refl))
 examples_fit Gen (suc (suc (suc n))) h = absurd (omega arith)
-examples_fit Lines zero h = (forms.Binary, (stream.File, refl, (λ e. cc, refl, refl)))
-examples_fit Lines (suc zero) h = (1, omega arith, (omega arith, omega arith, refl))
+examples_fit Lines zero h = (stream.File, (λ e. cc, refl, refl, refl))
+examples_fit Lines (suc zero) h = (1, (omega arith, omega arith, refl))
 examples_fit Lines (suc (suc n)) h = absurd (omega arith)
+examples_fit Widen zero h = (stream.File, (λ e. cc, refl, refl, refl))
+examples_fit Widen (suc zero) h = (1, (omega arith, omega arith, refl))
+examples_fit Widen (suc (suc n)) h = absurd (omega arith)
 
 -- the query of the example fits each depth
 pub example_asks : (verb : Verb) (n d : ℕ) → length (shapes verb) < n → n < length (examples verb) → Asks d (Sub 0 0) (word (examples verb) n)
@@ -56,25 +60,29 @@ example_asks Verify n d low high = let one : n ≡ 7 = omega arith in let item =
 example_asks Help n d low high = absurd (omega arith)
 example_asks Gen n d low high = absurd (omega arith)
 example_asks Lines n d low high = absurd (omega arith)
+example_asks Widen n d low high = absurd (omega arith)
 
 -- only `verify` has queries, and its depth is word 6
 pub depth_shape : (verb : Verb) (n : ℕ) → length (shapes verb) < n → n < 1 + length (shapes verb) + most_asked verb → (words : List (List ℕ)) → IsOf (get_or (shapes verb) 5 Name) (word words 6) → (d : ℕ) × IsDepth d (word words 6)
-depth_shape Verify n low high words (d, most, is) = (d, is)
+depth_shape Verify n low high words is = is
 depth_shape Help n low high words is = absurd (omega arith)
 depth_shape Gen n low high words is = absurd (omega arith)
 depth_shape Lines n low high words is = absurd (omega arith)
+depth_shape Widen n low high words is = absurd (omega arith)
 
 pub asking_has_six : (verb : Verb) (n : ℕ) → length (shapes verb) < n → n < 1 + length (shapes verb) + most_asked verb → length (shapes verb) ≡ 6
 asking_has_six Verify n low high = refl
 asking_has_six Help n low high = absurd (omega arith)
 asking_has_six Gen n low high = absurd (omega arith)
 asking_has_six Lines n low high = absurd (omega arith)
+asking_has_six Widen n low high = absurd (omega arith)
 
 pub least_below_most : (verb : Verb) → least_asked verb ≤ most_asked verb
 least_below_most Verify = omega arith
 least_below_most Help = omega arith
 least_below_most Gen = omega arith
 least_below_most Lines = omega arith
+least_below_most Widen = omega arith
 
 -- the first n words are those of a command of this verb, which is not yet too long
 pub record Begun (verb : Verb) (words : List (List ℕ)) (n : ℕ) : Type 0 where
@@ -162,24 +170,24 @@ begins_none words = (
   },
 )
 
+-- the verb whose word begins with this letter
+abbrev lettered : ℕ → Verb
+lettered letter =
+    if letter == 118 then Verify else (
+    if letter == 104 then Help else (
+    if letter == 103 then Gen else (
+    if letter == 108 then Lines else Widen)))
+
+lettered_word : (verb : Verb) → lettered (get_or (verb_word verb) 0 0) ≡ verb
+lettered_word Verify = refl
+lettered_word Help = refl
+lettered_word Gen = refl
+lettered_word Lines = refl
+lettered_word Widen = refl
+
 -- one word has one verb
 pub verb_once : (verb other : Verb) → verb_word verb ≡ verb_word other → verb ≡ other
-verb_once Verify Verify same = refl
-verb_once Verify Help same = absurd cc
-verb_once Verify Gen same = absurd cc
-verb_once Verify Lines same = absurd cc
-verb_once Help Verify same = absurd cc
-verb_once Help Help same = refl
-verb_once Help Gen same = absurd cc
-verb_once Help Lines same = absurd cc
-verb_once Gen Verify same = absurd cc
-verb_once Gen Help same = absurd cc
-verb_once Gen Gen same = refl
-verb_once Gen Lines same = absurd cc
-verb_once Lines Verify same = absurd cc
-verb_once Lines Help same = absurd cc
-verb_once Lines Gen same = absurd cc
-verb_once Lines Lines same = refl
+verb_once verb other same = sym (lettered_word verb) ∙ (ap (λ w. lettered (get_or w 0 0)) same ∙ lettered_word other)
 
 -- the words of a command that begins with the words up to n
 pub reads_from : (words whole rest : List (List ℕ)) (n : ℕ) → n < length words → whole ≡ take (n + 1) words ++ rest → (k : ℕ) → k ≤ n → word whole k ≡ word words k

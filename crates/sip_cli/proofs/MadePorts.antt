@@ -1,4 +1,4 @@
--- A made stream that is opened has at most ten million records.
+-- A made stream that is opened is short enough.
 use Rattle.std.proofs.Common.{◌≡◌, ℕ, ◌≤◌, List, ap, arith}
 use Rattle.sip_cli.specs.declared.command.Command.{Command}
 use Rattle.sip_cli.specs.declared.command.Command.TheVariants as command
@@ -7,9 +7,10 @@ use Rattle.sip_cli.specs.declared.plan.Opening.TheVariants.{Nothing, Path, Made}
 use Rattle.sip_cli.specs.declared.plan.PortPlan.{PortPlan}
 use Rattle.sip_cli.specs.declared.stream.Stream.{Stream}
 use Rattle.sip_cli.specs.declared.stream.Stream.TheVariants as stream
-use Rattle.sip_cli.specs.Plan.{Opens, opening_of}
+use Rattle.sip_cli.specs.Plan.{Opens, opening_of, source_ports}
 use Rattle.sip_cli.specs.Shapes.{IsStreamWord}
 use Rattle.sip_cli.specs.Words.{word}
+use Rattle.sip_stream.specs.Made.{most_made}
 
 -- how many records an opening has
 abbrev pub count_of : Opening → ℕ
@@ -18,13 +19,21 @@ count_of (Path _ _) = 0
 count_of (Made _ count _) = count
 
 -- the stream of a word is short enough
-pub stream_counted : (s : Stream) (w : List ℕ) (depth : ℕ) → IsStreamWord s w → count_of (opening_of s depth) ≤ 10000000
+pub stream_counted : (s : Stream) (w : List ℕ) (depth : ℕ) → IsStreamWord s w → count_of (opening_of s depth) ≤ most_made
 stream_counted (stream.Made number count) w depth (low, few, is) = few
 stream_counted stream.Text w depth is = omega arith
+stream_counted stream.Wide w depth is = omega arith
 stream_counted stream.File w depth is = omega arith
 
+-- so is the source of a copy
+source_counted : (words : List (List ℕ)) (s : Stream) (depth : ℕ) (plan : PortPlan) → IsStreamWord s (word words 1) → plan ≡ source_ports (opening_of s depth) → count_of plan.first ≤ most_made
+source_counted words s depth plan names is =
+    let same : count_of plan.first ≡ count_of (opening_of s depth) = ap (λ (p : PortPlan). count_of p.first) is in
+    let few = stream_counted s (word words 1) depth names in
+    omega arith
+
 -- so is the first port of a command
-pub first_counted : (words : List (List ℕ)) (c : Command) (plan : PortPlan) → Opens words c plan → count_of plan.first ≤ 10000000
+pub first_counted : (words : List (List ℕ)) (c : Command) (plan : PortPlan) → Opens words c plan → count_of plan.first ≤ most_made
 first_counted words (command.Verify task) plan (s, names, is) =
     let same : count_of plan.first ≡ count_of (opening_of s task.depth) = ap (λ (p : PortPlan). count_of p.first) is in
     let few = stream_counted s (word words 1) task.depth names in
@@ -33,17 +42,15 @@ first_counted words command.Help plan is =
     let same : count_of plan.first ≡ 0 = ap (λ (p : PortPlan). count_of p.first) is in omega arith
 first_counted words (command.Gen depth) plan (number, count, low, few, one, two, is) =
     let same : count_of plan.first ≡ count = ap (λ (p : PortPlan). count_of p.first) is in omega arith
-first_counted words (command.Lines form depth) plan (s, names, is) =
-    let same : count_of plan.first ≡ count_of (opening_of s depth) = ap (λ (p : PortPlan). count_of p.first) is in
-    let few = stream_counted s (word words 1) depth names in
-    omega arith
+first_counted words (command.Lines form depth) plan (s, names, is) = source_counted words s depth plan names is
+first_counted words (command.Widen form depth) plan (s, names, is) = source_counted words s depth plan names is
 
-pub opens_counted : (words : List (List ℕ)) (c : Command) (plan : PortPlan) → Opens words c plan → (number count depth : ℕ) → plan.first ≡ Made number count depth → count ≤ 10000000
+pub opens_counted : (words : List (List ℕ)) (c : Command) (plan : PortPlan) → Opens words c plan → (number count depth : ℕ) → plan.first ≡ Made number count depth → count ≤ most_made
 opens_counted words c plan opens number count depth is =
     let same : count_of plan.first ≡ count = ap count_of is in
     let few = first_counted words c plan opens in
     omega arith
 
 -- nothing is no made stream
-pub made_never : (count : ℕ) {number depth : ℕ} → Nothing ≡ Made number count depth → count ≤ 10000000
+pub made_never : (count : ℕ) {number depth : ℕ} → Nothing ≡ Made number count depth → count ≤ most_made
 made_never count is = let same : 0 ≡ count = ap count_of is in omega arith

@@ -1,5 +1,5 @@
 -- Each file that a command opens has its name among the words, and what stands behind a mark can be cut off.
-use Rattle.std.proofs.Common.{◌≡◌, ℕ, ◌<◌, List, ◌++◌, length, get_or, Option, None, IsSome, sym, subst, refl, ap, inl, inr, arith}
+use Rattle.std.proofs.Common.{◌≡◌, ℕ, ◌<◌, ◌≤◌, List, ◌++◌, length, get_or, Option, None, IsSome, sym, subst, refl, ap, inl, inr, arith}
 use Rattle.std.specs.Prelude.{codes}
 use Rattle.std.specs.Str.{IsUtf8, IsCharBoundary}
 use Rattle.std.proofs.lemmas.Bool.{false≢true}
@@ -10,7 +10,7 @@ use Rattle.sip_cli.specs.declared.plan.Opening.TheVariants.{Path}
 use Rattle.sip_cli.specs.declared.plan.PortPlan.{PortPlan}
 use Rattle.sip_cli.specs.declared.stream.Stream.{Stream}
 use Rattle.sip_cli.specs.declared.stream.Stream.TheVariants as stream
-use Rattle.sip_cli.specs.Plan.{HasName, HaveNames, Opens, opening_of}
+use Rattle.sip_cli.specs.Plan.{HasName, HaveNames, IsMarked, Opens, opening_of, source_ports}
 use Rattle.sip_cli.specs.Shapes.{IsStreamWord}
 use Rattle.sip_cli.specs.Words.{word, Spells}
 
@@ -21,8 +21,19 @@ file_named words n more = (more, inl refl)
 -- the name of a stream's file stands in word 1
 pub stream_named : (words : List (List ℕ)) (s : Stream) (depth : ℕ) → 1 < length words → IsStreamWord s (word words 1) → HasName words (opening_of s depth)
 stream_named words (stream.Made number count) depth more names = tt
-stream_named words stream.Text depth more (path, some, is) = (more, inr (refl, (path, is)))
+stream_named words stream.Text depth more (path, some, is) = (more, inr (refl, (path, inl is)))
+stream_named words stream.Wide depth more (path, some, is) = (more, inr (refl, (path, inr is)))
 stream_named words stream.File depth more names = (more, inl refl)
+
+-- so does that of the source of a copy
+source_named : (words : List (List ℕ)) (s : Stream) (depth : ℕ) (plan : PortPlan) → 1 < length words → IsStreamWord s (word words 1) → plan ≡ source_ports (opening_of s depth) → HaveNames words plan
+source_named words s depth plan more names is = subst (HaveNames words) (sym is) (record {
+  first = stream_named words s depth more names;
+  second = tt;
+  from = tt;
+  to = tt;
+  keep = tt;
+})
 
 -- all files of a command have their names
 pub opens_named : (words : List (List ℕ)) (c : Command) (plan : PortPlan) → Spells words c → Opens words c plan → HaveNames words plan
@@ -47,21 +58,22 @@ opens_named words command.Help plan spells is =
 opens_named words (command.Gen depth) plan spells (number, count, low, few, one, two, is) =
     subst (HaveNames words) (sym is) (record { first = tt; second = tt; from = tt; to = tt; keep = tt })
 opens_named words (command.Lines form depth) plan spells (s, names, is) =
-    let least = spells.0.least in
-    subst (HaveNames words) (sym is) (record {
-      first = stream_named words s depth (omega arith) names;
-      second = tt;
-      from = tt;
-      to = tt;
-      keep = tt;
-    })
+    let least = spells.0.least in source_named words s depth plan (omega arith) names is
+opens_named words (command.Widen form depth) plan spells (s, names, is) =
+    let least = spells.0.least in source_named words s depth plan (omega arith) names is
 
--- a text can be cut behind `text:`
-pub cut_behind_mark : (text path : List ℕ) → IsUtf8 text → text ≡ codes "text:" ++ path → IsCharBoundary text 5
-cut_behind_mark text path utf8 is =
+-- a text with a colon behind four bytes can be cut there
+cut_behind_colon : (text : List ℕ) → IsUtf8 text → 5 ≤ length text → get_or text 4 0 ≡ 58 → IsCharBoundary text 5
+cut_behind_colon text utf8 long colon = IsCharBoundary-after_ascii text 4 utf8 (omega arith) (omega arith)
+
+-- a text can be cut behind its mark
+pub cut_behind_mark : (text : List ℕ) → IsUtf8 text → IsMarked text → IsCharBoundary text 5
+cut_behind_mark text utf8 (path, inl is) =
     let long : length text ≡ length (codes "text:" ++ path) = ap length is in
-    let colon : get_or text 4 0 ≡ 58 = ap (λ t. get_or t 4 0) is in
-    IsCharBoundary-after_ascii text 4 utf8 (omega arith) (omega arith)
+    cut_behind_colon text utf8 (omega arith) (ap (λ t. get_or t 4 0) is)
+cut_behind_mark text utf8 (path, inr is) =
+    let long : length text ≡ length (codes "wide:" ++ path) = ap length is in
+    cut_behind_colon text utf8 (omega arith) (ap (λ t. get_or t 4 0) is)
 
 -- what is there is not missing
 pub some_not_none : {T : Type 0} (o : Option T) → o ≡ None → IsSome o → ⊥

@@ -8,8 +8,9 @@ use Rattle.std.specs.Str.Pattern.{StripsPrefix, FindsTextPrefix}
 use Rattle.std.proofs.lemmas.Str.Parse.{not_in_digits}
 use Rattle.std.proofs.lemmas.Str.Pattern.{IsSplitOnceResult, split_after, split_parts}
 use Rattle.sip_vector.specs.declared.query.Query.{Query}
-use Rattle.sip_vector.specs.declared.query.Query.TheVariants.{Sub, Range, F2, Inner, Heavy}
+use Rattle.sip_vector.specs.declared.query.Query.TheVariants.{Sub, Range, F2, Inner, Heavy, Share}
 use Rattle.sip_vector.specs.Answers.{Fits}
+use Rattle.sip_vector.specs.Limits.{most_depth}
 use Rattle.sip_verifier.specs.Reports.{query_word}
 use Rattle.sip_cli.specs.Shapes.{Asks}
 use Rattle.sip_cli.proofs.Decimals.{digits}
@@ -66,15 +67,16 @@ joined word rest x front split lo hi first second =
     cc
 
 -- a query that a word asks is an interval
-pub asked_interval : (depth : ℕ) (query : Query) (word : List ℕ) → depth ≤ 32 → Asks depth query word → (lo : ℕ) × (hi : ℕ) × (query ≡ Sub lo hi) × (lo ≤ hi) × (hi < 2 ^ depth) × (hi < 2 ^ 64) × (word ≡ query_word (Sub lo hi))
-asked_interval depth (Sub lo hi) word deep (_, fits, is) = let bound = pow_mono {i = depth} {j = 32} deep in (lo, hi, refl, fits.0, fits.1, omega (arith, fits.1), is)
+pub asked_interval : (depth : ℕ) (query : Query) (word : List ℕ) → depth ≤ most_depth → Asks depth query word → (lo : ℕ) × (hi : ℕ) × (query ≡ Sub lo hi) × (lo ≤ hi) × (hi < 2 ^ depth) × (hi < 2 ^ 64) × (word ≡ query_word (Sub lo hi))
+asked_interval depth (Sub lo hi) word deep (_, fits, is) = let bound = pow_mono {i = depth} {j = most_depth} deep in (lo, hi, refl, fits.0, fits.1, omega (arith, fits.1), is)
 asked_interval depth (Range side lo hi) word deep (never, fits, is) = absurd cc
 asked_interval depth (F2 side) word deep (never, fits, is) = absurd cc
 asked_interval depth Inner word deep (never, fits, is) = absurd cc
 asked_interval depth (Heavy side at_least) word deep (never, fits, is) = absurd cc
+asked_interval depth (Share side num den) word deep (never, fits, is) = absurd cc
 
 -- a word asks one query
-pub query_once : (depth : ℕ) (query other : Query) (word : List ℕ) → depth ≤ 32 → Asks depth query word → Asks depth other word → query ≡ other
+pub query_once : (depth : ℕ) (query other : Query) (word : List ℕ) → depth ≤ most_depth → Asks depth query word → Asks depth other word → query ≡ other
 query_once depth query other word deep asks also =
     let q = asked_interval depth query word deep asks in
     let r = asked_interval depth other word deep also in
@@ -82,7 +84,7 @@ query_once depth query other word deep asks also =
     q.2 ∙ (rw (one.0, one.1) (sym r.2))
 
 -- the query of the word, where it fits
-pub chosen : (depth a b : ℕ) (word : List ℕ) (fits : Bool) → depth ≤ 32 → a < 2 ^ 64 → b < 2 ^ 64 → IsTrue fits ↔ Fits depth (Sub a b) → word ≡ query_word (Sub a b) → MatchOption (then_some fits (Sub a b)) ((query : Query) → Asks depth query word → ⊥) (λ query. Asks depth query word)
+pub chosen : (depth a b : ℕ) (word : List ℕ) (fits : Bool) → depth ≤ most_depth → a < 2 ^ 64 → b < 2 ^ 64 → IsTrue fits ↔ Fits depth (Sub a b) → word ≡ query_word (Sub a b) → MatchOption (then_some fits (Sub a b)) ((query : Query) → Asks depth query word → ⊥) (λ query. Asks depth query word)
 chosen depth a b word true deep low high fits same = (refl, fits.0 refl, same)
 chosen depth a b word false deep low high fits same =
     λ query asks.

@@ -10,7 +10,7 @@ use Rattle.sip_cli.specs.declared.command.Command.{Command}
 use Rattle.sip_cli.specs.declared.command.Command.TheVariants as command
 use Rattle.sip_cli.specs.declared.verb.Verb.{Verb}
 use Rattle.sip_cli.specs.declared.verb.Verb.TheVariants as verb
-use Rattle.sip_cli.specs.Shapes.{Asks}
+use Rattle.sip_cli.specs.Shapes.{Asks, HasForm, IsDepth}
 use Rattle.sip_cli.specs.Words.{word, IsCommandOf, SaysTask, Spells, BeginCommand, IsRefusedAt}
 use Rattle.sip_cli.proofs.QueryWords.{query_once}
 use Rattle.sip_cli.proofs.StreamWords.{form_once}
@@ -44,20 +44,29 @@ refused_once words m n first second =
       ]
     ]
 
+-- the verb of a command
+abbrev pub verb_of : Command → Verb
+verb_of (command.Verify task) = verb.Verify
+verb_of command.Help = verb.Help
+verb_of (command.Gen depth) = verb.Gen
+verb_of (command.Lines form depth) = verb.Lines
+verb_of (command.Widen form depth) = verb.Widen
+
 -- the words of a command are whole
-pub whole_of : (words : List (List ℕ)) (c : Command) → Spells words c → (v : Verb) × IsCommandOf v words
-whole_of words (command.Verify task) s = (verb.Verify, s.0)
-whole_of words command.Help s = (verb.Help, s)
-whole_of words (command.Gen depth) s = (verb.Gen, s.0)
-whole_of words (command.Lines form depth) s = (verb.Lines, s.0)
+pub whole_of : (words : List (List ℕ)) (c : Command) → Spells words c → IsCommandOf (verb_of c) words
+whole_of words (command.Verify task) s = s.0
+whole_of words command.Help s = s
+whole_of words (command.Gen depth) s = s.0
+whole_of words (command.Lines form depth) s = s.0
+whole_of words (command.Widen form depth) s = s.0
 
 -- and are refused at no number
 pub spelled_not_refused : (words : List (List ℕ)) (c : Command) (n : ℕ) → Spells words c → IsRefusedAt words n → ⊥
 spelled_not_refused words c n s refused =
     let whole = whole_of words c s in
     elim (cases_lt n (length words)) [
-      | inl more ↦ refused.here more (whole.0, drop (n + 1) words, subst (IsCommandOf whole.0) (sym (take-append-drop (n + 1) words)) whole.1)
-      | inr least ↦ (refused.short least).1 whole.0 whole.1
+      | inl more ↦ refused.here more (verb_of c, drop (n + 1) words, subst (IsCommandOf (verb_of c)) (sym (take-append-drop (n + 1) words)) whole)
+      | inr least ↦ (refused.short least).1 (verb_of c) whole
     ]
 
 -- a task of these parts
@@ -68,7 +77,7 @@ task_of depth form items = record { depth = depth; form = form; queries = record
 pub task_once : (words : List (List ℕ)) (task other : Task) → SaysTask words task → SaysTask words other → task ≡ other
 task_once words task other s t =
     let depth : task.depth ≡ other.depth = depth_once (word words 6) task.depth other.depth s.depth t.depth in
-    let form : task.form ≡ other.form = form_once task.form other.form (word words 1) s.form t.form in
+    let form : task.form ≡ other.form = form_once task.depth task.form other.form (word words 1) s.form (subst (λ d. HasForm d other.form (word words 1)) (sym depth) t.form) in
     let count = s.count in
     let count' = t.count in
     let items : task.queries.items ≡ other.queries.items = ext_get_or Inner task.queries.items other.queries.items (omega arith)
@@ -77,25 +86,25 @@ task_once words task other s t =
     ap (λ d. task_of d task.form task.queries.items) depth ∙ (ap (λ f. task_of other.depth f task.queries.items) form ∙ ap (λ qs. task_of other.depth other.form qs) items)
 
 -- words have one verb
-pub verbs_agree : (words : List (List ℕ)) (v w : Verb) → IsCommandOf v words → IsCommandOf w words → v ≡ w
-verbs_agree words v w a b = verb_once v w (sym a.first ∙ b.first)
+pub verbs_agree : (words : List (List ℕ)) (c d : Command) → Spells words c → Spells words d → verb_of c ≡ verb_of d
+verbs_agree words c d s t =
+    let a = whole_of words c s in
+    let b = whole_of words d t in
+    verb_once (verb_of c) (verb_of d) (sym a.first ∙ b.first)
+
+-- a stream and a depth that words say are their only ones
+copy_once : (words : List (List ℕ)) (f g : Form) (d e : ℕ) → HasForm d f (word words 1) → IsDepth d (word words 2) → HasForm e g (word words 1) → IsDepth e (word words 2) → (f ≡ g) × (d ≡ e)
+copy_once words f g d e has is has' also =
+    let depth = depth_once (word words 2) d e is also in
+    (form_once d f g (word words 1) has (subst (λ k. HasForm k g (word words 1)) (sym depth) has'), depth)
 
 -- words spell one command at most
 pub command_once : (words : List (List ℕ)) (c d : Command) → Spells words c → Spells words d → c ≡ d
 command_once words (command.Verify task) (command.Verify other) s t = ap command.Verify (task_once words task other s.1 t.1)
-command_once words (command.Verify task) command.Help s t = absurd (let same = verbs_agree words verb.Verify verb.Help s.0 t in cc)
-command_once words (command.Verify task) (command.Gen e) s t = absurd (let same = verbs_agree words verb.Verify verb.Gen s.0 t.0 in cc)
-command_once words (command.Verify task) (command.Lines g e) s t = absurd (let same = verbs_agree words verb.Verify verb.Lines s.0 t.0 in cc)
-command_once words command.Help (command.Verify other) s t = absurd (let same = verbs_agree words verb.Help verb.Verify s t.0 in cc)
 command_once words command.Help command.Help s t = refl
-command_once words command.Help (command.Gen e) s t = absurd (let same = verbs_agree words verb.Help verb.Gen s t.0 in cc)
-command_once words command.Help (command.Lines g e) s t = absurd (let same = verbs_agree words verb.Help verb.Lines s t.0 in cc)
-command_once words (command.Gen d) (command.Verify other) s t = absurd (let same = verbs_agree words verb.Gen verb.Verify s.0 t.0 in cc)
-command_once words (command.Gen d) command.Help s t = absurd (let same = verbs_agree words verb.Gen verb.Help s.0 t in cc)
 command_once words (command.Gen d) (command.Gen e) s t = ap command.Gen (depth_once (word words 3) d e s.1 t.1)
-command_once words (command.Gen d) (command.Lines g e) s t = absurd (let same = verbs_agree words verb.Gen verb.Lines s.0 t.0 in cc)
-command_once words (command.Lines f d) (command.Verify other) s t = absurd (let same = verbs_agree words verb.Lines verb.Verify s.0 t.0 in cc)
-command_once words (command.Lines f d) command.Help s t = absurd (let same = verbs_agree words verb.Lines verb.Help s.0 t in cc)
-command_once words (command.Lines f d) (command.Gen e) s t = absurd (let same = verbs_agree words verb.Lines verb.Gen s.0 t.0 in cc)
 command_once words (command.Lines f d) (command.Lines g e) s t =
-    ap (λ form. command.Lines form d) (form_once f g (word words 1) s.1 t.1) ∙ ap (λ depth. command.Lines g depth) (depth_once (word words 2) d e s.2 t.2)
+    let one = copy_once words f g d e s.1 s.2 t.1 t.2 in rw (one.0, one.1) refl
+command_once words (command.Widen f d) (command.Widen g e) s t =
+    let one = copy_once words f g d e s.1 s.2 t.1 t.2 in rw (one.0, one.1) refl
+command_once words c d s t = absurd (let same = verbs_agree words c d s t in cc)

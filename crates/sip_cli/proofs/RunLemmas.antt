@@ -1,14 +1,16 @@
 -- A run's words and its task, and what each command keeps.
-use Rattle.std.proofs.Common.{◌≡◌, ℕ, ◌+◌, List, [], Some, get_or, true≢false, sym, ap, subst, arith}
+use Rattle.std.proofs.Common.{◌≡◌, ℕ, ◌+◌, ◌≤◌, List, [], Some, get_or, true≢false, refl, sym, ap, subst, arith}
 use Rattle.std.proofs.lemmas.List.Elements.{All-from_get_or}
 use Rattle.std.specs.Prelude.{◌↔◌}
 use Rattle.sip_ports.proofs.TalkLemmas.{GoesOn-refl}
 use Rattle.sip_stream.specs.declared.form.Form.{Form}
-use Rattle.sip_stream.specs.declared.form.Form.TheVariants.{Binary, Text}
+use Rattle.sip_stream.specs.declared.form.Form.TheVariants.{Binary, Text, Wide}
+use Rattle.sip_stream.specs.Layouts.{deepest_in, made_form}
+use Rattle.sip_vector.specs.Limits.{most_depth, most_narrow_depth}
 use Rattle.sip_vector.specs.declared.query.Query.{Query}
 use Rattle.sip_vector.specs.declared.query.Query.TheVariants.{Inner}
 use Rattle.sip_cli.specs.declared.command.Command.{Command}
-use Rattle.sip_cli.specs.declared.command.Command.TheVariants.{Verify, Help, Gen, Lines}
+use Rattle.sip_cli.specs.declared.command.Command.TheVariants.{Verify, Help, Gen, Lines, Widen}
 use Rattle.sip_verifier.specs.declared.status.Status.{Status}
 use Rattle.sip_verifier.specs.declared.status.Status.TheVariants as statuses
 use Rattle.sip_verifier.specs.declared.task.Task.{Task}
@@ -51,6 +53,7 @@ ends_otherwise (Verify task) word listed = absurd (true≢false (sym listed))
 ends_otherwise Help word listed = listed
 ends_otherwise (Gen depth) word listed = listed
 ends_otherwise (Lines form depth) word listed = listed
+ends_otherwise (Widen form depth) word listed = listed
 
 pub never_usage : (c : Command) (status : Status) (word : ℕ)
     → Ends c status → status ≡ statuses.Usage word → ⊥
@@ -69,7 +72,34 @@ usage_at words word other refused =
 same_task : {a b : Task} {x : Exchange} {before now : Counts} {status : Status} → a ≡ b → Promises b x before now status → Promises a x before now status
 same_task {x = x} {before = before} {now = now} {status = status} e p = subst (λ (k : Task). Promises k x before now status) (sym e) p
 
+-- only binary records have no room for the items of each depth
+pub room_for : (depth : ℕ) (to : Form) → depth ≤ most_depth → (to ≡ Binary → depth ≤ most_narrow_depth) → depth ≤ deepest_in to
+room_for depth Binary most narrow = narrow refl
+room_for depth Text most narrow = most
+room_for depth Wide most narrow = most
+
 -- ---- what each command keeps
+
+-- from one moment to another, with this status, a stream was copied at a depth from one form to another
+abbrev pub Copied : Moment → Moment → Status → ℕ → Form → Form → Type 0
+Copied before now status depth from to = (bytes : List ℕ) → before.first ≡ Some bytes
+    → CopyClause depth from to bytes now.first before.report now.report status
+
+-- the copy that a command makes, if it makes one
+abbrev Kept : Moment → Moment → Status → Command → Type 0
+Kept before now status (Verify task) = ⊥
+Kept before now status Help = ⊥
+Kept before now status (Gen depth) = Copied before now status depth (made_form depth) (made_form depth)
+Kept before now status (Lines form depth) = Copied before now status depth form Text
+Kept before now status (Widen form depth) = Copied before now status depth form Wide
+
+-- a command that makes one ends as a copy does
+ends_as_copy : (before now : Moment) (status : Status) (c : Command) → Kept before now status c → EndsCopy status → Ends c status
+ends_as_copy before now status (Verify task) copied listed = absurd copied
+ends_as_copy before now status Help copied listed = absurd copied
+ends_as_copy before now status (Gen depth) copied listed = listed
+ends_as_copy before now status (Lines form depth) copied listed = listed
+ends_as_copy before now status (Widen form depth) copied listed = listed
 
 module _ {before now : Moment} {status : Status} where
   pub verify_keeps : {c : Command} (task : Task) → c ≡ Verify task
@@ -78,6 +108,7 @@ module _ {before now : Moment} {status : Status} where
     verify = λ other is x t. same_task (let same = is in cc) (k.promises x t);
     made = λ depth is. absurd (let same = is in cc);
     lines = λ form depth is. absurd (let same = is in cc);
+    wide = λ form depth is. absurd (let same = is in cc);
     help = λ is. absurd (let same = is in cc);
     moves = k.moves;
     fault = k.fault;
@@ -92,50 +123,26 @@ module _ {before now : Moment} {status : Status} where
     verify = λ other is. absurd (let same = is in cc);
     made = λ depth is. absurd (let same = is in cc);
     lines = λ form depth is. absurd (let same = is in cc);
+    wide = λ form depth is. absurd (let same = is in cc);
     help = λ is. served;
     moves = moves;
     fault = fault;
     listed = λ command is. subst (λ (c : Command). Ends c status) is listed;
   })
 
-  pub gen_keeps : {c : Command} (depth : ℕ) → c ≡ Gen depth
-      → ((bytes : List ℕ) → before.first ≡ Some bytes
-      → CopyClause depth Binary Binary bytes now.first before.report now.report status)
+  pub copy_keeps : {c : Command} (d : Command) → c ≡ d → Kept before now status d
       → (IsTold before → (x : Exchange) × Tells before now x)
       → FaultClause before.faults now.faults status → EndsCopy status
       → CommandClause (λ is. c ≡ is) before now status
-  gen_keeps depth e copied moves fault listed = subst (λ (c : Command). CommandClause (λ is. c ≡ is) before now status) (sym e) (record {
-    verify = λ other is. absurd (let same = is in cc);
-    made = λ other is bytes told. (
-        let same : depth ≡ other = cc in
-        subst (λ (d : ℕ). CopyClause d Binary Binary bytes now.first before.report now.report status)
-        same (copied bytes told));
-    lines = λ form depth is. absurd (let same = is in cc);
-    help = λ is. absurd (let same = is in cc);
+  copy_keeps d e copied moves fault listed = subst (λ (c : Command). CommandClause (λ is. c ≡ is) before now status) (sym e) (record {
+    verify = λ task is. absurd (subst (Kept before now status) is copied);
+    made = λ depth is. subst (Kept before now status) is copied;
+    lines = λ form depth is. subst (Kept before now status) is copied;
+    wide = λ form depth is. subst (Kept before now status) is copied;
+    help = λ is. absurd (subst (Kept before now status) is copied);
     moves = moves;
     fault = fault;
-    listed = λ command is. subst (λ (c : Command). Ends c status) is listed;
-  })
-
-  pub lines_keeps : {c : Command} (form : Form) (depth : ℕ) → c ≡ Lines form depth
-      → ((bytes : List ℕ) → before.first ≡ Some bytes
-      → CopyClause depth form Text bytes now.first before.report now.report status)
-      → (IsTold before → (x : Exchange) × Tells before now x)
-      → FaultClause before.faults now.faults status → EndsCopy status
-      → CommandClause (λ is. c ≡ is) before now status
-  lines_keeps form depth e copied moves fault listed = subst (λ (c : Command). CommandClause (λ is. c ≡ is) before now status) (sym e) (record {
-    verify = λ other is. absurd (let same = is in cc);
-    made = λ other is. absurd (let same = is in cc);
-    lines = λ other_form other is bytes told. (
-        let same : depth ≡ other = cc in
-        let like : form ≡ other_form = cc in
-        subst (λ (f : Form). CopyClause other f Text bytes now.first before.report now.report status) like
-        (subst (λ (d : ℕ). CopyClause d form Text bytes now.first before.report now.report status)
-        same (copied bytes told)));
-    help = λ is. absurd (let same = is in cc);
-    moves = moves;
-    fault = fault;
-    listed = λ command is. subst (λ (c : Command). Ends c status) is listed;
+    listed = λ command is. subst (λ (c : Command). Ends c status) is (ends_as_copy before now status d copied listed);
   })
 
   -- what a command keeps, it keeps for all who know it by another sign
@@ -145,6 +152,7 @@ module _ {before now : Moment} {status : Status} where
     verify = λ task is. k.verify task (tells (Verify task) is);
     made = λ depth is. k.made depth (tells (Gen depth) is);
     lines = λ form depth is. k.lines form depth (tells (Lines form depth) is);
+    wide = λ form depth is. k.wide form depth (tells (Widen form depth) is);
     help = λ is. k.help (tells Help is);
     moves = k.moves;
     fault = k.fault;
@@ -158,6 +166,7 @@ none_keeps {m = m} word none = record {
   verify = λ task is. absurd (none (Verify task) is);
   made = λ depth is. absurd (none (Gen depth) is);
   lines = λ form depth is. absurd (none (Lines form depth) is);
+  wide = λ form depth is. absurd (none (Widen form depth) is);
   help = λ is. absurd (none Help is);
   moves = λ is. tells m m is (λ some. some) [] (GoesOn-refl _) [] (GoesOn-refl _);
   fault = tt;

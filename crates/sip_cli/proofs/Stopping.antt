@@ -6,16 +6,18 @@ use Rattle.std.proofs.lemmas.List.{length-append, get_or_append_left}
 use Rattle.std.proofs.Math.Seq.{get_or-append_seam}
 use Rattle.sip_vector.specs.declared.query.Query.{Query}
 use Rattle.sip_vector.specs.declared.query.Query.TheVariants.{Inner}
+use Rattle.sip_wire.specs.Table.{most_queries}
 use Rattle.sip_cli.specs.declared.command.Command.{Command}
 use Rattle.sip_cli.specs.declared.shape.Shape.{Shape}
 use Rattle.sip_cli.specs.declared.shape.Shape.TheVariants.{Name}
+use Rattle.sip_cli.specs.declared.stream.Stream.{Stream}
 use Rattle.sip_cli.specs.declared.words.Usage.{Usage}
 use Rattle.sip_cli.specs.declared.verb.Verb.{Verb}
 use Rattle.sip_cli.specs.declared.verb.Verb.TheVariants.{Verify}
-use Rattle.sip_cli.specs.Shapes.{IsOf, IsDepth, Asks}
-use Rattle.sip_cli.specs.Verbs.{verb_word, shapes, least_asked, most_asked, most_queries}
+use Rattle.sip_cli.specs.Shapes.{IsOf, IsDepth, IsStreamWord, Asks}
+use Rattle.sip_cli.specs.Verbs.{verb_word, shapes, least_asked, most_asked}
 use Rattle.sip_cli.specs.Words.{word, IsCommandOf, IsRefusedAt}
-use Rattle.sip_cli.specs.inside.Progress.{HaveShapes, StopsInShapes, Fitted, AreAsked, StopsInQueries}
+use Rattle.sip_cli.specs.inside.Progress.{HaveShapes, StopsInShapes, Fitted, TakesStream, AreAsked, StopsInQueries}
 use Rattle.sip_cli.proofs.Beginning.{Begun, refused}
 
 -- a word has one depth
@@ -129,6 +131,12 @@ pub refused_more : (verb : Verb) (words : List (List ℕ)) (n : ℕ) → Fitted 
 refused_more verb words n fitted none last more =
     let sum : length (shapes verb) + 1 ≡ n = omega arith in
     refused_end verb words n (subst (Begun verb words) sum (begun_shapes verb words (length (shapes verb)) fitted.0 (omega arith) fitted.1)) (omega arith) more
+
+-- behind a verb with a stream and a depth stand a stream and a depth
+pub stream_and_depth : (verb : Verb) (words : List (List ℕ)) → TakesStream verb → Fitted verb words → (2 < length words) × ((s : Stream) × IsStreamWord s (word words 1)) × ((d : ℕ) × IsDepth d (word words 2))
+stream_and_depth verb words takes fitted =
+    let have = subst (λ ss. HaveShapes ss words (length ss)) takes.shaped fitted.1 in
+    (have.0, have.1 0 (omega arith), have.1 1 (omega arith))
 
 -- there is no word of a number
 pub no_word : (r : Bool) (n m : ℕ) → IsTrue r ↔ (n < m) → r ≡ false → m ≤ n

@@ -1,12 +1,15 @@
 -- The word of a stream: what each begins with, and that no two streams share one.
-use Rattle.std.proofs.Common.{◌≡◌, false, ℕ, ◌^◌, ◌<◌, ◌≤◌, nat_eq, List, ◌∷◌, ◌++◌, get_or, Option, Some, Bor, MatchOption, true≢false, drop, subst, sym, refl, ap, ◌∙◌, arith}
+use Rattle.std.proofs.Common.{◌≡◌, ◌≢◌, Bool, true, false, ℕ, ◌^◌, ◌<◌, ◌≤◌, nat_eq, nat_le, List, ◌∷◌, ◌++◌, get_or, Option, Some, Bor, MatchOption, true≢false, drop, subst, sym, refl, ap, ◌∙◌, arith}
 use Rattle.std.specs.Prelude.{codes, decimal}
+use Rattle.std.specs.Bool.{then_some}
 use Rattle.std.specs.List.{starts_with}
+use Rattle.std.proofs.lemmas.Bool.{leb-true, le-leb}
 use Rattle.std.proofs.lemmas.Fmt.{decimal_injective}
 use Rattle.std.proofs.lemmas.Str.Pattern.{split_parts, split_after, IsSplitOnceResult}
 use Rattle.sip_stream.specs.declared.form.Form.{Form}
+use Rattle.sip_stream.specs.Made.{most_made}
 use Rattle.sip_cli.specs.declared.stream.Stream.{Stream}
-use Rattle.sip_cli.specs.declared.stream.Stream.TheVariants.{Made, Text, File}
+use Rattle.sip_cli.specs.declared.stream.Stream.TheVariants.{Made, Text, Wide, File}
 use Rattle.sip_cli.specs.Shapes.{IsStreamWord, HasForm, form_of}
 use Rattle.sip_cli.proofs.QueryWords.{same_parts, decimal_lacks_colon}
 
@@ -15,25 +18,29 @@ abbrev pub numbers : ℕ → ℕ → List ℕ
 numbers number count = decimal number ++ 58 ∷ decimal count
 
 -- two made streams with one word are one
-pub made_once : (n c n' c' : ℕ) → n < 2 ^ 64 → c ≤ 10000000 → n' < 2 ^ 64 → c' ≤ 10000000 → numbers n c ≡ numbers n' c' → (n ≡ n') × (c ≡ c')
+pub made_once : (n c n' c' : ℕ) → n < 2 ^ 64 → c ≤ most_made → n' < 2 ^ 64 → c' ≤ most_made → numbers n c ≡ numbers n' c' → (n ≡ n') × (c ≡ c')
 made_once n c n' c' low few low' few' same =
     let parts = same_parts 58 (decimal n) (decimal n') (decimal c) (decimal c') (decimal_lacks_colon n low) (decimal_lacks_colon n' low') same in
     (decimal_injective n n' low low' parts.0, decimal_injective c c' (omega arith) (omega arith) parts.1)
 
--- no word begins with `made:` and with `text:`
-pub not_both : (xs ys word : List ℕ) → word ≡ codes "made:" ++ xs → word ≡ codes "text:" ++ ys → ⊥
-not_both xs ys word made text =
-    let m : get_or word 0 0 ≡ 109 = ap (λ w. get_or w 0 0) made in
-    let t : get_or word 0 0 ≡ 116 = ap (λ w. get_or w 0 0) text in
-    omega (arith, m, t)
+-- the made stream of the two numbers, where it is short enough
+pub allowed : (rest : List ℕ) (n c : ℕ) (allows : Bool) → n < 2 ^ 64 → c < 2 ^ 64 → allows ≡ nat_le c most_made → rest ≡ numbers n c → MatchOption (then_some allows (Made n c))
+    ((number count : ℕ) → number < 2 ^ 64 → count ≤ most_made → rest ≢ numbers number count)
+    (λ s. (number : ℕ) × (count : ℕ) × (number < 2 ^ 64) × (count ≤ most_made) × (rest ≡ numbers number count) × (s ≡ Made number count))
+allowed rest n c true low small is whole = (n, c, low, leb-true c most_made (sym is), whole, refl)
+allowed rest n c false low small is whole = λ n' c' low' few' same.
+    let parts = same_parts 58 (decimal n) (decimal n') (decimal c) (decimal c') (decimal_lacks_colon n low) (decimal_lacks_colon n' low') (sym whole ∙ same) in
+    let one : c ≡ c' = decimal_injective c c' small (omega arith) parts.1 in
+    let few : true ≡ false = sym (le-leb c most_made (omega arith)) ∙ sym is in
+    absurd (true≢false few)
 
--- one that begins with `made:` does not fail the test
-pub not_made : (xs word : List ℕ) → word ≡ codes "made:" ++ xs → starts_with nat_eq word (codes "made:") ≡ false → ⊥
-not_made xs word is none = true≢false (subst (λ w. starts_with nat_eq w (codes "made:") ≡ false) is none)
+-- the letter that a word begins with
+abbrev first : List ℕ → ℕ
+first word = get_or word 0 0
 
--- nor does one that begins with `text:`
-pub not_text : (xs word : List ℕ) → word ≡ codes "text:" ++ xs → starts_with nat_eq word (codes "text:") ≡ false → ⊥
-not_text xs word is none = true≢false (subst (λ w. starts_with nat_eq w (codes "text:") ≡ false) is none)
+-- one that begins with a mark does not fail its test
+unmarked : (mark xs word : List ℕ) → word ≡ mark ++ xs → starts_with nat_eq (mark ++ xs) mark ≡ true → starts_with nat_eq word mark ≡ false → ⊥
+unmarked mark xs word is starts none = true≢false (sym starts ∙ subst (λ w. starts_with nat_eq w mark ≡ false) is none)
 
 -- a word names one stream
 pub stream_once : (s t : Stream) (word : List ℕ) → IsStreamWord s word → IsStreamWord t word → s ≡ t
@@ -41,20 +48,27 @@ stream_once (Made n c) (Made n' c') word (low, few, is) (low', few', also) =
     let rest : numbers n c ≡ numbers n' c' = ap (drop 5) (sym is ∙ also) in
     let parts = made_once n c n' c' low few low' few' rest in
     rw (parts.0, parts.1) refl
-stream_once (Made n c) Text word (low, few, is) (path, some, also) = absurd (not_both (numbers n c) path word is also)
-stream_once (Made n c) File word (low, few, is) (some, made, text) = absurd (not_made (numbers n c) word is made)
-stream_once Text (Made n c) word (path, some, also) (low, few, is) = absurd (not_both (numbers n c) path word is also)
+stream_once (Made n c) Text word (low, few, is) (path, some, also) = let a : first word ≡ 109 = ap first is in let b : first word ≡ 116 = ap first also in absurd (omega arith)
+stream_once (Made n c) Wide word (low, few, is) (path, some, also) = let a : first word ≡ 109 = ap first is in let b : first word ≡ 119 = ap first also in absurd (omega arith)
+stream_once (Made n c) File word (low, few, is) (some, made, text, wide) = absurd (unmarked (codes "made:") (numbers n c) word is refl made)
+stream_once Text (Made n c) word (path, some, is) (low, few, also) = let a : first word ≡ 116 = ap first is in let b : first word ≡ 109 = ap first also in absurd (omega arith)
 stream_once Text Text word is also = refl
-stream_once Text File word (path, some, is) (some', made, text) = absurd (not_text path word is text)
-stream_once File (Made n c) word (some, made, text) (low, few, is) = absurd (not_made (numbers n c) word is made)
-stream_once File Text word (some', made, text) (path, some, is) = absurd (not_text path word is text)
+stream_once Text Wide word (path, some, is) (path', some', also) = let a : first word ≡ 116 = ap first is in let b : first word ≡ 119 = ap first also in absurd (omega arith)
+stream_once Text File word (path, some, is) (some', made, text, wide) = absurd (unmarked (codes "text:") path word is refl text)
+stream_once Wide (Made n c) word (path, some, is) (low, few, also) = let a : first word ≡ 119 = ap first is in let b : first word ≡ 109 = ap first also in absurd (omega arith)
+stream_once Wide Text word (path, some, is) (path', some', also) = let a : first word ≡ 119 = ap first is in let b : first word ≡ 116 = ap first also in absurd (omega arith)
+stream_once Wide Wide word is also = refl
+stream_once Wide File word (path, some, is) (some', made, text, wide) = absurd (unmarked (codes "wide:") path word is refl wide)
+stream_once File (Made n c) word (some, made, text, wide) (low, few, is) = absurd (unmarked (codes "made:") (numbers n c) word is refl made)
+stream_once File Text word (some, made, text, wide) (path, some', is) = absurd (unmarked (codes "text:") path word is refl text)
+stream_once File Wide word (some, made, text, wide) (path, some', is) = absurd (unmarked (codes "wide:") path word is refl wide)
 stream_once File File word is also = refl
 
--- and has one form
-pub form_once : (f g : Form) (word : List ℕ) → HasForm f word → HasForm g word → f ≡ g
-form_once f g word (s, is, names) (t, also, names') =
+-- and has one form at a depth
+pub form_once : (depth : ℕ) (f g : Form) (word : List ℕ) → HasForm depth f word → HasForm depth g word → f ≡ g
+form_once depth f g word (s, is, names) (t, also, names') =
     let same = stream_once s t word names names' in
-    sym is ∙ (ap form_of same ∙ also)
+    sym is ∙ (ap (form_of depth) same ∙ also)
 
 -- the cut at the colon gives the two numbers
 pub cut_numbers : (rest : List ℕ) (r : Option (Bor (List ℕ) × Bor (List ℕ))) → IsSplitOnceResult 58 rest r → (n c : ℕ) → n < 2 ^ 64 → rest ≡ numbers n c → MatchOption r ⊥ (λ x. (x.0.now ≡ decimal n) × (x.1.now ≡ decimal c))

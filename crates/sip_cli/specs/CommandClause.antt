@@ -3,11 +3,12 @@
 use Rattle.std.specs.Prelude.{◌≡◌, ℕ, List, Some}
 use Rattle.sip_cli.specs.CopyClause.{CopyClause}
 use Rattle.sip_cli.specs.declared.command.Command.{Command}
-use Rattle.sip_cli.specs.declared.command.Command.TheVariants.{Verify, Help, Gen, Lines}
+use Rattle.sip_cli.specs.declared.command.Command.TheVariants.{Verify, Help, Gen, Lines, Widen}
 use Rattle.sip_cli.specs.HelpClause.{HelpClause}
 use Rattle.sip_cli.specs.Statuses.{Ends}
 use Rattle.sip_stream.specs.declared.form.Form.{Form}
-use Rattle.sip_stream.specs.declared.form.Form.TheVariants.{Binary, Text}
+use Rattle.sip_stream.specs.declared.form.Form.TheVariants.{Text, Wide}
+use Rattle.sip_stream.specs.Layouts.{made_form}
 use Rattle.sip_verifier.specs.declared.status.Status.{Status}
 use Rattle.sip_verifier.specs.declared.task.Task.{Task}
 use Rattle.sip_verifier.specs.Exchanges.{Exchange, Tells}
@@ -21,13 +22,18 @@ pub record CommandClause (Is : Command → Type 0) (before now : Moment) (status
   -- `verify`: the five promises, on the exchange that the ports tell
   pub verify : (task : Task) → Is (Verify task) → (x : Exchange) → Tells before now x
       → Promises task x before.faults now.faults status
-  -- `gen`: the stream's records are copied to the report as records
+  -- `gen`: the stream's records are copied to the report in the form in which they are made
   pub made : (depth : ℕ) → Is (Gen depth) → (bytes : List ℕ) → before.first ≡ Some bytes
-      → CopyClause depth Binary Binary bytes now.first before.report now.report status
+      → CopyClause depth (made_form depth) (made_form depth) bytes
+      now.first before.report now.report status
   -- `lines`: they are copied as lines of text
   pub lines : (form : Form) (depth : ℕ) → Is (Lines form depth)
       → (bytes : List ℕ) → before.first ≡ Some bytes
       → CopyClause depth form Text bytes now.first before.report now.report status
+  -- `widen`: they are copied as wide records
+  pub wide : (form : Form) (depth : ℕ) → Is (Widen form depth)
+      → (bytes : List ℕ) → before.first ≡ Some bytes
+      → CopyClause depth form Wide bytes now.first before.report now.report status
   -- `help`: a talk is served
   pub help : Is Help → HelpClause before.talk now.talk status
   -- ports that tell go on telling, so there is an exchange that they tell

@@ -1,4 +1,4 @@
--- What `gen` and `lines` promise.
+-- What `gen`, `lines` and `widen` promise.
 --
 -- A copy is the spellings of a stream's legal records. It is whole exactly where the stream was
 -- legal to its end and was read to it, and all was written. Of a stream with a record that is not

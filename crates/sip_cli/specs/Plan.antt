@@ -11,15 +11,16 @@ use Rattle.sip_cli.specs.declared.stream.Stream.{Stream}
 use Rattle.sip_cli.specs.declared.stream.Stream.TheVariants as stream
 use Rattle.sip_cli.specs.Shapes.{IsStreamWord}
 use Rattle.sip_cli.specs.Words.{word}
+use Rattle.sip_stream.specs.Made.{most_made}
 
--- What the stream of word 1 is opened on at a depth. The path of lines of text stands behind
--- `text:`.
+-- What the stream of word 1 is opened on at a depth. A path stands behind `text:` and `wide:`.
 abbrev pub opening_of : Stream → ℕ → Opening
 opening_of (stream.Made number count) depth = Made number count depth
 opening_of stream.Text depth = Path 1 5
+opening_of stream.Wide depth = Path 1 5
 opening_of stream.File depth = Path 1 0
 
--- gen NUMBER COUNT DEPTH, and lines STREAM DEPTH
+-- gen NUMBER COUNT DEPTH, lines STREAM DEPTH and widen STREAM DEPTH
 abbrev pub source_ports : Opening → PortPlan
 source_ports first =
     record { first = first; second = Nothing; from = Nothing; to = Nothing; keep = Nothing }
@@ -43,10 +44,12 @@ Opens words (command.Verify task) plan =
     (s : Stream) × IsStreamWord s (word words 1) × (plan ≡ verify_ports (opening_of s task.depth))
 Opens words command.Help plan = plan ≡ help_ports
 Opens words (command.Gen depth) plan =
-    (number : ℕ) × (count : ℕ) × (number < 2 ^ 64) × (count ≤ 10000000)
+    (number : ℕ) × (count : ℕ) × (number < 2 ^ 64) × (count ≤ most_made)
     × (word words 1 ≡ decimal number) × (word words 2 ≡ decimal count)
     × (plan ≡ source_ports (Made number count depth))
 Opens words (command.Lines form depth) plan =
+    (s : Stream) × IsStreamWord s (word words 1) × (plan ≡ source_ports (opening_of s depth))
+Opens words (command.Widen form depth) plan =
     (s : Stream) × IsStreamWord s (word words 1) × (plan ≡ source_ports (opening_of s depth))
 
 -- the name of the file that an opening is on: a word without its first bytes, if there is such a
@@ -56,13 +59,17 @@ file_name Nothing words = None
 file_name (Made number count depth) words = None
 file_name (Path n skip) words = option_map (drop skip) (slice_get words n)
 
--- the name, if the opening is on a file, stands in a word: it is all of it, or what is behind
--- `text:`
+-- the word is a path behind a mark of five bytes
+abbrev pub IsMarked : List ℕ → Type 0
+IsMarked word = (path : List ℕ) × ((word ≡ codes "text:" ++ path) ⊎ (word ≡ codes "wide:" ++ path))
+
+-- the name, if the opening is on a file, stands in a word: it is all of it, or what is behind a
+-- mark
 abbrev pub HasName : List (List ℕ) → Opening → Type 0
 HasName words Nothing = Unit {0}
 HasName words (Made number count depth) = Unit {0}
 HasName words (Path n skip) = (n < length words)
-    × ((skip ≡ 0) ⊎ ((skip ≡ 5) × ((path : List ℕ) × (word words n ≡ codes "text:" ++ path))))
+    × ((skip ≡ 0) ⊎ ((skip ≡ 5) × IsMarked (word words n)))
 
 -- the same of all openings of a plan
 pub record HaveNames (words : List (List ℕ)) (plan : PortPlan) : Type 0 where

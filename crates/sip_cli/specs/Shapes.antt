@@ -3,9 +3,12 @@ use Rattle.std.specs.Prelude.{◌≡◌, ◌≢◌, ℕ, ◌^◌, ◌<◌, ◌�
 use Rattle.std.specs.List.{starts_with}
 use Rattle.sip_stream.specs.declared.form.Form.{Form}
 use Rattle.sip_stream.specs.declared.form.Form.TheVariants as forms
+use Rattle.sip_stream.specs.Layouts.{made_form}
+use Rattle.sip_stream.specs.Made.{most_made}
 use Rattle.sip_vector.specs.declared.query.Query.{Query}
 use Rattle.sip_vector.specs.Answers.{Fits}
 use Rattle.sip_vector.specs.Built.{is_built}
+use Rattle.sip_vector.specs.Limits.{most_depth}
 use Rattle.sip_verifier.specs.Reports.{query_word}
 use Rattle.sip_cli.specs.declared.shape.Shape.{Shape}
 use Rattle.sip_cli.specs.declared.shape.Shape.TheVariants as shape
@@ -16,36 +19,39 @@ use Rattle.sip_cli.specs.declared.stream.Stream.TheVariants as stream
 abbrev pub made_word : ℕ → ℕ → List ℕ
 made_word number count = codes "made:" ++ decimal number ++ 58 ∷ decimal count
 
--- The word names this stream. One that begins with `made:` or `text:` is read so alone.
+-- The word names this stream. One that begins with `made:`, `text:` or `wide:` is read so alone.
 abbrev pub IsStreamWord : Stream → List ℕ → Type 0
 IsStreamWord (stream.Made number count) word =
-    (number < 2 ^ 64) × (count ≤ 10000000) × (word ≡ made_word number count)
+    (number < 2 ^ 64) × (count ≤ most_made) × (word ≡ made_word number count)
 IsStreamWord stream.Text word = (path : List ℕ) × (path ≢ []) × (word ≡ codes "text:" ++ path)
+IsStreamWord stream.Wide word = (path : List ℕ) × (path ≢ []) × (word ≡ codes "wide:" ++ path)
 IsStreamWord stream.File word =
     (word ≢ []) × (starts_with nat_eq word (codes "made:") ≡ false)
     × (starts_with nat_eq word (codes "text:") ≡ false)
+    × (starts_with nat_eq word (codes "wide:") ≡ false)
 
--- a made stream is binary
-abbrev pub form_of : Stream → Form
-form_of (stream.Made _ _) = forms.Binary
-form_of stream.Text = forms.Text
-form_of stream.File = forms.Binary
+-- the form of a stream at a depth
+abbrev pub form_of : ℕ → Stream → Form
+form_of depth (stream.Made _ _) = made_form depth
+form_of depth stream.Text = forms.Text
+form_of depth stream.Wide = forms.Wide
+form_of depth stream.File = forms.Binary
 
--- the word names a stream of this form
-abbrev pub HasForm : Form → List ℕ → Type 0
-HasForm form word = (s : Stream) × (form_of s ≡ form) × IsStreamWord s word
+-- the word names a stream that has this form at a depth
+abbrev pub HasForm : ℕ → Form → List ℕ → Type 0
+HasForm depth form word = (s : Stream) × (form_of depth s ≡ form) × IsStreamWord s word
 
 -- the word is this depth
 abbrev pub IsDepth : ℕ → List ℕ → Type 0
-IsDepth depth word = (1 ≤ depth) × (depth ≤ 32) × (word ≡ decimal depth)
+IsDepth depth word = (1 ≤ depth) × (depth ≤ most_depth) × (word ≡ decimal depth)
 
 -- the word has this shape
 abbrev pub IsOf : Shape → List ℕ → Type 0
 IsOf shape.Name word = word ≢ []
-IsOf shape.Stream word = (form : Form) × HasForm form word
+IsOf shape.Stream word = (s : Stream) × IsStreamWord s word
 IsOf shape.NoRecord word = word ≡ codes "-"
 IsOf (shape.Number most) word = (n : ℕ) × (n ≤ most) × (n < 2 ^ 64) × (word ≡ decimal n)
-IsOf (shape.Depth most) word = (d : ℕ) × (d ≤ most) × IsDepth d word
+IsOf shape.Depth word = (d : ℕ) × IsDepth d word
 
 -- the word asks this query, whose kind is built and which fits the depth
 abbrev pub Asks : ℕ → Query → List ℕ → Type 0

@@ -6,7 +6,7 @@ use Rattle.sip_verifier.specs.declared.status.Status.{Status}
 use Rattle.sip_verifier.specs.declared.status.Status.TheVariants as statuses
 use Rattle.sip_verifier.specs.Statuses.{IsListed}
 
--- of `gen` and `lines`
+-- of `gen`, `lines` and `widen`
 abbrev pub EndsCopy : Status → Type 0
 EndsCopy statuses.Wrote = Unit {0}
 EndsCopy (statuses.BadStream at why) = Unit {0}
@@ -29,6 +29,7 @@ Ends (command.Verify task) status = IsListed status
 Ends command.Help status = EndsHelp status
 Ends (command.Gen depth) status = EndsCopy status
 Ends (command.Lines form depth) status = EndsCopy status
+Ends (command.Widen form depth) status = EndsCopy status
 
 -- the command copies a stream
 abbrev pub IsCopy : Command → Type 0
@@ -36,3 +37,4 @@ IsCopy (command.Verify task) = ⊥
 IsCopy command.Help = ⊥
 IsCopy (command.Gen depth) = Unit {0}
 IsCopy (command.Lines form depth) = Unit {0}
+IsCopy (command.Widen form depth) = Unit {0}

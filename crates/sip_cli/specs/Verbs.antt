@@ -3,7 +3,9 @@ use Rattle.std.specs.Prelude.{ℕ, List, [], ◌∷◌, codes}
 use Rattle.sip_cli.specs.declared.shape.Shape.{Shape}
 use Rattle.sip_cli.specs.declared.shape.Shape.TheVariants.{Name, Stream, NoRecord, Number, Depth}
 use Rattle.sip_cli.specs.declared.verb.Verb.{Verb}
-use Rattle.sip_cli.specs.declared.verb.Verb.TheVariants.{Verify, Help, Gen, Lines}
+use Rattle.sip_cli.specs.declared.verb.Verb.TheVariants.{Verify, Help, Gen, Lines, Widen}
+use Rattle.sip_stream.specs.Made.{most_made}
+use Rattle.sip_wire.specs.Table.{most_queries}
 
 -- the first word of a command
 abbrev pub verb_word : Verb → List ℕ
@@ -11,21 +13,20 @@ verb_word Verify = codes "verify"
 verb_word Help = codes "help"
 verb_word Gen = codes "gen"
 verb_word Lines = codes "lines"
-
--- the most queries of `verify`
-abbrev pub most_queries : ℕ
-most_queries = 16
+verb_word Widen = codes "widen"
 
 -- The words behind the verb, and before the queries.
 --   verify STREAM SEED FROM TO RECORD DEPTH, without a transcript
 --   help FROM TO
 --   gen NUMBER COUNT DEPTH
 --   lines STREAM DEPTH
+--   widen STREAM DEPTH
 abbrev pub shapes : Verb → List Shape
-shapes Verify = Stream ∷ Name ∷ Name ∷ Name ∷ NoRecord ∷ Depth 32 ∷ []
+shapes Verify = Stream ∷ Name ∷ Name ∷ Name ∷ NoRecord ∷ Depth ∷ []
 shapes Help = Name ∷ Name ∷ []
-shapes Gen = Number 18446744073709551615 ∷ Number 10000000 ∷ Depth 32 ∷ []
-shapes Lines = Stream ∷ Depth 32 ∷ []
+shapes Gen = Number 18446744073709551615 ∷ Number most_made ∷ Depth ∷ []
+shapes Lines = Stream ∷ Depth ∷ []
+shapes Widen = Stream ∷ Depth ∷ []
 
 -- at least so many queries stand behind them
 abbrev pub least_asked : Verb → ℕ
@@ -33,6 +34,7 @@ least_asked Verify = 1
 least_asked Help = 0
 least_asked Gen = 0
 least_asked Lines = 0
+least_asked Widen = 0
 
 -- and at most so many
 abbrev pub most_asked : Verb → ℕ
@@ -40,3 +42,4 @@ most_asked Verify = most_queries
 most_asked Help = 0
 most_asked Gen = 0
 most_asked Lines = 0
+most_asked Widen = 0

@@ -27,7 +27,7 @@ pub record IsCommandOf (verb : Verb) (words : List (List ℕ)) : Type 0 where
 
 -- the words of `verify` say this task
 pub record SaysTask (words : List (List ℕ)) (task : Task) : Type 0 where
-  pub form : HasForm task.form (word words 1)
+  pub form : HasForm task.depth task.form (word words 1)
   pub depth : IsDepth task.depth (word words 6)
   pub count : length words ≡ 7 + length task.queries.items
   pub queries : (i : ℕ) → i < length task.queries.items
@@ -39,7 +39,9 @@ Spells words (command.Verify task) = IsCommandOf verb.Verify words × SaysTask w
 Spells words command.Help = IsCommandOf verb.Help words
 Spells words (command.Gen depth) = IsCommandOf verb.Gen words × IsDepth depth (word words 3)
 Spells words (command.Lines form depth) =
-    IsCommandOf verb.Lines words × HasForm form (word words 1) × IsDepth depth (word words 2)
+    IsCommandOf verb.Lines words × HasForm depth form (word words 1) × IsDepth depth (word words 2)
+Spells words (command.Widen form depth) =
+    IsCommandOf verb.Widen words × HasForm depth form (word words 1) × IsDepth depth (word words 2)
 
 -- some command begins with these words
 abbrev pub BeginCommand : List (List ℕ) → Type 0

@@ -1,11 +1,13 @@
 //! What a command asks for.
 
 ghost use Rattle.std.specs.Prelude.{◌≡◌, ◌≢◌, ℕ, ◌+◌, ◌<◌, ◌≤◌, IsTrue, ◌↔◌, MatchOption, OnOk, IfOk, IfErr, length};
-ghost use Rattle.sip_cli.specs.Shapes.{IsDepth, HasForm};
-ghost use Rattle.sip_cli.specs.Words.{Spells, IsRefusedAt, word};
-ghost use Rattle.sip_cli.specs.Verbs.{verb_word, most_queries};
-ghost use Rattle.sip_cli.specs.inside.Progress.{Fitted, HaveShapes, AreAsked, StopsInShapes, StopsInQueries};
+ghost use Rattle.sip_cli.specs.declared.stream.Stream.{Stream as AnyStream};
+ghost use Rattle.sip_cli.specs.Shapes.{IsDepth, HasForm, IsStreamWord};
+ghost use Rattle.sip_cli.specs.Words.{IsCommandOf, Spells, IsRefusedAt, word};
+ghost use Rattle.sip_cli.specs.Verbs.{verb_word};
+ghost use Rattle.sip_cli.specs.inside.Progress.{Fitted, HaveShapes, TakesStream, AreAsked, StopsInShapes, StopsInQueries};
 ghost use Rattle.sip_cli.specs.declared.verb.Verb.{Verb as AnyVerb};
+ghost use Rattle.sip_wire.specs.Table.{most_queries};
 
 use crate::decimal::read_decimal;
 use crate::query::read_query;
@@ -17,6 +19,7 @@ use arrayvec::ArrayVec;
 use sip_stream::Form;
 use sip_vector::{Depth, Query};
 use sip_verifier::Task;
+use sip_wire::MOST_QUERIES;
 
 /// What the program is to do.
 #[derive(Drop)]
@@ -29,13 +32,12 @@ pub enum Command {
     Gen { depth: Depth },
     /// To write a stream as lines of text: `lines STREAM DEPTH`.
     Lines { form: Form, depth: Depth },
+    /// To write a stream as wide records: `widen STREAM DEPTH`.
+    Widen { form: Form, depth: Depth },
 }
 
 /// The number of the first query of `verify`.
 const FIRST_QUERY: usize = 7;
-
-/// The most queries of `verify`.
-const MOST_QUERIES: usize = 16;
 
 // The verb that word 0 is.
 fn verb_of(words: &Words) -> Option<Verb>
@@ -71,13 +73,13 @@ fn has_word(words: &Words, number: usize) -> bool
     words.get(number).is_some()
 }
 
-// The form of the stream of word 1.
-fn form_of(words: &Words) -> Option<Form>
+// The form that the stream of word 1 has at a depth.
+fn form_of(words: &Words, depth: Depth) -> Option<Form>
     ensures { MatchOption result
-        (1 < length words.now → (form : Form) → HasForm form (word words.now 1) → ⊥)
-        (λ form. HasForm form (word words.now 1)) }
+        (1 < length words.now → (s : AnyStream) → IsStreamWord s (word words.now 1) → ⊥)
+        (λ form. HasForm depth form (word words.now 1)) }
 {
-    Some(stream_of(words)?.form())
+    Some(stream_of(words)?.form(depth))
 }
 
 // The depth that a word of this number gives.
@@ -94,7 +96,7 @@ fn depth_at(words: &Words, number: usize) -> Option<Depth>
 }
 
 // The queries of `verify`.
-fn read_queries(words: &Words, depth: Depth) -> Result<ArrayVec<Query, 16>, Usage>
+fn read_queries(words: &Words, depth: Depth) -> Result<ArrayVec<Query, MOST_QUERIES>, Usage>
     requires shaped { 7 ≤ length words.now }
     ensures asked { IfOk result (λ queries. AreAsked words.now depth queries.items
         (length words.now)) }
@@ -134,11 +136,11 @@ fn read_verify(words: &Words) -> Result<Command, Usage>
     ensures refused { IfErr result (λ usage. Fitted Verb.Verify words.now
         → IsRefusedAt words.now usage.word) }
 {
-    let Some(form) = form_of(words) else {
-        return Err(Usage { word: 1 });
-    };
     let Some(depth) = depth_at(words, 6) else {
         return Err(Usage { word: 6 });
+    };
+    let Some(form) = form_of(words, depth) else {
+        return Err(Usage { word: 1 });
     };
     let queries = read_queries(words, depth)?;
     Ok(Command::Verify(Task {
@@ -177,23 +179,24 @@ fn read_gen(words: &Words) -> Result<Command, Usage>
     Ok(Command::Gen { depth })
 }
 
-// The rest of `lines`.
-fn read_lines(words: &Words) -> Result<Command, Usage>
-    ensures command { IfOk result (λ command. Fitted Verb.Lines words.now
-        → Spells words.now command) }
-    ensures refused { IfErr result (λ usage. Fitted Verb.Lines words.now
-        → IsRefusedAt words.now usage.word) }
+// The depth and the form of the stream, which are the rest of `lines` and of `widen`.
+fn read_copy(words: &Words) -> Result<(Form, Depth), Usage>
+    ensures read { IfOk result (λ copy. (verb : AnyVerb) → TakesStream verb
+        → Fitted verb words.now → IsCommandOf verb words.now
+        × HasForm copy.1 copy.0 (word words.now 1) × IsDepth copy.1 (word words.now 2)) }
+    ensures refused { IfErr result (λ usage. (verb : AnyVerb) → TakesStream verb
+        → Fitted verb words.now → IsRefusedAt words.now usage.word) }
 {
-    let Some(form) = form_of(words) else {
-        return Err(Usage { word: 1 });
-    };
     let Some(depth) = depth_at(words, 2) else {
         return Err(Usage { word: 2 });
+    };
+    let Some(form) = form_of(words, depth) else {
+        return Err(Usage { word: 1 });
     };
     if has_word(words, 3) {
         return Err(Usage { word: 3 });
     }
-    Ok(Command::Lines { form, depth })
+    Ok((form, depth))
 }
 
 /// The command that words are.
@@ -214,7 +217,14 @@ pub fn read_words(words: &Words) -> Result<Command, Usage>
         Verb::Verify => read_verify(words),
         Verb::Help => read_help(words),
         Verb::Gen => read_gen(words),
-        Verb::Lines => read_lines(words),
+        Verb::Lines => {
+            let (form, depth) = read_copy(words)?;
+            Ok(Command::Lines { form, depth })
+        }
+        Verb::Widen => {
+            let (form, depth) = read_copy(words)?;
+            Ok(Command::Widen { form, depth })
+        }
     }
 }
 

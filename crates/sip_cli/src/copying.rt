@@ -1,7 +1,8 @@
 //! The commands that copy a stream.
 
-ghost use Rattle.std.specs.Prelude.{◌≡◌, ℕ, List, Some, IsSome};
+ghost use Rattle.std.specs.Prelude.{◌≡◌, ◌≤◌, ℕ, List, Some, IsSome};
 ghost use Rattle.sip_ports.specs.Ports.{GoesOn, Lasts, outs};
+ghost use Rattle.sip_vector.specs.Limits.{most_narrow_depth};
 ghost use Rattle.sip_verifier.specs.Moments.{counts};
 ghost use Rattle.sip_verifier.specs.Statuses.{FaultClause};
 ghost use Rattle.sip_cli.specs.CopyClause.{CopyClause};
@@ -20,6 +21,7 @@ pub(crate) fn copy_stream<A: Source, K: Sink>(
     first: &mut A,
     report: &mut K,
 ) -> Status
+    requires { to ≡ Form.Binary → depth ≤ most_narrow_depth }
     ensures copied { (bytes : List ℕ) → A.left first.old ≡ Some bytes
         → CopyClause depth from to bytes (A.left first.new) (K.talk report.old)
         (K.talk report.new) result }

@@ -21,13 +21,13 @@ USAGE
 
       Sends the stream to a helper, asks 1 to 16 queries, checks the replies and prints a line for each answer.
 
-      STREAM  a file of records, or text:PATH, which is a file of lines as sip lines prints them, or made:NUMBER:COUNT,
-              which is COUNT records made from NUMBER
+      STREAM  a file of records, or wide:PATH, which is a file of wide records, or text:PATH, which is a file of lines as
+              sip lines prints them, or made:NUMBER:COUNT, which is COUNT records made from NUMBER
       SEED    a file that begins with 32 random bytes, of which each run needs new ones
       FROM    the file or FIFO that brings the helper's bytes
       TO      the file or FIFO that takes ours
       -       no record of the talk is kept
-      DEPTH   from 1 to 32; items are the numbers below 2^DEPTH
+      DEPTH   from 1 to 48; items are the numbers below 2^DEPTH
       QUERY   sub:LO:HI, the entries from LO to HI that are not 0, with LO up to HI, and HI below 2^DEPTH
 
       sip verify log.stream today.seed from.fifo to.fifo - 20 sub:100:199 sub:7:7
@@ -43,11 +43,11 @@ USAGE
 
   sip gen NUMBER COUNT DEPTH
 
-      Writes a stream of COUNT records that are made from NUMBER.
+      Writes a stream of COUNT records that are made from NUMBER: wide records where DEPTH is above 32.
 
       NUMBER  below 2^64
       COUNT   up to 10000000
-      DEPTH   from 1 to 32
+      DEPTH   from 1 to 48
 
       sip gen 7 100000 20 > log.stream
 
@@ -56,16 +56,26 @@ USAGE
       Prints a stream as lines of text: a side, an item and what is added to its entry, with one space between them.
 
       STREAM  as above
-      DEPTH   from 1 to 32
+      DEPTH   from 1 to 48
 
       sip lines log.stream 20
+
+  sip widen STREAM DEPTH
+
+      Writes a stream as wide records.
+
+      STREAM  as above
+      DEPTH   from 1 to 48
+
+      sip widen log.stream 20 > wide.stream
 
   sip --help       prints this page
   sip --version    prints the version
 
 A record has 13 bytes: a side (one byte, 0 or 1), an item (four bytes) and what is added to its entry (eight bytes,
-signed), the first byte of a number being the greatest. Numbers among the words have no sign and no leading zero. A
-file named - is called ./-, and one whose name begins with made: or text: is called ./made:.. or ./text:..
+signed), the first byte of a number being the greatest. A wide record has 17, eight of them for the item. Numbers
+among the words have no sign and no leading zero. A file named - is called ./-, and one whose name begins with made:,
+text: or wide: is called ./made:.. and so on.
 
 THE SEED
 

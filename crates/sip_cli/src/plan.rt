@@ -1,11 +1,12 @@
 //! What the ports of a command are opened on.
 
-ghost use Rattle.std.specs.Prelude.{◌≡◌, ℕ, ◌≤◌, ◌<◌, ◌^◌, Some, IsSome, IfSome, List, ◌++◌, codes, decimal, drop, length};
+ghost use Rattle.std.specs.Prelude.{◌≡◌, ℕ, ◌≤◌, ◌<◌, ◌^◌, Some, IsSome, IfSome, List, decimal, drop, length};
 ghost use Rattle.std.specs.Option.{option_copied};
 ghost use Rattle.sip_verifier.specs.declared.task.Task.{Task as AnyTask};
 ghost use Rattle.sip_cli.specs.declared.command.Command.{Command as AnyCommand};
 ghost use Rattle.sip_cli.specs.declared.stream.Stream.{Stream as AnyStream};
-ghost use Rattle.sip_cli.specs.Plan.{HasName, HaveNames, Opens, file_name, help_ports, no_ports, opening_of, source_ports, verify_ports};
+ghost use Rattle.sip_stream.specs.Made.{most_made};
+ghost use Rattle.sip_cli.specs.Plan.{HasName, HaveNames, IsMarked, Opens, file_name, help_ports, no_ports, opening_of, source_ports, verify_ports};
 ghost use Rattle.sip_cli.specs.Shapes.{IsStreamWord};
 ghost use Rattle.sip_cli.specs.Words.{Spells, IsRefusedAt, word};
 
@@ -24,7 +25,8 @@ pub enum Opening {
         word: usize,
         skip: usize,
     },
-    /// On the records that a generator makes from a number, for a depth; `count` of them, which is at most 10,000,000.
+    /// On the records that a generator makes from a number, for a depth; `count` of them, which is at most
+    /// `MadeSource::MOST`.
     Made {
         number: u64,
         count: u64,
@@ -36,7 +38,7 @@ pub enum Opening {
 fn without(text: &str, skip: usize) -> Option<&str>
     ensures rest { IfSome result (λ rest. rest.now ≡ drop skip text.now) }
     ensures whole { skip ≡ 0 → IsSome result }
-    ensures marked { (path : List ℕ) → skip ≡ 5 → text.now ≡ codes "text:" ++ path → IsSome result }
+    ensures marked { skip ≡ 5 → IsMarked text.now → IsSome result }
 {
     Some(text.split_at_checked(skip)?.1)
 }
@@ -83,7 +85,7 @@ impl Opening {
                 count,
                 depth,
             },
-            Stream::Text => Opening::Path { word: 1, skip: 5 },
+            Stream::Text | Stream::Wide => Opening::Path { word: 1, skip: 5 },
             Stream::File => Opening::file(1),
         }
     }
@@ -189,7 +191,7 @@ impl PortPlan {
             Command::Gen { depth } => {
                 PortPlan::source(Opening::numbers(words, *depth).unwrap_or(Opening::Nothing))
             }
-            Command::Lines { depth, .. } => {
+            Command::Lines { depth, .. } | Command::Widen { depth, .. } => {
                 let stream = Opening::stream(words, *depth);
                 PortPlan::source(stream)
             }
@@ -198,13 +200,13 @@ impl PortPlan {
 }
 
 /// The files and made streams that a command opens: for `verify` its stream, its seed and the two ends of its link, for
-/// `help` the two ends of its link, for `gen` and `lines` their stream. Words that are no command open nothing.
+/// `help` the two ends of its link, for `gen`, `lines` and `widen` their stream. Words that are no command open nothing.
 pub fn ports(words: &Words) -> PortPlan
     ensures spelled { (command : AnyCommand) → Spells words.now command
         → Opens words.now command result }
     ensures refused { (n : ℕ) → IsRefusedAt words.now n → result ≡ no_ports }
     ensures counted { (number count depth : ℕ) → result.first ≡ Opening.Made number count depth
-        → count ≤ 10000000 }
+        → count ≤ most_made }
     ensures named { HaveNames words.now result }
 {
     match read_words(words) {

@@ -5,6 +5,7 @@ ghost use Rattle.sip_cli.specs.Shapes.{IsOf};
 
 use crate::decimal::read_decimal;
 use crate::stream::read_stream;
+use sip_vector::Depth;
 
 /// What one word of a command may be.
 #[derive(Clone, Copy, Debug, PartialEq, Eq)]
@@ -17,8 +18,8 @@ pub(crate) enum Shape {
     NoRecord,
     /// A number up to `most`.
     Number { most: u64 },
-    /// A depth up to `most`, which is 32 at the most.
-    Depth { most: u64 },
+    /// A depth.
+    Depth,
 }
 
 /// A name.
@@ -56,7 +57,7 @@ impl Shape {
             Shape::Stream => read_stream(word).is_some(),
             Shape::NoRecord => word == "-",
             Shape::Number { most } => is_within(word, 0, most),
-            Shape::Depth { most } => is_within(word, 1, most.min(32)),
+            Shape::Depth => is_within(word, 1, Depth::MOST as u64),
         }
     }
 }

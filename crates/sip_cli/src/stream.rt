@@ -1,16 +1,15 @@
 //! The word that names a stream.
 
 ghost use Rattle.std.specs.Prelude.{◌≡◌, ◌≢◌, ℕ, ◌≤◌, ◌<◌, ◌^◌, MatchOption, decimal, length, ◌++◌, ◌∷◌};
+ghost use Rattle.sip_stream.specs.Made.{most_made};
 ghost use Rattle.sip_cli.specs.declared.stream.Stream.{Stream as AnyStream};
 ghost use Rattle.sip_cli.specs.Shapes.{IsStreamWord, form_of};
 ghost use Rattle.sip_cli.specs.Words.{word};
 
 use crate::Words;
 use crate::decimal::read_decimal;
-use sip_stream::Form;
-
-/// The most records of a made stream.
-pub(crate) const MOST_COUNT: u64 = 10_000_000;
+use sip_stream::{Form, MadeSource};
+use sip_vector::Depth;
 
 /// What a STREAM word names.
 #[derive(Clone, Copy, Debug, PartialEq, Eq)]
@@ -19,18 +18,22 @@ pub(crate) enum Stream {
     Made { number: u64, count: u64 },
     /// A file of lines: `text:PATH`.
     Text,
-    /// A file of records: `PATH`.
+    /// A file of records whose items have eight bytes: `wide:PATH`.
+    Wide,
+    /// A file of records whose items have four: `PATH`.
     File,
 }
 
 impl Stream {
-    /// How the stream is written.
-    pub(crate) fn form(self) -> Form
-        ensures { result ≡ form_of self }
+    /// How the stream is written, at a depth.
+    pub(crate) fn form(self, depth: Depth) -> Form
+        ensures { result ≡ form_of depth self }
     {
         match self {
-            Stream::Made { .. } | Stream::File => Form::Binary,
+            Stream::Made { .. } => Form::made(depth),
             Stream::Text => Form::Text,
+            Stream::Wide => Form::Wide,
+            Stream::File => Form::Binary,
         }
     }
 }
@@ -38,18 +41,15 @@ impl Stream {
 // What follows `made:`.
 fn read_made(rest: &str) -> Option<Stream>
     ensures { MatchOption result
-        ((number count : ℕ) → number < 2 ^ 64 → count ≤ 10000000
+        ((number count : ℕ) → number < 2 ^ 64 → count ≤ most_made
         → rest.now ≢ decimal number ++ 58 ∷ decimal count)
-        (λ s. (number : ℕ) × (count : ℕ) × (number < 2 ^ 64) × (count ≤ 10000000)
+        (λ s. (number : ℕ) × (count : ℕ) × (number < 2 ^ 64) × (count ≤ most_made)
         × (rest.now ≡ decimal number ++ 58 ∷ decimal count) × (s ≡ Stream.Made number count)) }
 {
     let (number, count) = rest.split_once(':')?;
     let number = read_decimal(number)?;
     let count = read_decimal(count)?;
-    if count > MOST_COUNT {
-        return None;
-    }
-    Some(Stream::Made { number, count })
+    MadeSource::allows(count).then_some(Stream::Made { number, count })
 }
 
 /// The stream that word 1 names, which is where a command has its stream.
@@ -72,6 +72,9 @@ pub(crate) fn read_stream(word: &str) -> Option<Stream>
     }
     if let Some(path) = word.strip_prefix("text:") {
         return (!path.is_empty()).then_some(Stream::Text);
+    }
+    if let Some(path) = word.strip_prefix("wide:") {
+        return (!path.is_empty()).then_some(Stream::Wide);
     }
     (!word.is_empty()).then_some(Stream::File)
 }

@@ -49,8 +49,12 @@ fn obey<A: Source, B: Source, L: Link, K: Sink, C: Sink>(
     match command {
         Command::Verify(task) => check_stream(alloc, task, first, second, peer, report, keep),
         Command::Help => help(alloc, peer),
-        Command::Gen { depth } => copy_stream(*depth, Form::Binary, Form::Binary, first, report),
+        Command::Gen { depth } => {
+            let form = Form::made(*depth);
+            copy_stream(*depth, form, form, first, report)
+        }
         Command::Lines { form, depth } => copy_stream(*depth, *form, Form::Text, first, report),
+        Command::Widen { form, depth } => copy_stream(*depth, *form, Form::Wide, first, report),
     }
 }
 
@@ -63,8 +67,8 @@ fn obey<A: Source, B: Source, L: Link, K: Sink, C: Sink>(
 ///
 /// `help FROM TO`: serves one talk over `peer`. Memory grows with the entries that are not 0.
 ///
-/// `gen NUMBER COUNT DEPTH` and `lines STREAM DEPTH`: write the legal records of `first` to `report`, as records or as lines
-/// of text, up to the first record that is not legal. They take no memory.
+/// `gen NUMBER COUNT DEPTH`, `lines STREAM DEPTH` and `widen STREAM DEPTH`: write the legal records of `first` to `report`,
+/// as they were made, as lines of text or as wide records, up to the first record that is not legal. They take no memory.
 ///
 /// `keep` is left alone.
 pub fn run<A: Source, B: Source, L: Link, K: Sink, C: Sink>(
@@ -76,8 +80,8 @@ pub fn run<A: Source, B: Source, L: Link, K: Sink, C: Sink>(
     report: &mut K,
     keep: &mut C,
 ) -> Status
-    // Of `verify` the five promises, of `gen` and `lines` the copy that the report gets, of `help`
-    // the talk that it serves; and whatever the command, its faults have their cause, and its
+    // Of `verify` the five promises, of `gen`, `lines` and `widen` the copy that the report gets, of
+    // `help` the talk that it serves; and whatever the command, its faults have their cause, and its
     // status is one of its own.
     ensures keeps { CommandClause (Spells words.now)
         (moment (A.left first.old) (A.faults first.old) (B.left second.old) (B.faults second.old)

@@ -5,7 +5,7 @@ ghost use Rattle.sip_cli.specs.declared.verb.Verb.{Verb as AnyVerb};
 ghost use Rattle.sip_cli.specs.Verbs.{verb_word, shapes};
 
 use crate::shape::Shape;
-use crate::stream::MOST_COUNT;
+use sip_stream::MadeSource;
 
 /// What a command is about.
 #[derive(Clone, Copy, Debug, PartialEq, Eq)]
@@ -18,10 +18,9 @@ pub(crate) enum Verb {
     Gen,
     /// To write a stream as lines of text.
     Lines,
+    /// To write a stream as wide records.
+    Widen,
 }
-
-/// The greatest depth.
-const MOST_DEPTH: u64 = 32;
 
 const VERIFY: [Shape; 6] = [
     Shape::Stream,
@@ -29,18 +28,22 @@ const VERIFY: [Shape; 6] = [
     Shape::Name,
     Shape::Name,
     Shape::NoRecord,
-    Shape::Depth { most: MOST_DEPTH },
+    Shape::Depth,
 ];
 
 const HELP: [Shape; 2] = [Shape::Name, Shape::Name];
 
 const GEN: [Shape; 3] = [
     Shape::Number { most: u64::MAX },
-    Shape::Number { most: MOST_COUNT },
-    Shape::Depth { most: MOST_DEPTH },
+    Shape::Number {
+        most: MadeSource::MOST,
+    },
+    Shape::Depth,
 ];
 
-const LINES: [Shape; 2] = [Shape::Stream, Shape::Depth { most: MOST_DEPTH }];
+const LINES: [Shape; 2] = [Shape::Stream, Shape::Depth];
+
+const WIDEN: [Shape; 2] = [Shape::Stream, Shape::Depth];
 
 impl Verb {
     /// The verb that a word is.
@@ -54,6 +57,7 @@ impl Verb {
             "help" => Some(Verb::Help),
             "gen" => Some(Verb::Gen),
             "lines" => Some(Verb::Lines),
+            "widen" => Some(Verb::Widen),
             _ => None,
         }
     }
@@ -67,6 +71,7 @@ impl Verb {
             Verb::Help => &HELP,
             Verb::Gen => &GEN,
             Verb::Lines => &LINES,
+            Verb::Widen => &WIDEN,
         }
     }
 }

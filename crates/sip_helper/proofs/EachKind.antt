@@ -4,10 +4,12 @@ use Rattle.std.specs.Prelude.{IsTrue, IfSome}
 use Rattle.std.proofs.lemmas.Bool.{ltb-true}
 use Rattle.std.proofs.lemmas.Bool.Decides.{nat_tests}
 use Rattle.sip_vector.specs.declared.query.Query.{Query}
-use Rattle.sip_vector.specs.declared.query.Query.TheVariants.{Sub, Range, F2, Inner, Heavy}
+use Rattle.sip_vector.specs.declared.query.Query.TheVariants.{Sub, Range, F2, Inner, Heavy, Share}
 use Rattle.sip_vector.specs.Answers.{Fits}
 use Rattle.sip_vector.specs.Built.{is_built}
 use Rattle.sip_wire.specs.declared.message.Message.TheVariants as messages
+use Rattle.sip_wire.specs.declared.version.Version.{Version}
+use Rattle.sip_wire.specs.declared.version.Version.TheVariants.{One, Two}
 use Rattle.sip_wire.specs.Spelling.{fits, has_room, all_hold}
 use Rattle.sip_helper.specs.declared.vectors.Vectors.{Vectors}
 use Rattle.sip_helper.specs.Kinds.{is_below, help_row}
@@ -15,13 +17,15 @@ use Rattle.sip_helper.specs.KindRows.{out_of_turn, too_many, want_of_memory}
 use Rattle.sip_helper.specs.SubVectors.{is_too_long}
 
 -- a query with a spelling, whose items are below 2 ^ depth, fits the depth
-pub fits_below : (depth : ℕ) (q : Query) → IsTrue (fits (messages.Query q)) → is_below depth q ≡ true → Fits depth q
+pub fits_below : (version : Version) (depth : ℕ) (q : Query) → IsTrue (fits version (messages.Query q)) → is_below depth q ≡ true → Fits depth q
 unfolding fits has_room all_hold
-fits_below depth (Sub lo hi) h below = (grind (arith, nat_tests), ltb-true hi (2 ^ depth) below)
-fits_below depth (Range side lo hi) h below = (grind (arith, nat_tests), ltb-true hi (2 ^ depth) below)
-fits_below depth (F2 side) h below = tt
-fits_below depth Inner h below = tt
-fits_below depth (Heavy side at_least) h below = (grind (arith, nat_tests), grind (arith, nat_tests))
+fits_below version depth (Sub lo hi) h below = (grind (arith, nat_tests), ltb-true hi (2 ^ depth) below)
+fits_below version depth (Range side lo hi) h below = (grind (arith, nat_tests), ltb-true hi (2 ^ depth) below)
+fits_below version depth (F2 side) h below = tt
+fits_below version depth Inner h below = tt
+fits_below version depth (Heavy side at_least) h below = (grind (arith, nat_tests), grind (arith, nat_tests))
+fits_below One depth (Share side num den) h below = absurd cc
+fits_below Two depth (Share side num den) h below = (grind (arith, nat_tests), grind (arith, nat_tests), grind (arith, nat_tests))
 
 -- ---- rows
 
@@ -36,6 +40,7 @@ built_row (Range _ _ _) v is = absurd cc
 built_row (F2 _) v is = absurd cc
 built_row Inner v is = absurd cc
 built_row (Heavy _ _) v is = absurd cc
+built_row (Share _ _ _) v is = absurd cc
 
 -- a kind that is not built is out of turn
 pub other_row : (q : Query) (v : Vectors) → is_built q ≡ false → (help_row q).refused_by v ≡ Some out_of_turn
@@ -44,3 +49,4 @@ other_row (Range _ _ _) v is = refl
 other_row (F2 _) v is = refl
 other_row Inner v is = refl
 other_row (Heavy _ _) v is = refl
+other_row (Share _ _ _) v is = refl

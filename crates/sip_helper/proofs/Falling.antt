@@ -11,13 +11,16 @@ use Rattle.sip_vector.specs.declared.update.Side.{Side}
 use Rattle.sip_vector.specs.declared.update.Side.TheVariants.{First, Second}
 use Rattle.sip_vector.specs.declared.update.Update.{Update}
 use Rattle.sip_vector.specs.Built.{is_built}
+use Rattle.sip_vector.specs.Limits.{most_depth}
 use Rattle.sip_vector.specs.Streams.{same_side, weight, most_weight}
 use Rattle.sip_vector.proofs.Sides.{weight-append, weight-one}
 use Rattle.sip_wire.specs.declared.message.Message.{Message}
 use Rattle.sip_wire.specs.declared.message.Message.TheVariants as messages
 use Rattle.arrayvec.specs.ArrayVec.{ArrayVec}
 use Rattle.sip_wire.specs.declared.kind.Kind.TheVariants as kinds
-use Rattle.sip_wire.specs.Table.{Field, Shape, field, index, repeat, shape, side, update_fields}
+use Rattle.sip_wire.specs.declared.version.Version.{Version}
+use Rattle.sip_wire.specs.Table.{Field, Shape, field, index, most_queries, repeat, shape, side, update_fields}
+use Rattle.sip_wire.specs.Versions.{deepest}
 use Rattle.sip_wire.specs.Spelling.{fits, fits_shape, has_room, all_hold, side_number, update_numbers}
 use Rattle.sip_helper.specs.declared.heard.Heard.{Heard}
 use Rattle.sip_helper.specs.declared.heard.Heard.TheVariants.{Nothing, Part, Whole}
@@ -25,7 +28,8 @@ use Rattle.sip_helper.specs.declared.vectors.Vectors.{Vectors}
 use Rattle.sip_helper.specs.Kinds.{is_below}
 use Rattle.sip_helper.specs.inside.Measures.{stream_left, challenges_left, turns_left}
 use Rattle.sip_helper.specs.Serving.{IsTurn, Turn, after_turn}
-use Rattle.sip_helper.specs.Turns.{HelperState, OpenQuery, after_answer, after_reply, depth_of, is_allowed, is_light, is_refused, most_queries, step, weights_after, with_challenge}
+use Rattle.sip_helper.specs.Turns.{HelperState, OpenQuery, after_answer, after_reply, depth_of, is_allowed, is_light, is_refused, step, weights_after, with_challenge}
+use Rattle.sip_helper.proofs.Hearing.{deepest_most}
 use Rattle.sip_helper.proofs.LegalUpdates.{light_parts}
 
 -- ---- updates weigh something
@@ -45,8 +49,8 @@ held : (f : Field) (fs : List Field) (n : ℕ) (ns : List ℕ) → all_hold (f �
 unfolding all_hold
 held f fs n ns h = and_parts (f.holds n) (all_hold fs ns) h
 
-first_some : (u : Update) (fs : List Field) (ns : List ℕ) → all_hold (side ∷ index ∷ delta_field ∷ fs) (side_number u.side ∷ u.item ∷ cast_unsigned w64 u.delta ∷ ns) ≡ true → 1 ≤ nat_abs u.delta
-first_some u fs ns h = delta_some u.delta (held delta_field fs (cast_unsigned w64 u.delta) ns (held index (delta_field ∷ fs) u.item (cast_unsigned w64 u.delta ∷ ns) (held side (index ∷ delta_field ∷ fs) (side_number u.side) (u.item ∷ cast_unsigned w64 u.delta ∷ ns) h).1).1).0
+first_some : (version : Version) (u : Update) (fs : List Field) (ns : List ℕ) → all_hold (side ∷ index version ∷ delta_field ∷ fs) (side_number u.side ∷ u.item ∷ cast_unsigned w64 u.delta ∷ ns) ≡ true → 1 ≤ nat_abs u.delta
+first_some version u fs ns h = delta_some u.delta (held delta_field fs (cast_unsigned w64 u.delta) ns (held (index version) (delta_field ∷ fs) u.item (cast_unsigned w64 u.delta ∷ ns) (held side (index version ∷ delta_field ∷ fs) (side_number u.side) (u.item ∷ cast_unsigned w64 u.delta ∷ ns) h).1).1).0
 
 heavier : (u : Update) (us : List Update) → 1 ≤ nat_abs u.delta → 1 ≤ weight (u ∷ us) First + weight (u ∷ us) Second
 heavier u us some = by_side u.side refl
@@ -55,10 +59,10 @@ heavier u us some = by_side u.side refl
     by_side First is = omega (arith, some, weight-append (u ∷ []) us First, weight-one u First (ap (λ (s : Side). same_side s First) is))
     by_side Second is = omega (arith, some, weight-append (u ∷ []) us Second, weight-one u Second (ap (λ (s : Side). same_side s Second) is))
 
-updates_weigh : (us : List Update) → IsTrue (fits (messages.Updates (record { items = us }))) → 1 ≤ weight us First + weight us Second
+updates_weigh : (version : Version) (us : List Update) → IsTrue (fits version (messages.Updates (record { items = us }))) → 1 ≤ weight us First + weight us Second
 unfolding fits
-updates_weigh [] h = absurd cc
-updates_weigh (u ∷ us) h = heavier u us (first_some u (repeat (length us) update_fields) (flat_map update_numbers us) (holds_of (shape kinds.Updates) (length (u ∷ us)) (flat_map update_numbers (u ∷ us)) h))
+updates_weigh version [] h = absurd cc
+updates_weigh version (u ∷ us) h = heavier u us (first_some version u (repeat (length us) (update_fields version)) (flat_map update_numbers us) (holds_of (shape version kinds.Updates) (length (u ∷ us)) (flat_map update_numbers (u ∷ us)) h))
 
 -- ---- an answer leaves no more challenges
 
@@ -99,7 +103,7 @@ query_left s (Whole depth) q allowed =
     let one = and_parts (is_none s.open_query) (nat_lt s.queries most_queries) two.0 in
     (ltb-true s.queries most_queries one.1, none_of s.open_query one.0)
 
-challenge_left : (s : HelperState) (r : ℕ) (q : Option OpenQuery) → depth_of s.heard ≤ 32 → is_allowed (record s { open_query = q }) (messages.Reveal r) ≡ true → 1 + challenges_left (option_map (with_challenge r) q) ≤ challenges_left q
+challenge_left : (s : HelperState) (r : ℕ) (q : Option OpenQuery) → depth_of s.heard ≤ most_depth → is_allowed (record s { open_query = q }) (messages.Reveal r) ≡ true → 1 + challenges_left (option_map (with_challenge r) q) ≤ challenges_left q
 challenge_left s r None deep allowed = absurd cc
 challenge_left s r (Some o) deep allowed =
     let below = ltb-true (length o.revealed + 1) (depth_of s.heard) (and_parts o.given (nat_lt (length o.revealed + 1) (depth_of s.heard)) allowed).1 in
@@ -112,10 +116,10 @@ updates_light s (Whole depth) us allowed = absurd cc
 updates_light s (Part depth) us allowed =
     light_parts (weights_after s.weights us.items) (and_parts (list_all (λ (u : Update). nat_lt u.item (2 ^ depth)) us.items) (is_light (weights_after s.weights us.items)) allowed).1
 
-step_left : (s : HelperState) (memory : Bool) (m : Message) → depth_of s.heard ≤ 32 → IsTrue (fits m) → IsTrue (is_allowed s m) → s.done ≡ false → (step s memory m).done ≡ false → 1 + turns_left (step s memory m) ≤ turns_left s
+step_left : (s : HelperState) (memory : Bool) (m : Message) → depth_of s.heard ≤ most_depth → IsTrue (fits s.version m) → IsTrue (is_allowed s m) → s.done ≡ false → (step s memory m).done ≡ false → 1 + turns_left (step s memory m) ≤ turns_left s
 step_left s memory (messages.Open version depth) deep fit allowed going next = omega (arith, open_left s s.heard version depth refl allowed)
 step_left s memory (messages.Updates us) deep fit allowed going next =
-    let more = updates_weigh us.items fit in
+    let more = updates_weigh s.version us.items fit in
     let light = updates_light s s.heard us allowed in
     omega (arith, more, light.0, light.1)
 step_left s memory messages.EndStream deep fit allowed going next = omega (arith, end_left s s.heard allowed)
@@ -134,5 +138,7 @@ step_left s memory messages.LevelEnd deep fit allowed going next = absurd cc
 step_left s memory (messages.Refuse _) deep fit allowed going next = absurd cc
 
 -- a turn that is no farewell leaves fewer turns
-pub turn_left : (s : HelperState) (t : Turn) → IsTurn s t → depth_of s.heard ≤ 32 → s.done ≡ false → (after_turn s t).done ≡ false → 1 + turns_left (after_turn s t) ≤ turns_left s
-turn_left s t is deep going next = omega (arith, step_left s t.refused t.message deep is.message.has_spelling is.allowed going next, answer_left (step s t.refused t.message))
+pub turn_left : (s : HelperState) (t : Turn) → IsTurn s t → depth_of s.heard ≤ deepest s.version → s.done ≡ false → (after_turn s t).done ≡ false → 1 + turns_left (after_turn s t) ≤ turns_left s
+turn_left s t is deep going next =
+    let most = deepest_most s.version in
+    omega (arith, step_left s t.refused t.message (omega (arith, deep, most)) is.message.has_spelling is.allowed going next, answer_left (step s t.refused t.message))

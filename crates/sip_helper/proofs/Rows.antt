@@ -15,7 +15,9 @@ use Rattle.sip_vector.specs.Vectors.{is_nonzero_within, nonzero_within}
 use Rattle.std.proofs.lemmas.Bool.{cases_Bool}
 use Rattle.sip_vector.proofs.Walks.{nonzero_within-next}
 use Rattle.sip_wire.specs.declared.message.Message.TheVariants as messages
+use Rattle.sip_wire.specs.declared.version.Version.{Version}
 use Rattle.sip_wire.specs.Spelling.{spelling}
+use Rattle.sip_wire.specs.Versions.{index_width}
 use Rattle.sip_subvec.specs.Honest.{entry_frames}
 use Rattle.sip_subvec.proofs.HonestFrames.{IsRow}
 use Rattle.sip_vector.proofs.Kept.{not_is_zero}
@@ -55,28 +57,28 @@ entries_light bound k (x ∷ xs) h =
     let sum = sum_by-cons nat_abs x xs in
     All-cons (IsLight bound) (entry_of (k, x)) (map entry_of (enumerate_from (k + 1) xs)) (omega (arith, sum)) (entries_light bound (k + 1) xs (omega (arith, sum)))
 
-passed_rows : (lo hi : ℕ) (es : List Entry) → hi < 2 ^ 32 → All (IsLight most_weight) es → All IsRow (filter (is_nonzero_within lo hi) es)
-passed_rows lo hi [] small light = All-nil IsRow
-passed_rows lo hi (e ∷ es) small light =
-    let later = passed_rows lo hi es small (All-tail (IsLight most_weight) e es light) in
+passed_rows : (version : Version) (lo hi : ℕ) (es : List Entry) → hi < 256 ^ index_width version → All (IsLight most_weight) es → All (IsRow version) (filter (is_nonzero_within lo hi) es)
+passed_rows version lo hi [] small light = All-nil (IsRow version)
+passed_rows version lo hi (e ∷ es) small light =
+    let later = passed_rows version lo hi es small (All-tail (IsLight most_weight) e es light) in
     elim (cases_Bool (is_nonzero_within lo hi e)) [
       | inl t ↦
           let both = and_parts (is_within lo hi e.index) (not (is_zero e.value)) t in
           let below : e.index ≤ hi = leb-true e.index hi (and_parts (nat_le lo e.index) (nat_le e.index hi) both.0).1 in
           let size = All-head (IsLight most_weight) e es light in
-          let row : IsRow e = record { index = omega (arith, below); some = not_is_zero e.value both.1; small = omega (arith, size) } in
-          subst (λ (b : Bool). All IsRow (cond b (e ∷ filter (is_nonzero_within lo hi) es) (filter (is_nonzero_within lo hi) es))) (sym t) (All-cons IsRow e (filter (is_nonzero_within lo hi) es) row later)
-      | inr t ↦ subst (λ (b : Bool). All IsRow (cond b (e ∷ filter (is_nonzero_within lo hi) es) (filter (is_nonzero_within lo hi) es))) (sym t) later
+          let row : IsRow version e = record { index = omega (arith, below); some = not_is_zero e.value both.1; small = omega (arith, size) } in
+          subst (λ (b : Bool). All (IsRow version) (cond b (e ∷ filter (is_nonzero_within lo hi) es) (filter (is_nonzero_within lo hi) es))) (sym t) (All-cons (IsRow version) e (filter (is_nonzero_within lo hi) es) row later)
+      | inr t ↦ subst (λ (b : Bool). All (IsRow version) (cond b (e ∷ filter (is_nonzero_within lo hi) es) (filter (is_nonzero_within lo hi) es))) (sym t) later
     ]
 
-pub nonzero_rows : (lo hi : ℕ) (numbers : List ℤ) → hi < 2 ^ 32 → sum_by nat_abs numbers ≤ most_weight → All IsRow (nonzero_within lo hi numbers)
-nonzero_rows lo hi numbers small light = passed_rows lo hi (entries numbers) small (entries_light most_weight 0 numbers light)
+pub nonzero_rows : (version : Version) (lo hi : ℕ) (numbers : List ℤ) → hi < 256 ^ index_width version → sum_by nat_abs numbers ≤ most_weight → All (IsRow version) (nonzero_within lo hi numbers)
+nonzero_rows version lo hi numbers small light = passed_rows version lo hi (entries numbers) small (entries_light most_weight 0 numbers light)
 
 -- ---- frames one after another
 
 -- the bytes of entries in frames
-abbrev pub framed : List Entry → List ℕ
-framed es = flat_map spelling (entry_frames es)
+abbrev pub framed : Version → List Entry → List ℕ
+framed version es = flat_map (spelling version) (entry_frames es)
 
 -- a piece that is full or the last one is cut off in front
 cut-step : (xs ys : List Entry) → 0 < length xs → length xs ≤ 512 → (length xs < 512 → ys ≡ []) → cut 512 (xs ++ ys) ≡ xs ∷ cut 512 ys
@@ -99,5 +101,5 @@ cut-step xs ys some most last = elim (full_or_last xs ys most last) [
     full_or_last : (front rest : List Entry) → length front ≤ 512 → (length front < 512 → rest ≡ []) → (length front ≡ 512) ⊎ (rest ≡ [])
     full_or_last front rest le none = elim (eqb_tells (length front) 512) [ inl t ↦ inl t.1 | inr t ↦ inr (none (omega (arith, t.1))) ]
 
-pub framed-step : (xs ys : List Entry) → 0 < length xs → length xs ≤ 512 → (length xs < 512 → ys ≡ []) → framed (xs ++ ys) ≡ spelling (messages.Entries (record { items = xs })) ++ framed ys
-framed-step xs ys some most last = ap (λ l. flat_map spelling (map (λ piece. messages.Entries (record { items = piece })) l)) (cut-step xs ys some most last)
+pub framed-step : (version : Version) (xs ys : List Entry) → 0 < length xs → length xs ≤ 512 → (length xs < 512 → ys ≡ []) → framed version (xs ++ ys) ≡ spelling version (messages.Entries (record { items = xs })) ++ framed version ys
+framed-step version xs ys some most last = ap (λ l. flat_map (spelling version) (map (λ piece. messages.Entries (record { items = piece })) l)) (cut-step xs ys some most last)

@@ -10,6 +10,7 @@ use Rattle.sip_field.specs.Elements.{m61_number}
 use Rattle.sip_field.specs.declared.mersenne.M61.{M61}
 use Rattle.sip_vector.specs.Vectors.{nonzero_within}
 use Rattle.sip_vector.proofs.Folds.{folds_left-two}
+use Rattle.sip_wire.specs.declared.version.Version.{Version}
 use Rattle.sip_wire.specs.Spelling.{spelling}
 use Rattle.sip_subvec.specs.Honest.{Proving, proving, learnt, its_siblings, siblings_message, honest_messages, honest_reply}
 use Rattle.sip_wire.proofs.SiblingElements.{HasElement}
@@ -53,12 +54,12 @@ element_is (Some x) = x.below
 -- ---- replies
 
 -- before any challenge, the entries and the siblings
-pub reply_first : (p : ℕ) (numbers : List ℤ) (lo hi : ℕ) → honest_reply p numbers lo hi [] ≡ framed (nonzero_within lo hi numbers) ++ spelling (siblings_message (its_siblings (proving p numbers lo hi [])))
+pub reply_first : (version : Version) (p : ℕ) (numbers : List ℤ) (lo hi : ℕ) → honest_reply version p numbers lo hi [] ≡ framed version (nonzero_within lo hi numbers) ++ spelling version (siblings_message (its_siblings (proving p numbers lo hi [])))
 unfolding honest_messages
-reply_first p numbers lo hi = flat_map-append spelling _ _ ∙ ap (λ (l : List ℕ). framed (nonzero_within lo hi numbers) ++ l) (append-nil (spelling (siblings_message (its_siblings (proving p numbers lo hi [])))))
+reply_first version p numbers lo hi = flat_map-append (spelling version) _ _ ∙ ap (λ (l : List ℕ). framed version (nonzero_within lo hi numbers) ++ l) (append-nil (spelling version (siblings_message (its_siblings (proving p numbers lo hi [])))))
 
 -- later the siblings alone
-pub reply_behind : (p : ℕ) (numbers : List ℤ) (lo hi : ℕ) (revealed : List ℕ) → 0 < length revealed → honest_reply p numbers lo hi revealed ≡ spelling (siblings_message (its_siblings (proving p numbers lo hi revealed)))
+pub reply_behind : (version : Version) (p : ℕ) (numbers : List ℤ) (lo hi : ℕ) (revealed : List ℕ) → 0 < length revealed → honest_reply version p numbers lo hi revealed ≡ spelling version (siblings_message (its_siblings (proving p numbers lo hi revealed)))
 unfolding honest_messages
-reply_behind p numbers lo hi [] some = absurd (omega (arith, some))
-reply_behind p numbers lo hi (r ∷ prefix) some = append-nil (spelling (siblings_message (its_siblings (proving p numbers lo hi (r ∷ prefix)))))
+reply_behind version p numbers lo hi [] some = absurd (omega (arith, some))
+reply_behind version p numbers lo hi (r ∷ prefix) some = append-nil (spelling version (siblings_message (its_siblings (proving p numbers lo hi (r ∷ prefix)))))

@@ -7,6 +7,9 @@ use Rattle.sip_wire.specs.declared.message.Message.{Message}
 use Rattle.sip_wire.specs.declared.message.Message.TheVariants as messages
 use Rattle.sip_wire.specs.Spelling.{fits, spelling}
 use Rattle.sip_wire.specs.declared.kind.Place.TheVariants as places
+use Rattle.sip_wire.specs.declared.version.Version.TheVariants.{One}
+use Rattle.sip_wire.specs.Table.{longest_frame}
+use Rattle.sip_wire.specs.Versions.{deepest}
 use Rattle.sip_wire.proofs.ReadingLaws.{asked-least, read_frame-closed}
 use Rattle.sip_helper.specs.declared.status.HelpStatus.TheVariants.{OutOfMemory}
 use Rattle.sip_wire.proofs.Longest.{spelling_at_most}
@@ -16,7 +19,7 @@ use Rattle.sip_helper.specs.inside.OneTurn.{StopsTurn, Taken}
 use Rattle.sip_helper.specs.Serving.{AreTurns, EndsBy, IsTurn, Serves, Turn, after_turn, heard_in, state_after, turn_talk, turns_talk}
 use Rattle.sip_helper.specs.Turns.{HelperState, depth_of, fresh, owed, step}
 use Rattle.sip_helper.proofs.Falling.{turn_left}
-use Rattle.sip_helper.proofs.Hearing.{open_most}
+use Rattle.sip_helper.proofs.Hearing.{opened_deep}
 
 -- ---- one more turn
 
@@ -33,16 +36,16 @@ AreTurns-push s [] t are is = (is, tt)
 AreTurns-push s (u ∷ ts) t are is = (are.0, AreTurns-push (after_turn s u) ts t are.1 is)
 
 -- the bytes of a turn that are received
-heard-turn : (s : HelperState) (t : Turn) → heard (turn_talk s t) ≡ spelling t.message
+heard-turn : (s : HelperState) (t : Turn) → heard (turn_talk s t) ≡ spelling s.version t.message
 heard-turn s t =
-    heard-append (ins (spelling t.message)) (outs (owed (heard_in s t)))
-    ∙ ap (λ l. l ++ heard (outs (owed (heard_in s t)))) (heard-ins (spelling t.message))
-    ∙ ap (λ l. spelling t.message ++ l) (heard-outs (owed (heard_in s t)))
-    ∙ append-nil (spelling t.message)
+    heard-append (ins (spelling s.version t.message)) (outs (owed (heard_in s t)))
+    ∙ ap (λ l. l ++ heard (outs (owed (heard_in s t)))) (heard-ins (spelling s.version t.message))
+    ∙ ap (λ l. spelling s.version t.message ++ l) (heard-outs (owed (heard_in s t)))
+    ∙ append-nil (spelling s.version t.message)
 
 -- what no message but an opening changes
-deep_step : (s : HelperState) (memory : Bool) (m : Message) → fits m ≡ true → depth_of s.heard ≤ 32 → depth_of (step s memory m).heard ≤ 32
-deep_step s memory (messages.Open version depth) fit deep = open_most version depth fit
+deep_step : (s : HelperState) (memory : Bool) (m : Message) → fits s.version m ≡ true → depth_of s.heard ≤ deepest s.version → depth_of (step s memory m).heard ≤ deepest (step s memory m).version
+deep_step s memory (messages.Open number depth) fit deep = opened_deep s.version number depth fit
 deep_step s memory (messages.Updates _) fit deep = deep
 deep_step s memory messages.EndStream fit deep = deep
 deep_step s memory (messages.Query _) fit deep = deep
@@ -82,10 +85,10 @@ pub record UnderWay (start now : Option (List TalkEvent)) (s : HelperState) (off
   pub state : s ≡ state_after fresh turns
   pub going : s.done ≡ false
   pub live : s.spent ≡ false
-  pub deep : depth_of s.heard ≤ 32
+  pub deep : depth_of s.heard ≤ deepest s.version
   pub talk : GoesOn start now (turns_talk fresh turns)
   pub at : offset ≡ length (heard (turns_talk fresh turns))
-  pub room : offset + 6661 * turns_left s ≤ 6661 * turns_left fresh
+  pub room : offset + longest_frame * turns_left s ≤ longest_frame * turns_left fresh
 
 pub begins : (start : Option (List TalkEvent)) → UnderWay start start fresh 0
 begins start = record { turns = []; are = tt; state = refl; going = refl; live = refl; deep = omega arith; talk = GoesOn-refl start; at = refl; room = omega arith }
@@ -101,19 +104,19 @@ module _ (start now new : Option (List TalkEvent)) (s : HelperState) (offset : �
       let here = turn_talk (state_after fresh so.turns) t in
       let talk_is = turns_talk-push fresh so.turns t in
       let same = ap (λ (x : HelperState). turn_talk x t) so.state in
-      let size : length got ≤ 6661 = rw took.whole (spelling_at_most t.message took.is.message.has_spelling) in
+      let size : length got ≤ longest_frame = rw took.whole (spelling_at_most s.version t.message took.is.message.has_spelling) in
       let bytes : length (heard (turns_talk fresh (so.turns ++ t ∷ []))) ≡ length (heard (turns_talk fresh so.turns)) + length got =
       ap (λ l. length (heard l)) talk_is
       ∙ ap length (heard-append (turns_talk fresh so.turns) here)
       ∙ length-append (heard (turns_talk fresh so.turns)) (heard here)
-      ∙ ap (λ (l : List ℕ). length (heard (turns_talk fresh so.turns)) + length l) (heard-turn (state_after fresh so.turns) t ∙ sym took.whole) in
+      ∙ ap (λ (l : List ℕ). length (heard (turns_talk fresh so.turns)) + length l) (sym (ap heard same) ∙ heard-turn s t ∙ sym took.whole) in
       record {
         turns = so.turns ++ t ∷ [];
         are = AreTurns-push fresh so.turns t so.are (subst (λ (x : HelperState). IsTurn x t) so.state took.is);
         state = took.state ∙ ap (λ (x : HelperState). after_turn x t) so.state ∙ sym (state_after-push fresh so.turns t);
         going = took.going;
         live = ap (λ (x : HelperState). x.spent) took.state ∙ live_step s t.refused t.message ∙ so.live;
-        deep = subst (λ (x : HelperState). depth_of x.heard ≤ 32) (sym took.state) (deep_step s t.refused t.message took.is.message.has_spelling so.deep);
+        deep = subst (λ (x : HelperState). depth_of x.heard ≤ deepest x.version) (sym took.state) (deep_step s t.refused t.message took.is.message.has_spelling so.deep);
         talk = subst (GoesOn start new) (ap (λ (l : List TalkEvent). turns_talk fresh so.turns ++ l) same ∙ sym talk_is) (GoesOn-trans start now new (turns_talk fresh so.turns) (turn_talk s t) so.talk took.talk);
         at = omega (arith, so.at, count, bytes);
         room = omega (arith, so.room, count, size, fewer next got took);
@@ -138,5 +141,5 @@ serves_nothing start = record {
   going = refl;
   rest = [];
   talk = GoesOn-refl start;
-  ends = inl (record { got = []; read = read_frame-closed places.ToHelper [] (omega (arith, asked-least places.ToHelper [])); said = refl });
+  ends = inl (record { got = []; read = read_frame-closed One places.ToHelper [] (omega (arith, asked-least One places.ToHelper [])); said = refl });
 }

@@ -14,6 +14,7 @@ use Rattle.sip_wire.specs.declared.message.Message.{Message}
 use Rattle.sip_wire.specs.declared.message.Message.TheVariants as messages
 use Rattle.sip_wire.specs.declared.message.WireFault.{WireFault}
 use Rattle.sip_wire.specs.declared.message.WireFault.TheVariants as faults
+use Rattle.sip_wire.specs.declared.version.Version.{Version}
 use Rattle.sip_wire.specs.Decoding.{Decodes}
 use Rattle.sip_wire.specs.Faults.{IsOfBytes}
 use Rattle.sip_wire.specs.Reading.{read_frame}
@@ -25,27 +26,31 @@ use Rattle.sip_helper.specs.Serving.{IsMessage, IsTurn, Turn, heard_in}
 use Rattle.sip_helper.specs.Statuses.{status_of_fault, status_of_stop}
 use Rattle.sip_helper.specs.Turns.{HelperState, OpenQuery, after_answer, after_reply, depth_of, is_allowed, is_known, is_refused, owed, owes, reply_to, step}
 
-module _ (old mid : Option (List TalkEvent)) (before now : ℕ) (got : List ℕ) where
+-- a message that came in the version of a state
+pub in_version : (s : HelperState) (version : Version) (old mid : Option (List TalkEvent)) (before now : ℕ) (got : List ℕ) (r : Result Message WireFault) → version ≡ s.version → Decodes version places.ToHelper old mid before now got r → Decodes s.version places.ToHelper old mid before now got r
+in_version s version old mid before now got r same did = subst (λ (v : Version). Decodes v places.ToHelper old mid before now got r) same did
+
+module _ (s : HelperState) (old mid : Option (List TalkEvent)) (before now : ℕ) (got : List ℕ) where
   -- ---- no message came
 
-  shown : (s : HelperState) (at : ℕ) (f : WireFault) → Decodes places.ToHelper old mid before now got (Err f) → GoesOn old mid (ins got ++ []) → IsOfBytes f → read_frame places.ToHelper got ≡ Err f → StopsTurn old mid s at (BadFrame at)
-  shown s at f did talk bytes read = record {
+  shown : (at : ℕ) (f : WireFault) → Decodes s.version places.ToHelper old mid before now got (Err f) → GoesOn old mid (ins got ++ []) → IsOfBytes f → read_frame s.version places.ToHelper got ≡ Err f → StopsTurn old mid s at (BadFrame at)
+  shown at f did talk bytes read = record {
     rest = ins got ++ [];
     talk = talk;
     ends = (refl, inl (record { got = got; fault = f; shown = bytes; read = read; shortest = did.short; said = append-nil (ins got) }));
   }
 
-  pub no_message : (s : HelperState) (at : ℕ) (f : WireFault) → Decodes places.ToHelper old mid before now got (Err f) → StopsTurn old mid s at (status_of_fault f at)
-  no_message s at faults.Closed did = record { rest = _; talk = did.heard; ends = record { got = got; read = did.answer; said = refl } }
-  no_message s at faults.BadKind did = shown s at faults.BadKind did did.heard tt did.answer
-  no_message s at faults.BadLength did = shown s at faults.BadLength did did.heard tt did.answer
-  no_message s at faults.BadCount did = shown s at faults.BadCount did did.heard tt did.answer
-  no_message s at faults.BadNumber did = shown s at faults.BadNumber did did.heard tt did.answer
-  no_message s at faults.PeerFault did = record { rest = _; talk = did.heard; ends = inl (record { got = got; read = did.answer.0; said = refl }) }
-  no_message s at faults.OutOfMemory did = record { rest = _; talk = did.heard; ends = inl (record { got = got; read = did.answer; said = refl }) }
+  pub no_message : (at : ℕ) (f : WireFault) → Decodes s.version places.ToHelper old mid before now got (Err f) → StopsTurn old mid s at (status_of_fault f at)
+  no_message at faults.Closed did = record { rest = _; talk = did.heard; ends = record { got = got; read = did.answer; said = refl } }
+  no_message at faults.BadKind did = shown at faults.BadKind did did.heard tt did.answer
+  no_message at faults.BadLength did = shown at faults.BadLength did did.heard tt did.answer
+  no_message at faults.BadCount did = shown at faults.BadCount did did.heard tt did.answer
+  no_message at faults.BadNumber did = shown at faults.BadNumber did did.heard tt did.answer
+  no_message at faults.PeerFault did = record { rest = _; talk = did.heard; ends = inl (record { got = got; read = did.answer.0; said = refl }) }
+  no_message at faults.OutOfMemory did = record { rest = _; talk = did.heard; ends = inl (record { got = got; read = did.answer; said = refl }) }
 
   -- and the link failed only where its count rose
-  pub fault_rose : (f : WireFault) (at : ℕ) → Decodes places.ToHelper old mid before now got (Err f) → status_of_fault f at ≡ PeerFault → Rose before now
+  pub fault_rose : (f : WireFault) (at : ℕ) → Decodes s.version places.ToHelper old mid before now got (Err f) → status_of_fault f at ≡ PeerFault → Rose before now
   fault_rose faults.Closed at did e = absurd cc
   fault_rose faults.BadKind at did e = absurd cc
   fault_rose faults.BadLength at did e = absurd cc
@@ -56,39 +61,39 @@ module _ (old mid : Option (List TalkEvent)) (before now : ℕ) (got : List ℕ)
 
   -- ---- a message came
 
-  module _ (m : Message) (did : Decodes places.ToHelper old mid before now got (Ok m)) where
-    pub came : IsMessage m
+  module _ (m : Message) (did : Decodes s.version places.ToHelper old mid before now got (Ok m)) where
+    pub came : IsMessage s.version m
     came = record { has_spelling = did.answer.has_spelling; to_helper = did.answer.allowed; in_range = did.answer.in_range }
 
-    pub received : GoesOn old mid (ins (spelling m))
+    pub received : GoesOn old mid (ins (spelling s.version m))
     received = subst (GoesOn old mid) (append-nil (ins got) ∙ ap ins did.answer.spelled) did.heard
 
     -- it is a query that is not answered
-    pub unknown : (s : HelperState) (at : ℕ) → is_known m ≡ false → StopsTurn old mid s at (BadFrame at)
-    unknown s at out = record {
-      rest = ins (spelling m);
+    pub unknown : (at : ℕ) → is_known m ≡ false → StopsTurn old mid s at (BadFrame at)
+    unknown at out = record {
+      rest = ins (spelling s.version m);
       talk = received;
       ends = (refl, inr (inl (record { message = m; is = came; unknown = out; said = refl })));
     }
 
     -- it may not come, and the refusal went out
-    pub refused : (new : Option (List TalkEvent)) (s : HelperState) (at : ℕ) → IsTrue (is_known m) → is_allowed s m ≡ false → GoesOn mid new (outs (spelling (messages.Refuse out_of_turn))) → StopsTurn old new s at (BadFrame at)
-    refused new s at known out went = record {
-      rest = ins (spelling m) ++ outs (spelling (messages.Refuse out_of_turn));
+    pub refused : (new : Option (List TalkEvent)) (at : ℕ) → IsTrue (is_known m) → is_allowed s m ≡ false → GoesOn mid new (outs (spelling s.version (messages.Refuse out_of_turn))) → StopsTurn old new s at (BadFrame at)
+    refused new at known out went = record {
+      rest = ins (spelling s.version m) ++ outs (spelling s.version (messages.Refuse out_of_turn));
       talk = GoesOn-trans old mid new _ _ received went;
       ends = (refl, inr (inr (record { message = m; is = came; known = known; out = out; said = refl })));
     }
 
     -- a part of it went out
-    pub refusal_cut : (new : Option (List TalkEvent)) (s : HelperState) (at : ℕ) (stop : PortStop) → IsTrue (is_known m) → is_allowed s m ≡ false → SendsWhole {T = Unit {0}} mid new (Err stop) (spelling (messages.Refuse out_of_turn)) → StopsTurn old new s at (status_of_stop stop)
-    refusal_cut new s at stop known out went = by_stop stop
+    pub refusal_cut : (new : Option (List TalkEvent)) (at : ℕ) (stop : PortStop) → IsTrue (is_known m) → is_allowed s m ≡ false → SendsWhole {T = Unit {0}} mid new (Err stop) (spelling s.version (messages.Refuse out_of_turn)) → StopsTurn old new s at (status_of_stop stop)
+    refusal_cut new at stop known out went = by_stop stop
       where
         by_stop : (stop : PortStop) → StopsTurn old new s at (status_of_stop stop)
         by_stop stops.Failed = record { rest = _; talk = GoesOn-trans old mid new _ _ received went.2; ends = inr (inr (record { message = m; is = came; known = known; out = out; sent = went.0; short = went.1; said = refl })) }
         by_stop stops.OutOfMemory = record { rest = _; talk = GoesOn-trans old mid new _ _ received went.2; ends = inr (inr (record { message = m; is = came; known = known; out = out; sent = went.0; short = went.1; said = refl })) }
 
     -- it was heard
-    module _ (s : HelperState) (allowed : IsTrue (is_allowed s m)) (memory : Bool) where
+    module _ (allowed : IsTrue (is_allowed s m)) (memory : Bool) where
       abbrev turn : Turn
       turn = record { message = m; refused = memory }
 
@@ -97,7 +102,7 @@ module _ (old mid : Option (List TalkEvent)) (before now : ℕ) (got : List ℕ)
 
       -- it is a farewell
       pub farewell : (at : ℕ) → m ≡ messages.Bye → StopsTurn old mid s at Served
-      farewell at bye = record { rest = _; talk = received; ends = ap (λ (x : Message). ins (spelling x)) bye }
+      farewell at bye = record { rest = _; talk = received; ends = ap (λ (x : Message). ins (spelling s.version x)) bye }
 
       -- its reply was cut short
       pub reply_cut : (new : Option (List TalkEvent)) (at : ℕ) (stop : PortStop) → SendsWhole {T = Unit {0}} mid new (Err stop) (owed (heard_in s turn)) → StopsTurn old new s at (status_of_stop stop)
@@ -149,7 +154,7 @@ owes_nothing s not_owed = by_query s.open_query refl
     by_query (Some o) is =
         let owing : not o.given ≡ false = sym (ap (λ (x : Option OpenQuery). owes (record s { open_query = x })) is) ∙ not_owed in
         let given : o.given ≡ true = not-false o.given owing in (
-          ap (λ (x : Option OpenQuery). owed (record s { open_query = x })) is ∙ ap (λ (b : Bool). flat_map spelling (if b then [] else reply_to s.vectors o)) given,
+          ap (λ (x : Option OpenQuery). owed (record s { open_query = x })) is ∙ ap (λ (b : Bool). flat_map (spelling s.version) (if b then [] else reply_to s.vectors o)) given,
           stays s (Some o) is (ap (λ (b : Bool). if b then Some o else (if is_refused s.vectors o || nat_le (depth_of s.heard) (length o.revealed + 1) then None else Some (record o { given = true }))) given),
         )
 

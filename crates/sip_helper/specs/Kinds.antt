@@ -1,7 +1,7 @@
 -- The kinds of query, a line for each: its items, its row, and its prover.
 use Rattle.std.specs.Prelude.{ℕ, ◌^◌, Bool, true, nat_lt, List}
 use Rattle.sip_vector.specs.declared.query.Query.{Query}
-use Rattle.sip_vector.specs.declared.query.Query.TheVariants.{Sub, Range, F2, Inner, Heavy}
+use Rattle.sip_vector.specs.declared.query.Query.TheVariants.{Sub, Range, F2, Inner, Heavy, Share}
 use Rattle.sip_helper.specs.declared.kinds.KindProver.{KindProver}
 use Rattle.sip_helper.specs.declared.kinds.KindProver.TheVariants as provers
 use Rattle.sip_helper.specs.declared.vectors.Vectors.{Vectors}
@@ -15,6 +15,7 @@ is_below depth (Range _ lo hi) = nat_lt hi (2 ^ depth)
 is_below depth (F2 _) = true
 is_below depth Inner = true
 is_below depth (Heavy _ _) = true
+is_below depth (Share _ _ _) = true
 
 -- the row of a query
 abbrev pub help_row : Query → HelpRow
@@ -23,6 +24,7 @@ help_row (Range _ _ _) = unbuilt
 help_row (F2 _) = unbuilt
 help_row Inner = unbuilt
 help_row (Heavy _ _) = unbuilt
+help_row (Share _ _ _) = unbuilt
 
 -- the query of a prover
 abbrev pub query_proved : KindProver → Query

@@ -15,7 +15,11 @@ use Rattle.sip_vector.specs.Streams.{weight, most_weight}
 use Rattle.sip_vector.specs.Vectors.{zero_vector, with_update}
 use Rattle.sip_wire.specs.declared.message.Message.{Message}
 use Rattle.sip_wire.specs.declared.message.Message.TheVariants as messages
+use Rattle.sip_wire.specs.declared.version.Version.{Version}
+use Rattle.sip_wire.specs.declared.version.Version.TheVariants.{One}
 use Rattle.sip_wire.specs.Spelling.{spelling}
+use Rattle.sip_wire.specs.Table.{most_queries}
+use Rattle.sip_wire.specs.Versions.{version_at}
 use Rattle.sip_helper.specs.declared.heard.Heard.{Heard}
 use Rattle.sip_helper.specs.declared.heard.Heard.TheVariants.{Nothing, Part, Whole}
 use Rattle.sip_helper.specs.declared.vectors.Vectors.{Vectors}
@@ -33,9 +37,11 @@ pub record OpenQuery : Type 0 where
   pub given : Bool
   pub refused : Bool
 
--- what was heard of the stream, the vectors and their weights, how many queries were asked and
--- which one is open, whether the talk is over, and whether a reply was cut short
+-- the version of the frames, what was heard of the stream, the vectors and their weights, how many
+-- queries were asked and which one is open, whether the talk is over, and whether a reply was cut
+-- short
 pub record HelperState : Type 0 where
+  pub version : Version
   pub heard : Heard
   pub vectors : Option Vectors
   pub weights : Weights
@@ -47,18 +53,22 @@ pub record HelperState : Type 0 where
 abbrev pub no_weight : Weights
 no_weight = record { first = 0; second = 0 }
 
--- nothing was heard
+-- nothing was heard: frames are in version 1 until an opening says otherwise
 abbrev pub fresh : HelperState
-fresh =
-    record {
-      heard = Nothing;
-      vectors = None;
-      weights = no_weight;
-      queries = 0;
-      open_query = None;
-      done = false;
-      spent = false;
-    }
+fresh = record {
+  version = One;
+  heard = Nothing;
+  vectors = None;
+  weights = no_weight;
+  queries = 0;
+  open_query = None;
+  done = false;
+  spent = false;
+}
+
+-- the version of an opening; each opening with a spelling has one
+abbrev pub version_opened : ℕ → Version
+version_opened number = elim (version_at number) [ Some version ↦ version | None ↦ One ]
 
 abbrev pub depth_of : Heard → ℕ
 depth_of Nothing = 0
@@ -103,10 +113,6 @@ stays_legal depth w us =
 
 -- ---- which message may come next
 
--- how many queries are asked at most
-abbrev pub most_queries : ℕ
-most_queries = 16
-
 -- the messages that a helper knows, which are all but the queries of a kind that is not built
 abbrev pub is_known : Message → Bool
 is_known (messages.Query q) = is_built q
@@ -123,7 +129,7 @@ may_reveal depth o = o.given && nat_lt (length o.revealed + 1) depth
 
 -- the message may come next; one that may not is out of turn
 abbrev pub is_allowed : HelperState → Message → Bool
-is_allowed s (messages.Open version depth) = elim s.heard [ Nothing ↦ true | _ ↦ false ]
+is_allowed s (messages.Open number depth) = elim s.heard [ Nothing ↦ true | _ ↦ false ]
 is_allowed s (messages.Updates us) =
     elim s.heard [ Part depth ↦ stays_legal depth s.weights us.items | _ ↦ false ]
 is_allowed s messages.EndStream = elim s.heard [ Part depth ↦ true | _ ↦ false ]
@@ -143,8 +149,11 @@ with_challenge r o = record o { revealed = o.revealed ++ r ∷ []; given = false
 
 -- the state after a message that may come next, by whether memory is refused for it
 abbrev pub step : HelperState → Bool → Message → HelperState
-step s refused (messages.Open version depth) =
-    record s { heard = Part depth; vectors = if refused then None else Some (zero_vectors depth) }
+step s refused (messages.Open number depth) = record s {
+  version = version_opened number;
+  heard = Part depth;
+  vectors = if refused then None else Some (zero_vectors depth);
+}
 step s refused (messages.Updates us) =
     record s {
       weights = weights_after s.weights us.items;
@@ -184,7 +193,7 @@ owed_messages s =
 
 -- its bytes
 abbrev pub owed : HelperState → List ℕ
-owed s = flat_map spelling (owed_messages s)
+owed s = flat_map (spelling s.version) (owed_messages s)
 
 -- the query once its reply was given; a refusal and the last reply close it
 abbrev pub after_reply : ℕ → Option Vectors → OpenQuery → Option OpenQuery

@@ -6,7 +6,9 @@ ghost use Rattle.std.specs.Option.{option_map};
 ghost use Rattle.sip_field.specs.Moduli.{m61_modulus};
 ghost use Rattle.sip_ports.specs.Ports.{HasCause, SendsWhole};
 ghost use Rattle.sip_vector.specs.Answers.{Fits};
+ghost use Rattle.sip_vector.specs.Limits.{most_depth};
 ghost use Rattle.sip_wire.specs.Spelling.{spelling};
+ghost use Rattle.sip_wire.specs.Versions.{deepest};
 ghost use Rattle.sip_helper.specs.declared.vectors.Vectors.{Vectors as AnyVectors};
 ghost use Rattle.sip_helper.specs.Turns.{after_reply, is_known, may_reveal, reply_to, with_challenge};
 ghost use Rattle.sip_helper.specs.inside.Answering.{query_of, open_of, IsReady, CanReply};
@@ -19,12 +21,9 @@ use crate::refusal::{WANT_OF_MEMORY, put_refusal};
 use crate::vectors::Vectors;
 use arrayvec::ArrayVec;
 use sip_ports::{PortStop, Sink};
-use sip_vector::Query;
-use sip_wire::Message;
+use sip_vector::{CAP, Query};
+use sip_wire::{Message, Version};
 use std::alloc::Global;
-
-/// How many challenges are revealed at most.
-const MOST_REVEALED: usize = 32;
 
 /// What the replies to a query are made from.
 #[derive(Drop)]
@@ -62,7 +61,7 @@ impl Answerer {
 pub(crate) struct Asked {
     pub(crate) answerer: Answerer,
     /// The challenges that were revealed behind it.
-    pub(crate) revealed: ArrayVec<u64, MOST_REVEALED>,
+    pub(crate) revealed: ArrayVec<u64, CAP>,
     /// Whether its last reply was given; it is owed otherwise.
     pub(crate) given: bool,
 }
@@ -83,7 +82,7 @@ impl Asked {
 
     /// Takes the challenge of the level that was answered, where one may be revealed. The next reply is owed then.
     pub(crate) fn reveal(&mut self, depth: u8, challenge: u64) -> Result<(), OutOfTurn>
-        requires deep { depth ≤ 32 }
+        requires deep { depth ≤ most_depth }
         requires element { challenge < m61_modulus }
         requires stands { (vectors : Option AnyVectors) × CanReply depth vectors self.old }
         ensures turn { IsOk result ↔ IsTrue (may_reveal depth (open_of self.old)) }
@@ -107,21 +106,23 @@ impl Asked {
     /// Sends the reply that is owed.
     pub(crate) fn put_reply<K: Sink>(
         &self,
+        version: Version,
         vectors: &Option<Vectors>,
         out: &mut K,
     ) -> Result<(), PortStop>
-        requires stands { (depth : ℕ) × (depth ≤ 32) × IfSome vectors.now (HaveDepth depth)
-            × CanReply depth vectors.now self.now }
+        requires stands { (depth : ℕ) × (depth ≤ deepest version)
+            × IfSome vectors.now (HaveDepth depth) × CanReply depth vectors.now self.now }
         ensures talk { SendsWhole (K.talk out.old)
-            (K.talk out.new) result (flat_map spelling (reply_to vectors.now (open_of self.now))) }
+            (K.talk out.new) result
+            (flat_map (spelling version) (reply_to vectors.now (open_of self.now))) }
         ensures cause { HasCause K.faults K.is_sure out.old out.new result }
     {
         match &self.answerer {
-            Answerer::NoMemory(_) => put_refusal(WANT_OF_MEMORY, out),
-            Answerer::Refused { code, .. } => put_refusal(*code, out),
+            Answerer::NoMemory(_) => put_refusal(version, WANT_OF_MEMORY, out),
+            Answerer::Refused { code, .. } => put_refusal(version, *code, out),
             Answerer::Honest(prover) => match vectors {
-                Some(vectors) => prover.put_reply(vectors, &self.revealed, out),
-                None => put_refusal(WANT_OF_MEMORY, out),
+                Some(vectors) => prover.put_reply(version, vectors, &self.revealed, out),
+                None => put_refusal(version, WANT_OF_MEMORY, out),
             },
         }
     }

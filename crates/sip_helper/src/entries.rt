@@ -1,24 +1,27 @@
 //! The entries of an answer, on their way to the verifier.
 
-ghost use Rattle.std.specs.Prelude.{◌≡◌, ◌<◌, ◌^◌, ◌++◌, [], length};
+ghost use Rattle.std.specs.Prelude.{◌≡◌, ◌<◌, ◌≤◌, ◌^◌, ◌++◌, [], length};
 ghost use Rattle.std.specs.List.{flat_map};
 ghost use Rattle.sip_ports.specs.Ports.{HasCause, SendsWhole};
+ghost use Rattle.sip_vector.specs.Limits.{most_depth};
 ghost use Rattle.sip_vector.specs.Vectors.{nonzero_within};
 ghost use Rattle.sip_wire.specs.Spelling.{spelling};
+ghost use Rattle.sip_wire.specs.Table.{most_rows};
+ghost use Rattle.sip_wire.specs.Versions.{deepest};
 ghost use Rattle.sip_subvec.specs.Honest.{entry_frames};
 
 use arrayvec::ArrayVec;
 use sip_ports::{PortStop, Sink};
 use sip_vector::{Entry, Vector};
-use sip_wire::{MOST_ROWS, Message, encode};
+use sip_wire::{MOST_ROWS, Message, Version, encode};
 
 /// The first entries from `from` to `hi` that are not 0, as many as a frame has, and the index from which on the others stand.
 fn next_rows(vector: &Vector, from: u64, hi: u64) -> (ArrayVec<Entry, MOST_ROWS>, u64)
     requires within { hi < 2 ^ vector.now.depth }
-    requires small { hi < 2 ^ 32 }
+    requires deep { vector.now.depth ≤ most_depth }
     ensures split { nonzero_within from hi vector.now.numbers ≡ result.0.items
         ++ nonzero_within result.1 hi vector.now.numbers }
-    ensures last { length result.0.items < 512
+    ensures last { length result.0.items < most_rows
         → nonzero_within result.1 hi vector.now.numbers ≡ [] }
 {
     let mut rows = ArrayVec::new();
@@ -35,15 +38,16 @@ fn next_rows(vector: &Vector, from: u64, hi: u64) -> (ArrayVec<Entry, MOST_ROWS>
 
 /// Sends the entries from `lo` to `hi` that are not 0, in full frames and a last one of the rest. It takes no memory.
 pub(crate) fn put_entries<K: Sink>(
+    version: Version,
     vector: &Vector,
     lo: u64,
     hi: u64,
     out: &mut K,
 ) -> Result<(), PortStop>
     requires within { hi < 2 ^ vector.now.depth }
-    requires small { hi < 2 ^ 32 }
+    requires deep { vector.now.depth ≤ deepest version }
     ensures talk { SendsWhole (K.talk out.old)
-        (K.talk out.new) result (flat_map spelling (entry_frames
+        (K.talk out.new) result (flat_map (spelling version) (entry_frames
         (nonzero_within lo hi vector.now.numbers))) }
     ensures cause { HasCause K.faults K.is_sure out.old out.new result }
 {
@@ -56,7 +60,7 @@ pub(crate) fn put_entries<K: Sink>(
         if rows.is_empty() {
             return Ok(());
         }
-        encode(&Message::Entries(rows), out)?;
+        encode(&Message::Entries(rows), version, out)?;
         next = behind;
     }
 }

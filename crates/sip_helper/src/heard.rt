@@ -1,6 +1,7 @@
 //! How much of the stream was heard.
 
 ghost use Rattle.std.specs.Prelude.{◌≡◌, ◌≤◌};
+ghost use Rattle.sip_vector.specs.Limits.{most_depth};
 ghost use Rattle.sip_helper.specs.Turns.{depth_of, part_of, whole_of};
 
 use sip_vector::Depth;
@@ -40,7 +41,7 @@ impl Heard {
     /// The depth of the talk; 0 before its opening.
     pub(crate) fn depth(self) -> u8
         ensures same { result ≡ depth_of self }
-        ensures most { result ≤ 32 }
+        ensures most { result ≤ most_depth }
     {
         match self {
             Heard::Nothing => 0,

@@ -4,6 +4,7 @@ ghost use Rattle.std.specs.Prelude.{◌≡◌, ◌<◌, ◌≤◌, Bool, ℕ, Is
 ghost use Rattle.sip_field.specs.Moduli.{m61_modulus};
 ghost use Rattle.sip_ports.specs.Ports.{HasCause, SendsWhole};
 ghost use Rattle.sip_wire.specs.Spelling.{fits};
+ghost use Rattle.sip_wire.specs.declared.version.Version.TheVariants.{Two};
 ghost use Rattle.sip_wire.specs.declared.message.Message.TheVariants as messages;
 ghost use Rattle.sip_helper.specs.Turns.{after_answer, fresh, is_allowed, owed, owes, step};
 
@@ -14,12 +15,9 @@ use crate::vectors::{Vectors, Weights, grown, settled};
 use arrayvec::ArrayVec;
 use sip_ports::{PortStop, Sink};
 use sip_vector::{Depth, Query, Update};
-use sip_wire::{MOST_ROWS, Message};
+use sip_wire::{MOST_QUERIES, MOST_ROWS, Message, Version};
 use std::alloc::Global;
 use std::marker::Model;
-
-/// How many queries are asked at most.
-const MOST_QUERIES: u8 = 16;
 
 /// What a helper knows: the stream that it heard, and the query that is open.
 ///
@@ -28,10 +26,11 @@ const MOST_QUERIES: u8 = 16;
 #[derive(Drop)]
 pub struct HelperCore {
     alloc: Global,
+    version: Version,
     heard: Heard,
     weights: Weights,
     vectors: Option<Vectors>,
-    queries: u8,
+    queries: usize,
     asked: Option<Asked>,
     done: bool,
     spent: bool,
@@ -46,6 +45,7 @@ impl Model for HelperCore {
     ghost Value = { HelperState };
 
     ghost view = { λ h. record {
+      version = h.version;
       heard = h.heard;
       vectors = h.vectors;
       weights = h.weights;
@@ -55,7 +55,7 @@ impl Model for HelperCore {
       spent = h.spent;
     } };
 
-    ghost invariant = { λ h. IsCoherent h.heard h.weights h.vectors h.queries h.asked };
+    ghost invariant = { λ h. IsCoherent h.version h.heard h.weights h.vectors h.queries h.asked };
 }
 
 impl HelperCore {
@@ -65,6 +65,7 @@ impl HelperCore {
     {
         HelperCore {
             alloc,
+            version: Version::One,
             heard: Heard::Nothing,
             weights: Weights {
                 first: 0,
@@ -78,21 +79,24 @@ impl HelperCore {
         }
     }
 
-    fn open(&mut self, depth: u8) -> Result<(), OutOfTurn>
-        requires some { 1 ≤ depth }
-        requires most { depth ≤ 32 }
-        ensures turn { (version : ℕ) → IsOk result ↔ IsTrue
-            (is_allowed self.old (messages.Open version depth)) }
-        ensures ok { (version : ℕ) → OnOk result ((refused : Bool)
-            × (self.new ≡ step self.old refused (messages.Open version depth))) }
+    fn open(&mut self, number: u8, depth: u8) -> Result<(), OutOfTurn>
+        requires { IsTrue (fits Two (messages.Open number depth)) }
+        ensures turn { IsOk result ↔ IsTrue
+            (is_allowed self.old (messages.Open number depth)) }
+        ensures ok { OnOk result ((refused : Bool)
+            × (self.new ≡ step self.old refused (messages.Open number depth))) }
         ensures err { OnErr result (self.new ≡ self.old) }
     {
         let Heard::Nothing = self.heard else {
             return Err(OutOfTurn);
         };
+        let Some(version) = Version::of(number) else {
+            return Err(OutOfTurn);
+        };
         let Some(depth) = Depth::new(depth) else {
             return Err(OutOfTurn);
         };
+        self.version = version;
         self.heard = Heard::Part(depth);
         self.vectors = Vectors::new(self.alloc, depth).ok();
         Ok(())
@@ -124,13 +128,13 @@ impl HelperCore {
         let Some(depth) = self.heard.part() else {
             return Err(OutOfTurn);
         };
-        self.heard = Heard::Whole(depth);
         self.vectors = settled(self.vectors.take());
+        self.heard = Heard::Whole(depth);
         Ok(())
     }
 
     fn ask(&mut self, query: Query) -> Result<(), OutOfTurn>
-        requires { IsTrue (fits (messages.Query query)) }
+        requires { IsTrue (fits Two (messages.Query query)) }
         ensures turn { IsOk result ↔ IsTrue (is_allowed self.old (messages.Query query)) }
         ensures ok { OnOk result ((refused : Bool)
             × (self.new ≡ step self.old refused (messages.Query query))) }
@@ -168,9 +172,10 @@ impl HelperCore {
     /// Takes a message, where it may come: the state is the next one then, and the reply that is owed, if one is, may be sent.
     ///
     /// A message that may not come is [`OutOfTurn`] and leaves the helper as it was. Where one update of a frame may not come, no
-    /// update of it is added. Where memory is refused the message is heard all the same.
+    /// update of it is added. Where memory is refused the message is heard all the same. Each message with a
+    /// spelling in version 1 has one in version 2 too (`sip_wire::laws`).
     pub fn hear(&mut self, message: &Message) -> Result<(), OutOfTurn>
-        requires fits { IsTrue (fits message.now) }
+        requires fits { IsTrue (fits Two message.now) }
         requires live { self.old.spent ≡ false }
         ensures turn { IsOk result ↔ IsTrue (is_allowed self.old message.now) }
         ensures heard { OnOk result ((refused : Bool)
@@ -178,7 +183,7 @@ impl HelperCore {
         ensures same { OnErr result (self.new ≡ self.old) }
     {
         match message {
-            Message::Open { version: _, depth } => self.open(*depth),
+            Message::Open { version, depth } => self.open(*version, *depth),
             Message::Updates(updates) => self.add(updates),
             Message::EndStream => self.end(),
             Message::Query(query) => self.ask(*query),
@@ -189,6 +194,13 @@ impl HelperCore {
             }
             _ => Err(OutOfTurn),
         }
+    }
+
+    /// The version of the frames that are heard and answered: that of the opening, and version 1 before it.
+    pub fn version(&self) -> Version
+        ensures { result ≡ self.now.version }
+    {
+        self.version
     }
 
     /// Whether a reply is owed.
@@ -229,7 +241,7 @@ impl HelperCore {
         let Some(asked) = &self.asked else {
             return Ok(());
         };
-        if let Err(stop) = asked.put_reply(&self.vectors, out) {
+        if let Err(stop) = asked.put_reply(self.version, &self.vectors, out) {
             self.spent = true;
             return Err(stop);
         }

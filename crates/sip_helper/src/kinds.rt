@@ -11,6 +11,7 @@ use crate::sub_vector::SubVectorProver;
 use crate::vectors::Vectors;
 use sip_ports::{PortStop, Sink};
 use sip_vector::Query;
+use sip_wire::Version;
 use std::alloc::Global;
 
 /// The prover of a query, by its kind.
@@ -36,9 +37,11 @@ impl KindProver {
                 let prover = SubVectorProver::start(alloc, vectors, lo, hi)?;
                 Ok(KindProver::Sub(prover))
             }
-            Query::Range { .. } | Query::F2 { .. } | Query::Inner | Query::Heavy { .. } => {
-                Err(NotStarted::Refused(OUT_OF_TURN))
-            }
+            Query::Range { .. }
+            | Query::F2 { .. }
+            | Query::Inner
+            | Query::Heavy { .. }
+            | Query::Share { .. } => Err(NotStarted::Refused(OUT_OF_TURN)),
         }
     }
 }
@@ -56,12 +59,13 @@ impl Prover for KindProver {
 
     fn put_reply<K: Sink>(
         &self,
+        version: Version,
         vectors: &Vectors,
         revealed: &[u64],
         out: &mut K,
     ) -> Result<(), PortStop> {
         match self {
-            KindProver::Sub(prover) => prover.put_reply(vectors, revealed, out),
+            KindProver::Sub(prover) => prover.put_reply(version, vectors, revealed, out),
         }
     }
 }

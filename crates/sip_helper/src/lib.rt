@@ -7,8 +7,8 @@
 //!
 //! - A message is refused exactly where the turns do not allow it (`is_allowed`), and then nothing changes.
 //! - A message that is allowed leads to the next state (`step`), whether memory was refused or not.
-//! - `answer` sends the reply that is owed (`owed`), or after a fault of the sink a shorter front of it. A reply is the honest one,
-//!   or a refusal: for want of memory, or exactly where the query's row refuses it over the vectors.
+//! - `answer` sends the reply that is owed (`owed`) in the version of the opening, or after a fault of the sink a shorter front of
+//!   it. A reply is the honest one, or a refusal: for want of memory, or exactly where the query's row refuses it over the vectors.
 //!
 //! - `serve` takes turns, each of them a message that may come and then its reply, and stops at a Bye, a frame that has no spelling,
 //!   a query of a kind that is not answered, a message out of turn, the end of the link, or a fault of it; its status says at

@@ -6,6 +6,7 @@ ghost use Rattle.sip_field.specs.Moduli.{m61_modulus};
 ghost use Rattle.sip_ports.specs.Ports.{HasCause, SendsWhole};
 ghost use Rattle.sip_vector.specs.declared.query.Query.{Query as AnyQuery};
 ghost use Rattle.sip_wire.specs.Spelling.{spelling};
+ghost use Rattle.sip_wire.specs.Versions.{deepest};
 ghost use Rattle.sip_helper.specs.declared.prover.NotStarted.TheVariants.{NoMemory};
 ghost use Rattle.sip_helper.specs.declared.vectors.Vectors.{Vectors as AnyVectors};
 ghost use Rattle.sip_helper.specs.Kinds.{help_row};
@@ -14,6 +15,7 @@ ghost use Rattle.sip_helper.specs.inside.Legal.{HaveDepth};
 use crate::vectors::Vectors;
 use sip_field::OutOfMemory;
 use sip_ports::{PortStop, Sink};
+use sip_wire::Version;
 
 /// Why a prover did not start.
 #[derive(Clone, Copy, Debug, PartialEq, Eq)]
@@ -54,13 +56,15 @@ pub(crate) trait Prover {
     /// Sends the honest reply that is due once these challenges are revealed, one write a frame.
     fn put_reply<K: Sink>(
         &self,
+        version: Version,
         vectors: &Vectors,
         revealed: &[u64],
         out: &mut K,
     ) -> Result<(), PortStop>
-        requires stands { (depth : ℕ) × (depth ≤ 32) × HaveDepth depth vectors.now
+        requires stands { (depth : ℕ) × (depth ≤ deepest version) × HaveDepth depth vectors.now
             × (length revealed.now < depth) × has_learnt depth vectors.now revealed.now self.now }
         ensures talk { SendsWhole (K.talk out.old) (K.talk out.new) result
-            (flat_map spelling ((help_row (query self.now)).honest vectors.now revealed.now)) }
+            (flat_map (spelling version)
+            ((help_row (query self.now)).honest vectors.now revealed.now)) }
         ensures cause { HasCause K.faults K.is_sure out.old out.new result };
 }

@@ -3,10 +3,11 @@
 ghost use Rattle.std.specs.Prelude.{◌≡◌, ◌≤◌};
 ghost use Rattle.sip_ports.specs.Ports.{HasCause, SendsWhole};
 ghost use Rattle.sip_wire.specs.Spelling.{spelling};
+ghost use Rattle.sip_wire.specs.Table.{most_refusal};
 ghost use Rattle.sip_wire.specs.declared.message.Message.TheVariants as messages;
 
 use sip_ports::{PortStop, Sink};
-use sip_wire::{Message, encode};
+use sip_wire::{Message, Version, encode};
 
 /// The code of a refusal for want of memory.
 pub(crate) const WANT_OF_MEMORY: u8 = 1;
@@ -18,12 +19,12 @@ pub(crate) const TOO_MANY: u8 = 2;
 pub(crate) const OUT_OF_TURN: u8 = 4;
 
 /// Sends a refusal.
-pub(crate) fn put_refusal<K: Sink>(code: u8, out: &mut K) -> Result<(), PortStop>
+pub(crate) fn put_refusal<K: Sink>(version: Version, code: u8, out: &mut K) -> Result<(), PortStop>
     requires some { 1 ≤ code }
-    requires most { code ≤ 4 }
+    requires most { code ≤ most_refusal }
     ensures talk { SendsWhole (K.talk out.old)
-        (K.talk out.new) result (spelling (messages.Refuse code)) }
+        (K.talk out.new) result (spelling version (messages.Refuse code)) }
     ensures cause { HasCause K.faults K.is_sure out.old out.new result }
 {
-    encode(&Message::Refuse { code }, out)
+    encode(&Message::Refuse { code }, version, out)
 }

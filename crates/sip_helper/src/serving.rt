@@ -28,7 +28,9 @@ fn take_turn<L: Link>(
         → Rose (L.faults link.old) (L.faults link.new) }
     ensures lasts { Lasts L.faults L.is_sure link.old link.new }
 {
-    let message = match decode(link, Place::ToHelper, frame) {
+    // A frame is read, and refused, in the version of the talk up to it.
+    let version = core.version();
+    let message = match decode(link, Place::ToHelper, version, frame) {
         Ok(message) => message,
         Err(fault) => return Err(HelpStatus::of_fault(fault, offset)),
     };
@@ -36,7 +38,7 @@ fn take_turn<L: Link>(
         return Err(HelpStatus::BadFrame { offset });
     }
     if core.hear(&message).is_err() {
-        encode(&Message::Refuse { code: OUT_OF_TURN }, link)?;
+        encode(&Message::Refuse { code: OUT_OF_TURN }, version, link)?;
         return Err(HelpStatus::BadFrame { offset });
     }
     if core.done() {
@@ -48,12 +50,12 @@ fn take_turn<L: Link>(
     Ok(())
 }
 
-/// Hears a helper's talk and answers, until a Bye.
+/// Hears a helper's talk and answers, until a Bye. Frames are in the version of the opening, and in version 1 up to it.
 ///
 /// Each reply that is owed goes out before the next frame is taken. A message out of turn is answered by a refusal, and ends the
 /// talk; a frame without a spelling ends it with no answer, and so does a query of a kind that is not answered, wherever it
 /// stands. Memory is taken for one frame, for the two vectors, and for what the replies to a query are made from. The loop ends,
-/// since each update weighs something and a side's weight is bounded, and since there are at most 16 queries with fewer than 32
+/// since each update weighs something and a side's weight is bounded, and since there are at most 16 queries with fewer than 48
 /// challenges each.
 pub fn serve<L: Link>(alloc: Global, link: &mut L) -> HelpStatus
     ensures serves { Serves (L.talk link.old) (L.talk link.new) result }

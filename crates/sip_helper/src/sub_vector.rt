@@ -4,7 +4,9 @@ ghost use Rattle.std.specs.Prelude.{◌≡◌, ◌<◌, ◌≤◌, ◌^◌, IsTr
 ghost use Rattle.sip_field.specs.Moduli.{m61_modulus};
 ghost use Rattle.sip_ports.specs.Ports.{HasCause, SendsWhole};
 ghost use Rattle.sip_vector.specs.declared.query.Query.TheVariants as queries;
+ghost use Rattle.sip_wire.specs.declared.version.Version.{Version as AnyVersion};
 ghost use Rattle.sip_wire.specs.Spelling.{fits};
+ghost use Rattle.sip_wire.specs.Versions.{deepest};
 ghost use Rattle.sip_subvec.specs.Honest.{honest_reply, its_siblings, proving, siblings_message};
 ghost use Rattle.sip_helper.specs.inside.Starting.{StartsProver};
 ghost use Rattle.sip_helper.specs.SubVectors.{HasLevel, sub_query};
@@ -15,13 +17,10 @@ use crate::refusal::TOO_MANY;
 use crate::vectors::Vectors;
 use sip_field::{Field, M61};
 use sip_ports::{PortStop, Sink};
-use sip_subvec::SubProver;
+use sip_subvec::{MOST_ENTRIES, SubProver};
 use sip_vector::Vector;
-use sip_wire::{Message, encode};
+use sip_wire::{Message, Version, encode};
 use std::alloc::Global;
-
-/// How many entries an answer may have.
-const MOST_ENTRIES: u64 = 65536;
 
 /// What the replies about the entries from `lo` to `hi` of the first side are made from.
 #[derive(Drop)]
@@ -62,11 +61,13 @@ impl Prover for SubVectorProver {
 
     fn put_reply<K: Sink>(
         &self,
+        version: Version,
         vectors: &Vectors,
         revealed: &[u64],
         out: &mut K,
     ) -> Result<(), PortStop> {
         put_honest(
+            version,
             &vectors.first,
             self.lo,
             self.hi,
@@ -81,7 +82,7 @@ impl Prover for SubVectorProver {
 fn siblings_of(prover: &SubProver<M61>) -> Message
     requires { 2 ≤ length prover.now.level }
     ensures message { result ≡ siblings_message (its_siblings prover.now) }
-    ensures fits { IsTrue (fits result) }
+    ensures fits { (version : AnyVersion) → IsTrue (fits version result) }
 {
     let siblings = prover.siblings();
     Message::Siblings {
@@ -92,6 +93,7 @@ fn siblings_of(prover: &SubProver<M61>) -> Message
 
 /// Sends an honest reply: the entries before any challenge was revealed, and the siblings.
 fn put_honest<K: Sink>(
+    version: Version,
     vector: &Vector,
     lo: u64,
     hi: u64,
@@ -100,15 +102,16 @@ fn put_honest<K: Sink>(
     out: &mut K,
 ) -> Result<(), PortStop>
     requires within { hi < 2 ^ vector.now.depth }
-    requires small { hi < 2 ^ 32 }
+    requires deep { vector.now.depth ≤ deepest version }
     requires level { 2 ≤ length prover.now.level }
     requires proving { prover.now ≡ proving m61_modulus vector.now.numbers lo hi revealed.now }
     ensures talk { SendsWhole (K.talk out.old)
-        (K.talk out.new) result (honest_reply m61_modulus vector.now.numbers lo hi revealed.now) }
+        (K.talk out.new) result
+        (honest_reply version m61_modulus vector.now.numbers lo hi revealed.now) }
     ensures cause { HasCause K.faults K.is_sure out.old out.new result }
 {
     if revealed.is_empty() {
-        put_entries(vector, lo, hi, out)?;
+        put_entries(version, vector, lo, hi, out)?;
     }
-    encode(&siblings_of(prover), out)
+    encode(&siblings_of(prover), version, out)
 }

@@ -61,8 +61,33 @@ fn a_talk_is_served(rt: HostRuntime) -> Result<(), Fail> {
     Ok(())
 }
 
+/// In version 2 the opening of a talk over 2^48 items, the last three of them (4, 7, 9), and their end; the query for the last
+/// entry, the challenge 2, and the farewell.
+const WIDE: [u8; 98] = [
+    1, 0, 2, 2, 48, 2, 0, 53, 0, 3, 0, 0, 0, 0xff, 0xff, 0xff, 0xff, 0xff, 0xfd, 0, 0, 0, 0, 0, 0,
+    0, 4, 0, 0, 0, 0xff, 0xff, 0xff, 0xff, 0xff, 0xfe, 0, 0, 0, 0, 0, 0, 0, 7, 0, 0, 0, 0xff, 0xff,
+    0xff, 0xff, 0xff, 0xff, 0, 0, 0, 0, 0, 0, 0, 9, 3, 0, 0, 4, 0, 17, 1, 0, 0, 0xff, 0xff, 0xff,
+    0xff, 0xff, 0xff, 0, 0, 0xff, 0xff, 0xff, 0xff, 0xff, 0xff, 5, 0, 8, 0, 0, 0, 0, 0, 0, 0, 2, 6,
+    0, 0,
+];
+
+/// The entry (2^48 - 1, 9) and the sibling 7 left of it; then the sibling 8 = 0 + 2 * 4, of the pair (0, 4).
+const WIDE_REPLIES: [u8; 45] = [
+    19, 0, 18, 0, 1, 0, 0, 0xff, 0xff, 0xff, 0xff, 0xff, 0xff, 0, 0, 0, 0, 0, 0, 0, 9, 20, 0, 9, 1,
+    0, 0, 0, 0, 0, 0, 0, 7, 20, 0, 9, 1, 0, 0, 0, 0, 0, 0, 0, 8,
+];
+
+#[test]
+fn a_talk_in_version_2(rt: HostRuntime) -> Result<(), Fail> {
+    let alloc = rt.alloc();
+    let (status, sent) = served(alloc, &WIDE, 10_000, &[])?;
+    assert_eq!(rt; status, HelpStatus::Served);
+    assert_eq!(rt; sent.as_slice(), WIDE_REPLIES.as_slice());
+    Ok(())
+}
+
 /// What is received, how it ends, and what is sent.
-const ENDS: [(&[u8], HelpStatus, &[u8]); 11] = [
+const ENDS: [(&[u8], HelpStatus, &[u8]); 16] = [
     // The link ends before the opening, behind it, and inside a frame.
     (&[], HelpStatus::PeerClosed, &[]),
     (&[1, 0, 2, 1, 2], HelpStatus::PeerClosed, &[]),
@@ -73,6 +98,23 @@ const ENDS: [(&[u8], HelpStatus, &[u8]); 11] = [
     (&[7, 0, 0], HelpStatus::BadFrame { offset: 0 }, &[]),
     (
         &[1, 0, 2, 1, 2, 7, 0, 0],
+        HelpStatus::BadFrame { offset: 5 },
+        &[],
+    ),
+    // Depths that a version has not, and one that version 2 has.
+    (&[1, 0, 2, 1, 33], HelpStatus::BadFrame { offset: 0 }, &[]),
+    (&[1, 0, 2, 2, 49], HelpStatus::BadFrame { offset: 0 }, &[]),
+    (&[1, 0, 2, 2, 48], HelpStatus::PeerClosed, &[]),
+    // In version 2, an update with a narrow item, and a query for a share.
+    (
+        &[
+            1, 0, 2, 2, 1, 2, 0, 15, 0, 1, 0, 0, 0, 0, 1, 0, 0, 0, 0, 0, 0, 0, 1,
+        ],
+        HelpStatus::BadFrame { offset: 5 },
+        &[],
+    ),
+    (
+        &[1, 0, 2, 2, 1, 4, 0, 10, 6, 0, 0, 0, 0, 1, 0, 0, 0, 2],
         HelpStatus::BadFrame { offset: 5 },
         &[],
     ),

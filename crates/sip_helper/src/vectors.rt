@@ -88,8 +88,8 @@ impl Vectors {
     }
 }
 
-/// The same vectors, in the form in which they are read fast. Where memory is wanted for that they are as they were, and
-/// are read all the same.
+/// The vectors with nothing pending, so that they are read quickly. They are the same vectors, also where memory is refused:
+/// reads are right then, and slow.
 pub(crate) fn settled(vectors: Option<Vectors>) -> Option<Vectors>
     ensures { result ≡ vectors }
 {

@@ -10,7 +10,7 @@ use std::io;
 use std::io::Read;
 use std::marker::Model;
 
-/// The largest frame of a run, 6,661 bytes, fits, and so do 630 records of 13 bytes.
+/// 630 records of 13 bytes fit, and each frame of version 1; the longest of version 2, 8,709 bytes, is read in two pieces.
 const CAPACITY: usize = 8192;
 
 /// The bytes that were read and not yet given, in order. It is of a fixed size, and takes no memory.

@@ -32,9 +32,9 @@ use Rattle.sip_replies.proofs.Turns.{Going, closed_next}
 
 module _ {S : Type 0} (P : Protocol S) (due : P.unasked ≡ None) (query : Query) (block : List ℕ) where
   -- nothing was said, or a part of the query
-  pub IsInterrupted-query : (old new before : Option (List TalkEvent)) (n : ℕ) → GoesOn old new (outs (take n (spelling (messages.Query query)))) → 0 < length block → IsInterrupted P query block old new before before
+  pub IsInterrupted-query : (old new before : Option (List TalkEvent)) (n : ℕ) → GoesOn old new (outs (take n (spelling P.rules.version (messages.Query query)))) → 0 < length block → IsInterrupted P query block old new before before
   IsInterrupted-query old new before n talk some =
-      let m = spelling (messages.Query query) in
+      let m = spelling P.rules.version (messages.Query query) in
       record {
         due = due;
         replies = [];
@@ -54,10 +54,10 @@ module _ {S : Type 0} (P : Protocol S) (due : P.unasked ≡ None) (query : Query
 
   -- a part of a challenge was said
   pub IsInterrupted-reveal : (old mid new before during : Option (List TalkEvent)) (count : ℕ) (Stands : S → Type 0) → Going P query block old mid before during count Stands → count < length block → (n : ℕ)
-      → GoesOn mid new (outs (take n (spelling (messages.Reveal (slice_index block (count - 1)))))) → IsInterrupted P query block old new before during
+      → GoesOn mid new (outs (take n (spelling P.rules.version (messages.Reveal (slice_index block (count - 1)))))) → IsInterrupted P query block old new before during
   IsInterrupted-reveal old mid new before during count Stands going lt n talk =
       let version = P.rules.version in
-      let m = spelling (messages.Reveal (slice_index block (count - 1))) in
+      let m = spelling P.rules.version (messages.Reveal (slice_index block (count - 1))) in
       let so_far = asked version query block going.replies in
       let whole : outs m ≡ outs (take n m) ++ outs (drop n m) = ap outs (sym (take-append-drop n m)) ∙ map-append Out (take n m) (drop n m) in
       let state = P.rules.learn going.state (slice_index block (count - 1)) in

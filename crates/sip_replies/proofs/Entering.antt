@@ -9,7 +9,7 @@ use Rattle.sip_wire.specs.declared.message.Reason.{Reason}
 use Rattle.sip_wire.specs.declared.message.Reason.TheVariants as reasons
 use Rattle.sip_wire.specs.declared.message.WireFault.{WireFault}
 use Rattle.sip_wire.specs.declared.version.Version.{Version}
-use Rattle.sip_wire.specs.Versions.{read_in}
+use Rattle.sip_wire.specs.Reading.{read_frame}
 use Rattle.sip_wire.proofs.ReadingLaws.{read_frame-append}
 use Rattle.sip_replies.specs.declared.check.More.{More}
 use Rattle.sip_replies.specs.declared.check.More.TheVariants as mores
@@ -39,18 +39,18 @@ pub frame_faults : {S : Type 0} (R : Rules S) (s : S) (version : Version) (place
     → (bytes : List ℕ) (reason : Reason) → read_one version place bytes ≡ Err reason → read_reply R s bytes ≡ Err reason
 frame_faults R s version place same at bytes reason e =
     read_reply-frame R s bytes
-    ∙ ap (λ (v : Version). frame_says R (read_reply R) s (read_in v (R.place s) bytes)) same
-    ∙ ap (λ (p : Place). frame_says R (read_reply R) s (read_in version p bytes)) (sym at)
-    ∙ says_fault R s (read_in version place bytes) reason e
+    ∙ ap (λ (v : Version). frame_says R (read_reply R) s (read_frame v (R.place s) bytes)) same
+    ∙ ap (λ (p : Place). frame_says R (read_reply R) s (read_frame version p bytes)) (sym at)
+    ∙ says_fault R s (read_frame version place bytes) reason e
 
 -- a message that was received is read off its bytes, whatever follows them
 message_says : {S : Type 0} (R : Rules S) (s : S) (version : Version) (place : Place) → R.version ≡ version → place ≡ R.place s
-    → (bytes more : List ℕ) (m : Message) (said : Message × List ℕ) → said ≡ (m, []) → read_one version place bytes ≡ Ok said → read_in R.version (R.place s) (bytes ++ more) ≡ Ok (m, more)
+    → (bytes more : List ℕ) (m : Message) (said : Message × List ℕ) → said ≡ (m, []) → read_one version place bytes ≡ Ok said → read_frame R.version (R.place s) (bytes ++ more) ≡ Ok (m, more)
 message_says R s version place same at bytes more m said is e =
-    let here : read_in version place bytes ≡ Ok (m, []) = reasoned_ok (read_in version place bytes) (m, []) (e ∙ ap (λ (x : Message × List ℕ). Ok x) is) in
-    ap (λ (v : Version). read_in v (R.place s) (bytes ++ more)) same
-    ∙ ap (λ (p : Place). read_in version p (bytes ++ more)) (sym at)
-    ∙ read_frame-append place bytes more m [] here
+    let here : read_frame version place bytes ≡ Ok (m, []) = reasoned_ok (read_frame version place bytes) (m, []) (e ∙ ap (λ (x : Message × List ℕ). Ok x) is) in
+    ap (λ (v : Version). read_frame v (R.place s) (bytes ++ more)) same
+    ∙ ap (λ (p : Place). read_frame version p (bytes ++ more)) (sym at)
+    ∙ read_frame-append version place bytes more m [] here
 
 pub ending_none : (reason : Reason) → reason ≢ reasons.Closed → ending reason ≡ []
 ending_none reasons.Closed other = absurd (other refl)
@@ -81,11 +81,11 @@ Entered-none R from old before Stands stands = record { state = from; begun = Be
 module _ {S : Type 0} (R : Rules S) (from : S) (old mid new before during now : Option (List TalkEvent)) (Stood : S → Type 0) (entered : Entered R from old mid before during Stood)
     (version : Version) (same : R.version ≡ version) (place : Place) (at : place ≡ R.place entered.state) (m : Message) (said : Message × List ℕ)
     (came : Came (read_one version place) mid new during now said) (shows : Shows version m said) where
-  whole : (more : List ℕ) → read_in R.version (R.place entered.state) (came.bytes ++ more) ≡ Ok (m, more)
+  whole : (more : List ℕ) → read_frame R.version (R.place entered.state) (came.bytes ++ more) ≡ Ok (m, more)
   whole more = message_says R entered.state version place same at came.bytes more m said shows.is came.says
 
-  read : read_in R.version (R.place entered.state) came.bytes ≡ Ok (m, [])
-  read = ap (read_in R.version (R.place entered.state)) (sym (append-nil came.bytes)) ∙ whole []
+  read : read_frame R.version (R.place entered.state) came.bytes ≡ Ok (m, [])
+  read = ap (read_frame R.version (R.place entered.state)) (sym (append-nil came.bytes)) ∙ whole []
 
   shortest : (front : List ℕ) (byte : ℕ) → entered.begun.bytes ++ came.bytes ≡ front ++ byte ∷ [] → read_reply R from front ≡ Err reasons.Closed
   shortest = shortest_more (read_reply R from) old mid before during (read_reply R entered.state) entered.begun came.bytes

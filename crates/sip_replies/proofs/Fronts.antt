@@ -7,7 +7,7 @@ use Rattle.sip_wire.specs.declared.message.WireFault.{WireFault}
 use Rattle.sip_wire.specs.declared.message.WireFault.TheVariants as faults
 use Rattle.sip_replies.specs.declared.check.More.{More}
 use Rattle.sip_replies.specs.declared.check.More.TheVariants as mores
-use Rattle.sip_wire.specs.Versions.{read_in}
+use Rattle.sip_wire.specs.Reading.{read_frame}
 use Rattle.sip_replies.specs.Protocols.{Rules}
 use Rattle.sip_replies.specs.Replies.{reason_of, at_end, goes_on, step_says, read_reply}
 use Rattle.sip_wire.proofs.ReadingLaws.{read_frame-shrinks, read_frame-append, read_frame-append_fault}
@@ -59,21 +59,21 @@ step_grows then rest byte more (Err reason) grows = grows_fault reason
 step_grows then rest byte more (Ok x) grows = more_grows then rest byte more x.0 x.1 (grows x.1)
 
 module _ {S : Type 0} (R : Rules S) (s : S) (bytes : List ℕ) (byte : ℕ) (more : List ℕ) where
-  grows_by : (r : Result (Message × List ℕ) WireFault) → read_in R.version (R.place s) bytes ≡ r
-      → ((m : Message) (rest : List ℕ) → read_in R.version (R.place s) bytes ≡ Ok (m, rest) → (t : S) → Grows (read_reply R t rest) (read_reply R t (rest ++ byte ∷ more)))
+  grows_by : (r : Result (Message × List ℕ) WireFault) → read_frame R.version (R.place s) bytes ≡ r
+      → ((m : Message) (rest : List ℕ) → read_frame R.version (R.place s) bytes ≡ Ok (m, rest) → (t : S) → Grows (read_reply R t rest) (read_reply R t (rest ++ byte ∷ more)))
       → Grows (read_reply R s bytes) (read_reply R s (bytes ++ byte ∷ more))
   grows_by (Err fault) is later = elim (fault_or_not fault) [
     | inl closed ↦ rw (read_reply-fault R s bytes fault is, closed) (grows_closed _)
-    | inr other ↦ rw (read_reply-fault R s bytes fault is, read_reply-fault R s (bytes ++ byte ∷ more) fault (read_frame-append_fault (R.place s) bytes (byte ∷ more) fault is other)) (grows_fault (reason_of fault))
+    | inr other ↦ rw (read_reply-fault R s bytes fault is, read_reply-fault R s (bytes ++ byte ∷ more) fault (read_frame-append_fault R.version (R.place s) bytes (byte ∷ more) fault is other)) (grows_fault (reason_of fault))
   ]
   grows_by (Ok frame) is later =
-      rw (read_reply-step R s bytes frame.1 frame.0 (R.step s frame.0) is refl, read_reply-step R s (bytes ++ byte ∷ more) (frame.1 ++ byte ∷ more) frame.0 (R.step s frame.0) (read_frame-append (R.place s) bytes (byte ∷ more) frame.0 frame.1 is) refl)
+      rw (read_reply-step R s bytes frame.1 frame.0 (R.step s frame.0) is refl, read_reply-step R s (bytes ++ byte ∷ more) (frame.1 ++ byte ∷ more) frame.0 (R.step s frame.0) (read_frame-append R.version (R.place s) bytes (byte ∷ more) frame.0 frame.1 is) refl)
       (step_grows (read_reply R) frame.1 byte more (R.step s frame.0) (later frame.0 frame.1 is))
 
 -- by how many bytes there are at most
 grows : {S : Type 0} (R : Rules S) (n : ℕ) (s : S) (bytes : List ℕ) (byte : ℕ) (more : List ℕ) → length bytes ≤ n → Grows (read_reply R s bytes) (read_reply R s (bytes ++ byte ∷ more))
-grows R zero s bytes byte more le = grows_by R s bytes byte more (read_in R.version (R.place s) bytes) refl (λ m rest is t. absurd (omega (arith, read_frame-shrinks (R.place s) bytes m rest is)))
-grows R (suc n) s bytes byte more le = grows_by R s bytes byte more (read_in R.version (R.place s) bytes) refl (λ m rest is t. grows R n t rest byte more (omega (arith, read_frame-shrinks (R.place s) bytes m rest is)))
+grows R zero s bytes byte more le = grows_by R s bytes byte more (read_frame R.version (R.place s) bytes) refl (λ m rest is t. absurd (omega (arith, read_frame-shrinks R.version (R.place s) bytes m rest is)))
+grows R (suc n) s bytes byte more le = grows_by R s bytes byte more (read_frame R.version (R.place s) bytes) refl (λ m rest is t. grows R n t rest byte more (omega (arith, read_frame-shrinks R.version (R.place s) bytes m rest is)))
 
 pub reply_front : {S : Type 0} (R : Rules S) (s : S) (front : List ℕ) (byte : ℕ) (more : List ℕ) (x : S) → read_reply R s (front ++ byte ∷ more) ≡ Ok x → read_reply R s front ≡ Err reasons.Closed
 reply_front R s front byte more x whole = front_of (read_reply R s front) _ x (grows R (length front) s front byte more (omega arith)) whole

@@ -20,7 +20,7 @@ use Rattle.sip_replies.specs.Asking.{stop_of_keeper, KeepsPart, MayEnd, IsUnkept
 
 module _ (version : Version) (place : Place) (old new before now : Option (List TalkEvent)) (rose risen : ℕ) (got : List ℕ) where
   -- where the end of the link was found the frame is not whole
-  may_end : (r : Result Message WireFault) → Decodes place old new rose risen got r → MayEnd (read_one version place got ≡ Err reasons.Closed) (ended_by r)
+  may_end : (r : Result Message WireFault) → Decodes version place old new rose risen got r → MayEnd (read_one version place got ≡ Err reasons.Closed) (ended_by r)
   may_end (Ok m) did = inl refl
   may_end (Err faults.Closed) did = inr (refl, ap reasoned did.answer)
   may_end (Err faults.BadKind) did = inl refl
@@ -33,7 +33,7 @@ module _ (version : Version) (place : Place) (old new before now : Option (List 
   some_byte : (byte : ℕ) → byte ∷ [] ≢ []
   some_byte byte e = cc
 
-  module _ (r : Result Message WireFault) (did : Decodes place old new rose risen got r) where
+  module _ (r : Result Message WireFault) (did : Decodes version place old new rose risen got r) where
     -- no byte less shows what the frame is
     pub shortest : (front : List ℕ) (byte : ℕ) → got ≡ front ++ byte ∷ [] → read_one version place front ≡ Err reasons.Closed
     shortest front byte e = ap reasoned (did.short front (byte ∷ []) e (some_byte byte))

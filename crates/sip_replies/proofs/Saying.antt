@@ -10,7 +10,7 @@ use Rattle.sip_wire.specs.declared.message.Message.{Message}
 use Rattle.sip_wire.specs.declared.message.Message.TheVariants as messages
 use Rattle.sip_wire.specs.declared.version.Version.{Version}
 use Rattle.sip_wire.specs.Spelling.{fits, has_room, all_hold}
-use Rattle.sip_wire.specs.Versions.{spelling_in}
+use Rattle.sip_wire.specs.Spelling.{spelling}
 use Rattle.sip_replies.specs.Replies.{joined}
 use Rattle.sip_replies.specs.Talks.{sent, exchanged, asked}
 
@@ -23,8 +23,8 @@ regroup : (a b c d : List TalkEvent) → a ++ ((b ++ c) ++ d) ≡ ((a ++ b) ++ c
 regroup a b c d = sym (append_assoc a (b ++ c) d) ∙ ap (λ (l : List TalkEvent). l ++ d) (sym (append_assoc a b c))
 
 -- one message, sent
-pub sent-one : (version : Version) (m : Message) → sent version (m ∷ []) ≡ outs (spelling_in version m)
-sent-one version m = ap outs (append-nil (spelling_in version m))
+pub sent-one : (version : Version) (m : Message) → sent version (m ∷ []) ≡ outs (spelling version m)
+sent-one version m = ap outs (append-nil (spelling version m))
 
 -- one more exchange: the challenge behind the replies so far, and a reply
 exchanged-snoc : (version : Version) (replies : List (List ℕ)) (block : List ℕ) (k : ℕ) (bytes : List ℕ) → length replies ≡ suc k → k < length block
@@ -47,9 +47,9 @@ asked-snoc version query replies block k bytes len lt =
     ∙ regroup (sent version (messages.Query query ∷ [])) (exchanged version replies block) (sent version (messages.Reveal (slice_index block k) ∷ [])) (ins bytes)
 
 -- a challenge has a spelling
-pub reveal_fits : (r : ℕ) → r < m61_modulus → IsTrue (fits (messages.Reveal r))
+pub reveal_fits : (version : Version) (r : ℕ) → r < m61_modulus → IsTrue (fits version (messages.Reveal r))
 unfolding fits has_room all_hold
-reveal_fits r below =
+reveal_fits version r below =
     let a : nat_lt r (256 ^ 8) ≡ true = grind (arith, nat_tests) in
     let b : nat_lt r 2305843009213693951 ≡ true = grind (arith, nat_tests) in
     rw (a, b) refl

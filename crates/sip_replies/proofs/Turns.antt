@@ -1,5 +1,5 @@
 -- The turn of one query, reply by reply, whatever its protocol.
-use Rattle.std.proofs.Common.{◌≡◌, ◌⊎◌, inl, inr, ℕ, suc, ◌+◌, ◌-◌, ◌<◌, ◌≤◌, Option, Result, Ok, Err, List, [], ◌∷◌, ◌++◌, length, drop, refl, sym, ap, subst, ◌∙◌, arith, append_assoc, append-nil, length-append}
+use Rattle.std.proofs.Common.{◌≡◌, inl, inr, ℕ, suc, ◌+◌, ◌-◌, ◌<◌, ◌≤◌, Option, Result, Ok, Err, List, [], ◌∷◌, ◌++◌, length, drop, refl, sym, ap, subst, ◌∙◌, arith, append_assoc, append-nil, length-append}
 use Rattle.std.specs.Prelude.{None, IsErrAnd, slice_index}
 use Rattle.std.proofs.Math.Seq.{drop-cons}
 use Rattle.std.proofs.lemmas.List.{map-append}
@@ -52,7 +52,7 @@ pub record Going {S : Type 0} (P : Protocol S) (query : Query) (block : List ℕ
   pub kept : GoesOn before during (outs (joined replies))
   pub stands : Stands state
 
-pub Ready-first : {S : Type 0} (P : Protocol S) (query : Query) (block : List ℕ) (old mid before : Option (List TalkEvent)) → GoesOn old mid (outs (spelling (messages.Query query))) → 0 < length block → Ready P query block old mid before before [] P.rules.start
+pub Ready-first : {S : Type 0} (P : Protocol S) (query : Query) (block : List ℕ) (old mid before : Option (List TalkEvent)) → GoesOn old mid (outs (spelling P.rules.version (messages.Query query))) → 0 < length block → Ready P query block old mid before before [] P.rules.start
 Ready-first P query block old mid before talk some = record {
   said = sent P.rules.version (messages.Query query ∷ []);
   talk = subst (GoesOn old mid) (sym (sent-one P.rules.version (messages.Query query))) talk;
@@ -63,7 +63,7 @@ Ready-first P query block old mid before talk some = record {
 }
 
 pub Ready-later : {S : Type 0} (P : Protocol S) (query : Query) (block : List ℕ) (old mid new before during : Option (List TalkEvent)) (count : ℕ) (Stands : S → Type 0) (going : Going P query block old mid before during count Stands)
-    → GoesOn mid new (outs (spelling (messages.Reveal (slice_index block (count - 1))))) → count < length block → Ready P query block old new before during going.replies (P.rules.learn going.state (slice_index block (count - 1)))
+    → GoesOn mid new (outs (spelling P.rules.version (messages.Reveal (slice_index block (count - 1))))) → count < length block → Ready P query block old new before during going.replies (P.rules.learn going.state (slice_index block (count - 1)))
 Ready-later P query block old mid new before during count Stands going talk lt = record {
   said = asked P.rules.version query block going.replies ++ sent P.rules.version (messages.Reveal (slice_index block (count - 1)) ∷ []);
   talk = GoesOn-trans old mid new _ _ going.talk (subst (GoesOn mid new) (sym (sent-one P.rules.version (messages.Reveal (slice_index block (count - 1))))) talk);

@@ -16,7 +16,7 @@ use Rattle.sip_wire.specs.declared.message.WireFault.TheVariants as faults
 use Rattle.sip_wire.specs.declared.message.Message.{Message}
 use Rattle.sip_wire.specs.declared.version.Version.{Version}
 use Rattle.sip_wire.specs.Values.{InRange}
-use Rattle.sip_wire.specs.Versions.{fits_in}
+use Rattle.sip_wire.specs.Spelling.{fits}
 use Rattle.sip_replies.specs.declared.check.Said.{Said}
 use Rattle.sip_replies.specs.declared.asking.AskStop.{AskStop}
 use Rattle.sip_replies.specs.declared.asking.AskStop.TheVariants as stops
@@ -113,7 +113,7 @@ module _ {X : Type 0} (read : List ℕ → Result X Reason)
 -- a message was received: it is all that was read, has a spelling, and its numbers fit their types
 pub record Shows (version : Version) (m : Message) (said : Message × List ℕ) : Type 0 where
   pub is : said ≡ (m, [])
-  pub has_spelling : IsTrue (fits_in version m)
+  pub has_spelling : IsTrue (fits version m)
   pub in_range : InRange m
 
 -- ---- all replies to a query

@@ -7,7 +7,7 @@ use Rattle.sip_wire.specs.declared.message.WireFault.TheVariants as faults
 use Rattle.sip_wire.specs.declared.message.Reason.{Reason}
 use Rattle.sip_wire.specs.declared.message.Reason.TheVariants as reasons
 use Rattle.sip_wire.specs.declared.version.Version.{Version}
-use Rattle.sip_wire.specs.Versions.{read_in}
+use Rattle.sip_wire.specs.Reading.{read_frame}
 use Rattle.sip_vector.specs.Answers.{Answer}
 use Rattle.sip_vector.specs.Steps.{◌>>=◌}
 use Rattle.sip_replies.specs.declared.check.More.{More}
@@ -31,7 +31,7 @@ reasoned (Err fault) = Err (reason_of fault)
 
 -- the message at the front of the bytes, and what follows its frame; or why there is none
 abbrev pub read_one : Version → Place → List ℕ → Result (Message × List ℕ) Reason
-read_one version place bytes = reasoned (read_in version place bytes)
+read_one version place bytes = reasoned (read_frame version place bytes)
 
 -- ---- one reply
 
@@ -59,7 +59,8 @@ frame_says R then s (Ok frame) = step_says then frame.1 (R.step s frame.0)
 -- a reply from a frame on; it has at most n more frames
 unfoldable pub read_from : {S : Type 0} → Rules S → ℕ → S → List ℕ → Result S Reason
 read_from R zero s bytes = Err reasons.Closed
-read_from R (suc n) s bytes = frame_says R (read_from R n) s (read_in R.version (R.place s) bytes)
+read_from R (suc n) s bytes =
+    frame_says R (read_from R n) s (read_frame R.version (R.place s) bytes)
 
 -- what a whole reply states, behind what was stated before it
 abbrev pub read_reply : {S : Type 0} → Rules S → S → List ℕ → Result S Reason

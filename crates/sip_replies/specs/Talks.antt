@@ -10,7 +10,7 @@ use Rattle.sip_wire.specs.declared.message.Message.TheVariants as messages
 use Rattle.sip_wire.specs.declared.message.Reason.{Reason}
 use Rattle.sip_wire.specs.declared.message.Reason.TheVariants as reasons
 use Rattle.sip_wire.specs.declared.version.Version.{Version}
-use Rattle.sip_wire.specs.Versions.{spelling_in}
+use Rattle.sip_wire.specs.Spelling.{spelling}
 
 -- ys is xs, with more at its end
 abbrev pub IsPrefix : {X : Type 0} → List X → List X → Type 0
@@ -18,7 +18,7 @@ IsPrefix {X} xs ys = (more : List X) × (ys ≡ xs ++ more)
 
 -- the messages, sent one after another
 abbrev pub sent : Version → List Message → List TalkEvent
-sent version ms = outs (flat_map (spelling_in version) ms)
+sent version ms = outs (flat_map (spelling version) ms)
 
 -- replies, each but the last followed by the next challenge
 abbrev pub exchanged : Version → List (List ℕ) → List ℕ → List TalkEvent

@@ -1,7 +1,7 @@
 //! One query, asked of the helper and checked.
 ghost use Rattle.std.specs.Prelude.{◌≡◌, ◌≢◌, length, Ok, Err, IsTrue, MatchResult};
 ghost use Rattle.sip_ports.specs.Ports.{Lasts, Rose};
-ghost use Rattle.sip_wire.specs.Versions.{fits_in};
+ghost use Rattle.sip_wire.specs.Spelling.{fits};
 ghost use Rattle.sip_wire.specs.declared.message.Message.TheVariants as messages;
 ghost use Rattle.sip_replies.specs.Protocols.{Begins};
 ghost use Rattle.sip_replies.specs.Asking.{Answers, stop_in_round};
@@ -87,7 +87,7 @@ pub fn ask<C: Check, L: Link, K: Keeper>(
     requires begins { Begins (C.phase check.old) }
     requires stood { (asked : C.Asked)
         × C.stands asked (C.protocol asked).rules.start check.old places.old }
-    requires fits { IsTrue (fits_in version (messages.Query query)) }
+    requires fits { IsTrue (fits version (messages.Query query)) }
     ensures answers { (asked : C.Asked) → (C.protocol asked).rules.version ≡ version
         → C.stands asked (C.protocol asked).rules.start check.old places.old
         → Answers (C.protocol asked) query (C.phase check.old).block
@@ -103,11 +103,11 @@ pub fn ask<C: Check, L: Link, K: Keeper>(
         return Ok(said);
     }
     let depth = check.depth();
-    encode(&Message::Query(query), link)?;
+    encode(&Message::Query(query), version, link)?;
     in_round(0, take_reply(check, version, places, frame, link, keep))?;
     for round in 1..depth {
         let challenge = check.reveal();
-        encode(&Message::Reveal { challenge }, link)?;
+        encode(&Message::Reveal { challenge }, version, link)?;
         in_round(
             round as u8,
             take_reply(check, version, places, frame, link, keep),

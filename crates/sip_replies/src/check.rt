@@ -30,12 +30,13 @@ pub enum Said {
 /// those of all calls, with nothing changed in between.
 pub trait Check {
     ghost use Rattle.sip_field.specs.Moduli.{m61_modulus};
+    ghost use Rattle.sip_vector.specs.Limits.{most_depth};
     ghost use Rattle.sip_vector.specs.declared.update.Entry.{Entry as AnyEntry};
     ghost use Rattle.sip_wire.specs.declared.message.Message.{Message as AnyMessage};
     ghost use Rattle.sip_wire.specs.declared.message.Reason.{Reason as AnyReason};
     ghost use Rattle.sip_wire.specs.declared.message.Reason.TheVariants.{Closed};
+    ghost use Rattle.sip_wire.specs.declared.version.Version.{Version as AnyVersion};
     ghost use Rattle.sip_wire.specs.Spelling.{fits};
-    ghost use Rattle.sip_wire.specs.Table.{most_depth};
     ghost use Rattle.sip_wire.specs.Values.{InRange};
     ghost use Rattle.sip_replies.specs.Protocols.{Protocol, Phase, Awaits, Reveals, Ends, after, revealed_more};
     ghost use Rattle.sip_replies.specs.Checks.{Steps, answered, answer_of};
@@ -80,7 +81,7 @@ pub trait Check {
     fn take(&mut self, message: &Message, places: &mut [Entry]) -> Result<More, Reason>
         requires phase { Awaits (phase self.old) }
         requires stood { (asked : Asked) × (s : State) × stands asked s self.old places.old }
-        requires fits { IsTrue (fits message.now) }
+        requires fits { (version : AnyVersion) × IsTrue (fits version message.now) }
         requires range { InRange message.now }
         ensures took { (asked : Asked) (s : State) → stands asked s self.old places.old
             → Steps ((protocol asked).rules.step s message.now)

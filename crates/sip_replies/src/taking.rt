@@ -90,10 +90,7 @@ pub(crate) fn receive<L: Link, K: Keeper>(
         → Rose (K.faults keep.old) (K.faults keep.new) }
     ensures free { K.is_free → result ≢ Err ReplyStop.KeepOutOfMemory }
 {
-    let received = match version {
-        Version::One => decode(link, place, frame),
-    };
-    match received {
+    match decode(link, place, version, frame) {
         Err(WireFault::PeerFault) => Err(ReplyStop::PeerFault),
         Err(WireFault::OutOfMemory) => Err(ReplyStop::OutOfMemory),
         judged => {

@@ -2,13 +2,14 @@
 
 ghost use Rattle.std.specs.Prelude.{◌≡◌, ◌<◌, ◌≤◌, false, length, IfOk, if◌then◌else◌};
 
+use crate::case::Case;
 use crate::frames::*;
 use sip_field::{Field, M61, Seat};
 use sip_ports::MemoryLink;
 use sip_subvec::SubCheck;
 use sip_tree::Root;
 use sip_vector::Entry;
-use sip_wire::{Frame, Message, Place, Reason, WireFault, decode};
+use sip_wire::{Frame, Message, Place, Reason, Version, WireFault, decode};
 use std::alloc::Global;
 use std::process::Abort;
 use std::test::Fail;
@@ -91,7 +92,7 @@ fn take_first(
     ensures revealed { IfOk result (λ _. check.new.revealed ≡ 0) }
     ensures unspent { IfOk result (λ _. check.new.spent ≡ false) }
 {
-    match decode(link, Place::Entries, frame) {
+    match decode(link, Place::Entries, Version::One, frame) {
         Ok(Message::Entries(rows)) => {
             give(check, &rows)?;
             Ok(false)
@@ -119,7 +120,7 @@ fn take_last(
 {
     let mut check = check;
     check.reveal();
-    let (left, right) = match decode(link, Place::Siblings, frame) {
+    let (left, right) = match decode(link, Place::Siblings, Version::One, frame) {
         Ok(Message::Siblings { left, right }) => (left, right),
         Ok(Message::Refuse { code }) => return rejected(1, Reason::Refused(code)),
         Ok(_) => return rejected(1, Reason::BadKind),
@@ -169,11 +170,11 @@ fn judge_all(
         }
         for chunk in [1, 10_000] {
             let mut link = MemoryLink::new(alloc, bytes.clone()?, chunk, Vec::new(alloc));
-            assert_eq!(rt;
-                judge(lo, hi, &mut link, &mut frame),
-                *verdict,
-                "row {index}"
-            );
+            let case = Case {
+                name: "row",
+                number: index as u64,
+            };
+            case.holds(rt, judge(lo, hi, &mut link, &mut frame) == *verdict);
         }
     }
     Ok(())
@@ -227,13 +228,17 @@ fn no_sibling_is_asked_for_by_all_items(rt: HostRuntime) -> Result<(), Fail> {
 fn a_link_that_fails_is_not_closed(rt: HostRuntime) -> Result<(), Fail> {
     let alloc = rt.alloc();
     let mut frame = Frame::new(alloc)?;
-    for (call, round) in [(1, 0), (2, 0), (3, 0), (4, 0), (5, 1), (6, 1)] {
+    for (number, round) in [(1, 0), (2, 0), (3, 0), (4, 0), (5, 1), (6, 1)] {
         let mut bytes = ENTRY_2.to_vec(alloc)?;
         bytes.extend_from_slice(&SIBLINGS_3_1)?;
         bytes.extend_from_slice(&NO_SIBLINGS)?;
-        let mut link = MemoryLink::new(alloc, bytes, 10_000, vec![in alloc; call]?);
+        let mut link = MemoryLink::new(alloc, bytes, 10_000, vec![in alloc; number]?);
         let verdict = judge(1, 2, &mut link, &mut frame);
-        assert_eq!(rt; verdict, Err((round, Stop::PeerFault)), "call {call}");
+        let case = Case {
+            name: "call",
+            number,
+        };
+        case.holds(&rt, verdict == Err((round, Stop::PeerFault)));
     }
     Ok(())
 }

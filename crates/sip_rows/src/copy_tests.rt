@@ -1,6 +1,7 @@
 // The commands that copy a stream.
 ghost use Rattle.std.specs.Prelude.{◌≤◌};
 
+use crate::case::Case;
 use crate::frames::*;
 use crate::row::{At, Failing, Given, words_of};
 use sip_cli::{Opening, exit_code, ports, run};
@@ -36,15 +37,14 @@ impl Copied<'_> {
     fn check(&self, rt: &impl Abort, alloc: Global) -> Result<(), Fail> {
         for chunk in [1, 10_000] {
             let shown = self.given().run(alloc, chunk, None)?;
-            let (words, stream) = (self.words, self.stream);
-            assert_eq!(rt; shown.status, self.status, "{words} of {stream:?}");
-            assert_eq!(rt;
-                exit_code(&shown.status),
-                self.code,
-                "{words} of {stream:?}"
-            );
-            assert_eq!(rt; shown.report.bytes(), self.report, "{words} of {stream:?}");
-            assert!(rt; shown.peer.talk().is_empty());
+            let case = Case {
+                name: self.words,
+                number: chunk as u64,
+            };
+            case.ends(rt, shown.status, self.status);
+            case.holds(rt, exit_code(&shown.status) == self.code);
+            case.writes(rt, shown.report.bytes(), self.report);
+            case.says(rt, shown.peer.talk(), &[]);
         }
         Ok(())
     }
@@ -72,6 +72,15 @@ fn whole_copies(rt: HostRuntime) -> Result<(), Fail> {
         wrote("lines s 2", &[], &[]),
         wrote("lines text:s 2", &[], &[]),
         wrote("gen 7 0 2", &[], &[]),
+        wrote("widen s 2", &THREE_RECORDS, &THREE_WIDE_RECORDS),
+        wrote("widen text:s 2", THREE_LINES, &THREE_WIDE_RECORDS),
+        wrote("widen wide:s 2", &THREE_WIDE_RECORDS, &THREE_WIDE_RECORDS),
+        wrote("widen s 48", &THREE_RECORDS, &THREE_WIDE_RECORDS),
+        wrote("lines wide:s 2", &THREE_WIDE_RECORDS, THREE_LINES),
+        wrote("lines wide:s 48", &LAST_ITEM, b"0 281474976710655 -1\n"),
+        wrote("widen text:s 48", b"0 281474976710655 -1\n", &LAST_ITEM),
+        wrote("gen 7 1 48", &LAST_ITEM, &LAST_ITEM),
+        wrote("widen wide:s 48", &[], &[]),
         // The greatest and the least delta, and the greatest item.
         wrote(
             "lines text:s 32",
@@ -124,6 +133,33 @@ fn copies_of_bad_streams(rt: HostRuntime) -> Result<(), Fail> {
         bad("lines text:s 2", b"2 0 3\n", 0, Why::BadSide, &[]),
         bad("lines text:s 2", b"0 4 1\n", 0, Why::BadItem, &[]),
         bad("lines text:s 2", b"0 0 0\n", 0, Why::ZeroDelta, &[]),
+        bad("widen wide:s 48", &ITEM_2_TO_48, 0, Why::BadItem, &[]),
+        bad("lines wide:s 47", &LAST_ITEM, 0, Why::BadItem, &[]),
+        bad("gen 7 1 33", &LAST_ITEM, 0, Why::BadItem, &[]),
+        bad("gen 7 1 33", &TWELVE_BYTES, 0, Why::Truncated, &[]),
+        bad(
+            "widen wide:s 2",
+            &THREE_WIDE_RECORDS[..50],
+            2,
+            Why::Truncated,
+            &THREE_WIDE_RECORDS[..34],
+        ),
+        bad(
+            "widen s 2",
+            &THREE_RECORDS[..38],
+            2,
+            Why::Truncated,
+            &THREE_WIDE_RECORDS[..34],
+        ),
+        bad(
+            "widen text:s 48",
+            b"0 281474976710656 1\n",
+            0,
+            Why::BadItem,
+            &[],
+        ),
+        // Records whose items have four bytes: as wide ones, item 0 has the delta 3 * 2^32.
+        bad("widen wide:s 2", &THREE_RECORDS, 0, heavy, &[]),
         // A line of text where records are asked for: the side is the digit 0, which has the code 48.
         bad("lines s 2", THREE_LINES, 0, Why::BadSide, &[]),
     ] {
@@ -136,20 +172,21 @@ fn copies_of_bad_streams(rt: HostRuntime) -> Result<(), Fail> {
 #[test]
 fn copies_over_a_report_that_fails(rt: HostRuntime) -> Result<(), Fail> {
     let row = wrote("lines s 2", &THREE_RECORDS, THREE_LINES);
-    for number in 1..=18usize {
+    let status = Status::WriteFault { port: Port::Report };
+    for written in 0..18 {
+        let number = written as u64 + 1;
         let failing = Failing {
             at: At::Report,
-            number: number as u64,
+            number,
         };
         let shown = row.given().run(rt.alloc(), 1, Some(failing))?;
-        let status = Status::WriteFault { port: Port::Report };
-        assert_eq!(rt; shown.status, status, "call {number}");
-        assert_eq!(rt; exit_code(&shown.status), 4, "call {number}");
-        assert!(rt;
-            THREE_LINES.starts_with(shown.report.bytes()),
-            "call {number}"
-        );
-        assert_eq!(rt; shown.report.bytes().len(), number - 1);
+        let case = Case {
+            name: row.words,
+            number,
+        };
+        case.ends(&rt, shown.status, status);
+        case.holds(&rt, exit_code(&shown.status) == 4);
+        case.writes(&rt, shown.report.bytes(), &THREE_LINES[..written]);
     }
     Ok(())
 }
@@ -167,7 +204,7 @@ fn check_cuts(
 ) -> Result<(), Fail>
     requires { 1 ≤ chunk }
 {
-    let words = copied.words;
+    let status = Status::ReadFault { port: Port::First };
     for (first, last, written) in cuts {
         for number in *first..=*last {
             let failing = Failing {
@@ -175,10 +212,13 @@ fn check_cuts(
                 number,
             };
             let shown = copied.given().run(alloc, chunk, Some(failing))?;
-            let status = Status::ReadFault { port: Port::First };
-            assert_eq!(rt; shown.status, status, "call {number} of {words}");
-            assert_eq!(rt; exit_code(&shown.status), 4, "call {number} of {words}");
-            assert_eq!(rt; shown.report.bytes(), *written, "call {number} of {words}");
+            let case = Case {
+                name: copied.words,
+                number,
+            };
+            case.ends(rt, shown.status, status);
+            case.holds(rt, exit_code(&shown.status) == 4);
+            case.writes(rt, shown.report.bytes(), written);
         }
     }
     Ok(())
@@ -259,18 +299,39 @@ fn run_made(alloc: Global, text: &str, chunk: usize) -> Result<(Status, MemorySi
     Ok((status, report))
 }
 
+// The first record of NUMBER 7 has the last bits of 0xfc8651781efb for its item, as many as the depth has.
+const MADE_33: [u8; 17] = [
+    0, 0, 0, 0, 0, 0x51, 0x78, 0x1e, 0xfb, 0, 0, 0, 0, 0, 0, 0, 8,
+];
+
+const MADE_48: [u8; 17] = [
+    0, 0, 0, 0xfc, 0x86, 0x51, 0x78, 0x1e, 0xfb, 0, 0, 0, 0, 0, 0, 0, 8,
+];
+
 #[test]
 fn made_streams(rt: HostRuntime) -> Result<(), Fail> {
-    let rows: [(&str, &[u8]); 3] = [
+    let rows: [(&str, &[u8]); 8] = [
         ("lines made:7:1 20", b"0 532219 8\n"),
         ("lines made:0:1 20", b"0 913103 1\n"),
         ("gen 7 1 20", &[0, 0, 8, 0x1e, 0xfb, 0, 0, 0, 0, 0, 0, 0, 8]),
+        (
+            "gen 7 1 32",
+            &[0, 0x51, 0x78, 0x1e, 0xfb, 0, 0, 0, 0, 0, 0, 0, 8],
+        ),
+        ("gen 7 1 33", &MADE_33),
+        ("lines made:7:1 48", b"0 277653822643963 8\n"),
+        ("gen 7 1 48", &MADE_48),
+        ("widen made:7:1 48", &MADE_48),
     ];
-    for (text, want) in rows {
+    for (name, want) in rows {
         for chunk in [1, 10_000] {
-            let (status, report) = run_made(rt.alloc(), text, chunk)?;
-            assert_eq!(rt; status, Status::Wrote, "at {text}");
-            assert_eq!(rt; report.bytes(), want, "at {text}");
+            let (status, report) = run_made(rt.alloc(), name, chunk)?;
+            let case = Case {
+                name,
+                number: chunk as u64,
+            };
+            case.ends(&rt, status, Status::Wrote);
+            case.writes(&rt, report.bytes(), want);
         }
     }
     Ok(())
@@ -284,35 +345,52 @@ fn sum(bytes: &[u8]) -> u64 {
     sum
 }
 
-// Streams of several blocks. Their lengths and the sums of their bytes were computed apart.
+// Runs a command whose stream is made. The length of what it writes and the sum of those bytes were computed apart.
+fn check_made(
+    rt: &impl Abort,
+    alloc: Global,
+    name: &str,
+    chunk: usize,
+    length: usize,
+    total: u64,
+) -> Result<MemorySink, Fail>
+    requires { 1 ≤ chunk }
+{
+    let (status, report) = run_made(alloc, name, chunk)?;
+    let case = Case {
+        name,
+        number: chunk as u64,
+    };
+    case.ends(rt, status, Status::Wrote);
+    case.holds(rt, report.bytes().len() == length);
+    case.holds(rt, sum(report.bytes()) == total);
+    Ok(report)
+}
+
+// What is gathered when the source fails is written: 630 records are the most below a block of 8,192 bytes.
+fn check_blocks(rt: &impl Abort, alloc: Global, records: &[u8]) -> Result<(), Fail> {
+    let copied = wrote("gen 7 1000 20", records, records);
+    for (number, written) in [(1, 0), (631, 8_190), (632, 8_203), (1_001, 13_000)] {
+        let front = records.get(..written).unwrap_or(&[]);
+        check_cuts(rt, alloc, &copied, 10_000, &[(number, number, front)])?;
+    }
+    Ok(())
+}
+
+// Streams of several blocks.
 #[test]
 fn long_streams(rt: HostRuntime) -> Result<(), Fail> {
     let alloc = rt.alloc();
     for chunk in [1, 10_000] {
-        let (status, lines) = run_made(alloc, "lines made:7:1000 20", chunk)?;
-        assert_eq!(rt; status, Status::Wrote);
-        assert!(rt;
-            lines
-                .bytes()
-                .starts_with(b"0 532219 8\n1 991056 3\n1 367341 2\n0 1 5\n")
-        );
-        assert!(rt; lines.bytes().ends_with(b"\n0 678910 7\n"));
-        assert_eq!(rt; (lines.bytes().len(), sum(lines.bytes())), (9_708, 421_314));
-        let (status, records) = run_made(alloc, "gen 7 1000 20", chunk)?;
-        assert_eq!(rt; status, Status::Wrote);
-        assert_eq!(rt;
-            (records.bytes().len(), sum(records.bytes())),
-            (13_000, 198_709)
-        );
-        let copied = wrote("gen 7 1000 20", records.bytes(), records.bytes());
-        // What is gathered when the source fails is written: 630 records are the most below a block of 8,192 bytes.
-        for (number, written) in [(1, 0), (631, 8_190), (632, 8_203), (1_001, 13_000)] {
-            let front = records.bytes().get(..written).unwrap_or(&[]);
-            let cut = [(number, number, front)];
-            check_cuts(&rt, alloc, &copied, 10_000, &cut)?;
-        }
-        wrote("lines s 20", records.bytes(), lines.bytes()).check(&rt, alloc)?;
-        wrote("lines text:s 20", lines.bytes(), lines.bytes()).check(&rt, alloc)?;
+        let lines = check_made(&rt, alloc, "lines made:7:1000 20", chunk, 9_708, 421_314)?;
+        let lines = lines.bytes();
+        assert!(rt; lines.starts_with(b"0 532219 8\n1 991056 3\n1 367341 2\n0 1 5\n"));
+        assert!(rt; lines.ends_with(b"\n0 678910 7\n"));
+        let records = check_made(&rt, alloc, "gen 7 1000 20", chunk, 13_000, 198_709)?;
+        let records = records.bytes();
+        check_blocks(&rt, alloc, records)?;
+        wrote("lines s 20", records, lines).check(&rt, alloc)?;
+        wrote("lines text:s 20", lines, lines).check(&rt, alloc)?;
     }
     Ok(())
 }

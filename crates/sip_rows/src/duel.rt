@@ -12,10 +12,21 @@ use std::test::Fail;
 const MOST_REPLIES: usize = 200;
 
 // The bytes that a side sent.
-fn sent(alloc: Global, talk: &[TalkEvent]) -> Result<Vec<u8>, Fail> {
+pub fn sent(alloc: Global, talk: &[TalkEvent]) -> Result<Vec<u8>, Fail> {
     let mut bytes = Vec::new(alloc);
     for event in talk {
         if let TalkEvent::Out(byte) = event {
+            bytes.push(*byte)?;
+        }
+    }
+    Ok(bytes)
+}
+
+// The bytes that it heard.
+pub fn heard(alloc: Global, talk: &[TalkEvent]) -> Result<Vec<u8>, Fail> {
+    let mut bytes = Vec::new(alloc);
+    for event in talk {
+        if let TalkEvent::In(byte) = event {
             bytes.push(*byte)?;
         }
     }
@@ -47,12 +58,12 @@ pub fn duel(alloc: Global, words: &str, stream: &[u8]) -> Result<Shown, Fail> {
         if !is_waiting(&shown.status) {
             break;
         }
-        let heard = sent(alloc, shown.peer.talk())?;
+        let said = sent(alloc, shown.peer.talk())?;
         let helping = Given {
             words: "help from to",
             stream: &[],
             seed: &[],
-            replies: &[&heard],
+            replies: &[&said],
         };
         let helped = helping.run(alloc, 10_000, None)?;
         let replies = sent(alloc, helped.peer.talk())?;

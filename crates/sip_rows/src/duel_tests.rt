@@ -1,5 +1,7 @@
-use crate::duel::duel;
+use crate::case::Case;
+use crate::duel::{duel, heard, sent};
 use crate::ones::rows_of_ones;
+use crate::row::Shown;
 use sip_verifier::Status;
 use std::alloc::Global;
 use std::process::Abort;
@@ -12,28 +14,105 @@ fn check(
     words: &str,
     stream: &[u8],
     lines: &str,
-) -> Result<(), Fail> {
+) -> Result<Shown, Fail> {
     let shown = duel(alloc, words, stream)?;
-    assert_eq!(rt; shown.status, Status::Accepted, "at {words}");
-    assert_eq!(rt; shown.report.bytes(), lines.as_bytes(), "at {words}");
-    Ok(())
+    let case = Case {
+        name: words,
+        number: 10_000,
+    };
+    case.ends(rt, shown.status, Status::Accepted);
+    case.writes(rt, shown.report.bytes(), lines.as_bytes());
+    Ok(shown)
+}
+
+// The number of bytes, and the sum of each of them times its place, from 1 on.
+fn weighed(bytes: &[u8]) -> (u64, u64) {
+    let (mut count, mut sum) = (0u64, 0u64);
+    for byte in bytes {
+        count = count.wrapping_add(1);
+        sum = sum.wrapping_add(count.wrapping_mul(u64::from(*byte)));
+    }
+    (count, sum)
+}
+
+// A whole talk: its lines, and the bytes that were sent and heard, by their number and their sum, which were computed apart.
+#[derive(Clone, Copy)]
+struct Talk<'a> {
+    words: &'a str,
+    stream: &'a [u8],
+    lines: &'a str,
+    sent: (u64, u64),
+    heard: (u64, u64),
 }
 
 // Packets by their source address: 192.168.0.1 sent 1500 bytes of which 200 were taken back, 192.168.0.7 sent 40, and
 // 10.0.0.5 sent 2000.
 const PACKETS: &str = "0 3232235521 1500\n0 3232235527 40\n0 167772165 2000\n0 3232235521 -200\n";
 
+const PACKET_LINES: &str = "sub:3232235520:3232235775 3232235521:1300 3232235527:40\n\
+     sub:0:4294967295 167772165:2000 3232235521:1300 3232235527:40\n\
+     sub:0:167772164 none\n";
+
+// Item 2^47, to which 7 is added.
+const ITEM_2_TO_47: [u8; 17] = [0, 0, 0, 0x80, 0, 0, 0, 0, 0, 0, 0, 0, 0, 0, 0, 0, 7];
+
+// Items on both sides of 2^32 and of 2^47, the first two and the last of 2^48. What is added to side 1, and what is taken back
+// again, shows in no entry.
+const SPREAD: &str = "0 0 9\n0 1 -4\n0 4294967295 3\n0 4294967296 6\n1 281474976710655 5\n\
+     0 1099511627776 5\n0 140737488355327 1000000\n0 140737488355328 -7\n\
+     0 1099511627776 -5\n0 281474976710655 12\n";
+
+// Up to depth 32 talks are in version 1, and above it in version 2.
 #[test]
-fn depth_32_as_lines_of_text(rt: HostRuntime) -> Result<(), Fail> {
-    check(
-        &rt,
-        rt.alloc(),
-        "verify text:s seed a b - 32 sub:3232235520:3232235775 sub:0:4294967295 sub:0:167772164",
-        PACKETS.as_bytes(),
-        "sub:3232235520:3232235775 3232235521:1300 3232235527:40\n\
-         sub:0:4294967295 167772165:2000 3232235521:1300 3232235527:40\n\
-         sub:0:167772164 none\n",
-    )
+fn whole_talks(rt: HostRuntime) -> Result<(), Fail> {
+    let alloc = rt.alloc();
+    for talk in [
+        Talk {
+            words: "verify text:s seed a b - 32 sub:3232235520:3232235775 sub:0:4294967295 \
+                    sub:0:167772164",
+            stream: PACKETS.as_bytes(),
+            lines: PACKET_LINES,
+            sent: (1_127, 51_654_069),
+            heard: (878, 2_782_231),
+        },
+        Talk {
+            words: "verify text:s seed a b - 33 sub:3232235520:3232235775 sub:0:4294967295 \
+                    sub:0:167772164",
+            stream: PACKETS.as_bytes(),
+            lines: PACKET_LINES,
+            sent: (1_200, 57_861_318),
+            heard: (934, 2_979_446),
+        },
+        Talk {
+            words: "verify wide:s seed a b - 48 sub:140737488355328:140737488355328",
+            stream: &ITEM_2_TO_47,
+            lines: "sub:140737488355328:140737488355328 140737488355328:7\n",
+            sent: (570, 13_090_055),
+            heard: (597, 454_164),
+        },
+        Talk {
+            words: "verify text:s seed a b - 48 sub:0:281474976710655 sub:4294967295:4294967296 \
+                    sub:140737488355327:140737488355328",
+            stream: SPREAD.as_bytes(),
+            lines: "sub:0:281474976710655 0:9 1:-4 4294967295:3 4294967296:6 \
+                    140737488355327:1000000 140737488355328:-7 281474976710655:12\n\
+                    sub:4294967295:4294967296 4294967295:3 4294967296:6\n\
+                    sub:140737488355327:140737488355328 140737488355327:1000000 \
+                    140737488355328:-7\n",
+            sent: (1_797, 130_488_478),
+            heard: (2_151, 15_964_289),
+        },
+    ] {
+        let shown = check(&rt, alloc, talk.words, talk.stream, talk.lines)?;
+        let events = shown.peer.talk();
+        let case = Case {
+            name: talk.words,
+            number: 10_000,
+        };
+        case.holds(&rt, weighed(&sent(alloc, events)?) == talk.sent);
+        case.holds(&rt, weighed(&heard(alloc, events)?) == talk.heard);
+    }
+    Ok(())
 }
 
 // The vector 3, 0, 5, 1, 0, 0, -2, 0. What is added to side 1, and what is taken back again, shows in no entry.
@@ -44,14 +123,15 @@ fn sixteen_queries(rt: HostRuntime) -> Result<(), Fail> {
     check(
         &rt,
         rt.alloc(),
-        "verify text:s seed a b - 3 sub:0:0 sub:1:1 sub:1:2 sub:2:3 sub:0:3 sub:0:7 sub:4:7 sub:6:6 \
-         sub:7:7 sub:4:5 sub:3:6 sub:1:6 sub:2:7 sub:0:6 sub:5:5 sub:2:2",
+        "verify text:s seed a b - 3 sub:0:0 sub:1:1 sub:1:2 sub:2:3 sub:0:3 sub:0:7 sub:4:7 \
+         sub:6:6 sub:7:7 sub:4:5 sub:3:6 sub:1:6 sub:2:7 sub:0:6 sub:5:5 sub:2:2",
         EIGHT.as_bytes(),
         "sub:0:0 0:3\nsub:1:1 none\nsub:1:2 2:5\nsub:2:3 2:5 3:1\nsub:0:3 0:3 2:5 3:1\n\
          sub:0:7 0:3 2:5 3:1 6:-2\nsub:4:7 6:-2\nsub:6:6 6:-2\nsub:7:7 none\nsub:4:5 none\n\
          sub:3:6 3:1 6:-2\nsub:1:6 2:5 3:1 6:-2\nsub:2:7 2:5 3:1 6:-2\n\
          sub:0:6 0:3 2:5 3:1 6:-2\nsub:5:5 none\nsub:2:2 2:5\n",
-    )
+    )?;
+    Ok(())
 }
 
 // 1100 records of delta 1, on the items from 0: two whole frames and a part of one.
@@ -66,5 +146,6 @@ fn a_stream_of_three_frames(rt: HostRuntime) -> Result<(), Fail> {
         &stream,
         "sub:510:513 510:1 511:1 512:1 513:1\nsub:1022:1025 1022:1 1023:1 1024:1 1025:1\n\
          sub:1099:2047 1099:1\n",
-    )
+    )?;
+    Ok(())
 }

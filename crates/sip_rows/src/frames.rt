@@ -25,6 +25,13 @@ pub const DELTA_0: [u8; 13] = [0; 13];
 
 pub const LEAST_DELTA: [u8; 13] = [0, 0, 0, 0, 0, 0x80, 0, 0, 0, 0, 0, 0, 0];
 
+// One wide record each, with item 2^48 and with item 2^48 - 1, to which -1 is added.
+pub const ITEM_2_TO_48: [u8; 17] = [0, 0, 1, 0, 0, 0, 0, 0, 0, 0, 0, 0, 0, 0, 0, 0, 1];
+
+pub const LAST_ITEM: [u8; 17] = [
+    0, 0, 0, 0xff, 0xff, 0xff, 0xff, 0xff, 0xff, 0xff, 0xff, 0xff, 0xff, 0xff, 0xff, 0xff, 0xff,
+];
+
 // The greatest weight, 2^30 - 1 on item 0, and -1 more.
 pub const TOO_HEAVY: [u8; 26] = [
     0, 0, 0, 0, 0, 0, 0, 0, 0, 0x3f, 0xff, 0xff, 0xff, // item 0
@@ -47,10 +54,24 @@ pub const OPEN_1: [u8; 5] = [0x01, 0, 2, 1, 1];
 
 pub const OPEN_2: [u8; 5] = [0x01, 0, 2, 1, 2];
 
+// Version 2 at depth 2, and a depth that version 1 does not have.
+pub const OPEN_2_WIDE: [u8; 5] = [0x01, 0, 2, 2, 2];
+
+pub const OPEN_33: [u8; 5] = [0x01, 0, 2, 1, 33];
+
 // The records follow: 2 + 3 * 13 = 0x29 bytes, and 2 + 2 * 13 = 0x1c.
 pub const UPDATES_OF_THREE: [u8; 5] = [0x02, 0, 0x29, 0, 3];
 
 pub const UPDATES_OF_TWO: [u8; 5] = [0x02, 0, 0x1c, 0, 2];
+
+// The three records with items of 8 bytes: 2 + 3 * 17 = 0x35 bytes.
+pub const UPDATES_OF_THREE_WIDE: [u8; 5] = [0x02, 0, 0x35, 0, 3];
+
+pub const THREE_WIDE_RECORDS: [u8; 51] = [
+    0, 0, 0, 0, 0, 0, 0, 0, 0, 0, 0, 0, 0, 0, 0, 0, 3, // item 0
+    0, 0, 0, 0, 0, 0, 0, 0, 2, 0, 0, 0, 0, 0, 0, 0, 5, // item 2
+    0, 0, 0, 0, 0, 0, 0, 0, 3, 0, 0, 0, 0, 0, 0, 0, 1, // item 3
+];
 
 pub const END_STREAM: [u8; 3] = [0x03, 0, 0];
 
@@ -60,6 +81,11 @@ pub const SUB_0_3: [u8; 12] = [0x04, 0, 9, 1, 0, 0, 0, 0, 0, 0, 0, 3];
 
 pub const SUB_0_1: [u8; 12] = [0x04, 0, 9, 1, 0, 0, 0, 0, 0, 0, 0, 1];
 
+// The entries 1 to 2, with items of 8 bytes.
+pub const SUB_1_2_WIDE: [u8; 20] = [
+    0x04, 0, 0x11, 1, 0, 0, 0, 0, 0, 0, 0, 1, 0, 0, 0, 0, 0, 0, 0, 2,
+];
+
 // Queries of side 0 that are no sub-vectors: the sum of the entries 0 to 1, F2, the inner product, and the entries from 3 on.
 pub const RANGE_0_1: [u8; 13] = [0x04, 0, 10, 2, 0, 0, 0, 0, 0, 0, 0, 0, 1];
 
@@ -68,6 +94,9 @@ pub const F2: [u8; 5] = [0x04, 0, 2, 3, 0];
 pub const INNER: [u8; 4] = [0x04, 0, 1, 4];
 
 pub const HEAVY_3: [u8; 13] = [0x04, 0, 10, 5, 0, 0, 0, 0, 0, 0, 0, 0, 3];
+
+// The entries of side 0 that are half of its total or more, which version 2 alone can ask for.
+pub const HALF: [u8; 13] = [0x04, 0, 10, 6, 0, 0, 0, 0, 1, 0, 0, 0, 2];
 
 // The key stream of ChaCha20 for a key of zeros begins 76 b8 e0 ad a0 f1 3d 90. Its first word, the low byte first, is
 // 0x903df1a0ade0b876, and without the last three bits 0x1207be3415bc170e = 1299216148431902478.
@@ -89,6 +118,10 @@ pub const BYE: [u8; 3] = [0x06, 0, 0];
 
 // Entry 2 has value 5.
 pub const ENTRY_2: [u8; 17] = [0x13, 0, 0x0e, 0, 1, 0, 0, 0, 2, 0, 0, 0, 0, 0, 0, 0, 5];
+// The same with an index of 8 bytes.
+pub const ENTRY_2_WIDE: [u8; 21] = [
+    0x13, 0, 0x12, 0, 1, 0, 0, 0, 0, 0, 0, 0, 2, 0, 0, 0, 0, 0, 0, 0, 5,
+];
 // Entry 1 has value 7, which is not so.
 pub const ENTRY_1: [u8; 17] = [0x13, 0, 0x0e, 0, 1, 0, 0, 0, 1, 0, 0, 0, 0, 0, 0, 0, 7];
 
@@ -148,6 +181,11 @@ pub const REFUSE_5: [u8; 4] = [0x18, 0, 1, 5];
 
 // Headers, and frames that are cut short. Kind 7 is none.
 pub const NO_FRAME: [u8; 3] = [0x07, 0, 0];
+
+// Queries of 9 and of 17 bytes.
+pub const SUB_HEADER: [u8; 3] = [0x04, 0, 9];
+
+pub const WIDE_SUB_HEADER: [u8; 3] = [0x04, 0, 0x11];
 
 pub const CLAIM_HEADER: [u8; 3] = [0x11, 0, 8];
 

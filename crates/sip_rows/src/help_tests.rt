@@ -95,6 +95,83 @@ fn talks_that_are_served(rt: HostRuntime) -> Result<(), Fail> {
     Ok(())
 }
 
+// A talk is in the version of its opening.
+#[test]
+fn talks_in_two_versions(rt: HostRuntime) -> Result<(), Fail> {
+    let rows: [Row<'static>; 5] = [
+        ended(
+            "a whole talk in version 2",
+            &[
+                &OPEN_2_WIDE,
+                &UPDATES_OF_THREE_WIDE,
+                &THREE_WIDE_RECORDS,
+                &END_STREAM,
+                &SUB_1_2_WIDE,
+                &REVEAL_OF_2,
+                &BYE,
+            ],
+            Status::Served,
+            0,
+            &[
+                Said::In(&OPEN_2_WIDE),
+                Said::In(&UPDATES_OF_THREE_WIDE),
+                Said::In(&THREE_WIDE_RECORDS),
+                Said::In(&END_STREAM),
+                Said::In(&SUB_1_2_WIDE),
+                Said::Out(&ENTRY_2_WIDE),
+                Said::Out(&SIBLINGS_3_1),
+                Said::In(&REVEAL_OF_2),
+                Said::Out(&NO_SIBLINGS),
+                Said::In(&BYE),
+            ],
+        ),
+        ended(
+            "depth 33 is none of version 1",
+            &[&OPEN_33],
+            Status::BadFrame { offset: 0 },
+            3,
+            &[Said::In(&OPEN_33)],
+        ),
+        ended(
+            "a query of version 2 in version 1",
+            &[&OPEN_2, &END_STREAM, &SUB_1_2_WIDE],
+            Status::BadFrame { offset: 8 },
+            3,
+            &[
+                Said::In(&OPEN_2),
+                Said::In(&END_STREAM),
+                Said::In(&WIDE_SUB_HEADER),
+            ],
+        ),
+        ended(
+            "a query of version 1 in version 2",
+            &[&OPEN_2_WIDE, &END_STREAM, &SUB_1_2],
+            Status::BadFrame { offset: 8 },
+            3,
+            &[
+                Said::In(&OPEN_2_WIDE),
+                Said::In(&END_STREAM),
+                Said::In(&SUB_HEADER),
+            ],
+        ),
+        ended(
+            "a share is not answered",
+            &[&OPEN_2_WIDE, &END_STREAM, &HALF],
+            Status::BadFrame { offset: 8 },
+            3,
+            &[
+                Said::In(&OPEN_2_WIDE),
+                Said::In(&END_STREAM),
+                Said::In(&HALF),
+            ],
+        ),
+    ];
+    for row in &rows {
+        row.check(&rt, rt.alloc())?;
+    }
+    Ok(())
+}
+
 // A query that is no sub-vector ends the talk as bytes without a spelling do, also before the stream has ended and while a query
 // is open: nothing is written then.
 #[test]

@@ -8,9 +8,13 @@ mod memory;
 pub use memory::run_in_memory;
 
 #[cfg(test)]
+mod case;
+#[cfg(test)]
 mod check_tests;
 #[cfg(test)]
 mod copy_tests;
+#[cfg(test)]
+mod cut;
 #[cfg(test)]
 mod duel;
 #[cfg(test)]

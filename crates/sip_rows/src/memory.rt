@@ -4,13 +4,14 @@ ghost use Rattle.std.specs.Prelude.{◌≡◌, ◌≢◌, ◌↔◌, ℕ, Some};
 ghost use Rattle.sip_ports.specs.Memory.{source_is_sure, sink_is_sure, link_is_sure, source_left, sink_bytes, link_talk};
 ghost use Rattle.sip_ports.specs.Ports.{outs};
 ghost use Rattle.sip_stream.specs.declared.form.Form.{Form};
-ghost use Rattle.sip_stream.specs.declared.form.Form.TheVariants.{Binary, Text};
+ghost use Rattle.sip_stream.specs.declared.form.Form.TheVariants.{Text, Wide};
+ghost use Rattle.sip_stream.specs.Layouts.{made_form};
 ghost use Rattle.sip_verifier.specs.declared.task.Task.{Task};
 ghost use Rattle.sip_verifier.specs.declared.status.Port.TheVariants as ports;
 ghost use Rattle.sip_verifier.specs.Exchanges.{Exchange};
 ghost use Rattle.sip_verifier.specs.Promises.{Promises};
 ghost use Rattle.sip_cli.specs.declared.command.Command.{Command};
-ghost use Rattle.sip_cli.specs.declared.command.Command.TheVariants.{Verify, Gen, Lines, Help};
+ghost use Rattle.sip_cli.specs.declared.command.Command.TheVariants.{Verify, Gen, Lines, Widen, Help};
 ghost use Rattle.sip_cli.specs.CopyClause.{CopyClause};
 ghost use Rattle.sip_cli.specs.HelpClause.{HelpClause};
 ghost use Rattle.sip_cli.specs.Statuses.{Ends};
@@ -43,11 +44,15 @@ pub fn run_in_memory(
 
     // A copy is written to the report, and a talk is served on the link.
     ensures made { (depth : ℕ) → Spells words.now (Gen depth)
-        → CopyClause depth Binary Binary (source_left first.old)
+        → CopyClause depth (made_form depth) (made_form depth) (source_left first.old)
         (Some (source_left first.new)) (Some (outs (sink_bytes report.old)))
         (Some (outs (sink_bytes report.new))) result }
     ensures lines { (form : Form) (depth : ℕ) → Spells words.now (Lines form depth)
         → CopyClause depth form Text (source_left first.old)
+        (Some (source_left first.new)) (Some (outs (sink_bytes report.old)))
+        (Some (outs (sink_bytes report.new))) result }
+    ensures wide { (form : Form) (depth : ℕ) → Spells words.now (Widen form depth)
+        → CopyClause depth form Wide (source_left first.old)
         (Some (source_left first.new)) (Some (outs (sink_bytes report.old)))
         (Some (outs (sink_bytes report.new))) result }
     ensures help { Spells words.now Help → HelpClause (Some (link_talk peer.old))

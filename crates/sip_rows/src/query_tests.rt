@@ -1,9 +1,10 @@
 // Runs of three queries: 1 to 2, 0 to 3, and 1 to 2 again.
 
+use crate::case::Case;
+use crate::cut::{check_cut, check_not_made};
 use crate::faulty::{Faulty, check_faulty};
 use crate::frames::*;
 use crate::row::{At, Failing, Given, Row, Said, first_run};
-use sip_verifier::{Port, Status};
 use sip_wire::Reason;
 use std::test::Fail;
 
@@ -131,14 +132,13 @@ fn query_2_is_rejected_in_each_round(rt: HostRuntime) -> Result<(), Fail> {
     check_faulty(&rt, rt.alloc(), &up_to_query_2(), 2, &rows)
 }
 
-// A port, the first call that the run does not make on it, and how it ends where an earlier one fails. Ports move as many
-// bytes a call as are asked for: 3 records and the end; the seed; 10 frames out, and 9 in of a header and a body each; 3
-// lines.
-const PORTS: [(At, u64, Status); 4] = [
-    (At::First, 5, Status::ReadFault { port: Port::First }),
-    (At::Second, 2, Status::ReadFault { port: Port::Second }),
-    (At::Peer, 29, Status::PeerFault),
-    (At::Report, 4, Status::WriteFault { port: Port::Report }),
+// A port, and the first call that the run does not make on it. Ports move as many bytes a call as are asked for: 3 records
+// and the end; the seed; 10 frames out, and 9 in of a header and a body each; 3 lines.
+const PORTS: [(At, u64); 4] = [
+    (At::First, 5),
+    (At::Second, 2),
+    (At::Peer, 29),
+    (At::Report, 4),
 ];
 
 // Each call of each port fails once: the report has whole lines of the run, and the talk is a front of its talk.
@@ -146,25 +146,18 @@ const PORTS: [(At, u64, Status); 4] = [
 fn each_call_of_three_queries_fails_once(rt: HostRuntime) -> Result<(), Fail> {
     let alloc = rt.alloc();
     let row = three_queries();
-    let talk = row.talk(alloc)?;
-    for (at, after, status) in PORTS {
+    for (at, after) in PORTS {
         for number in 1..after {
-            let shown = row.given.run(alloc, 10_000, Some(Failing { at, number }))?;
-            let (said, written) = (shown.peer.talk(), shown.report.bytes());
-            assert_eq!(rt; shown.status, status, "call {number} of {at:?}");
-            assert!(rt; talk.starts_with(said), "call {number} of {at:?}");
-            assert!(rt;
-                row.report.as_bytes().starts_with(written),
-                "call {number} of {at:?}"
-            );
-            assert!(rt;
-                written.is_empty() || written.ends_with(b"\n"),
-                "call {number} of {at:?}"
-            );
+            let shown = check_cut(&rt, alloc, &row, 10_000, Failing { at, number })?;
+            let written = shown.report.bytes();
+            let case = Case {
+                name: "whole lines",
+                number,
+            };
+            case.holds(&rt, written.is_empty() || written.ends_with(b"\n"));
         }
-        let not_made = Failing { at, number: after };
-        let shown = row.given.run(alloc, 10_000, Some(not_made))?;
-        assert_eq!(rt; shown.status, Status::Accepted, "call {after} of {at:?}");
+        let number = after;
+        check_not_made(&rt, alloc, &row, 10_000, Failing { at, number })?;
     }
     Ok(())
 }

@@ -1,6 +1,7 @@
 // A worked run: what goes in, and what has to come out.
 ghost use Rattle.std.specs.Prelude.{◌≤◌};
 
+use crate::case::Case;
 use crate::frames::*;
 use crate::run_in_memory;
 use sip_cli::{Words, exit_code};
@@ -20,7 +21,7 @@ pub struct Given<'a> {
 }
 
 // One of the ports of a run.
-#[derive(Clone, Copy, Debug, PartialEq, Eq)]
+#[derive(Clone, Copy, PartialEq, Eq)]
 pub enum At {
     First,
     Second,
@@ -112,24 +113,40 @@ fn fails(alloc: Global, failing: Option<Failing>, at: At) -> Result<Vec<u64>, Fa
     Ok(numbers)
 }
 
+fn source(
+    alloc: Global,
+    bytes: &[u8],
+    chunk: usize,
+    failing: Option<Failing>,
+    at: At,
+) -> Result<MemorySource, Fail>
+    requires { 1 ≤ chunk }
+{
+    let fails = fails(alloc, failing, at)?;
+    Ok(MemorySource::new(bytes.to_vec(alloc)?, chunk, fails))
+}
+
+fn link(
+    alloc: Global,
+    replies: &[&[u8]],
+    chunk: usize,
+    failing: Option<Failing>,
+) -> Result<MemoryLink, Fail>
+    requires { 1 ≤ chunk }
+{
+    let fails = fails(alloc, failing, At::Peer)?;
+    Ok(MemoryLink::new(alloc, bytes_of(alloc, replies)?, chunk, fails))
+}
+
 impl Given<'_> {
     // Runs it over ports that move at most a chunk in a call.
     pub fn run(&self, alloc: Global, chunk: usize, failing: Option<Failing>) -> Result<Shown, Fail>
         requires { 1 ≤ chunk }
     {
         let words = words_of(alloc, self.words)?;
-        let replies = bytes_of(alloc, self.replies)?;
-        let mut first = MemorySource::new(
-            self.stream.to_vec(alloc)?,
-            chunk,
-            fails(alloc, failing, At::First)?,
-        );
-        let mut second = MemorySource::new(
-            self.seed.to_vec(alloc)?,
-            chunk,
-            fails(alloc, failing, At::Second)?,
-        );
-        let mut peer = MemoryLink::new(alloc, replies, chunk, fails(alloc, failing, At::Peer)?);
+        let mut first = source(alloc, self.stream, chunk, failing, At::First)?;
+        let mut second = source(alloc, self.seed, chunk, failing, At::Second)?;
+        let mut peer = link(alloc, self.replies, chunk, failing)?;
         let mut report = MemorySink::new(alloc, chunk, fails(alloc, failing, At::Report)?);
         let status = run_in_memory(
             alloc,
@@ -168,15 +185,14 @@ impl Row<'_> {
     {
         let talk = self.talk(alloc)?;
         let shown = self.given.run(alloc, chunk, None)?;
-        let name = self.name;
-        assert_eq!(rt; shown.status, self.status, "{name}, chunk {chunk}");
-        assert_eq!(rt; exit_code(&shown.status), self.code, "{name}");
-        assert_eq!(rt;
-            shown.report.bytes(),
-            self.report.as_bytes(),
-            "{name}, chunk {chunk}"
-        );
-        assert_eq!(rt; shown.peer.talk(), talk.as_slice(), "{name}, chunk {chunk}");
+        let case = Case {
+            name: self.name,
+            number: chunk as u64,
+        };
+        case.ends(rt, shown.status, self.status);
+        case.holds(rt, exit_code(&shown.status) == self.code);
+        case.writes(rt, shown.report.bytes(), self.report.as_bytes());
+        case.says(rt, shown.peer.talk(), &talk);
         Ok(())
     }
 }

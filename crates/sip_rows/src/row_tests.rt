@@ -20,12 +20,26 @@ fn of_lines() -> Row<'static> {
     }
 }
 
+// The same of a stream of wide records.
+fn of_wide_records() -> Row<'static> {
+    Row {
+        name: "a stream of wide records",
+        given: Given {
+            words: "verify wide:s seed a b - 2 sub:1:2",
+            stream: &THREE_WIDE_RECORDS,
+            ..first_run().given
+        },
+        ..first_run()
+    }
+}
+
 // A program that always answers that memory ran out would keep every promise, since that answer is free. It fails here.
 #[test]
 fn runs_that_are_accepted(rt: HostRuntime) -> Result<(), Fail> {
     let rows = [
         first_run(),
         of_lines(),
+        of_wide_records(),
         Row {
             name: "a stream of nothing has no entries",
             given: Given {
@@ -90,10 +104,12 @@ struct Bad<'a> {
     why: Why,
 }
 
-// The words for a stream of records, and for one of text.
+// The words for a stream of records, for one of text, and for one of wide records.
 const RECORDS: &str = "verify s seed a b - 2 sub:1:2";
 
 const TEXT: &str = "verify text:s seed a b - 2 sub:1:2";
+
+const WIDE: &str = "verify wide:s seed a b - 2 sub:1:2";
 
 fn check_bad(rt: &impl Abort, alloc: Global, rows: &[Bad]) -> Result<(), Fail> {
     let honest = first_run();
@@ -188,6 +204,20 @@ fn streams_that_are_bad(rt: HostRuntime) -> Result<(), Fail> {
             why: Why::BadItem,
         },
         Bad {
+            name: "16 bytes are no wide record",
+            words: WIDE,
+            stream: &THREE_WIDE_RECORDS[..50],
+            at: 2,
+            why: Why::Truncated,
+        },
+        Bad {
+            name: "item 2^48 of a wide record is none of 4",
+            words: WIDE,
+            stream: &ITEM_2_TO_48,
+            at: 0,
+            why: Why::BadItem,
+        },
+        Bad {
             name: "records are no lines",
             words: TEXT,
             stream: &THREE_RECORDS,
@@ -233,11 +263,11 @@ fn runs_that_say_nothing(rt: HostRuntime) -> Result<(), Fail> {
         refused("verify s seed a b - 2 sub:1:4", 7),
         refused("verify s seed a b - 2 f2:2", 7),
         refused("verify s seed a b - 2 sub:01:2", 7),
-        refused("verify s seed a b - 33 sub:1:2", 6),
+        refused("verify s seed a b - 49 sub:1:2", 6),
         refused("verify s seed a b r 2 sub:1:2", 5),
         refused(
-            "verify s seed a b - 2 sub:0:0 sub:0:0 sub:0:0 sub:0:0 sub:0:0 sub:0:0 sub:0:0 sub:0:0 sub:0:0 \
-             sub:0:0 sub:0:0 sub:0:0 sub:0:0 sub:0:0 sub:0:0 sub:0:0 sub:0:0",
+            "verify s seed a b - 2 sub:0:0 sub:0:0 sub:0:0 sub:0:0 sub:0:0 sub:0:0 sub:0:0 sub:0:0 \
+             sub:0:0 sub:0:0 sub:0:0 sub:0:0 sub:0:0 sub:0:0 sub:0:0 sub:0:0 sub:0:0",
             23,
         ),
     ];

@@ -13,10 +13,11 @@ use Rattle.sip_stream.specs.declared.fault.StreamFault.TheVariants as faults
 use Rattle.sip_stream.specs.declared.form.Form.{Form}
 use Rattle.sip_stream.specs.declared.why.Why.{Why}
 use Rattle.sip_stream.specs.Copied.{IsSentBut, IsCut, legal, were_read, CopiesOn}
-use Rattle.sip_stream.specs.Copying.{all_spelled, copied, Copies, stop_of_sink, stop_of_stream}
+use Rattle.sip_stream.specs.Copying.{copied, Copies, stop_of_sink, stop_of_stream}
+use Rattle.sip_stream.specs.Layouts.{layout_of}
 use Rattle.sip_stream.specs.Reading.{Reading, IsAfter, Reads}
 use Rattle.sip_stream.specs.Records.{Records, records, records_after, records_from, fault_at, update_at, pieces_of}
-use Rattle.sip_stream.specs.Spellings.{spelled}
+use Rattle.sip_stream.specs.Spellings.{spelled, all_spelled}
 use Rattle.sip_stream.proofs.RecordsRead.{records_end}
 
 -- ---- records
@@ -24,7 +25,7 @@ use Rattle.sip_stream.proofs.RecordsRead.{records_end}
 -- how it goes on after a piece, by what stands against it
 abbrev after_piece : ℕ → Form → List Update → List ℕ → List (List ℕ) → Option Why → Records
 after_piece depth form before piece more fault = elim fault [
-  | None ↦ records_after depth form (before ++ update_at form piece ∷ []) more
+  | None ↦ records_after depth form (before ++ update_at (layout_of form) piece ∷ []) more
   | Some why ↦ record { legal = before; fault = Some why }
 ]
 
@@ -32,10 +33,10 @@ after_piece depth form before piece more fault = elim fault [
 pub read_front : (depth : ℕ) (form : Form) (before : List Update) (pieces : List (List ℕ)) → (more : List Update) × ((records_after depth form before pieces).legal ≡ before ++ more)
 read_front depth form before [] = ([], sym (append-nil before))
 read_front depth form before (piece ∷ more) =
-    elim (fault_at form depth before piece) as (λ f. (others : List Update) × ((after_piece depth form before piece more f).legal ≡ before ++ others)) [
+    elim (fault_at (layout_of form) depth before piece) as (λ f. (others : List Update) × ((after_piece depth form before piece more f).legal ≡ before ++ others)) [
       | None ↦
-          let later = read_front depth form (before ++ update_at form piece ∷ []) more in
-          (update_at form piece ∷ later.0, later.1 ∙ append_assoc before (update_at form piece ∷ []) later.0)
+          let later = read_front depth form (before ++ update_at (layout_of form) piece ∷ []) more in
+          (update_at (layout_of form) piece ∷ later.0, later.1 ∙ append_assoc before (update_at (layout_of form) piece ∷ []) later.0)
       | Some why ↦ ([], sym (append-nil before))
     ]
 
@@ -66,7 +67,7 @@ all_cut a c whole went = record { sent = length whole; talk = subst (λ l. GoesO
 
 -- what updates are spelled by, in front of more
 spelled_more : (to : Form) (us more all : List Update) → all ≡ us ++ more → all_spelled to all ≡ all_spelled to us ++ all_spelled to more
-spelled_more to us more all is = ap (all_spelled to) is ∙ flat_map-append (spelled to) us more
+spelled_more to us more all is = ap (all_spelled to) is ∙ flat_map-append (spelled (layout_of to)) us more
 
 -- ---- the copy
 
@@ -94,11 +95,11 @@ module _ (depth : ℕ) (from to : Form) (bytes : List ℕ) (start : Option (List
   -- after one more record
   pub goes_on : (left left' : Option (List ℕ)) (now now' : Option (List TalkEvent)) (reader reader' : Reading) (gathered kept gathered' part : List ℕ) (u : Update)
       (so : IsUnderway depth from to bytes left start now reader gathered) → Reads depth from so.stream so.rest left' (Ok (Some u)) → IsAfter reader' (so.stream ++ u ∷ [])
-      → gathered ≡ part ++ kept → GoesOn now now' (outs part) → gathered' ≡ kept ++ spelled to u → IsUnderway depth from to bytes left' start now' reader' gathered'
+      → gathered ≡ part ++ kept → GoesOn now now' (outs part) → gathered' ≡ kept ++ spelled (layout_of to) u → IsUnderway depth from to bytes left' start now' reader' gathered'
   goes_on left left' now now' reader reader' gathered kept gathered' part u so (piece, rest, told, split, same) after parts went items =
-      let one : all_spelled to (u ∷ []) ≡ spelled to u = append-nil (spelled to u) in
-      let grown : all_spelled to (so.stream ++ u ∷ []) ≡ all_spelled to so.stream ++ spelled to u = flat_map-append (spelled to) so.stream (u ∷ []) ∙ ap (λ l. all_spelled to so.stream ++ l) one in
-      let regrouped : (so.sent.sent ++ (part ++ kept)) ++ spelled to u ≡ (so.sent.sent ++ part) ++ (kept ++ spelled to u) = simp append_assoc in
+      let one : all_spelled to (u ∷ []) ≡ spelled (layout_of to) u = append-nil (spelled (layout_of to) u) in
+      let grown : all_spelled to (so.stream ++ u ∷ []) ≡ all_spelled to so.stream ++ spelled (layout_of to) u = flat_map-append (spelled (layout_of to)) so.stream (u ∷ []) ∙ ap (λ l. all_spelled to so.stream ++ l) one in
+      let regrouped : (so.sent.sent ++ (part ++ kept)) ++ spelled (layout_of to) u ≡ (so.sent.sent ++ part) ++ (kept ++ spelled (layout_of to) u) = simp append_assoc in
       record {
         rest = rest;
         to_come = told;
@@ -107,7 +108,7 @@ module _ (depth : ℕ) (from to : Form) (bytes : List ℕ) (start : Option (List
         ahead = so.ahead ∙ same;
         sent = record {
           sent = so.sent.sent ++ part;
-          order = grown ∙ ap (λ l. l ++ spelled to u) (so.sent.order ∙ ap (λ l. so.sent.sent ++ l) parts) ∙ regrouped ∙ ap (λ l. (so.sent.sent ++ part) ++ l) (sym items);
+          order = grown ∙ ap (λ l. l ++ spelled (layout_of to) u) (so.sent.order ∙ ap (λ l. so.sent.sent ++ l) parts) ∙ regrouped ∙ ap (λ l. (so.sent.sent ++ part) ++ l) (sym items);
           talk = subst (GoesOn start now') (sym (outs-append so.sent.sent part)) (GoesOn-trans start now now' (outs so.sent.sent) (outs part) so.sent.talk went);
         };
       }
@@ -127,17 +128,17 @@ module _ (depth : ℕ) (from to : Form) (bytes : List ℕ) (start : Option (List
       let same : legal depth from to bytes ≡ so.stream = ap (λ (r : Records). r.legal) all in
       (so.stream, sym same, (ap (λ (r : Records). r.fault) all, number ∙ ap length (sym same)), so.sent)
   stops_reading left left' now reader gathered faults.ReadFault so front =
-      let f = read_front depth from so.stream (pieces_of from so.rest) in
+      let f = read_front depth from so.stream (pieces_of (layout_of from) so.rest) in
       (so.stream, (f.0, ap (λ (r : Records). r.legal) so.ahead ∙ f.1), tt, so.sent)
   stops_reading left left' now reader gathered faults.OutOfMemory so front =
-      let f = read_front depth from so.stream (pieces_of from so.rest) in
+      let f = read_front depth from so.stream (pieces_of (layout_of from) so.rest) in
       (so.stream, (f.0, ap (λ (r : Records). r.legal) so.ahead ∙ f.1), tt, so.sent)
 
   -- the sink stopped while what is gathered was written
   pub stops_writing : (left : Option (List ℕ)) (now new : Option (List TalkEvent)) (reader : Reading) (gathered : List ℕ) (n : ℕ)
       (so : IsUnderway depth from to bytes left start now reader gathered) → n < length gathered → GoesOn now new (outs (take n gathered)) → IsCut start new (all_spelled to (legal depth from to bytes))
   stops_writing left now new reader gathered n so within went =
-      let f = read_front depth from so.stream (pieces_of from so.rest) in
+      let f = read_front depth from so.stream (pieces_of (layout_of from) so.rest) in
       let more : legal depth from to bytes ≡ so.stream ++ f.0 = ap (λ (r : Records). r.legal) so.ahead ∙ f.1 in
       let whole : all_spelled to (legal depth from to bytes) ≡ (so.sent.sent ++ gathered) ++ all_spelled to f.0 = spelled_more to so.stream f.0 (legal depth from to bytes) more ∙ ap (λ l. l ++ all_spelled to f.0) so.sent.order in
       front_cut start now new so.sent.sent gathered (all_spelled to f.0) (all_spelled to (legal depth from to bytes)) n so.sent.talk (omega arith) went whole

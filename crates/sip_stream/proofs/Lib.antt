@@ -2,11 +2,12 @@ pub mod Filling
 pub mod MadeStreams
 pub mod SpelledRecords
 pub mod SpelledLines
+pub mod Cuts
 pub mod ReadBack
 pub mod ReadStreams
-pub mod Cuts
 pub mod Parts
 pub mod Digits
 pub mod LinesRead
 pub mod RecordsRead
 pub mod Copies
+pub mod LegalRecords

@@ -5,10 +5,10 @@ use Rattle.std.proofs.lemmas.Bool.{ne_eqb}
 use Rattle.std.proofs.lemmas.Bool.Decides.{nat_tests}
 use Rattle.sip_vector.specs.declared.update.Side.TheVariants.{First}
 use Rattle.sip_vector.specs.declared.update.Update.{Update}
-use Rattle.sip_stream.specs.declared.form.Form.TheVariants.{Text}
 use Rattle.sip_stream.specs.declared.numbers.Numbers.{Numbers}
 use Rattle.sip_stream.specs.declared.why.Why.{Why}
 use Rattle.sip_stream.specs.declared.why.Why.TheVariants.{Truncated, BadLine, BadSide}
+use Rattle.sip_stream.specs.Layouts.{of_line}
 use Rattle.sip_stream.specs.Lines.{parts_at, numbers_at, lines_from, begun, most_line}
 use Rattle.sip_stream.specs.Records.{said, said_fault, line_at, line_fault, update_fault}
 use Rattle.sip_stream.specs.Pieces.{IsBegun, IsFirst, Says, ReadsPiece, line_said}
@@ -34,7 +34,7 @@ begun_more bytes front rest b so other short =
     }
 
 -- a line that ends with this byte is the first one
-ended : (bytes front rest : List ℕ) (b : ℕ) → IsBegun bytes front (b ∷ rest) → (eqb b 10 || nat_le most_line (length front)) ≡ true → IsFirst Text bytes (front ++ b ∷ []) rest
+ended : (bytes front rest : List ℕ) (b : ℕ) → IsBegun bytes front (b ∷ rest) → (eqb b 10 || nat_le most_line (length front)) ≡ true → IsFirst of_line bytes (front ++ b ∷ []) rest
 ended bytes front rest b so ends = record {
   order = so.order ∙ sym (append_assoc front (b ∷ []) rest);
   cut = so.same ∙ ap (line_step front b rest) ends;
@@ -44,7 +44,7 @@ longer : (front : List ℕ) (b : ℕ) → length (front ++ b ∷ []) ≡ length 
 longer front b = length-append front (b ∷ [])
 
 -- a line of 41 bytes
-pub reads_long : (bytes front rest : List ℕ) (b : ℕ) (left : Option (List ℕ)) → IsBegun bytes front (b ∷ rest) → left ≡ Some rest → 40 ≤ length front → ReadsPiece Text bytes left (Ok (Some (Err BadLine)))
+pub reads_long : (bytes front rest : List ℕ) (b : ℕ) (left : Option (List ℕ)) → IsBegun bytes front (b ∷ rest) → left ≡ Some rest → 40 ≤ length front → ReadsPiece of_line bytes left (Ok (Some (Err BadLine)))
 reads_long bytes front rest b left so told long =
     let full : nat_le most_line (length front) ≡ true = grind (arith, nat_tests) in
     let above : nat_lt most_line (length (front ++ b ∷ [])) ≡ true = rw (longer front b) (grind (arith, nat_tests)) in
@@ -61,7 +61,7 @@ reads_long bytes front rest b left so told long =
     ]
 
 -- a line that the input ends in
-pub reads_short : (bytes front : List ℕ) (left : Option (List ℕ)) → IsBegun bytes front [] → left ≡ Some [] → 0 < length front → length front ≤ 40 → ReadsPiece Text bytes left (Ok (Some (Err Truncated)))
+pub reads_short : (bytes front : List ℕ) (left : Option (List ℕ)) → IsBegun bytes front [] → left ≡ Some [] → 0 < length front → length front ≤ 40 → ReadsPiece of_line bytes left (Ok (Some (Err Truncated)))
 reads_short bytes front left so told some short =
     let fits : nat_lt most_line (length front) ≡ false = grind (arith, nat_tests) in (
       front,
@@ -81,7 +81,7 @@ reads_short bytes front left so told some short =
     after depth before (Some parts) = elim (numbers_at parts.0) [ None ↦ Some BadLine | Some n ↦ said_fault depth before n ]
 
 -- the end
-pub reads_end : (bytes front : List ℕ) (left : Option (List ℕ)) → IsBegun bytes front [] → left ≡ Some [] → front ≡ [] → ReadsPiece Text bytes left (Ok None)
+pub reads_end : (bytes front : List ℕ) (left : Option (List ℕ)) → IsBegun bytes front [] → left ≡ Some [] → front ≡ [] → ReadsPiece of_line bytes left (Ok None)
 reads_end bytes front left so told none = (so.order ∙ ap (λ l. l ++ []) none, told)
 
 -- ---- a line with its line feed
@@ -117,18 +117,18 @@ module _ (front : List ℕ) (clean : parts_at 10 front ≡ None) (short : length
   updated : line_at (front ++ 10 ∷ []) ≡ update_said (numbers_at front)
   updated = ap (λ parts. update_said (option_and_then (λ (p : List ℕ × List ℕ). numbers_at p.0) parts)) found
 
-  by_side : (n : Numbers) (is : Bool) → nat_lt 1 n.side ≡ is → numbers_at front ≡ Some n → Says Text (front ++ 10 ∷ []) (cond is (Err BadSide) (Ok (said n)))
+  by_side : (n : Numbers) (is : Bool) → nat_lt 1 n.side ≡ is → numbers_at front ≡ Some n → Says of_line (front ++ 10 ∷ []) (cond is (Err BadSide) (Ok (said n)))
   by_side n true e is = λ depth before. faulty depth before ∙ ap (after_numbers depth before) is ∙ ap (λ t. cond t (Some BadSide) (update_fault depth before (said n))) e
   by_side n false e is = (updated ∙ ap update_said is, λ depth before. faulty depth before ∙ ap (after_numbers depth before) is ∙ ap (λ t. cond t (Some BadSide) (update_fault depth before (said n))) e)
 
-  by_numbers : (o : Option Numbers) → numbers_at front ≡ o → Says Text (front ++ 10 ∷ []) (answer_said o)
+  by_numbers : (o : Option Numbers) → numbers_at front ≡ o → Says of_line (front ++ 10 ∷ []) (answer_said o)
   by_numbers None is = λ depth before. faulty depth before ∙ ap (after_numbers depth before) is
   by_numbers (Some n) is = by_side n (nat_lt 1 n.side) refl is
 
-  says_line : Says Text (front ++ 10 ∷ []) (line_said front)
+  says_line : Says of_line (front ++ 10 ∷ []) (line_said front)
   says_line = by_numbers (numbers_at front) refl
 
 -- a whole line
-pub reads_line : (bytes front rest : List ℕ) (left : Option (List ℕ)) (answer : Result Update Why) → IsBegun bytes front (10 ∷ rest) → left ≡ Some rest → length front < 40 → answer ≡ line_said front → ReadsPiece Text bytes left (Ok (Some answer))
+pub reads_line : (bytes front rest : List ℕ) (left : Option (List ℕ)) (answer : Result Update Why) → IsBegun bytes front (10 ∷ rest) → left ≡ Some rest → length front < 40 → answer ≡ line_said front → ReadsPiece of_line bytes left (Ok (Some answer))
 reads_line bytes front rest left answer so told short is =
-    (front ++ 10 ∷ [], rest, told, ended bytes front rest 10 so refl, subst (Says Text (front ++ 10 ∷ [])) (sym is) (says_line front so.clean short))
+    (front ++ 10 ∷ [], rest, told, ended bytes front rest 10 so refl, subst (Says of_line (front ++ 10 ∷ [])) (sym is) (says_line front so.clean short))

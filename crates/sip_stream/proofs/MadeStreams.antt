@@ -1,14 +1,19 @@
 -- Made streams are legal and strict.
-use Rattle.std.proofs.Common.{◌≢◌, ℕ, zero, suc, ◌+◌, ◌*◌, ◌/◌, ◌%◌, ◌^◌, ◌<◌, ◌≤◌, true, false, cond, ◌==◌, List, [], ◌∷◌, map, filter, sum_by, All, ℤ, pos, ◌≤ℤ◌, nat_abs, arith}
+use Rattle.std.proofs.Common.{◌≡◌, ◌≢◌, ℕ, zero, suc, ◌+◌, ◌*◌, ◌/◌, ◌%◌, ◌^◌, ◌<◌, ◌≤◌, true, false, cond, ◌==◌, List, [], ◌∷◌, map, filter, sum_by, All, ℤ, pos, ◌≤ℤ◌, nat_abs, inl, inr, arith}
 use Rattle.std.specs.List.{range_with_len}
 use Rattle.std.proofs.Math.Nat.{mod-lt, pow-le-pow_right}
+use Rattle.std.specs.Prelude.{nat_le}
+use Rattle.std.proofs.lemmas.Bool.{cases_lt}
+use Rattle.std.proofs.lemmas.Bool.Decides.{nat_tests}
 use Rattle.std.proofs.lemmas.Int.{ints}
 use Rattle.std.proofs.lemmas.List.Sums.{sum_by-cons}
 use Rattle.std.proofs.lemmas.List.Elements.{All-nil, All-cons, All-head, All-tail, All-map, All-filter}
 use Rattle.sip_vector.specs.declared.update.Side.{Side}
 use Rattle.sip_vector.specs.declared.update.Side.TheVariants.{First, Second}
 use Rattle.sip_vector.specs.declared.update.Update.{Update}
+use Rattle.sip_vector.specs.Limits.{most_depth}
 use Rattle.sip_vector.specs.Streams.{int_sum, same_side, of_side, weight, frequency, IsLegal, IsStrict}
+use Rattle.sip_stream.specs.Layouts.{made_form, deepest_in}
 use Rattle.sip_stream.specs.Made.{next_state, made_item, made_delta, made_update, made}
 
 item_below : (depth x : ℕ) → 1 ≤ depth → made_item depth x < 2 ^ depth
@@ -84,3 +89,10 @@ made_is_strict x count depth side =
     let above : All (λ u. pos 0 ≤ℤ u.delta) stream = all_made (λ u. pos 0 ≤ℤ u.delta) depth delta_above x count in
     All-map (λ a. pos 0 ≤ℤ a) (frequency stream side) (range_with_len 0 (2 ^ depth)) (
     all_items (λ i. pos 0 ≤ℤ frequency stream side i) (λ i. frequency_above stream side i above) (range_with_len 0 (2 ^ depth)))
+
+-- a made stream's form has room for its items
+pub made_form_deep : (depth : ℕ) → depth ≤ most_depth → depth ≤ deepest_in (made_form depth)
+made_form_deep depth most = elim (cases_lt 32 depth) [
+  | inl above ↦ let wide : nat_le depth 32 ≡ false = grind (arith, nat_tests) in rw wide most
+  | inr most_narrow ↦ let narrow : nat_le depth 32 ≡ true = grind (arith, nat_tests) in rw narrow most_narrow
+]

@@ -2,7 +2,6 @@
 use Rattle.std.proofs.Common.{◌≡◌, ◌≢◌, ℕ, ◌^◌, ◌<◌, ◌≤◌, false, true, subst, drop, drop_at, length, List, [], ◌∷◌, ◌++◌, append_assoc, append-nil, All, pos, nat_abs, None, refl, sym, ap, ◌∙◌, arith, w64}
 use Rattle.std.specs.Prelude.{nat_le, nat_lt}
 use Rattle.std.specs.List.{flat_map}
-use Rattle.std.proofs.Math.Nat.{pow-le-pow_right}
 use Rattle.std.proofs.lemmas.Bool.Decides.{nat_tests}
 use Rattle.std.proofs.lemmas.Int.{fits_signed_from_abs}
 use Rattle.std.proofs.lemmas.List.Elements.{All-head, All-same, All-drop}
@@ -13,9 +12,10 @@ use Rattle.sip_vector.specs.Streams.{same_side, weight, most_weight, IsLegal}
 use Rattle.sip_vector.proofs.Kept.{is_zero-false}
 use Rattle.sip_vector.proofs.Sides.{weight-append, weight-one}
 use Rattle.sip_stream.specs.declared.form.Form.{Form}
+use Rattle.sip_stream.specs.Layouts.{layout_of, deepest_in}
 use Rattle.sip_stream.specs.Records.{update_fault, records_from, records}
 use Rattle.sip_stream.specs.Spellings.{spelled}
-use Rattle.sip_stream.proofs.ReadBack.{read_back}
+use Rattle.sip_stream.proofs.ReadBack.{below_deeper, read_back}
 use Rattle.sip_stream.proofs.RecordsRead.{records_end}
 
 same_side-own : (s : Side) → same_side s s ≡ true
@@ -69,19 +69,18 @@ no_fault depth before u legal =
     let light = not_lt most_weight (weight (before ++ u ∷ []) u.side) legal.weight in
     rw (item, delta, light) refl
 
-read_from : (depth : ℕ) (form : Form) (before us : List Update) → depth ≤ 32 → IsLegal depth (before ++ us)
-    → records_from depth form before (flat_map (spelled form) us) ≡ record { legal = before ++ us; fault = None }
+read_from : (depth : ℕ) (form : Form) (before us : List Update) → depth ≤ deepest_in form → IsLegal depth (before ++ us)
+    → records_from depth form before (flat_map (spelled (layout_of form)) us) ≡ record { legal = before ++ us; fault = None }
 read_from depth form before [] most legal = records_end depth form before ∙ ap (λ l. record { legal = l; fault = None }) (sym (append-nil before))
 read_from depth form before (u ∷ us) most legal =
     let here = legal_at depth before u us legal in
-    let power : 2 ^ depth ≤ 2 ^ 32 = pow-le-pow_right (omega arith) most in
-    let item : u.item < 2 ^ 32 = omega (arith, here.item, power) in
+    let item = below_deeper u.item depth (deepest_in form) here.item most in
     let fits = fits_signed_from_abs w64 u.delta (omega (arith, here.size)) in
     let more = append_assoc before (u ∷ []) us in
-    read_back depth form before u (flat_map (spelled form) us) item fits (no_fault depth before u here)
+    read_back depth form before u (flat_map (spelled (layout_of form)) us) item fits (no_fault depth before u here)
     ∙ read_from depth form (before ++ u ∷ []) us most (subst (IsLegal depth) (sym more) legal)
     ∙ ap (λ l. record { legal = l; fault = None }) more
 
-pub stream_back : (depth : ℕ) (form : Form) (stream : List Update) → depth ≤ 32 → IsLegal depth stream
-    → records depth form (flat_map (spelled form) stream) ≡ record { legal = stream; fault = None }
+pub stream_back : (depth : ℕ) (form : Form) (stream : List Update) → depth ≤ deepest_in form → IsLegal depth stream
+    → records depth form (flat_map (spelled (layout_of form)) stream) ≡ record { legal = stream; fault = None }
 stream_back depth form stream most legal = read_from depth form [] stream most legal

@@ -109,10 +109,10 @@ lacks-text s i z side item fits =
     let rest = All-cons P 32 (decimal i ++ 32 ∷ signed_decimal z) (λ e. omega (arith, e)) (All-append P (decimal i) (32 ∷ signed_decimal z) (lacks-decimal 10 i (omega arith) item) delta) in
     All-append P (decimal s) (32 ∷ (decimal i ++ 32 ∷ signed_decimal z)) (lacks-decimal 10 s (omega arith) side) rest
 
-length-text : (s i : ℕ) (z : ℤ) → s < 10 → i < 2 ^ 32 → FitsSigned w64 z → length (text_of s i z) ≤ 33
+length-text : (s i : ℕ) (z : ℤ) → s < 10 → i < 2 ^ 48 → FitsSigned w64 z → length (text_of s i z) ≤ 38
 length-text s i z side item fits =
     let front = length-decimal-le 1 s (omega arith) (omega (arith, side)) (omega (arith, side)) in
-    let middle = length-decimal-le 10 i (omega arith) (omega (arith, item)) (omega (arith, item)) in
+    let middle = length-decimal-le 15 i (omega arith) (omega (arith, item)) (omega (arith, item)) in
     let back = length_signed_le 19 z (omega (arith, fits.sfits)) fits.sfits in
     omega (arith, front, middle, back, length-append (decimal s) (32 ∷ (decimal i ++ 32 ∷ signed_decimal z)), length-append (decimal i) (32 ∷ signed_decimal z))
 
@@ -131,10 +131,14 @@ pub line-text : (u : Update) → line_bytes u ≡ text u ++ 10 ∷ []
 unfolding line_bytes
 line-text u = ap (λ l. l ++ 10 ∷ []) (regroup (decimal (side_number u.side)) (decimal u.item) (signed_decimal u.delta))
 
-pub text-lacks : (u : Update) → u.item < 2 ^ 32 → FitsSigned w64 u.delta → Lacks 10 (text u)
+pub text-lacks : (u : Update) → u.item < 2 ^ 48 → FitsSigned w64 u.delta → Lacks 10 (text u)
 text-lacks u item fits = lacks-text (side_number u.side) u.item u.delta (omega (arith, side_small u.side)) (omega (arith, item)) fits
 
-pub length-line : (u : Update) → u.item < 2 ^ 32 → FitsSigned w64 u.delta → length (line_bytes u) ≤ 34
+pub length-line : (u : Update) → u.item < 2 ^ 48 → FitsSigned w64 u.delta → length (line_bytes u) ≤ 39
 length-line u item fits =
     let short = length-text (side_number u.side) u.item u.delta (side_small u.side) item fits in
     rw (line-text u) (omega (arith, short, length-append (text u) (10 ∷ [])))
+
+-- a line has its line feed at least
+pub some_line : (u : Update) → 0 < length (line_bytes u)
+some_line u = rw (line-text u) (omega (arith, length-append (text u) (10 ∷ [])))

@@ -1,14 +1,16 @@
 -- The record of an update says that update.
-use Rattle.std.proofs.Common.{◌≡◌, ℕ, ◌^◌, ◌<◌, List, [], ◌++◌, length, ◌==◌, cond, ℤ, pos, negsuc, refl, ap, ◌∙◌, arith, w64}
+use Rattle.std.proofs.Common.{◌≡◌, ℕ, ◌+◌, ◌^◌, ◌<◌, List, [], ◌∷◌, ◌++◌, drop_at, length-append, length, take, drop, ◌-◌, ◌≤◌, ◌==◌, cond, ℤ, pos, negsuc, refl, ap, ◌∙◌, arith, w64}
 use Rattle.std.specs.Prelude.{FitsSigned}
 use Rattle.std.specs.Int.{cast_signed, cast_unsigned}
 use Rattle.std.proofs.Math.Nat.{mod-eq_of_lt}
 use Rattle.std.proofs.lemmas.Int.{to_z-of_z}
 use Rattle.byteorder.specs.Endian.{big_number, big_bytes}
-use Rattle.byteorder.specs.Numbers.{big_from-bytes}
+use Rattle.byteorder.proofs.Bytes.{between-bytes_high_first}
+use Rattle.byteorder.specs.Numbers.{big_from-bytes, length-bytes_high_first}
 use Rattle.sip_vector.specs.declared.update.Side.{Side}
 use Rattle.sip_vector.specs.declared.update.Side.TheVariants.{First, Second}
 use Rattle.sip_vector.specs.declared.update.Update.{Update}
+use Rattle.sip_stream.specs.Layouts.{record_size}
 use Rattle.sip_stream.specs.Records.{record_at}
 use Rattle.sip_stream.specs.Spellings.{record_bytes, side_number}
 
@@ -27,13 +29,44 @@ bits_fit (negsuc n) fits = omega (arith, fits.sfits)
 pub same_parts : (side : Side) (item : ℕ) (delta : ℤ) (u : Update) → side ≡ u.side → item ≡ u.item → delta ≡ u.delta → record { side = side; item = item; delta = delta } ≡ u
 same_parts side item delta u s i d = rw (s, i, d) refl
 
-pub record_back : (u : Update) → u.item < 2 ^ 32 → FitsSigned w64 u.delta → record_at (record_bytes u) ≡ u
-unfolding record_bytes
-record_back u small fits =
-    let item = number_back 4 u.item (big_bytes 8 (cast_unsigned w64 u.delta)) small in
-    let bits = number_back 8 (cast_unsigned w64 u.delta) [] (bits_fit u.delta fits) in
-    same_parts _ _ _ u (side_back u.side) item (ap (cast_signed w64) bits ∙ to_z-of_z w64 u.delta fits)
+module _ (width : ℕ) (u : Update) where
+  -- the bytes in front of the delta
+  front : List ℕ
+  front = side_number u.side ∷ big_bytes width u.item
 
-pub length-record : (u : Update) → length (record_bytes u) ≡ 13
+  back : List ℕ
+  back = big_bytes 8 (cast_unsigned w64 u.delta)
+
+  length-front : length front ≡ 1 + width
+  unfolding front
+  length-front = omega (arith, length-bytes_high_first width u.item)
+
+  record_parts : record_bytes width u ≡ front ++ back
+  unfolding record_bytes front back
+  record_parts = refl
+
+  item_back : u.item < 256 ^ width → big_number width (drop 1 (front ++ back)) ≡ u.item
+  unfolding front
+  item_back small = number_back width u.item back small
+
+  delta_back : FitsSigned w64 u.delta → cast_signed w64 (big_number 8 (drop (1 + width) (front ++ back))) ≡ u.delta
+  unfolding back
+  delta_back fits =
+      let bits : big_number 8 back ≡ cast_unsigned w64 u.delta = number_back 8 (cast_unsigned w64 u.delta) [] (bits_fit u.delta fits) in
+      ap (λ l. cast_signed w64 (big_number 8 l)) (drop_at front back (1 + width) length-front) ∙ ap (cast_signed w64) bits ∙ to_z-of_z w64 u.delta fits
+
+  pub record_back : u.item < 256 ^ width → FitsSigned w64 u.delta → record_at width (record_bytes width u) ≡ u
+  unfolding front
+  record_back small fits = ap (record_at width) record_parts ∙ same_parts _ _ _ u (side_back u.side) (item_back small) (delta_back fits)
+
+  pub length-record : length (record_bytes width u) ≡ record_size width
+  unfolding back
+  length-record = ap length record_parts ∙ length-append front back ∙ omega (arith, length-front, length-bytes_high_first 8 (cast_unsigned w64 u.delta))
+
+-- the bytes of a record, the item's being the last of eight
+pub record_built : (width : ℕ) (u : Update) (start number item back all : List ℕ) → width ≤ 8 → start ≡ [] → number ≡ start ++ side_number u.side ∷ [] → item ≡ number ++ take (8 - (8 - width)) (drop (8 - width) (big_bytes 8 u.item))
+    → back ≡ big_bytes 8 (cast_unsigned w64 u.delta) → all ≡ item ++ back → all ≡ record_bytes width u
 unfolding record_bytes
-length-record u = refl
+record_built width u start number item back all le none one two three four =
+    let low = between-bytes_high_first 8 width u.item le in
+    four ∙ rw (two, one, none, three, low) refl

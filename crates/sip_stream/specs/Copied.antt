@@ -8,7 +8,7 @@ use Rattle.sip_stream.specs.declared.fault.StreamFault.{StreamFault}
 use Rattle.sip_stream.specs.declared.fault.StreamFault.TheVariants as faults
 use Rattle.sip_stream.specs.declared.form.Form.{Form}
 use Rattle.sip_stream.specs.Records.{records}
-use Rattle.sip_stream.specs.Copying.{all_spelled}
+use Rattle.sip_stream.specs.Spellings.{all_spelled}
 
 module _ (old new : Option (List TalkEvent)) (whole : List ℕ) where
   -- a part of some bytes was sent, and the others are gathered

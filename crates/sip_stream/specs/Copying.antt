@@ -1,23 +1,17 @@
--- What a copy of a stream writes: its legal records, each in the spelling of the form that is asked
--- for.
+-- What a copy of a stream writes: its legal records, each in the spelling of the form that is
+-- asked for.
 use Rattle.std.specs.Prelude.{◌≡◌, ℕ, List, [], length, take, Option, Some, None, Result, Ok, Err}
-use Rattle.std.specs.List.{flat_map}
 use Rattle.sip_ports.specs.declared.port.PortStop.{PortStop}
 use Rattle.sip_ports.specs.declared.port.PortStop.TheVariants as ports
 use Rattle.sip_ports.specs.declared.port.TalkEvent.{TalkEvent}
 use Rattle.sip_ports.specs.Ports.{GoesOn, outs}
-use Rattle.sip_vector.specs.declared.update.Update.{Update}
 use Rattle.sip_stream.specs.declared.copying.CopyStop.{CopyStop}
 use Rattle.sip_stream.specs.declared.copying.CopyStop.TheVariants as stops
 use Rattle.sip_stream.specs.declared.fault.StreamFault.{StreamFault}
 use Rattle.sip_stream.specs.declared.fault.StreamFault.TheVariants as faults
 use Rattle.sip_stream.specs.declared.form.Form.{Form}
 use Rattle.sip_stream.specs.Records.{records}
-use Rattle.sip_stream.specs.Spellings.{spelled}
-
--- updates in the spelling of a form, one after another
-abbrev pub all_spelled : Form → List Update → List ℕ
-all_spelled to us = flat_map (spelled to) us
+use Rattle.sip_stream.specs.Spellings.{all_spelled}
 
 -- the legal records that bytes begin with
 abbrev pub copied : ℕ → Form → Form → List ℕ → List ℕ
@@ -25,8 +19,8 @@ copied depth from to bytes = all_spelled to (records depth from bytes).legal
 
 -- Of a stream that was read to its end all records were written; of one with a record that is not
 -- legal those before it; and where a port stopped, a front of these.
-abbrev pub Copies : ℕ → Form → Form → List ℕ → Option (List ℕ) → Option (List TalkEvent)
-    → Option (List TalkEvent) → Result (Unit {0}) CopyStop → Type 0
+abbrev pub Copies : ℕ → Form → Form → List ℕ → Option (List ℕ)
+    → Option (List TalkEvent) → Option (List TalkEvent) → Result (Unit {0}) CopyStop → Type 0
 Copies depth from to bytes left old new (Ok _) =
     ((records depth from bytes).fault ≡ None) × (left ≡ Some [])
     × GoesOn old new (outs (copied depth from to bytes))

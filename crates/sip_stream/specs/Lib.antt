@@ -1,3 +1,4 @@
+pub mod Layouts
 pub mod Lines
 pub mod Records
 pub mod Spellings

@@ -1,11 +1,15 @@
--- A stream that is made from a number: a linear congruential generator modulo 2^64, and the records
--- that its states say.
+-- A stream that is made from a number: a linear congruential generator modulo 2^64, and the
+-- records that its states say.
 use Rattle.std.specs.Prelude.{ℕ, zero, suc, ◌+◌, ◌*◌, ◌/◌, ◌%◌, ◌^◌, ◌==◌, ℤ, pos, List, [], ◌∷◌, if◌then◌else◌}
-use Rattle.std.specs.List.{flat_map}
 use Rattle.sip_vector.specs.declared.update.Side.{Side}
 use Rattle.sip_vector.specs.declared.update.Side.TheVariants.{First, Second}
 use Rattle.sip_vector.specs.declared.update.Update.{Update}
-use Rattle.sip_stream.specs.Spellings.{record_bytes}
+use Rattle.sip_stream.specs.Layouts.{made_form}
+use Rattle.sip_stream.specs.Spellings.{all_spelled}
+
+-- the most records of a made stream
+abbrev pub most_made : ℕ
+most_made = 10000000
 
 -- the state after x
 unfoldable pub next_state : ℕ → ℕ
@@ -33,6 +37,6 @@ abbrev pub made : ℕ → ℕ → ℕ → List Update
 made x zero depth = []
 made x (suc count) depth = made_update depth (next_state x) ∷ made (next_state x) count depth
 
--- their records
+-- their records, in the form of the depth
 abbrev pub made_bytes : ℕ → ℕ → ℕ → List ℕ
-made_bytes x count depth = flat_map record_bytes (made x count depth)
+made_bytes x count depth = all_spelled (made_form depth) (made x count depth)

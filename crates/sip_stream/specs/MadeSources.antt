@@ -5,4 +5,5 @@ use Rattle.sip_stream.specs.declared.made.MadeSource.{MadeSource}
 
 -- the bytes to come: the rest of the record under way, and the records after it
 abbrev pub made_left : MadeSource → List ℕ
-made_left source = drop source.at source.bytes ++ made_bytes source.state source.more source.depth
+made_left source =
+    drop source.at source.under_way.items ++ made_bytes source.state source.more source.depth

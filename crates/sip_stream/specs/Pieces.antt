@@ -2,12 +2,12 @@
 use Rattle.std.specs.Prelude.{◌≡◌, ◌<◌, ◌≤◌, ℕ, nat_lt, List, [], ◌∷◌, ◌++◌, length, Option, Some, None, Result, Ok, Err, if◌then◌else◌}
 use Rattle.sip_ports.specs.declared.port.PortStop.{PortStop}
 use Rattle.sip_vector.specs.declared.update.Update.{Update}
-use Rattle.sip_stream.specs.declared.form.Form.{Form}
 use Rattle.sip_stream.specs.declared.line_reader.LineEnd.{LineEnd}
 use Rattle.sip_stream.specs.declared.line_reader.LineEnd.TheVariants.{Feed, Input, TooLong}
 use Rattle.sip_stream.specs.declared.why.Why.{Why}
 use Rattle.sip_stream.specs.declared.why.Why.TheVariants.{BadLine, BadSide}
-use Rattle.sip_stream.specs.Lines.{numbers_at, parts_at, lines_from}
+use Rattle.sip_stream.specs.Layouts.{Layout}
+use Rattle.sip_stream.specs.Lines.{numbers_at, parts_at, lines_from, most_line}
 use Rattle.sip_stream.specs.Records.{said, update_at, fault_at, update_fault, pieces_of}
 
 -- what was taken is a front of the bytes, and the rest is left
@@ -15,27 +15,27 @@ abbrev pub TakesFront : List ℕ → Option (List ℕ) → Type 0
 TakesFront bytes left = (taken rest : List ℕ) × (left ≡ Some rest) × (bytes ≡ taken ++ rest)
 
 -- the piece is the first record of the bytes, and the rest follows
-pub record IsFirst (form : Form) (bytes piece rest : List ℕ) : Type 0 where
+pub record IsFirst (layout : Layout) (bytes piece rest : List ℕ) : Type 0 where
   pub order : bytes ≡ piece ++ rest
-  pub cut : pieces_of form bytes ≡ piece ∷ pieces_of form rest
+  pub cut : pieces_of layout bytes ≡ piece ∷ pieces_of layout rest
 
 -- what a record says: an update, which is then tested by what came before, or none
-abbrev pub Says : Form → List ℕ → Result Update Why → Type 0
-Says form piece (Ok u) =
-    (update_at form piece ≡ u)
+abbrev pub Says : Layout → List ℕ → Result Update Why → Type 0
+Says layout piece (Ok u) =
+    (update_at layout piece ≡ u)
     × ((depth : ℕ) (before : List Update)
-    → fault_at form depth before piece ≡ update_fault depth before u)
-Says form piece (Err why) =
-    (depth : ℕ) (before : List Update) → fault_at form depth before piece ≡ Some why
+    → fault_at layout depth before piece ≡ update_fault depth before u)
+Says layout piece (Err why) =
+    (depth : ℕ) (before : List Update) → fault_at layout depth before piece ≡ Some why
 
 -- the first record was taken, or there is none
-abbrev pub ReadsPiece : Form → List ℕ → Option (List ℕ)
+abbrev pub ReadsPiece : Layout → List ℕ → Option (List ℕ)
     → Result (Option (Result Update Why)) PortStop → Type 0
-ReadsPiece form bytes left (Ok None) = (bytes ≡ []) × (left ≡ Some [])
-ReadsPiece form bytes left (Ok (Some answer)) =
-    (piece rest : List ℕ) × (left ≡ Some rest) × IsFirst form bytes piece rest
-    × Says form piece answer
-ReadsPiece form bytes left (Err stop) = TakesFront bytes left
+ReadsPiece layout bytes left (Ok None) = (bytes ≡ []) × (left ≡ Some [])
+ReadsPiece layout bytes left (Ok (Some answer)) =
+    (piece rest : List ℕ) × (left ≡ Some rest) × IsFirst layout bytes piece rest
+    × Says layout piece answer
+ReadsPiece layout bytes left (Err stop) = TakesFront bytes left
 
 -- the first byte was taken, or there is none
 abbrev pub ReadsByte : List ℕ → Option (List ℕ) → Result (Option ℕ) PortStop → Type 0
@@ -53,10 +53,11 @@ pub record IsBegun (bytes front rest : List ℕ) : Type 0 where
 abbrev pub TakesLine : List ℕ → List ℕ → Option (List ℕ) → Result LineEnd PortStop → Type 0
 TakesLine bytes front left (Ok Input) = IsBegun bytes front [] × (left ≡ Some [])
 TakesLine bytes front left (Ok Feed) =
-    (rest : List ℕ) × IsBegun bytes front (10 ∷ rest) × (left ≡ Some rest) × (length front < 40)
+    (rest : List ℕ) × IsBegun bytes front (10 ∷ rest) × (left ≡ Some rest)
+    × (length front < most_line)
 TakesLine bytes front left (Ok TooLong) =
     (byte : ℕ) × (rest : List ℕ) × IsBegun bytes front (byte ∷ rest) × (left ≡ Some rest)
-    × (40 ≤ length front)
+    × (most_line ≤ length front)
 TakesLine bytes front left (Err stop) =
     (rest : List ℕ) × IsBegun bytes front rest × (left ≡ Some rest)
 

@@ -5,23 +5,18 @@ ghost use Rattle.arrayvec.specs.ArrayVec.{array_vec_len};
 ghost use Rattle.sip_ports.specs.Ports.{GoesOn, HasCause, Lasts, Rose, outs};
 ghost use Rattle.sip_stream.specs.declared.fault.StreamFault.TheVariants as faults;
 ghost use Rattle.sip_stream.specs.Copying.{Copies, stop_of_sink, stop_of_stream};
-ghost use Rattle.sip_stream.specs.Spellings.{spelled};
+ghost use Rattle.sip_stream.specs.Layouts.{deepest_in};
 ghost use Rattle.sip_stream.specs.Copied.{CopiesOn};
 
-use crate::line::line_of;
-use crate::record_bytes::record_of;
-use crate::text::put;
+use crate::spelling::{SPELLING_ROOM, put_update};
 use crate::{Form, Reader, StreamFault, Why};
 use arrayvec::ArrayVec;
 use sip_ports::{PortStop, Sink, Source, write_whole};
-use sip_vector::{Depth, Update};
+use sip_vector::Depth;
 use thiserror::Error;
 
 /// How many bytes are gathered before they are written.
 const BLOCK: usize = 8192;
-
-/// The most bytes of an update in either form.
-const MOST_SPELLING: usize = 40;
 
 /// Why a copy is not whole.
 #[derive(Clone, Copy, Debug, PartialEq, Eq, Error)]
@@ -68,18 +63,6 @@ impl From<StreamFault> for CopyStop {
     }
 }
 
-// Adds an update in the spelling of a form.
-fn put_update(to: Form, update: &Update, gathered: &mut ArrayVec<u8, BLOCK>)
-    requires item { update.now.item < 2 ^ 32 }
-    requires room { array_vec_len gathered.old + MOST_SPELLING ≤ BLOCK }
-    ensures items { gathered.new.items ≡ gathered.old.items ++ spelled to update.now }
-{
-    match to {
-        Form::Binary => put(gathered, &record_of(update)),
-        Form::Text => put(gathered, line_of(update).as_slice()),
-    }
-}
-
 // Writes what is gathered where it leaves no room for one more update.
 fn make_room<K: Sink>(sink: &mut K, gathered: &mut ArrayVec<u8, BLOCK>) -> Result<(), PortStop>
     ensures talk { MatchResult result
@@ -87,10 +70,10 @@ fn make_room<K: Sink>(sink: &mut K, gathered: &mut ArrayVec<u8, BLOCK>) -> Resul
         × GoesOn (K.talk sink.old) (K.talk sink.new) (outs sent))
         (λ _. (n : ℕ) × (n < array_vec_len gathered.old)
         × GoesOn (K.talk sink.old) (K.talk sink.new) (outs (take n gathered.old.items))) }
-    ensures room { OnOk result (array_vec_len gathered.new + MOST_SPELLING ≤ BLOCK) }
+    ensures room { OnOk result (array_vec_len gathered.new + SPELLING_ROOM ≤ BLOCK) }
     ensures cause { HasCause K.faults K.is_sure sink.old sink.new result }
 {
-    if gathered.remaining_capacity() >= MOST_SPELLING {
+    if gathered.remaining_capacity() >= SPELLING_ROOM {
         return Ok(());
     }
     write_whole(sink, gathered.as_slice())?;
@@ -107,7 +90,8 @@ fn copy_on<A: Source, K: Sink>(
     sink: &mut K,
     gathered: &mut ArrayVec<u8, BLOCK>,
 ) -> Result<Option<StreamFault>, PortStop>
-    requires { gathered.old.items ≡ [] }
+    requires depth { depth ≤ deepest_in to }
+    requires empty { gathered.old.items ≡ [] }
     ensures copied { (bytes : List ℕ) → A.left source.old ≡ Some bytes
         → CopiesOn depth from to bytes (A.left source.new) (K.talk sink.old)
         (K.talk sink.new) gathered.new.items result }
@@ -130,6 +114,7 @@ fn copy_on<A: Source, K: Sink>(
 }
 
 /// Copies the legal records of a stream, read in one form and written in another, in blocks of 8,192 bytes. It takes no memory.
+/// Where it writes `Form::Binary`, the depth is at most `Depth::MOST_NARROW`.
 ///
 /// # Errors
 ///
@@ -142,6 +127,7 @@ pub fn copy<A: Source, K: Sink>(
     source: &mut A,
     sink: &mut K,
 ) -> Result<(), CopyStop>
+    requires { depth ≤ deepest_in to }
     ensures copied { (bytes : List ℕ) → A.left source.old ≡ Some bytes
         → Copies depth from to bytes (A.left source.new) (K.talk sink.old)
         (K.talk sink.new) result }

@@ -31,12 +31,13 @@ fn side_at(state: u64) -> Side
 #[tactic(auto, unfolding(crate::specs::Made::made_item))]
 fn item_at(depth: Depth, state: u64) -> u64
     ensures item { result ≡ made_item depth state }
-    ensures fits { result < 2 ^ 32 }
+    ensures fits { result < 2 ^ depth }
 {
+    let items = 1 << depth.get();
     if (state >> 8) % 4 == 0 {
         (state >> 15) % 2
     } else {
-        (state >> 15) % (1 << depth.get())
+        (state >> 15) % items
     }
 }
 
@@ -50,7 +51,7 @@ fn delta_at(state: u64) -> i64
 /// The update that a state says.
 pub(crate) fn update_at(depth: Depth, state: u64) -> Update
     ensures update { result ≡ made_update depth state }
-    ensures fits { result.item < 2 ^ 32 }
+    ensures fits { result.item < 2 ^ depth }
 {
     Update {
         side: side_at(state),

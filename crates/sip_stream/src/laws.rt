@@ -3,20 +3,32 @@
 pub mod made;
 pub mod spellings;
 
-ghost use Rattle.std.specs.Prelude.{◌≡◌, ◌<◌, ◌^◌, ℕ, List, [], ◌∷◌, ◌++◌, Some, None, codes, decimal, replicate};
+ghost use Rattle.std.specs.Prelude.{◌≡◌, ◌<◌, ◌^◌, ℕ, List, [], ◌∷◌, ◌++◌, Some, None, codes, decimal, pos, replicate, take};
 ghost use Rattle.sip_vector.specs.Examples.{stream};
+ghost use Rattle.sip_vector.specs.Streams.{IsLegal};
 ghost use Rattle.sip_vector.specs.declared.update.Side.TheVariants as sides;
-ghost use Rattle.sip_stream.specs.Examples.{bytes_of_three, heaviest, line, line_fault_of, lines_of_three};
+ghost use Rattle.sip_stream.specs.Examples.{bytes_of_three, heaviest, line, line_fault_of, lines_of_three, wide_bytes_of_one};
 ghost use Rattle.sip_stream.specs.Lines.{decimal_at};
 ghost use Rattle.sip_stream.specs.Records.{records, records_from};
 ghost use Rattle.sip_vector.specs.declared.update.Update.{Update};
 ghost use Rattle.sip_stream.specs.declared.form.Form.{Form};
-ghost use Rattle.sip_stream.specs.declared.form.Form.TheVariants.{Binary, Text};
+ghost use Rattle.sip_stream.specs.declared.form.Form.TheVariants.{Binary, Text, Wide};
 ghost use Rattle.sip_stream.specs.declared.why.Why.TheVariants as whys;
 
 /// The bytes of three records, to their end.
 pub fn records_of_three()
     ensures { records 2 Binary bytes_of_three ≡ record { legal = stream; fault = None } }
+{}
+
+/// The bytes of one wide record, to its end: the same bytes are no record at a lower depth, or with one byte less.
+pub fn wide_records_of_one()
+    ensures legal { records 48 Wide wide_bytes_of_one
+        ≡ record {
+          legal = record { side = sides.First; item = 2 ^ 47; delta = pos 7 } ∷ [];
+          fault = None;
+        } }
+    ensures shallow { (records 47 Wide wide_bytes_of_one).fault ≡ Some whys.BadItem }
+    ensures short { (records 48 Wide (take 16 wide_bytes_of_one)).fault ≡ Some whys.Truncated }
 {}
 
 /// The lines of three records, to their end.
@@ -107,4 +119,10 @@ pub fn decimals_have_one_spelling()
 pub fn records_end()
     ensures { (depth : ℕ) (form : Form) (before : List Update)
         → records_from depth form before [] ≡ record { legal = before; fault = None } }
+{}
+
+/// The legal records that bytes begin with are a legal stream.
+pub fn records_are_legal()
+    ensures { (depth : ℕ) (form : Form) (bytes : List ℕ)
+        → IsLegal depth (records depth form bytes).legal }
 {}

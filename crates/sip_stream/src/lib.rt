@@ -1,12 +1,12 @@
 //! Streams of records as bytes.
 //!
-//! A stream is binary or text. `specs/Records.antt` says for both forms which legal records bytes begin with, and why
-//! the next one is not legal.
+//! A stream is binary, wide or text, as its [`Form`] says. `specs/Records.antt` says for all forms which legal records
+//! bytes begin with, and why the next one is not legal.
 //!
-//! `specs/Spellings.antt` says how an update is written. [`put_record`] writes one as a record of 13 bytes, and
-//! [`put_line`] as a line of text, both at once and without memory. [`MadeSource`] is a source of the records of
-//! `specs/Made.antt`, a stream that is made from a number. [`Reader`] reads a stream one record at a time, and [`copy`]
-//! writes what it reads in one form or the other, in blocks.
+//! `specs/Spellings.antt` says how an update is written. [`put_record`] writes one as a record of 13 bytes, [`put_wide`]
+//! as one of 17, and [`put_line`] as a line of text, each at once and without memory. [`MadeSource`] is a source of the
+//! records of `specs/Made.antt`, a stream that is made from a number. [`Reader`] reads a stream one record at a time, and
+//! [`copy`] writes what it reads in any form, in blocks.
 //! [`read_decimal`] reads one number, and the calls of [`text`] gather text in a buffer of a fixed size.
 #![tactic(auto)]
 
@@ -22,6 +22,7 @@ mod numbers;
 mod reader;
 mod record_bytes;
 mod record_reader;
+mod spelling;
 pub mod text;
 mod why;
 
@@ -32,5 +33,5 @@ pub use line::put_line;
 pub use made::MadeSource;
 pub use numbers::read_decimal;
 pub use reader::Reader;
-pub use record_bytes::put_record;
+pub use record_bytes::{put_record, put_wide};
 pub use why::Why;

@@ -2,6 +2,7 @@
 
 ghost use Rattle.std.specs.Prelude.{◌≡◌, ◌≢◌, ◌<◌, ◌^◌, pos};
 ghost use Rattle.sip_ports.specs.Ports.{HasCause, SendsWhole};
+ghost use Rattle.sip_vector.specs.Limits.{most_depth};
 ghost use Rattle.sip_stream.specs.Spellings.{line_bytes};
 
 use crate::record_bytes::number_of;
@@ -11,20 +12,19 @@ use itoa::Buffer;
 use sip_ports::{PortStop, Sink, write_whole};
 use sip_vector::Update;
 
-/// The most bytes of a line that is read: one of 41 is none.
-const MOST_LINE: usize = 40;
+/// Room for the line of any update.
+pub(crate) const LINE_ROOM: usize = 46;
 
-/// The line of an update: at most 34 bytes.
+/// The line of an update: at most 39 bytes, where its item is below 2^48.
 #[tactic(auto, using(std::proofs::lemmas::Grind::common_steps), unfolding(crate::specs::Spellings::line_bytes))]
-pub(crate) fn line_of(update: &Update) -> ArrayVec<u8, MOST_LINE>
-    requires { update.now.item < 2 ^ 32 }
+pub(crate) fn line_of(update: &Update) -> ArrayVec<u8, LINE_ROOM>
     ensures { result.items ≡ line_bytes update.now }
 {
     let mut digits = Buffer::new();
     let mut line = ArrayVec::new();
     put(&mut line, digits.format(number_of(update.side)).as_bytes());
     put(&mut line, b" ");
-    put(&mut line, digits.format(update.item as u32).as_bytes());
+    put(&mut line, digits.format(update.item).as_bytes());
     put(&mut line, b" ");
     put(&mut line, digits.format(update.delta).as_bytes());
     put(&mut line, b"\n");
@@ -37,7 +37,7 @@ pub(crate) fn line_of(update: &Update) -> ArrayVec<u8, MOST_LINE>
 ///
 /// Those of the sink, which a front of the line has then reached that is shorter than it.
 pub fn put_line<K: Sink>(update: &Update, sink: &mut K) -> Result<(), PortStop>
-    requires item { update.now.item < 2 ^ 32 }
+    requires item { update.now.item < 2 ^ most_depth }
     requires delta { update.now.delta ≢ pos 0 }
     ensures talk { SendsWhole (K.talk sink.old) (K.talk sink.new) result (line_bytes update.now) }
     ensures cause { HasCause K.faults K.is_sure sink.old sink.new result }

@@ -3,7 +3,7 @@
 ghost use Rattle.std.specs.Prelude.{◌≡◌, ◌<◌, ◌≤◌, ℕ, List, [], Some, IsSome, length};
 ghost use Rattle.arrayvec.specs.ArrayVec.{array_vec_len};
 ghost use Rattle.sip_ports.specs.Ports.{HasCause};
-ghost use Rattle.sip_stream.specs.declared.form.Form.TheVariants.{Text};
+ghost use Rattle.sip_stream.specs.Layouts.{of_line};
 ghost use Rattle.sip_stream.specs.Pieces.{ReadsByte, ReadsPiece, TakesLine, line_said};
 
 use crate::Why;
@@ -92,7 +92,7 @@ fn update_of(line: &[u8]) -> Result<Update, Why>
 /// What the next line says, or why it says no update; `None` at the end.
 pub(crate) fn next_line<S: Source>(source: &mut S) -> Result<Option<Result<Update, Why>>, PortStop>
     ensures reads { (bytes : List ℕ) → S.left source.old ≡ Some bytes
-        → ReadsPiece Text bytes (S.left source.new) result }
+        → ReadsPiece of_line bytes (S.left source.new) result }
     ensures told { IsSome (S.left source.old) → IsSome (S.left source.new) }
     ensures cause { HasCause S.faults S.is_sure source.old source.new result }
 {

@@ -1,15 +1,17 @@
 //! A source of a stream that is made from a number.
 
-ghost use Rattle.std.specs.Prelude.{◌≡◌, ◌≤◌, ◌<◌, ◌+◌, ◌++◌, [], length, take};
+ghost use Rattle.std.specs.Prelude.{◌≡◌, ◌≤◌, ◌<◌, ◌+◌, ◌++◌, [], length, nat_le, take};
 
+use crate::Form;
 use crate::generator::{next_state, update_at};
-use crate::record_bytes::{RECORD, record_of};
+use crate::spelling::{SPELLING_ROOM, put_update};
+use arrayvec::ArrayVec;
 use sip_ports::{PortStop, Source};
 use sip_vector::Depth;
 
 /// A source of the records that a generator makes from a number: about a quarter of them are of the items 0 and 1, the
-/// others of items from everywhere. It tells the bytes to come, never fails and takes no memory. A read fills the
-/// buffer as far as there are bytes.
+/// others of items from everywhere. They have the form `Form::made` of the depth. It tells the bytes to come, never fails
+/// and takes no memory. A read fills the buffer as far as there are bytes.
 #[derive(Drop)]
 pub struct MadeSource {
     depth: Depth,
@@ -17,41 +19,51 @@ pub struct MadeSource {
     state: u64,
     more: u64,
     // the record under way, and how many of its bytes were read
-    bytes: [u8; RECORD],
+    under_way: ArrayVec<u8, SPELLING_ROOM>,
     at: usize,
-    ghost within: { at ≤ 13 },
+    ghost within: { at ≤ length under_way.items },
 }
 
 impl MadeSource {
-    ghost use Rattle.sip_stream.specs.Made.{made_bytes};
+    ghost use Rattle.sip_stream.specs.Made.{made_bytes, most_made};
     ghost use Rattle.sip_stream.specs.MadeSources.{made_left};
 
     /// The most records of a made stream. Their deltas are at most 8, so no side is too heavy.
     pub const MOST: u64 = 10_000_000;
 
+    /// Whether a made stream may have so many records.
+    pub fn allows(count: u64) -> bool
+        ensures { result ≡ nat_le count most_made }
+    {
+        count <= Self::MOST
+    }
+
     /// The first records, so many, that the generator makes from the number, with items below 2^depth.
     pub fn new(number: u64, count: u64, depth: Depth) -> MadeSource
-        requires { count ≤ Self.MOST }
+        requires { count ≤ most_made }
         ensures { made_left result ≡ made_bytes number count depth }
     {
         MadeSource {
             depth,
             state: number,
             more: count,
-            bytes: [0; RECORD],
-            at: RECORD,
+            under_way: ArrayVec::new(),
+            at: 0,
         }
     }
 
     // Goes on to the next record, if there is one, where the one under way was read.
     fn go_on(&mut self)
         ensures same { made_left self.new ≡ made_left self.old }
-        ensures under_way { self.new.at ≡ 13 → made_left self.new ≡ [] }
+        ensures under_way { self.new.at ≡ length self.new.under_way.items
+            → made_left self.new ≡ [] }
     {
-        if self.at == RECORD && self.more > 0 {
+        if self.at == self.under_way.len() && self.more > 0 {
             self.state = next_state(self.state);
             self.more -= 1;
-            self.bytes = record_of(&update_at(self.depth, self.state));
+            let update = update_at(self.depth, self.state);
+            self.under_way.clear();
+            put_update(Form::made(self.depth), &update, &mut self.under_way);
             self.at = 0;
         }
     }
@@ -65,8 +77,9 @@ impl MadeSource {
         ensures end { result ≡ 0 → filled < length buf.old → made_left self.old ≡ [] }
     {
         self.go_on();
-        let count = (RECORD - self.at).min(buf.len() - filled);
-        buf[filled..filled + count].copy_from_slice(&self.bytes[self.at..self.at + count]);
+        let record = self.under_way.as_slice();
+        let count = (record.len() - self.at).min(buf.len() - filled);
+        buf[filled..filled + count].copy_from_slice(&record[self.at..self.at + count]);
         self.at += count;
         count
     }

@@ -5,11 +5,13 @@ ghost use Rattle.std.specs.Result.{is_err};
 ghost use Rattle.sip_ports.specs.Ports.{HasCause, Lasts, Rose};
 ghost use Rattle.sip_vector.specs.declared.update.Update.{Update};
 ghost use Rattle.sip_stream.specs.declared.why.Why.{Why};
+ghost use Rattle.sip_stream.specs.Layouts.{layout_of};
 ghost use Rattle.sip_stream.specs.Pieces.{ReadsPiece};
 ghost use Rattle.sip_stream.specs.Reading.{IsAfter, HasRoom, GoesOnAfter, Reads, room, unread, weight_of};
 ghost use Rattle.sip_stream.specs.Records.{update_fault};
 
 use crate::line_reader::next_line;
+use crate::record_bytes::{NARROW, WIDE};
 use crate::record_reader::next_record;
 use crate::{Form, StreamFault, Why};
 use sip_ports::{PortStop, Source};
@@ -189,13 +191,14 @@ fn next_piece<S: Source>(
     source: &mut S,
 ) -> Result<Option<Result<Update, Why>>, PortStop>
     ensures reads { (bytes : List ℕ) → S.left source.old ≡ Some bytes
-        → ReadsPiece form bytes (S.left source.new) result }
+        → ReadsPiece (layout_of form) bytes (S.left source.new) result }
     ensures told { IsSome (S.left source.old) → IsSome (S.left source.new) }
     ensures cause { HasCause S.faults S.is_sure source.old source.new result }
 {
     match form {
-        Form::Binary => next_record(source),
+        Form::Binary => next_record::<NARROW, S>(source),
         Form::Text => next_line(source),
+        Form::Wide => next_record::<WIDE, S>(source),
     }
 }
 

@@ -1,15 +1,33 @@
-//! An update as a record of 13 bytes.
+//! An update as a record of bytes.
 
 ghost use Rattle.std.specs.Prelude.{◌≡◌, ◌≢◌, ◌≤◌, ◌<◌, ◌^◌, pos};
 ghost use Rattle.sip_ports.specs.Ports.{HasCause, SendsWhole};
+ghost use Rattle.sip_vector.specs.Limits.{most_depth, most_narrow_depth};
+ghost use Rattle.sip_stream.specs.Layouts.{record_size};
 ghost use Rattle.sip_stream.specs.Spellings.{record_bytes, side_number};
 
-use byteorder::{BigEndian, ByteOrder};
+use crate::text::put;
+use arrayvec::ArrayVec;
 use sip_ports::{PortStop, Sink, write_whole};
 use sip_vector::{Side, Update};
 
-/// How many bytes a record has: the side, the item in four and the delta in eight, big endian.
-pub(crate) const RECORD: usize = 13;
+/// How many bytes the item has in a binary record.
+pub(crate) const NARROW: usize = 4;
+
+/// How many bytes the item has in a wide record.
+pub(crate) const WIDE: usize = 8;
+
+/// The most bytes of a record.
+pub(crate) const MOST_RECORD: usize = 17;
+
+/// How many bytes a record has whose item has so many: the side one more, and the delta eight.
+pub(crate) fn size_of(width: usize) -> usize
+    requires { width ≤ 8 }
+    ensures size { result ≡ record_size width }
+    ensures most { result ≤ MOST_RECORD }
+{
+    1 + width + 8
+}
 
 /// The number that a side is written as.
 pub(crate) fn number_of(side: Side) -> u8
@@ -22,17 +40,18 @@ pub(crate) fn number_of(side: Side) -> u8
     }
 }
 
-/// The record of an update.
+/// The record of an update, whose item has so many bytes.
 #[tactic(auto, unfolding(crate::specs::Spellings::record_bytes))]
-pub(crate) fn record_of(update: &Update) -> [u8; RECORD]
-    requires { update.now.item < 2 ^ 32 }
-    ensures { result ≡ record_bytes update.now }
+pub(crate) fn record_of<const WIDTH: usize>(update: &Update) -> ArrayVec<u8, MOST_RECORD>
+    requires width { WIDTH ≤ 8 }
+    requires item { update.now.item < 256 ^ WIDTH }
+    ensures { result.items ≡ record_bytes WIDTH update.now }
 {
-    let mut bytes = [0; RECORD];
-    bytes[0] = number_of(update.side);
-    BigEndian::write_u32(&mut bytes[1..], update.item as u32);
-    BigEndian::write_i64(&mut bytes[5..], update.delta);
-    bytes
+    let mut record = ArrayVec::new();
+    put(&mut record, &[number_of(update.side)]);
+    put(&mut record, &update.item.to_be_bytes()[8 - WIDTH..]);
+    put(&mut record, &update.delta.to_be_bytes());
+    record
 }
 
 /// Writes an update as one record of 13 bytes, at once and without memory.
@@ -41,12 +60,28 @@ pub(crate) fn record_of(update: &Update) -> [u8; RECORD]
 ///
 /// Those of the sink, which a front of the record has then reached that is shorter than it.
 pub fn put_record<K: Sink>(update: &Update, sink: &mut K) -> Result<(), PortStop>
-    requires item { update.now.item < 2 ^ 32 }
+    requires item { update.now.item < 2 ^ most_narrow_depth }
     requires delta { update.now.delta ≢ pos 0 }
-    ensures talk { SendsWhole (K.talk sink.old) (K.talk sink.new) result (record_bytes update.now) }
+    ensures talk { SendsWhole (K.talk sink.old) (K.talk sink.new) result
+        (record_bytes 4 update.now) }
     ensures cause { HasCause K.faults K.is_sure sink.old sink.new result }
 {
-    write_whole(sink, &record_of(update))
+    write_whole(sink, record_of::<NARROW>(update).as_slice())
+}
+
+/// Writes an update as one record of 17 bytes, at once and without memory.
+///
+/// # Errors
+///
+/// Those of the sink, which a front of the record has then reached that is shorter than it.
+pub fn put_wide<K: Sink>(update: &Update, sink: &mut K) -> Result<(), PortStop>
+    requires item { update.now.item < 2 ^ most_depth }
+    requires delta { update.now.delta ≢ pos 0 }
+    ensures talk { SendsWhole (K.talk sink.old) (K.talk sink.new) result
+        (record_bytes 8 update.now) }
+    ensures cause { HasCause K.faults K.is_sure sink.old sink.new result }
+{
+    write_whole(sink, record_of::<WIDE>(update).as_slice())
 }
 
 #[cfg(test)]

@@ -1,53 +1,65 @@
-//! Binary records, 13 bytes each.
+//! Records of bytes.
 
-ghost use Rattle.std.specs.Prelude.{◌≡◌, ℕ, List, Some, IsSome};
+ghost use Rattle.std.specs.Prelude.{◌≡◌, ◌≤◌, ◌==◌, ℕ, List, Some, IsSome, length, if◌then◌else◌};
 ghost use Rattle.sip_ports.specs.Ports.{HasCause};
-ghost use Rattle.sip_stream.specs.declared.form.Form.TheVariants.{Binary};
+ghost use Rattle.sip_vector.specs.declared.update.Side.TheVariants.{First, Second};
+ghost use Rattle.sip_stream.specs.Layouts.{of_bytes, record_size};
 ghost use Rattle.sip_stream.specs.Records.{record_at};
 ghost use Rattle.sip_stream.specs.Pieces.{ReadsPiece};
 
 use crate::Why;
+use crate::record_bytes::{MOST_RECORD, size_of};
 use byteorder::{BigEndian, ByteOrder};
 use sip_ports::{PortStop, Source, read_exact_into};
 use sip_vector::{Side, Update};
 
-/// How many bytes a record has: the side, the item in four and the delta in eight, big endian.
-const RECORD: usize = 13;
-
-/// The update that a record says; each side number but 0 is read as the second side.
-fn update_of(bytes: &[u8; RECORD]) -> Update
-    ensures { result ≡ record_at bytes.now }
+/// The side that a number says; each but 0 is read as the second one.
+fn side_of(number: u8) -> Side
+    ensures { result ≡ if number == 0 then First else Second }
 {
-    Update {
-        side: if bytes[0] == 0 {
-            Side::First
-        } else {
-            Side::Second
-        },
-        item: BigEndian::read_u32(&bytes[1..]) as u64,
-        delta: BigEndian::read_u64(&bytes[5..]).cast_signed(),
+    if number == 0 {
+        Side::First
+    } else {
+        Side::Second
     }
 }
 
-/// What the next record says, or why it says no update; `None` at the end.
-pub(crate) fn next_record<S: Source>(
+/// The update that a record says, whose item has so many bytes.
+fn update_of<const WIDTH: usize>(bytes: &[u8]) -> Update
+    requires some { 1 ≤ WIDTH }
+    requires most { WIDTH ≤ 8 }
+    requires whole { length bytes.now ≡ record_size WIDTH }
+    ensures { result ≡ record_at WIDTH bytes.now }
+{
+    Update {
+        side: side_of(bytes[0]),
+        item: BigEndian::read_uint(&bytes[1..], WIDTH),
+        delta: BigEndian::read_u64(&bytes[1 + WIDTH..]).cast_signed(),
+    }
+}
+
+/// What the next record says, whose item has so many bytes, or why it says no update; `None` at the end.
+pub(crate) fn next_record<const WIDTH: usize, S: Source>(
     source: &mut S,
 ) -> Result<Option<Result<Update, Why>>, PortStop>
+    requires some { 1 ≤ WIDTH }
+    requires most { WIDTH ≤ 8 }
     ensures reads { (bytes : List ℕ) → S.left source.old ≡ Some bytes
-        → ReadsPiece Binary bytes (S.left source.new) result }
+        → ReadsPiece (of_bytes WIDTH) bytes (S.left source.new) result }
     ensures told { IsSome (S.left source.old) → IsSome (S.left source.new) }
     ensures cause { HasCause S.faults S.is_sure source.old source.new result }
 {
-    let mut bytes = [0; RECORD];
-    let came = read_exact_into(source, &mut bytes)?;
+    let mut buffer = [0; MOST_RECORD];
+    let bytes = &mut buffer[..size_of(WIDTH)];
+    let came = read_exact_into(source, bytes)?;
     if came == 0 {
         return Ok(None);
     }
-    if came < RECORD {
+    if came < bytes.len() {
         return Ok(Some(Err(Why::Truncated)));
     }
     if bytes[0] > 1 {
         return Ok(Some(Err(Why::BadSide)));
     }
-    Ok(Some(Ok(update_of(&bytes))))
+    Ok(Some(Ok(update_of::<WIDTH>(bytes))))
 }

@@ -1,103 +1,133 @@
--- Reading reply 0 frame by frame.
-use Rattle.std.proofs.Common.{◌≡◌, ℕ, zero, suc, ◌+◌, ◌≤◌, Result, Ok, Err, List, [], ◌∷◌, length, refl, sym, ap, ◌∙◌, arith}
+-- Reply 0 by the protocol: entries, frame by frame, and then siblings.
+use Rattle.std.proofs.Common.{◌≡◌, ℕ, zero, suc, ◌/◌, ◌^◌, true, Result, Ok, Err, List, [], ◌∷◌, length, refl, subst}
 use Rattle.sip_vector.specs.declared.update.Entry.{Entry}
 use Rattle.sip_vector.specs.Steps.{◌>>=◌}
 use Rattle.sip_wire.specs.declared.kind.Place.TheVariants as places
 use Rattle.sip_wire.specs.declared.message.Message.{Message}
 use Rattle.sip_wire.specs.declared.message.Message.TheVariants as messages
 use Rattle.sip_wire.specs.declared.message.Reason.{Reason}
-use Rattle.sip_wire.specs.declared.message.Reason.TheVariants as reasons
 use Rattle.sip_wire.specs.declared.message.WireFault.{WireFault}
-use Rattle.sip_wire.specs.declared.message.WireFault.TheVariants as faults
+use Rattle.sip_wire.specs.declared.version.Version.{Version}
 use Rattle.sip_wire.specs.Reading.{read_frame}
-use Rattle.sip_wire.proofs.ReadingLaws.{asked-least, read_frame-closed, read_frame-shrinks}
-use Rattle.sip_subvec.specs.AcceptsSub.{Siblings}
-use Rattle.sip_replies.specs.Replies.{reason_of, at_end}
-use Rattle.sip_subvec.specs.Replies.{with_entries, asked_siblings, first_reply}
+use Rattle.arrayvec.specs.ArrayVec.{ArrayVec}
+use Rattle.sip_replies.specs.declared.check.More.TheVariants as mores
+use Rattle.sip_replies.specs.Replies.{step_says, frame_says, read_from, read_reply}
+use Rattle.sip_subvec.specs.AcceptsSub.{Siblings, Stated}
+use Rattle.sip_subvec.specs.Counting.{rise_within}
+use Rattle.sip_subvec.specs.Protocol.{sub_step, sub_rules}
+use Rattle.sip_subvec.specs.Replies.{with_entries, are_asked, asked_siblings}
+use Rattle.sip_subvec.proofs.Halvings.{whole}
+use Rattle.sip_subvec.proofs.Passing.{siblings_passed, at_end_is}
+use Rattle.sip_subvec.proofs.RisingEntries.{entries-taken}
+use Rattle.sip_subvec.proofs.StatedEntries.{rise-nil}
 
--- reply 0 from a frame on, with as many frames as its bytes have room for
-abbrev pub read_first : ℕ → ℕ → List Entry → List ℕ → Result (List Entry × Siblings) Reason
-read_first lo hi before bytes = first_reply (length bytes) lo hi before bytes
+-- reply 0 in part
+abbrev pub in_part : List Entry → Stated
+in_part es = record { entries = es; siblings = [] }
 
--- ---- one frame
+-- reply 0, whole
+abbrev pub as_whole : List Entry → Siblings → Stated
+as_whole es x = record { entries = es; siblings = x ∷ [] }
 
--- what a message says, where `then` reads what follows it
-abbrev pub message_says : (List Entry → List ℕ → Result (List Entry × Siblings) Reason) → ℕ → ℕ → List Entry → List ℕ → Message → Result (List Entry × Siblings) Reason
-message_says then lo hi before rest (messages.Entries es) = with_entries lo hi before es.items >>= λ more. then more rest
-message_says then lo hi before rest (messages.Siblings left right) = asked_siblings lo hi (record { left = left; right = right }) >>= λ s. at_end (before, s) rest
-message_says then lo hi before rest (messages.Refuse code) = Err (reasons.Refused code)
-message_says then lo hi before rest _ = Err reasons.BadKind
+-- `Keeps` holds of the entries of reply 0, and its siblings are those that are asked for
+pub record FirstKept (lo hi : ℕ) (Keeps : List Entry → Type 0) (t : Stated) : Type 0 where
+  pub x : Siblings
+  pub one : as_whole t.entries x ≡ t
+  pub keeps : Keeps t.entries
+  pub asked : are_asked lo hi x ≡ true
 
--- what a frame and what follows it say
-abbrev pub frame_says : (List Entry → List ℕ → Result (List Entry × Siblings) Reason) → ℕ → ℕ → List Entry → Result (Message × List ℕ) WireFault → Result (List Entry × Siblings) Reason
-frame_says then lo hi before (Err fault) = Err (reason_of fault)
-frame_says then lo hi before (Ok frame) = message_says then lo hi before frame.1 frame.0
+-- What each frame of entries keeps, reply 0 keeps.
+module _ (version : Version) (lo hi : ℕ) (Keeps : List Entry → Type 0) (Fine : List ℕ → Type 0)
+    (step : (before more : List Entry) (bytes rest : List ℕ) (v : ArrayVec Entry) → Fine bytes
+    → read_frame version places.Entries bytes ≡ Ok (messages.Entries v, rest)
+    → with_entries lo hi before v.items ≡ Ok more → Keeps before → Keeps more × Fine rest) where
+  -- the siblings at its end
+  last : (next : Stated → List ℕ → Result Stated Reason) (before : List Entry) (rest : List ℕ)
+      (given : Siblings) (t : Stated) (r : Result Siblings Reason) → Keeps before
+      → asked_siblings (lo / 2 ^ 0) (hi / 2 ^ 0) given ≡ r
+      → step_says next rest (r >>= λ x. Ok (mores.Complete, as_whole before x)) ≡ Ok t
+      → FirstKept lo hi Keeps t
+  last next before rest given t (Err reason) keeps is h = absurd (cc)
+  last next before rest given t (Ok x) keeps is h =
+      let asked : are_asked (lo / 2 ^ 0) (hi / 2 ^ 0) x
+      ≡ true = (siblings_passed (lo / 2 ^ 0) (hi / 2 ^ 0) given x is).0 in
+      subst (FirstKept lo hi Keeps) (at_end_is (as_whole before x) t rest h) (record {
+        x = x;
+        one = refl;
+        keeps = keeps;
+        asked = rw (whole lo, whole hi) at asked;
+      })
 
--- no bytes are no frame
-pub no_frame : read_frame places.Entries [] ≡ Err faults.Closed
-no_frame = read_frame-closed places.Entries [] (omega (arith, asked-least places.Entries []))
+  -- the rest behind a frame of entries
+  abbrev GoesOn : (Stated → List ℕ → Result Stated Reason) → Stated → Type 0
+  GoesOn next t =
+      (more : List Entry) (after : List ℕ) → Fine after → Keeps more
+      → next (in_part more) after ≡ Ok t → FirstKept lo hi Keeps t
 
-one_frame : (n lo hi : ℕ) (before : List Entry) (bytes : List ℕ) → first_reply (suc n) lo hi before bytes ≡ frame_says (first_reply n lo hi) lo hi before (read_frame places.Entries bytes)
-unfolding first_reply
-one_frame n lo hi before bytes = refl
+  entries : (next : Stated → List ℕ → Result Stated Reason) (before : List Entry)
+      (bytes rest : List ℕ) (t : Stated) (v : ArrayVec Entry) (r : Result (List Entry) Reason)
+      → GoesOn next t → Fine bytes → Keeps before
+      → read_frame version places.Entries bytes ≡ Ok (messages.Entries v, rest)
+      → with_entries lo hi before v.items ≡ r
+      → step_says next rest (r >>= λ all. Ok (mores.Due, in_part all)) ≡ Ok t
+      → FirstKept lo hi Keeps t
+  entries next before bytes rest t v (Err reason) goes_on fine keeps is passes h = absurd (cc)
+  entries next before bytes rest t v (Ok more) goes_on fine keeps is passes h =
+      let then = step before more bytes rest v fine is passes keeps in
+      goes_on more rest then.1 then.0 h
 
-no_bytes : (n lo hi : ℕ) (before : List Entry) → first_reply n lo hi before [] ≡ Err reasons.Closed
-unfolding first_reply
-no_bytes zero lo hi before = refl
-no_bytes (suc n) lo hi before = ap (frame_says (first_reply n lo hi) lo hi before) no_frame
+  by_message : (next : Stated → List ℕ → Result Stated Reason) (before : List Entry)
+      (bytes rest : List ℕ) (t : Stated) → GoesOn next t → Fine bytes → Keeps before
+      → (m : Message) → read_frame version places.Entries bytes ≡ Ok (m, rest)
+      → step_says next rest (sub_step lo hi (in_part before) m) ≡ Ok t → FirstKept lo hi Keeps t
+  by_message next before bytes rest t goes_on fine keeps (messages.Entries v) is h =
+      entries next before bytes rest t v (with_entries lo hi before v.items) goes_on fine keeps is
+      refl h
+  by_message next before bytes rest t goes_on fine keeps (messages.Siblings left right) is h =
+      last next before rest (record { left = left; right = right }) t
+      (asked_siblings (lo / 2 ^ 0) (hi / 2 ^ 0) (record { left = left; right = right })) keeps refl h
+  by_message next before bytes rest t goes_on fine keeps (messages.Refuse code) is h = absurd (cc)
+  by_message next before bytes rest t goes_on fine keeps (messages.Open number depth) is h = absurd (cc)
+  by_message next before bytes rest t goes_on fine keeps (messages.Updates us) is h = absurd (cc)
+  by_message next before bytes rest t goes_on fine keeps messages.EndStream is h = absurd (cc)
+  by_message next before bytes rest t goes_on fine keeps (messages.Query q) is h = absurd (cc)
+  by_message next before bytes rest t goes_on fine keeps (messages.Reveal r) is h = absurd (cc)
+  by_message next before bytes rest t goes_on fine keeps messages.Bye is h = absurd (cc)
+  by_message next before bytes rest t goes_on fine keeps (messages.Claim v) is h = absurd (cc)
+  by_message next before bytes rest t goes_on fine keeps (messages.Poly a b c) is h = absurd (cc)
+  by_message next before bytes rest t goes_on fine keeps (messages.Leaves v) is h = absurd (cc)
+  by_message next before bytes rest t goes_on fine keeps (messages.Nodes v) is h = absurd (cc)
+  by_message next before bytes rest t goes_on fine keeps messages.LevelEnd is h = absurd (cc)
 
--- ---- the number of frames doesn't matter, where it is enough
+  by_frame : (next : Stated → List ℕ → Result Stated Reason) (before : List Entry) (bytes : List ℕ)
+      (t : Stated) → GoesOn next t → Fine bytes → Keeps before
+      → (r : Result (Message × List ℕ) WireFault) → read_frame version places.Entries bytes ≡ r
+      → frame_says (sub_rules version lo hi) next (in_part before) r ≡ Ok t
+      → FirstKept lo hi Keeps t
+  by_frame next before bytes t goes_on fine keeps (Err fault) is h = absurd (cc)
+  by_frame next before bytes t goes_on fine keeps (Ok frame) is h =
+      by_message next before bytes frame.1 t goes_on fine keeps frame.0 is h
 
-same_bind : {A B E : Type 0} (r : Result A E) (f g : A → Result B E) → ((x : A) → f x ≡ g x) → (r >>= f) ≡ (r >>= g)
-same_bind (Ok x) f g same = same x
-same_bind (Err e) f g same = refl
+  from_frame : (n : ℕ) (before : List Entry) (bytes : List ℕ) (t : Stated) → Fine bytes
+      → Keeps before → read_from (sub_rules version lo hi) n (in_part before) bytes ≡ Ok t
+      → FirstKept lo hi Keeps t
+  unfolding read_from
+  from_frame zero before bytes t fine keeps e = absurd (cc)
+  from_frame (suc n) before bytes t fine keeps e =
+      by_frame (read_from (sub_rules version lo hi) n) before bytes t
+      (λ more after f k h. from_frame n more after t f k h) fine keeps
+      (read_frame version places.Entries bytes) refl e
 
-same_message : (f g : List Entry → List ℕ → Result (List Entry × Siblings) Reason) (lo hi : ℕ) (before : List Entry) (rest : List ℕ) (m : Message) → ((more : List Entry) → f more rest ≡ g more rest) → message_says f lo hi before rest m ≡ message_says g lo hi before rest m
-same_message f g lo hi before rest (messages.Entries es) same = same_bind (with_entries lo hi before es.items) (λ more. f more rest) (λ more. g more rest) same
-same_message f g lo hi before rest (messages.Siblings left right) same = refl
-same_message f g lo hi before rest (messages.Refuse code) same = refl
-same_message f g lo hi before rest (messages.Open version depth) same = refl
-same_message f g lo hi before rest (messages.Updates us) same = refl
-same_message f g lo hi before rest messages.EndStream same = refl
-same_message f g lo hi before rest (messages.Query q) same = refl
-same_message f g lo hi before rest (messages.Reveal r) same = refl
-same_message f g lo hi before rest messages.Bye same = refl
-same_message f g lo hi before rest (messages.Claim v) same = refl
-same_message f g lo hi before rest (messages.Poly a b c) same = refl
-same_message f g lo hi before rest (messages.Leaves v) same = refl
-same_message f g lo hi before rest (messages.Nodes v) same = refl
-same_message f g lo hi before rest messages.LevelEnd same = refl
+  pub first_keeps : (bytes : List ℕ) (t : Stated) → Fine bytes → Keeps []
+      → read_reply (sub_rules version lo hi) (in_part []) bytes ≡ Ok t → FirstKept lo hi Keeps t
+  first_keeps bytes t fine keeps e = from_frame (length bytes) [] bytes t fine keeps e
 
-same_frame : (f g : List Entry → List ℕ → Result (List Entry × Siblings) Reason) (lo hi : ℕ) (before : List Entry) (bytes : List ℕ) (r : Result (Message × List ℕ) WireFault) → read_frame places.Entries bytes ≡ r
-    → ((more : List Entry) (rest : List ℕ) → length rest + 3 ≤ length bytes → f more rest ≡ g more rest) → frame_says f lo hi before r ≡ frame_says g lo hi before r
-same_frame f g lo hi before bytes (Err fault) is same = refl
-same_frame f g lo hi before bytes (Ok frame) is same =
-    same_message f g lo hi before frame.1 frame.0 (λ more. same more frame.1 (read_frame-shrinks places.Entries bytes frame.0 frame.1 is))
-
-enough : (n m lo hi : ℕ) (before : List Entry) (bytes : List ℕ) → length bytes ≤ n → length bytes ≤ m → first_reply n lo hi before bytes ≡ first_reply m lo hi before bytes
-enough n m lo hi before [] le_n le_m = no_bytes n lo hi before ∙ sym (no_bytes m lo hi before)
-enough zero m lo hi before (x ∷ bytes) le_n le_m = absurd (omega arith)
-enough (suc n) zero lo hi before (x ∷ bytes) le_n le_m = absurd (omega arith)
-enough (suc n) (suc m) lo hi before (x ∷ bytes) le_n le_m =
-    one_frame n lo hi before (x ∷ bytes)
-    ∙ same_frame (first_reply n lo hi) (first_reply m lo hi) lo hi before (x ∷ bytes) (read_frame places.Entries (x ∷ bytes)) refl (λ more rest le. enough n m lo hi more rest (omega arith) (omega arith))
-    ∙ sym (one_frame m lo hi before (x ∷ bytes))
-
--- reply 0 is its first frame, and then the rest
-pub read_first-frame : (lo hi : ℕ) (before : List Entry) (bytes : List ℕ) → read_first lo hi before bytes ≡ frame_says (read_first lo hi) lo hi before (read_frame places.Entries bytes)
-read_first-frame lo hi before [] = no_bytes 0 lo hi before ∙ sym (ap (frame_says (read_first lo hi) lo hi before) no_frame)
-read_first-frame lo hi before (x ∷ bytes) =
-    one_frame (length bytes) lo hi before (x ∷ bytes)
-    ∙ same_frame (first_reply (length bytes) lo hi) (read_first lo hi) lo hi before (x ∷ bytes) (read_frame places.Entries (x ∷ bytes)) refl (λ more rest le. enough (length bytes) (length rest) lo hi more rest (omega arith) (omega arith))
-
--- a frame's fault is that of the reply
-pub read_first-fault : (lo hi : ℕ) (before : List Entry) (bytes : List ℕ) (fault : WireFault) → read_frame places.Entries bytes ≡ Err fault → read_first lo hi before bytes ≡ Err (reason_of fault)
-read_first-fault lo hi before bytes fault is = read_first-frame lo hi before bytes ∙ ap (frame_says (read_first lo hi) lo hi before) is
-
--- what a message at the front says
-pub read_first-message : (lo hi : ℕ) (before : List Entry) (bytes rest : List ℕ) (m : Message) → read_frame places.Entries bytes ≡ Ok (m, rest) → read_first lo hi before bytes ≡ message_says (read_first lo hi) lo hi before rest m
-read_first-message lo hi before bytes rest m is = read_first-frame lo hi before bytes ∙ ap (frame_says (read_first lo hi) lo hi before) is
-
--- no bytes are not the whole reply
-pub read_first-nil : (lo hi : ℕ) (before : List Entry) → read_first lo hi before [] ≡ Err reasons.Closed
-read_first-nil lo hi before = no_bytes 0 lo hi before
+-- the entries of reply 0 rise
+pub first_rises : (version : Version) (lo hi : ℕ) (bytes : List ℕ) (t : Stated)
+    → read_reply (sub_rules version lo hi) (in_part []) bytes ≡ Ok t
+    → FirstKept lo hi (λ es. rise_within lo hi es ≡ true) t
+first_rises version lo hi bytes t e =
+    first_keeps version lo hi (λ es. rise_within lo hi es ≡ true) (λ _. Unit {0})
+    (λ before more from rest v fine is taken rise.
+    ((entries-taken lo hi before v.items more rise taken).0, tt))
+    bytes t tt (rise-nil lo hi) e

@@ -13,7 +13,7 @@ use Rattle.sip_subvec.specs.Checking.{Kept, AnswersAs}
 use Rattle.sip_subvec.specs.Replies.{most_entries, with_entries}
 use Rattle.sip_subvec.specs.LawProofs.ReplyTests.{same_err}
 use Rattle.sip_subvec.proofs.StatedEntries.{rise-nil}
-use Rattle.sip_subvec.proofs.SaidReplies.{entries-taken}
+use Rattle.sip_subvec.proofs.RisingEntries.{entries-taken}
 use Rattle.sip_subvec.proofs.TakingSteps.{in_pieces, first_piece}
 use Rattle.sip_replies.specs.Talks.{ending}
 use Rattle.sip_subvec.specs.Asking.{HasEntries, IsTakenValue, Gives, most_answer}

@@ -14,6 +14,8 @@ use Rattle.sip_vector.specs.Trees.{up}
 use Rattle.sip_vector.proofs.TreeResidues.{residue_below}
 use Rattle.sip_vector.specs.declared.update.Entry.{Entry}
 use Rattle.sip_wire.specs.declared.message.Message.TheVariants as messages
+use Rattle.sip_wire.specs.declared.version.Version.{Version}
+use Rattle.sip_wire.specs.Versions.{index_width}
 use Rattle.sip_wire.specs.Table.{is_small, most_claim, repeat, entry_fields}
 use Rattle.sip_wire.specs.Spelling.{fits, has_room, all_hold, entry_numbers}
 use Rattle.sip_wire.proofs.SiblingElements.{HasElement}
@@ -22,9 +24,9 @@ use Rattle.sip_subvec.specs.Replies.{are_asked}
 
 -- ---- entries
 
--- an entry that a frame may have
-pub record IsRow (e : Entry) : Type 0 where
-  pub index : e.index < 2 ^ 32
+-- an entry that a frame of this version may have
+pub record IsRow (version : Version) (e : Entry) : Type 0 where
+  pub index : e.index < 256 ^ index_width version
   pub some : e.value ≢ pos 0
   pub small : nat_abs e.value ≤ most_claim
 
@@ -43,33 +45,41 @@ bits_some (negsuc n) some le = ne_eqb (cast_unsigned w64 (negsuc n)) 0 (λ e. ab
 bits_small : (z : ℤ) → nat_abs z ≤ most_claim → is_small (cast_unsigned w64 z) ≡ true
 bits_small z le = ap (λ (x : ℤ). nat_le (nat_abs x) most_claim) (to_z-of_z w64 z (in_range z le)) ∙ le-leb (nat_abs z) most_claim le
 
-rows_have_room : (es : List Entry) → All IsRow es → has_room (repeat (length es) entry_fields) (flat_map entry_numbers es) ≡ true
-unfolding has_room
-rows_have_room [] h = refl
-rows_have_room (e ∷ es) h =
-    let row = All-head IsRow e es h in
-    let small = row.index in
-    and_from _ _ (lt-ltb e.index (256 ^ 4) (omega arith)) (and_from _ _ (lt-ltb (cast_unsigned w64 e.value) (256 ^ 8) (bits_below e.value row.small)) (rows_have_room es (All-tail IsRow e es h)))
+module _ (version : Version) where
+  rows_have_room : (es : List Entry) → All (IsRow version) es
+      → has_room (repeat (length es) (entry_fields version)) (flat_map entry_numbers es) ≡ true
+  unfolding has_room
+  rows_have_room [] h = refl
+  rows_have_room (e ∷ es) h =
+      let row = All-head (IsRow version) e es h in
+      and_from _ _ (lt-ltb e.index (256 ^ index_width version) row.index)
+      (and_from _ _ (lt-ltb (cast_unsigned w64 e.value) (256 ^ 8) (bits_below e.value row.small))
+      (rows_have_room es (All-tail (IsRow version) e es h)))
 
-rows_hold : (es : List Entry) → All IsRow es → all_hold (repeat (length es) entry_fields) (flat_map entry_numbers es) ≡ true
-unfolding all_hold
-rows_hold [] h = refl
-rows_hold (e ∷ es) h =
-    let row = All-head IsRow e es h in
-    and_from _ _ refl (and_from _ _ (and_from _ _ (ap not (bits_some e.value row.some row.small)) (bits_small e.value row.small)) (rows_hold es (All-tail IsRow e es h)))
+  rows_hold : (es : List Entry) → All (IsRow version) es
+      → all_hold (repeat (length es) (entry_fields version)) (flat_map entry_numbers es) ≡ true
+  unfolding all_hold
+  rows_hold [] h = refl
+  rows_hold (e ∷ es) h =
+      let row = All-head (IsRow version) e es h in
+      and_from _ _ refl (and_from _ _ (and_from _ _ (ap not (bits_some e.value row.some row.small))
+      (bits_small e.value row.small)) (rows_hold es (All-tail (IsRow version) e es h)))
 
--- a frame of 1 to 512 of them
-pub entries_fit : (es : List Entry) → 0 < length es → length es ≤ 512 → All IsRow es → IsTrue (fits (messages.Entries (record { items = es })))
-unfolding fits
-entries_fit es some most rows =
-    let count : (nat_le 1 (length es) && nat_le (length es) 512) ≡ true = grind (arith, nat_tests) in
-    and_from _ _ (and_from _ _ (and_from _ _ count (rows_have_room es rows)) refl) (rows_hold es rows)
+  -- a frame of 1 to 512 of them
+  pub entries_fit : (es : List Entry) → 0 < length es → length es ≤ 512 → All (IsRow version) es
+      → IsTrue (fits version (messages.Entries (record { items = es })))
+  unfolding fits
+  entries_fit es some most rows =
+      let count : (nat_le 1 (length es) && nat_le (length es) 512) ≡ true = grind (arith, nat_tests) in
+      and_from _ _ (and_from _ _ (and_from _ _ count (rows_have_room es rows)) refl) (rows_hold es rows)
 
-in_range_of : (e : Entry) → IsRow e → FitsSigned w64 e.value
-in_range_of e row = in_range e.value row.small
+  in_range_of : (e : Entry) → IsRow version e → FitsSigned w64 e.value
+  in_range_of e row = in_range e.value row.small
 
-pub entries_in_range : (es : List Entry) → All IsRow es → All (λ (e : Entry). FitsSigned w64 e.value) es
-entries_in_range es rows = All-weaker IsRow (λ (e : Entry). FitsSigned w64 e.value) in_range_of es rows
+  pub entries_in_range : (es : List Entry) → All (IsRow version) es
+      → All (λ (e : Entry). FitsSigned w64 e.value) es
+  entries_in_range es rows =
+      All-weaker (IsRow version) (λ (e : Entry). FitsSigned w64 e.value) in_range_of es rows
 
 -- ---- siblings
 

@@ -6,6 +6,7 @@ use Rattle.std.proofs.lemmas.Int.{ints}
 use Rattle.std.proofs.lemmas.List.Elements.{All-cons, All-nil, All-head, All-tail, All-map}
 use Rattle.std.proofs.lemmas.List.Sums.{sum_by-cons}
 use Rattle.sip_field.specs.Moduli.{m61_modulus}
+use Rattle.sip_vector.specs.declared.query.Query.TheVariants.{Sub}
 use Rattle.sip_vector.specs.declared.update.Side.{Side}
 use Rattle.sip_vector.specs.declared.update.Side.TheVariants.{First}
 use Rattle.sip_vector.specs.declared.update.Update.{Update}
@@ -16,7 +17,10 @@ use Rattle.sip_vector.proofs.Filters.{as_entry}
 use Rattle.sip_vector.proofs.Kept.{not_is_zero}
 use Rattle.sip_vector.proofs.Sides.{length-vector}
 use Rattle.std.specs.List.{range_with_len}
-use Rattle.sip_wire.specs.Table.{most_claim, most_depth}
+use Rattle.sip_wire.specs.declared.version.Version.{Version}
+use Rattle.sip_wire.specs.declared.version.Version.TheVariants.{One, Two}
+use Rattle.sip_wire.specs.Versions.{deepest, index_width, Speaks}
+use Rattle.sip_wire.specs.Table.{most_claim}
 use Rattle.sip_subvec.specs.Honest.{CanBeShown}
 use Rattle.sip_subvec.specs.Replies.{most_entries}
 use Rattle.sip_subvec.proofs.HonestEntries.{found, found-cons}
@@ -27,25 +31,37 @@ use Rattle.sip_subvec.proofs.HonestFrames.{IsRow}
 abbrev IsSmall : ℤ → Type 0
 IsSmall a = nat_abs a ≤ most_claim
 
-found_rows : (lo hi k : ℕ) (xs : List ℤ) → k + length xs ≤ 2 ^ 32 → All IsSmall xs → All IsRow (found lo hi k xs)
-found_rows lo hi k [] room small = All-nil IsRow
-found_rows lo hi k (x ∷ xs) room small =
-    let later = found_rows lo hi (k + 1) xs (omega arith) (All-tail IsSmall x xs small) in
+found_rows : (version : Version) (lo hi k : ℕ) (xs : List ℤ)
+    → k + length xs ≤ 256 ^ index_width version → All IsSmall xs
+    → All (IsRow version) (found lo hi k xs)
+found_rows version lo hi k [] room small = All-nil (IsRow version)
+found_rows version lo hi k (x ∷ xs) room small =
+    let later = found_rows version lo hi (k + 1) xs (omega arith) (All-tail IsSmall x xs small) in
     elim (cases_Bool (is_nonzero_within lo hi (as_entry (k, x)))) [
       | inl t ↦
-          let row : IsRow (as_entry (k, x)) = record {
+          let row : IsRow version (as_entry (k, x)) = record {
             index = omega arith;
             some = not_is_zero x (and_parts (is_within lo hi k) (not (is_zero x)) t).1;
             small = All-head IsSmall x xs small;
           } in
-          subst (All IsRow) (sym (found-cons lo hi k x xs true t)) (All-cons IsRow (as_entry (k, x)) (found lo hi (k + 1) xs) row later)
-      | inr t ↦ subst (All IsRow) (sym (found-cons lo hi k x xs false t)) later
+          subst (All (IsRow version)) (sym (found-cons lo hi k x xs true t)) (All-cons (IsRow version) (as_entry (k, x)) (found lo hi (k + 1) xs) row later)
+      | inr t ↦ subst (All (IsRow version)) (sym (found-cons lo hi k x xs false t)) later
     ]
 
-pub shown_rows : (p depth lo hi : ℕ) (numbers : List ℤ) → CanBeShown p depth lo hi numbers → All IsRow (nonzero_within lo hi numbers)
-shown_rows p depth lo hi numbers shown =
-    let powers : 2 ^ depth ≤ 2 ^ 32 = pow-le-pow_right {n = 2} (omega arith) shown.indices in
-    found_rows lo hi 0 numbers (omega (arith, shown.size)) shown.small
+-- the indices of a vector that is not too deep have room in a frame
+has_room_below : (version : Version) (depth : ℕ) → depth ≤ deepest version
+    → 2 ^ depth ≤ 256 ^ index_width version
+has_room_below One depth shallow =
+    let powers : 2 ^ depth ≤ 2 ^ 32 = pow-le-pow_right {n = 2} (omega arith) shallow in
+    omega arith
+has_room_below Two depth shallow =
+    let powers : 2 ^ depth ≤ 2 ^ 48 = pow-le-pow_right {n = 2} (omega arith) shallow in
+    omega arith
+
+pub shown_rows : (version : Version) (p depth lo hi : ℕ) (numbers : List ℤ) → CanBeShown version p depth lo hi numbers → All (IsRow version) (nonzero_within lo hi numbers)
+shown_rows version p depth lo hi numbers shown =
+    let powers = has_room_below version depth shown.speaks.shallow in
+    found_rows version lo hi 0 numbers (omega (arith, shown.size)) shown.small
 
 -- ---- numbers of streams
 
@@ -85,13 +101,13 @@ all_of P [] h = All-nil P
 all_of P (x ∷ xs) h = All-cons P x xs (h x) (all_of P xs h)
 
 -- an interval of a legal stream's vector can be shown, where it does not have too many entries
-pub legal_shown : (depth lo hi : ℕ) (stream : List Update) → IsLegal depth stream → 1 ≤ depth → depth ≤ most_depth → lo ≤ hi → hi < 2 ^ depth → length (nonzero_within lo hi (vector depth stream First)) ≤ most_entries
-    → CanBeShown m61_modulus depth lo hi (vector depth stream First)
-legal_shown depth lo hi stream legal levels indices order within few = record {
+pub legal_shown : (version : Version) (depth lo hi : ℕ) (stream : List Update) → IsLegal depth stream → 1 ≤ depth → Speaks version depth (Sub lo hi) → lo ≤ hi → hi < 2 ^ depth → length (nonzero_within lo hi (vector depth stream First)) ≤ most_entries
+    → CanBeShown version m61_modulus depth lo hi (vector depth stream First)
+legal_shown version depth lo hi stream legal levels speaks order within few = record {
   some = omega arith;
   elements = omega arith;
   levels = levels;
-  indices = indices;
+  speaks = speaks;
   size = length-vector depth stream First;
   order = order;
   within = within;

@@ -1,7 +1,3 @@
-pub mod FirstReply
-pub mod LaterReply
-pub mod Fronts
-pub mod Verdicts
 pub mod Provers
 pub mod Windows
 pub mod Halvings
@@ -10,6 +6,7 @@ pub mod HonestFrames
 pub mod HonestReading
 pub mod HonestStates
 pub mod HonestStreams
+pub mod HonestSpellings
 pub mod HonestLaws
 pub mod HonestFronts
 pub mod WeightedFolds
@@ -19,13 +16,15 @@ pub mod Stretches
 pub mod WrongLevels
 pub mod StatedEntries
 pub mod WrongEntries
-pub mod SaidReplies
+pub mod Passing
+pub mod RisingEntries
+pub mod FirstReply
+pub mod LaterReply
+pub mod Runs
 pub mod SaidByStrategies
 pub mod SmallValues
 pub mod FewFooled
 pub mod WrittenAnswers
-pub mod ProtocolReplies
-pub mod ProtocolTurns
 pub mod RoomForEntries
 pub mod GivenEntries
 pub mod ProtocolSteps

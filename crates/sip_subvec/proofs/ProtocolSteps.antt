@@ -1,5 +1,5 @@
 -- What the check does with a frame is a step of the protocol.
-use Rattle.std.proofs.Common.{◌≡◌, ℕ, ◌-◌, ◌/◌, ◌<◌, ◌≤◌, true, false, Option, Result, Ok, Err, List, [], ◌∷◌, ◌++◌, length, take, refl, sym, ap, subst, ◌∙◌, arith, length-take-le}
+use Rattle.std.proofs.Common.{◌≡◌, ℕ, ◌+◌, ◌-◌, ◌/◌, ◌<◌, ◌≤◌, true, false, Option, Result, Ok, Err, List, [], ◌∷◌, ◌++◌, length, take, refl, sym, ap, subst, ◌∙◌, arith, length-take-le}
 use Rattle.std.specs.Prelude.{◌^◌, ◌&&◌, IsTrue, IsErrAnd, nat_le}
 use Rattle.std.proofs.lemmas.Bool.Decides.{nat_tests}
 use Rattle.arrayvec.specs.ArrayVec.{ArrayVec}
@@ -9,6 +9,7 @@ use Rattle.sip_vector.specs.Steps.{◌>>=◌}
 use Rattle.sip_wire.specs.declared.kind.Kind.TheVariants as kinds
 use Rattle.sip_wire.specs.declared.message.Message.TheVariants as messages
 use Rattle.sip_wire.specs.declared.message.Reason.{Reason}
+use Rattle.sip_wire.specs.declared.version.Version.{Version}
 use Rattle.sip_wire.specs.Spelling.{fits, numbers}
 use Rattle.sip_wire.specs.Table.{shape}
 use Rattle.sip_wire.proofs.Shapes.{mark_of_fit}
@@ -19,7 +20,7 @@ use Rattle.sip_subvec.specs.AcceptsSub.{Siblings, Stated}
 use Rattle.sip_subvec.specs.Asking.{Asking, SubStands, HasEntries, Gives, is_first_of, most_answer}
 use Rattle.sip_subvec.specs.Checking.{Kept, HasTaken, AnswersAs}
 use Rattle.sip_subvec.specs.Protocol.{SubAsked, entries_step, sub_step}
-use Rattle.sip_subvec.specs.Replies.{with_entries, asked_siblings}
+use Rattle.sip_subvec.specs.Replies.{most_entries, with_entries, asked_siblings}
 use Rattle.sip_subvec.proofs.GivenEntries.{answered_ok, answered_err, its_own, by_its_own, Gives-from, Gives-counts}
 use Rattle.sip_subvec.proofs.RoomForEntries.{room_for}
 
@@ -131,7 +132,7 @@ module _ (asked : SubAsked) (s : Stated) (a : Asking) (places : List Entry)
   own_entries = by_its_own begun (take a.found places) a.check held
 
   -- no entries beyond the most that an answer has
-  pub few_found : a.found < 65537
+  pub few_found : a.found ≤ most_entries
   unfolding begun
   few_found =
       let few = room_for asked.lo asked.hi (take a.found places) held.passed.entries in
@@ -197,18 +198,19 @@ module _ (asked : SubAsked) (s : Stated) (a : Asking) (places : List Entry)
 
     -- so fewer may still come
     pub entries_fewer : (n : ℕ) → Gives a.check (take a.found places) rows.items new after (Ok n)
-        → 1 ≤ length rows.items → 65537 - n < 65537 - a.found
+        → 1 ≤ length rows.items → most_entries + 1 - n < most_entries + 1 - a.found
     entries_fewer n gives some =
         let more = Gives-counts a.check places rows.items a.found new after n stands.within some gives in
         let few = few_found in
         omega (arith, more, few)
 
     -- a frame that has a spelling has an entry
-    pub some_entries : IsTrue (fits (messages.Entries rows)) → 1 ≤ length rows.items
+    pub some_entries : (version : Version) → IsTrue (fits version (messages.Entries rows))
+        → 1 ≤ length rows.items
     unfolding fits
-    some_entries fit =
+    some_entries version fit =
         let mark : (nat_le 1 (length rows.items) && nat_le (length rows.items) 512)
-        ≡ true = mark_of_fit (shape kinds.Entries) (length rows.items)
+        ≡ true = mark_of_fit (shape version kinds.Entries) (length rows.items)
         (numbers (messages.Entries rows)) fit in
         at_least (length rows.items) mark
       where

@@ -11,11 +11,13 @@ use Rattle.sip_vector.specs.Answers.{is_within}
 use Rattle.sip_vector.specs.Steps.{◌>>=◌, needs}
 use Rattle.sip_wire.specs.declared.message.Message.TheVariants as messages
 use Rattle.sip_wire.specs.declared.message.Reason.TheVariants as reasons
+use Rattle.sip_wire.specs.declared.version.Version.{Version}
 use Rattle.sip_wire.specs.Spelling.{all_hold, has_room, fits}
 use Rattle.sip_subvec.specs.Counting.{rise_within}
 use Rattle.sip_subvec.specs.Replies.{most_entries, with_entries}
 use Rattle.sip_subvec.proofs.StatedEntries.{rise-nil, rise-parts}
-use Rattle.sip_subvec.proofs.SaidReplies.{entries-taken, test_passed}
+use Rattle.sip_subvec.proofs.Passing.{test_passed}
+use Rattle.sip_subvec.proofs.RisingEntries.{entries-taken}
 use Rattle.sip_subvec.specs.Asking.{most_answer}
 
 -- ---- how many entries there is room for
@@ -44,9 +46,9 @@ room_for lo hi es is =
 -- ---- the siblings of a frame
 
 -- siblings that have a spelling are elements of the field
-pub siblings_below : (left right : Option ℕ) → fits (messages.Siblings left right) ≡ true → IfSome left (λ x. x < m61_modulus) × IfSome right (λ x. x < m61_modulus)
+pub siblings_below : (version : Version) (left right : Option ℕ) → fits version (messages.Siblings left right) ≡ true → IfSome left (λ x. x < m61_modulus) × IfSome right (λ x. x < m61_modulus)
 unfolding fits has_room all_hold
-siblings_below None None h = (tt, tt)
-siblings_below (Some l) None h = (grind (arith, nat_tests), tt)
-siblings_below None (Some r) h = (tt, grind (arith, nat_tests))
-siblings_below (Some l) (Some r) h = (grind (arith, nat_tests), grind (arith, nat_tests))
+siblings_below version None None h = (tt, tt)
+siblings_below version (Some l) None h = (grind (arith, nat_tests), tt)
+siblings_below version None (Some r) h = (tt, grind (arith, nat_tests))
+siblings_below version (Some l) (Some r) h = (grind (arith, nat_tests), grind (arith, nat_tests))

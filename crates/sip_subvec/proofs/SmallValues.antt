@@ -15,11 +15,14 @@ use Rattle.sip_wire.specs.Decoding.{IsBytes}
 use Rattle.sip_wire.proofs.EntryValues.{IsSpelledValue, values_spelled}
 use Rattle.sip_wire.proofs.ReadsBack.{read_frame-message}
 use Rattle.sip_wire.proofs.ReadingLaws.{read_frame-rest}
-use Rattle.sip_subvec.specs.AcceptsSub.{Siblings}
-use Rattle.sip_subvec.specs.Replies.{first_reply}
+use Rattle.sip_wire.specs.declared.version.Version.{Version}
+use Rattle.sip_replies.specs.Replies.{read_reply}
+use Rattle.sip_subvec.specs.AcceptsSub.{Stated}
+use Rattle.sip_subvec.specs.Protocol.{sub_rules}
 use Rattle.sip_subvec.specs.Counting.{has_small_value, rise_within}
 use Rattle.sip_subvec.proofs.StatedEntries.{rise-nil}
-use Rattle.sip_subvec.proofs.SaidReplies.{entries-taken, first_reply-keeps}
+use Rattle.sip_subvec.proofs.FirstReply.{in_part, first_keeps}
+use Rattle.sip_subvec.proofs.RisingEntries.{entries-taken}
 
 -- ---- the values of a frame
 
@@ -53,15 +56,20 @@ bytes_at bytes all i = elim (cases_lt i (length bytes)) [
 ]
 
 -- the entries of reply 0 in bytes have small values
-pub first_reply-small : (n lo hi : ℕ) (bytes : List ℕ) (es : List Entry) (s : Siblings) → All (λ b. b < 256) bytes → first_reply n lo hi [] bytes ≡ Ok (es, s) → list_all (has_small_value m61_modulus) es ≡ true
-first_reply-small n lo hi bytes es s are e =
-    let kept = first_reply-keeps lo hi (λ l. (rise_within lo hi l ≡ true) × (list_all (has_small_value m61_modulus) l ≡ true)) AreBytes
+pub first_small : (version : Version) (lo hi : ℕ) (bytes : List ℕ) (t : Stated)
+    → All (λ b. b < 256) bytes → read_reply (sub_rules version lo hi) (in_part []) bytes ≡ Ok t
+    → list_all (has_small_value m61_modulus) t.entries ≡ true
+first_small version lo hi bytes t are e =
+    let kept = first_keeps version lo hi
+    (λ l. (rise_within lo hi l ≡ true) × (list_all (has_small_value m61_modulus) l ≡ true)) AreBytes
     (λ before more from rest v fine is taken keeps.
     let t = entries-taken lo hi before v.items more keeps.0 taken in
-    let spelled = read_frame-message places.Entries from (messages.Entries v) rest (bytes_at from fine) is in
-    let small = values_small v.items (values_spelled v spelled.has_spelling spelled.in_range) in
-    let both : list_all (has_small_value m61_modulus) (before ++ v.items) ≡ true = list_all-append (has_small_value m61_modulus) before v.items ∙ and_from (list_all (has_small_value m61_modulus) before) (list_all (has_small_value m61_modulus) v.items) keeps.1 small in
-    let behind_it = (read_frame-rest places.Entries from (messages.Entries v) rest is).1 in
-    ((t.0, ap (list_all (has_small_value m61_modulus)) t.1 ∙ both), rw behind_it (All-drop (λ (b : ℕ). b < 256) (asked places.Entries from) from fine)))
-    n [] bytes es s are (rise-nil lo hi, refl) e in
-    kept.0.1
+    let spelled = read_frame-message version places.Entries from (messages.Entries v) rest (bytes_at from fine) is in
+    let small = values_small v.items (values_spelled version v spelled.has_spelling spelled.in_range) in
+    let both : list_all (has_small_value m61_modulus) (before ++ v.items)
+    ≡ true = list_all-append (has_small_value m61_modulus) before v.items
+    ∙ and_from (list_all (has_small_value m61_modulus) before) (list_all (has_small_value m61_modulus) v.items) keeps.1 small in
+    let behind_it = (read_frame-rest version places.Entries from (messages.Entries v) rest is).1 in
+    ((t.0, ap (list_all (has_small_value m61_modulus)) t.1 ∙ both), rw behind_it (All-drop (λ (b : ℕ). b < 256) (asked version places.Entries from) from fine)))
+    bytes t are (rise-nil lo hi, refl) e in
+    kept.keeps.1

@@ -245,12 +245,12 @@ HasTaken-nothing p root lo hi challenges check order within at for from to level
 -- ---- what a call needs
 
 -- an entry that passes is within the interval, and there is room for it
-pub entry_passes : (check : Kept) (i : ℕ) (u : Unit {0}) → entry_test check i ≡ Ok u → (i ≤ check.hi) × (check.count < 65536)
+pub entry_passes : (check : Kept) (i : ℕ) (u : Unit {0}) → entry_test check i ≡ Ok u → (i ≤ check.hi) × (check.count < most_entries)
 entry_passes check i u is =
     let tests = both (is_within check.lo check.hi i && is_above check.last i) (nat_lt check.count most_entries) u is in
     let within = and_parts (is_within check.lo check.hi i) (is_above check.last i) tests.0 in
     let ends = and_parts (nat_le check.lo i) (nat_le i check.hi) within.0 in
-    (leb-true i check.hi ends.1, ltb-true check.count 65536 tests.1)
+    (leb-true i check.hi ends.1, ltb-true check.count most_entries tests.1)
   where
     both : (order room : Bool) (v : Unit {0}) → ◌≡◌ {A = Result (Unit {0}) Reason} (needs order reasons.BadOrder >>= λ _. needs room reasons.TooMany) (Ok v) → (order ≡ true) × (room ≡ true)
     both true true v e = (refl, refl)

@@ -10,15 +10,18 @@ use Rattle.sip_vector.specs.declared.update.Entry.{Entry}
 use Rattle.sip_vector.specs.Steps.{◌>>=◌, needs}
 use Rattle.sip_vector.specs.Streams.{most_weight, frequency, vector, IsLegal}
 use Rattle.sip_vector.specs.Vectors.{nonzero_within}
+use Rattle.sip_wire.specs.declared.message.Reason.{Reason}
 use Rattle.sip_wire.specs.declared.message.Reason.TheVariants as reasons
+use Rattle.sip_vector.specs.Answers.{Answer, pairs}
 use Rattle.sip_counts.specs.Strategies.{Strategy, replies, takes_wrong}
 use Rattle.sip_counts.proofs.Talks.{takes_wrong-at}
 use Rattle.sip_subvec.specs.AcceptsSub.{gives_root}
-use Rattle.sip_replies.specs.Replies.{Fault}
-use Rattle.sip_subvec.specs.Replies.{stated, verdict, accepts, IsAccepted}
-use Rattle.sip_subvec.specs.Counting.{said, entries_of, is_right}
-use Rattle.sip_subvec.proofs.SaidReplies.{step_passed, test_passed, same_ok}
-use Rattle.sip_subvec.proofs.FewFooled.{same_entries}
+use Rattle.sip_wire.specs.declared.version.Version.{Version}
+use Rattle.sip_replies.specs.Replies.{in_round, run, verdict, IsAccepted}
+use Rattle.sip_subvec.specs.Counting.{said, is_right, accepts_sub}
+use Rattle.sip_subvec.specs.Protocol.{sub_asked, sub_protocol, sub_rules}
+use Rattle.sip_subvec.proofs.Passing.{step_passed, test_passed, round_passed, same_ok}
+use Rattle.sip_subvec.proofs.FewFooled.{same_entries, said_by}
 use Rattle.sip_subvec.proofs.HonestStreams.{frequency_light}
 
 -- ---- streams
@@ -34,19 +37,37 @@ vector-small d stream legal =
 -- ---- answers
 
 -- the entries of a verdict are what the replies say
-verdict_says : (p top lo hi : ℕ) (r : List ℕ) (all : List (List ℕ)) (es : List Entry) → verdict p top lo hi r all ≡ Ok es → said lo hi all ≡ es
-unfolding verdict
-verdict_says p top lo hi r all es e =
-    let fault : Fault = record { round = length r; reason = reasons.Root } in
-    let a = step_passed {B = List Entry} (stated lo hi all) (λ s. needs (gives_root p top lo hi r s) fault >>= λ _. Ok s.entries) es e in
-    let b = test_passed {B = List Entry} (gives_root p top lo hi r a.x) fault (λ _. Ok a.x.entries) es a.then in
-    ap entries_of a.first ∙ same_ok {E = Fault} a.x.entries es b.1
+verdict_says : (version : Version) (p top lo hi : ℕ) (r : List ℕ) (all : List (List ℕ))
+    (es : List Entry)
+    → verdict (sub_protocol (sub_asked version p top lo hi r)) r all ≡ Ok (pairs es)
+    → said version lo hi all ≡ es
+verdict_says version p top lo hi r all es e =
+    let a = step_passed {B = Answer} (run (sub_rules version lo hi) r all)
+    (λ s. in_round (length r) (needs (gives_root p top lo hi r s) reasons.Root
+    >>= λ _. Ok (pairs s.entries))) (pairs es) e in
+    let passed = round_passed (length r)
+    (needs (gives_root p top lo hi r a.x) reasons.Root >>= λ _. Ok (pairs a.x.entries)) (pairs es)
+    a.then in
+    let b = test_passed {B = Answer} (gives_root p top lo hi r a.x) reasons.Root
+    (λ _. Ok (pairs a.x.entries)) (pairs es) passed in
+    let same : pairs a.x.entries ≡ pairs es = same_ok {E = Reason} _ _ b.1 in
+    said_by version lo hi r all a.x a.first ∙ (cc)
 
-pub written_counts : (p top lo hi : ℕ) (numbers : List ℤ) (tops : List ℕ → ℕ) (strategy : Strategy) (block : List ℕ) (taken : List (List ℕ)) (answer : List Entry) → tops block ≡ top → IsAccepted p top lo hi block taken answer → replies strategy block ≡ map Some taken → answer ≢ nonzero_within lo hi numbers
-    → takes_wrong (λ r. accepts p (tops r) lo hi r) (is_right lo hi numbers) strategy block ≡ true
-written_counts p top lo hi numbers tops strategy block taken answer is accepted talk wrong =
-    let says = verdict_says p top lo hi block taken answer accepted.found in
-    let ok : is_ok (verdict p top lo hi block taken) ≡ true = ap is_ok accepted.found in
-    let good : accepts p top lo hi block taken ≡ true = and_from (eqb (length taken) (length block)) (is_ok (verdict p top lo hi block taken)) (eq-eqb (length taken) (length block) accepted.all) ok in
-    takes_wrong-at (λ r. accepts p (tops r) lo hi r) (is_right lo hi numbers) strategy block taken talk (ap (λ t. accepts p t lo hi block taken) is ∙ good)
-    (false_from_ne_true (is_right lo hi numbers taken) (λ same. wrong (sym says ∙ (same_entries (said lo hi taken) (nonzero_within lo hi numbers)).0 same)))
+pub written_counts : (version : Version) (p top lo hi : ℕ) (numbers : List ℤ) (tops : List ℕ → ℕ)
+    (strategy : Strategy) (block : List ℕ) (taken : List (List ℕ)) (answer : List Entry)
+    → tops block ≡ top
+    → IsAccepted (sub_protocol (sub_asked version p top lo hi block)) block taken (pairs answer)
+    → replies strategy block ≡ map Some taken → answer ≢ nonzero_within lo hi numbers
+    → takes_wrong (λ r. accepts_sub version p (tops r) lo hi r) (is_right version lo hi numbers)
+    strategy block ≡ true
+written_counts version p top lo hi numbers tops strategy block taken answer is accepted talk wrong =
+    let says = verdict_says version p top lo hi block taken answer accepted.found in
+    let P = sub_protocol (sub_asked version p top lo hi block) in
+    let ok : is_ok (verdict P block taken) ≡ true = ap is_ok accepted.found in
+    let good : accepts_sub version p top lo hi block taken ≡ true =
+    and_from (eqb (length taken) (length block)) (is_ok (verdict P block taken))
+    (eq-eqb (length taken) (length block) accepted.all) ok in
+    takes_wrong-at (λ r. accepts_sub version p (tops r) lo hi r) (is_right version lo hi numbers)
+    strategy block taken talk (ap (λ t. accepts_sub version p t lo hi block taken) is ∙ good)
+    (false_from_ne_true (is_right version lo hi numbers taken) (λ same. wrong (sym says
+    ∙ (same_entries (said version lo hi taken) (nonzero_within lo hi numbers)).0 same)))

@@ -10,9 +10,11 @@ use Rattle.sip_vector.specs.Answers.{is_within}
 use Rattle.sip_vector.specs.Trees.{root}
 use Rattle.sip_vector.specs.Vectors.{nonzero_within}
 use Rattle.sip_counts.specs.Clauses.{FewAndCounted}
+use Rattle.sip_wire.specs.declared.version.Version.{Version}
+use Rattle.sip_replies.specs.Replies.{Fault, run, accepts}
 use Rattle.sip_subvec.specs.AcceptsSub.{Siblings, Stated, gives_root}
-use Rattle.sip_replies.specs.Replies.{Fault}
-use Rattle.sip_subvec.specs.Replies.{are_asked, stated, accepts}
+use Rattle.sip_subvec.specs.Protocol.{sub_asked, sub_protocol, sub_rules}
+use Rattle.sip_subvec.specs.Replies.{are_asked}
 
 -- ---- over what replies state
 
@@ -35,8 +37,7 @@ are_all_asked lo hi (s ∷ siblings) = are_asked lo hi s && are_all_asked (lo / 
 abbrev pub accepts_stated : ℕ → ℕ → ℕ → ℕ → List ℕ → Stated → Bool
 accepts_stated p root lo hi challenges s =
     (length s.siblings == length challenges)
-    && (rise_within lo hi s.entries
-    && (list_all (has_small_value p) s.entries
+    && (rise_within lo hi s.entries && (list_all (has_small_value p) s.entries
     && (are_all_asked lo hi s.siblings && gives_root p root lo hi challenges s)))
 
 -- ---- over bytes
@@ -46,30 +47,38 @@ abbrev pub entries_of : Result Stated Fault → List Entry
 entries_of (Ok s) = s.entries
 entries_of (Err _) = []
 
-abbrev pub said : ℕ → ℕ → List (List ℕ) → List Entry
-said lo hi replies = entries_of (stated lo hi replies)
+-- no challenge is needed to read them
+abbrev pub said : Version → ℕ → ℕ → List (List ℕ) → List Entry
+said version lo hi replies = entries_of (run (sub_rules version lo hi) [] replies)
 
 abbrev pub is_same_entry : Entry → Entry → Bool
 is_same_entry a b = (a.index == b.index) && int_eq a.value b.value
 
 -- the replies say the entries of these numbers that are not 0
-abbrev pub is_right : ℕ → ℕ → List ℤ → List (List ℕ) → Bool
-is_right lo hi numbers replies =
-    pointwise is_same_entry (said lo hi replies) (nonzero_within lo hi numbers)
+abbrev pub is_right : Version → ℕ → ℕ → List ℤ → List (List ℕ) → Bool
+is_right version lo hi numbers replies =
+    pointwise is_same_entry (said version lo hi replies) (nonzero_within lo hi numbers)
+
+-- the replies at these challenges are accepted
+abbrev pub accepts_sub : Version → ℕ → ℕ → ℕ → ℕ → List ℕ → List (List ℕ) → Bool
+accepts_sub version p root lo hi challenges replies =
+    accepts (sub_protocol (sub_asked version p root lo hi challenges)) challenges replies
 
 -- The replies are accepted modulo p. The bytes of a value leave room for those that are small
 -- modulo 2^61 - 1; over a lesser modulus each value has to be small for it.
-abbrev pub accepts_small : ℕ → ℕ → ℕ → ℕ → List ℕ → List (List ℕ) → Bool
-accepts_small p root lo hi challenges replies =
-    accepts p root lo hi challenges replies && list_all (has_small_value p) (said lo hi replies)
+abbrev pub accepts_small : Version → ℕ → ℕ → ℕ → ℕ → List ℕ → List (List ℕ) → Bool
+accepts_small version p root lo hi challenges replies =
+    accepts_sub version p root lo hi challenges replies
+    && list_all (has_small_value p) (said version lo hi replies)
 
 -- ---- on a call
 
 -- What a call that writes the answer to a query for the entries of these numbers from lo to hi
 -- promises of a helper that lies: `block` are the query's challenges, `taken` the replies of this
 -- run, and `written` the answer, if one was written.
-abbrev pub SubCountClause : ℕ → List ℤ → ℕ → ℕ → List ℕ → List (List ℕ) → Option (List Entry)
-    → Type 0
-SubCountClause d numbers lo hi block taken written =
-    FewAndCounted m61_modulus d d (λ r. accepts m61_modulus (root m61_modulus numbers r) lo hi r)
-    (is_right lo hi numbers) block taken written (nonzero_within lo hi numbers)
+abbrev pub SubCountClause : Version → ℕ → List ℤ → ℕ → ℕ → List ℕ → List (List ℕ)
+    → Option (List Entry) → Type 0
+SubCountClause version d numbers lo hi block taken written =
+    FewAndCounted m61_modulus d d
+    (λ r. accepts_sub version m61_modulus (root m61_modulus numbers r) lo hi r)
+    (is_right version lo hi numbers) block taken written (nonzero_within lo hi numbers)

@@ -1,41 +1,50 @@
 -- The example that the laws work out: the entries 1 to 2 of (3, 0, 5, 1) at the challenges (2, 10).
 use Rattle.std.specs.Prelude.{ℕ, ◌+◌, ◌%◌, pos, Some, None, List, [], ◌∷◌, Result, replicate, ◌++◌}
 use Rattle.sip_field.specs.Moduli.{m61_modulus}
-use Rattle.sip_vector.specs.declared.update.Entry.{Entry}
+use Rattle.sip_vector.specs.Answers.{Answer}
+use Rattle.sip_wire.specs.declared.version.Version.{Version}
+use Rattle.sip_wire.specs.declared.version.Version.TheVariants.{One, Two}
+use Rattle.sip_replies.specs.Replies.{Fault, verdict}
 use Rattle.sip_subvec.specs.AcceptsSub.{Siblings, Stated}
-use Rattle.sip_replies.specs.Replies.{Fault}
-use Rattle.sip_subvec.specs.Replies.{verdict}
+use Rattle.sip_subvec.specs.Protocol.{sub_asked, sub_protocol}
 
--- Entries (2, 5), then Siblings 3 and 1
-abbrev pub reply_0 : List ℕ
-reply_0 =
-    0x13 ∷ 0x00 ∷ 0x0e ∷ 0x00 ∷ 0x01 ∷ 0x00 ∷ 0x00 ∷ 0x00 ∷ 0x02 ∷ 0x00 ∷ 0x00 ∷ 0x00 ∷ 0x00 ∷ 0x00
-    ∷ 0x00 ∷ 0x00 ∷ 0x05 ∷
-    0x14 ∷ 0x00 ∷ 0x11 ∷ 0x03 ∷ 0x00 ∷ 0x00 ∷ 0x00 ∷ 0x00 ∷ 0x00 ∷ 0x00 ∷ 0x00 ∷ 0x03 ∷ 0x00 ∷ 0x00
-    ∷ 0x00 ∷ 0x00 ∷ 0x00 ∷ 0x00 ∷ 0x00 ∷ 0x01 ∷ []
-
--- Siblings with neither
-abbrev pub reply_1 : List ℕ
-reply_1 = 0x14 ∷ 0x00 ∷ 0x01 ∷ 0x00 ∷ []
-
--- Entries (0, 3) and (1, 5), then Siblings with neither
-abbrev pub both_entries : List ℕ
-both_entries =
-    0x13 ∷ 0x00 ∷ 0x1a ∷ 0x00 ∷ 0x02 ∷ 0x00 ∷ 0x00 ∷ 0x00 ∷ 0x00 ∷ replicate 7 0
-    ++ 0x03 ∷ 0x00 ∷ 0x00 ∷ 0x00 ∷ 0x01 ∷ replicate 7 0 ++ 0x05 ∷
-    0x14 ∷ 0x00 ∷ 0x01 ∷ 0x00 ∷ []
+-- the entry (2, v), alone
+abbrev pub entry_2 : Version → ℕ → List ℕ
+entry_2 One v =
+    0x13 ∷ 0x00 ∷ 0x0e ∷ 0x00 ∷ 0x01 ∷ 0x00 ∷ 0x00 ∷ 0x00 ∷ 0x02 ∷ replicate 7 0 ++ v ∷ []
+entry_2 Two v =
+    0x13 ∷ 0x00 ∷ 0x12 ∷ 0x00 ∷ 0x01 ∷ replicate 7 0 ++ 0x02 ∷ replicate 7 0 ++ v ∷ []
 
 -- Siblings l and r, alone
 abbrev pub both : ℕ → ℕ → List ℕ
 both l r = 0x14 ∷ 0x00 ∷ 0x11 ∷ 0x03 ∷ replicate 7 0 ++ l ∷ replicate 7 0 ++ r ∷ []
 
--- the entry (2, v), alone
-abbrev pub entry_2 : ℕ → List ℕ
-entry_2 v = 0x13 ∷ 0x00 ∷ 0x0e ∷ 0x00 ∷ 0x01 ∷ 0x00 ∷ 0x00 ∷ 0x00 ∷ 0x02 ∷ replicate 7 0 ++ v ∷ []
+-- Entries (2, 5), then Siblings 3 and 1
+abbrev pub reply_0 : Version → List ℕ
+reply_0 version = entry_2 version 5 ++ both 3 1
+
+-- Siblings with neither
+abbrev pub reply_1 : List ℕ
+reply_1 = 0x14 ∷ 0x00 ∷ 0x01 ∷ 0x00 ∷ []
+
+-- Siblings with 1 on the left alone
+abbrev pub left_one : List ℕ
+left_one = 0x14 ∷ 0x00 ∷ 0x09 ∷ 0x02 ∷ replicate 7 0 ++ 0x01 ∷ []
+
+-- Entries (0, 3) and (1, 5), then Siblings with neither
+abbrev pub both_entries : Version → List ℕ
+both_entries One =
+    0x13 ∷ 0x00 ∷ 0x1a ∷ 0x00 ∷ 0x02 ∷ replicate 4 0 ++ replicate 7 0 ++ 0x03 ∷
+    0x00 ∷ 0x00 ∷ 0x00 ∷ 0x01 ∷ replicate 7 0 ++ 0x05 ∷ reply_1
+both_entries Two =
+    0x13 ∷ 0x00 ∷ 0x22 ∷ 0x00 ∷ 0x02 ∷ replicate 8 0 ++ replicate 7 0 ++ 0x03 ∷
+    replicate 7 0 ++ 0x01 ∷ replicate 7 0 ++ 0x05 ∷ reply_1
 
 -- what these replies to `sub:1:2` give
-abbrev pub verdict_of : List (List ℕ) → Result (List Entry) Fault
-verdict_of replies = verdict m61_modulus 73 1 2 (2 ∷ 10 ∷ []) replies
+abbrev pub verdict_of : Version → List (List ℕ) → Result Answer Fault
+verdict_of version replies =
+    verdict (sub_protocol (sub_asked version m61_modulus 73 1 2 (2 ∷ 10 ∷ [])))
+    (2 ∷ 10 ∷ []) replies
 
 -- no sibling on either side
 abbrev pub neither : Siblings

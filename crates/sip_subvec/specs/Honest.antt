@@ -7,14 +7,17 @@ use Rattle.std.specs.Prelude.{ℕ, ◌+◌, ◌-◌, ◌/◌, ◌%◌, ◌^◌, 
 use Rattle.std.specs.List.{range_with_len, flat_map}
 use Rattle.sip_field.specs.Moduli.{m61_modulus}
 use Rattle.sip_field.specs.Residue.{residue}
+use Rattle.sip_vector.specs.declared.query.Query.TheVariants.{Sub}
 use Rattle.sip_vector.specs.declared.update.Entry.{Entry}
 use Rattle.sip_vector.specs.Pieces.{cut}
 use Rattle.sip_vector.specs.Trees.{up, tree}
 use Rattle.sip_vector.specs.Vectors.{nonzero_within}
 use Rattle.sip_wire.specs.declared.message.Message.{Message}
 use Rattle.sip_wire.specs.declared.message.Message.TheVariants as messages
+use Rattle.sip_wire.specs.declared.version.Version.{Version}
 use Rattle.sip_wire.specs.Spelling.{spelling}
-use Rattle.sip_wire.specs.Table.{most_rows, most_depth, most_claim}
+use Rattle.sip_wire.specs.Table.{most_rows, most_claim}
+use Rattle.sip_wire.specs.Versions.{Speaks}
 use Rattle.sip_subvec.specs.AcceptsSub.{Siblings}
 use Rattle.sip_subvec.specs.Replies.{most_entries}
 
@@ -36,12 +39,11 @@ learnt p s r = record { level = up p s.level r; lo = s.lo / 2; hi = s.hi / 2 }
 
 -- the level that these challenges lead to
 abbrev pub proving : ℕ → List ℤ → ℕ → ℕ → List ℕ → Proving
-proving p numbers lo hi prefix =
-    record {
-      level = tree p numbers prefix;
-      lo = lo / 2 ^ length prefix;
-      hi = hi / 2 ^ length prefix;
-    }
+proving p numbers lo hi prefix = record {
+  level = tree p numbers prefix;
+  lo = lo / 2 ^ length prefix;
+  hi = hi / 2 ^ length prefix;
+}
 
 -- the true siblings of an interval of a level: the node left of it where lo is odd, and the one
 -- right of it where hi is even
@@ -76,23 +78,24 @@ honest_messages p numbers lo hi prefix =
     ++ siblings_message (its_siblings (proving p numbers lo hi prefix)) ∷ []
 
 -- their bytes
-abbrev pub honest_reply : ℕ → List ℤ → ℕ → ℕ → List ℕ → List ℕ
-honest_reply p numbers lo hi prefix = flat_map spelling (honest_messages p numbers lo hi prefix)
+abbrev pub honest_reply : Version → ℕ → List ℤ → ℕ → ℕ → List ℕ → List ℕ
+honest_reply version p numbers lo hi prefix =
+    flat_map (spelling version) (honest_messages p numbers lo hi prefix)
 
 -- all replies: reply j is the one due once the first j challenges are revealed
-abbrev pub honest_replies : ℕ → List ℤ → ℕ → ℕ → List ℕ → List (List ℕ)
-honest_replies p numbers lo hi challenges =
-    map (λ j. honest_reply p numbers lo hi (take j challenges))
+abbrev pub honest_replies : Version → ℕ → List ℤ → ℕ → ℕ → List ℕ → List (List ℕ)
+honest_replies version p numbers lo hi challenges =
+    map (λ j. honest_reply version p numbers lo hi (take j challenges))
     (range_with_len 0 (length challenges))
 
--- The entries of an interval can be shown: the vector is of a depth and a field that messages have
--- room for, its numbers are no greater than an entry may be, and no more of them are asked for than
--- an answer may have.
-pub record CanBeShown (p depth lo hi : ℕ) (numbers : List ℤ) : Type 0 where
+-- The entries of an interval can be shown: the version has a query for them at the vector's depth,
+-- messages have room for the field and for the numbers, and no more of them are asked for than an
+-- answer may have.
+pub record CanBeShown (version : Version) (p depth lo hi : ℕ) (numbers : List ℤ) : Type 0 where
   pub some : 0 < p
   pub elements : p ≤ m61_modulus
   pub levels : 1 ≤ depth
-  pub indices : depth ≤ most_depth
+  pub speaks : Speaks version depth (Sub lo hi)
   pub size : length numbers ≡ 2 ^ depth
   pub order : lo ≤ hi
   pub within : hi < 2 ^ depth

@@ -13,11 +13,10 @@ use Rattle.sip_wire.specs.declared.message.Message.{Message}
 use Rattle.sip_wire.specs.declared.message.Message.TheVariants as messages
 use Rattle.sip_wire.specs.declared.message.Reason.{Reason}
 use Rattle.sip_wire.specs.declared.message.Reason.TheVariants as reasons
-use Rattle.sip_wire.specs.declared.version.Version.TheVariants as versions
+use Rattle.sip_wire.specs.declared.version.Version.{Version}
 use Rattle.sip_replies.specs.declared.check.More.{More}
 use Rattle.sip_replies.specs.declared.check.More.TheVariants as mores
 use Rattle.sip_replies.specs.Protocols.{Rules, Protocol}
-use Rattle.sip_replies.specs.Replies.{Fault}
 use Rattle.sip_subvec.specs.AcceptsSub.{Siblings, Stated, gives_root}
 use Rattle.sip_subvec.specs.Checking.{nothing}
 use Rattle.sip_subvec.specs.Replies.{with_entries, asked_siblings}
@@ -56,9 +55,9 @@ sub_step lo hi s _ = Err reasons.BadKind
 
 -- How the replies to a query for the entries from lo to hi are read. No test of one reply needs a
 -- challenge.
-abbrev pub sub_rules : ℕ → ℕ → Rules Stated
-sub_rules lo hi = record {
-  version = versions.One;
+abbrev pub sub_rules : Version → ℕ → ℕ → Rules Stated
+sub_rules version lo hi = record {
+  version = version;
   start = nothing;
   place = λ s. place_of s.siblings;
   step = sub_step lo hi;
@@ -67,18 +66,25 @@ sub_rules lo hi = record {
 
 -- ---- what they come to
 
--- All that the definitions need: the entries from lo to hi are asked for, of the vector with this
--- root at the challenges.
+-- All that the definitions need: the entries from lo to hi are asked for in this version, of the
+-- vector with this root at the challenges.
 pub record SubAsked : Type 0 where
+  pub version : Version
   pub modulus : ℕ
   pub root : ℕ
   pub lo : ℕ
   pub hi : ℕ
   pub challenges : List ℕ
 
-abbrev pub sub_asked : ℕ → ℕ → ℕ → ℕ → List ℕ → SubAsked
-sub_asked p root lo hi challenges =
-    record { modulus = p; root = root; lo = lo; hi = hi; challenges = challenges }
+abbrev pub sub_asked : Version → ℕ → ℕ → ℕ → ℕ → List ℕ → SubAsked
+sub_asked version p root lo hi challenges = record {
+  version = version;
+  modulus = p;
+  root = root;
+  lo = lo;
+  hi = hi;
+  challenges = challenges;
+}
 
 -- the entries that are stated, where they give the root
 abbrev pub sub_finish : SubAsked → Stated → Result Answer Reason
@@ -89,11 +95,7 @@ sub_finish asked s =
 -- no answer is known without a reply
 abbrev pub sub_protocol : SubAsked → Protocol Stated
 sub_protocol asked = record {
-  rules = sub_rules asked.lo asked.hi;
+  rules = sub_rules asked.version asked.lo asked.hi;
   finish = sub_finish asked;
   unasked = None;
 }
-
--- entries as the answer that they are
-abbrev pub in_pairs : Result (List Entry) Fault → Result Answer Fault
-in_pairs r = r >>= λ es. Ok (pairs es)

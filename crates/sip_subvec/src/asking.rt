@@ -4,6 +4,7 @@ ghost use Rattle.std.specs.Option.{option_map};
 ghost use Rattle.sip_field.specs.Elements.{m61_number};
 ghost use Rattle.sip_field.specs.Moduli.{m61_modulus};
 ghost use Rattle.sip_vector.specs.declared.update.Entry.{Entry as AnyEntry};
+ghost use Rattle.sip_wire.specs.declared.version.Version.{Version};
 ghost use Rattle.sip_replies.specs.Protocols.{Begins};
 ghost use Rattle.sip_subvec.specs.AcceptsSub.{Stated};
 ghost use Rattle.sip_subvec.specs.Asking.{Gives, HasEntries, IsTakenValue, SubStands, most_answer, phase_of};
@@ -15,7 +16,7 @@ use crate::check::SubCheck;
 use sip_field::{Field, M61};
 use sip_replies::{Check, More, Said};
 use sip_tree::Root;
-use sip_vector::Entry;
+use sip_vector::{CAP, Entry};
 use sip_wire::{Message, Place, Reason};
 use std::marker::Model;
 
@@ -26,7 +27,7 @@ use std::marker::Model;
 /// interval: one for each of its items, or 65,536 if those are more.
 #[derive(Drop)]
 pub struct SubAsking {
-    check: SubCheck<M61, 32>,
+    check: SubCheck<M61, CAP>,
     // Whether reply 0 is due, or has come in part.
     is_first: bool,
     // The number of entries that were written.
@@ -42,14 +43,16 @@ impl Model for SubAsking {
 }
 
 impl SubAsking {
-    /// The check of the entries from `lo` to `hi`, both included, of the vector that has this root.
+    /// The check of the entries from `lo` to `hi`, both included, of the vector that has this root,
+    /// whatever the version of the replies.
     ///
     /// No `times`: one copy of the challenges.
-    pub fn start(root: &Root<M61, 32>, lo: u64, hi: u64) -> SubAsking
+    pub fn start(root: &Root<M61, CAP>, lo: u64, hi: u64) -> SubAsking
         requires order { lo ≤ hi }
         requires item { hi < 2 ^ length root.now.seat }
-        ensures stands { (places : List AnyEntry) → most_answer lo hi ≤ length places
-            → SubStands (sub_asked m61_modulus root.now.value lo hi root.now.seat) nothing
+        ensures stands { (version : Version) (places : List AnyEntry)
+            → most_answer lo hi ≤ length places
+            → SubStands (sub_asked version m61_modulus root.now.value lo hi root.now.seat) nothing
             result places }
         ensures begins { Begins (phase_of result) }
         ensures block { (phase_of result).block ≡ root.now.seat }
@@ -64,7 +67,8 @@ impl SubAsking {
 }
 
 impl Check for SubAsking {
-    ghost use Rattle.std.specs.Prelude.{◌-◌};
+    ghost use Rattle.std.specs.Prelude.{◌+◌, ◌-◌};
+    ghost use Rattle.sip_subvec.specs.Replies.{most_entries};
     ghost use Rattle.sip_subvec.specs.AcceptsSub.{Stated};
     ghost use Rattle.sip_subvec.specs.Asking.{SubStands, phase_of};
     ghost use Rattle.sip_subvec.specs.Protocol.{SubAsked, sub_protocol};
@@ -78,7 +82,7 @@ impl Check for SubAsking {
 
     ghost phase = { phase_of };
 
-    ghost room = { λ a. 65537 - a.found };
+    ghost room = { λ a. most_entries + 1 - a.found };
 
     ghost stands = { SubStands };
 
@@ -136,7 +140,7 @@ impl Check for SubAsking {
 // Gives the entries of one frame to a check, and writes them to `entries`, behind the first `found`.
 // Their number with those is answered.
 fn give_entries(
-    check: &mut SubCheck<M61, 32>,
+    check: &mut SubCheck<M61, CAP>,
     rows: &[Entry],
     entries: &mut [Entry],
     found: usize,
@@ -158,7 +162,7 @@ fn give_entries(
 
 // Gives the siblings of a frame to a check.
 fn give_siblings(
-    check: &mut SubCheck<M61, 32>,
+    check: &mut SubCheck<M61, CAP>,
     left: Option<u64>,
     right: Option<u64>,
 ) -> Result<(), Reason>

@@ -13,7 +13,7 @@ use sip_wire::Reason;
 use std::marker::Model;
 
 /// The greatest number of entries in an answer.
-const MOST_ENTRIES: u32 = 65536;
+pub const MOST_ENTRIES: u64 = 65_536;
 
 /// The check of the replies to one query for a sub-vector.
 ///
@@ -38,7 +38,7 @@ pub struct SubCheck<F: Field, const CAP: usize> {
     // The index of the last entry.
     last: Option<u64>,
     // The number of entries.
-    count: u32,
+    count: u64,
     spent: bool,
 }
 

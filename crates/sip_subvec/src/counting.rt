@@ -13,8 +13,11 @@ ghost use Rattle.sip_vector.specs.Vectors.{nonzero_within};
 ghost use Rattle.sip_counts.specs.Counts.{counted};
 ghost use Rattle.sip_counts.specs.Strategies.{Strategy, IsOfBytes, replies, fooled};
 ghost use Rattle.sip_subvec.specs.AcceptsSub.{Siblings};
-ghost use Rattle.sip_subvec.specs.Replies.{accepts, IsAccepted};
-ghost use Rattle.sip_subvec.specs.Counting.{accepts_stated, accepts_small, is_right, said, SubCountClause};
+ghost use Rattle.sip_wire.specs.declared.version.Version.{Version};
+ghost use Rattle.sip_vector.specs.Answers.{pairs};
+ghost use Rattle.sip_replies.specs.Replies.{IsAccepted};
+ghost use Rattle.sip_subvec.specs.Protocol.{sub_asked, sub_protocol};
+ghost use Rattle.sip_subvec.specs.Counting.{accepts_stated, accepts_sub, accepts_small, is_right, said, SubCountClause};
 ghost use Rattle.sip_subvec.specs.Examples.{guessed_sibling, two_siblings, states_first};
 
 /// Over every prime modulus, entries that are not those of the numbers are accepted at no more than d·p^(d - 1) of the
@@ -31,37 +34,40 @@ pub fn few_challenges_for_wrong_entries()
 
 /// The same over replies as bytes, for every strategy.
 pub fn few_challenges_for_wrong_replies()
-    ensures { (p d lo hi : ℕ) (numbers : List ℤ) (strategy : Strategy)
+    ensures { (version : Version) (p d lo hi : ℕ) (numbers : List ℤ) (strategy : Strategy)
         → IsPrime p → length numbers ≡ 2 ^ d → lo ≤ hi → hi < 2 ^ d
         → All (λ a. nat_abs a ≤ (p - 1) / 2) numbers
-        → fooled p d (λ r. accepts_small p (root p numbers r) lo hi r)
-        (is_right lo hi numbers) strategy ≤ d * p ^ (d - 1) }
+        → fooled p d (λ r. accepts_small version p (root p numbers r) lo hi r)
+        (is_right version lo hi numbers) strategy ≤ d * p ^ (d - 1) }
 {}
 
 /// Modulo 2^61 - 1, for the vector of every legal stream, no more is asked of what is accepted: the bytes of a value have
 /// room for those alone that are small enough.
 pub fn few_challenges_for_wrong_answers()
-    ensures { (d lo hi : ℕ) (stream : List AnyUpdate) (strategy : Strategy) → lo ≤ hi → hi < 2 ^ d
-        → IsLegal d stream → IsOfBytes strategy
-        → fooled m61_modulus d (λ r. accepts m61_modulus
+    ensures { (version : Version) (d lo hi : ℕ) (stream : List AnyUpdate) (strategy : Strategy)
+        → lo ≤ hi → hi < 2 ^ d → IsLegal d stream → IsOfBytes strategy
+        → fooled m61_modulus d (λ r. accepts_sub version m61_modulus
         (root m61_modulus (vector d stream First) r) lo hi r)
-        (is_right lo hi (vector d stream First)) strategy ≤ d * m61_modulus ^ (d - 1) }
+        (is_right version lo hi (vector d stream First)) strategy ≤ d * m61_modulus ^ (d - 1) }
 {}
 
 /// Where an answer is written only for replies that are accepted and state it, the promise on helpers that lie holds.
 pub fn accepted_answers_are_counted()
-    ensures { (d lo hi : ℕ) (stream : List AnyUpdate) (block : List ℕ) (taken : List (List ℕ))
-        (written : Option (List AnyEntry)) → lo ≤ hi → hi < 2 ^ d → IsLegal d stream
+    ensures { (version : Version) (d lo hi : ℕ) (stream : List AnyUpdate) (block : List ℕ)
+        (taken : List (List ℕ)) (written : Option (List AnyEntry))
+        → lo ≤ hi → hi < 2 ^ d → IsLegal d stream
         → ((answer : List AnyEntry) → written ≡ Some answer
-        → IsAccepted m61_modulus
-        (root m61_modulus (vector d stream First) block) lo hi block taken answer)
-        → SubCountClause d (vector d stream First) lo hi block taken written }
+        → IsAccepted (sub_protocol (sub_asked version m61_modulus
+        (root m61_modulus (vector d stream First) block) lo hi block))
+        block taken (pairs answer))
+        → SubCountClause version d (vector d stream First) lo hi block taken written }
 {}
 
 /// Replies are right exactly if the entries that they say are those of the numbers that are not 0.
 pub fn right_replies_say_the_entries()
-    ensures { (lo hi : ℕ) (numbers : List ℤ) (all : List (List ℕ))
-        → (is_right lo hi numbers all ≡ true) ↔ (said lo hi all ≡ nonzero_within lo hi numbers) }
+    ensures { (version : Version) (lo hi : ℕ) (numbers : List ℤ) (all : List (List ℕ))
+        → (is_right version lo hi numbers all ≡ true)
+        ↔ (said version lo hi all ≡ nonzero_within lo hi numbers) }
 {}
 
 /// Over 31, for (3, 5) and the entries 0 to 0: the entry (0, 4) with the right sibling 4 is accepted at one challenge, the

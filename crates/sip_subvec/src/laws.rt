@@ -1,50 +1,70 @@
 //! Laws of the definitions, and worked examples that hold by computation. These functions do nothing: each contract is a
 //! fact that holds.
-#![tactic(auto, unfolding(crate::specs::Replies::verdict, crate::specs::Replies::stated, crate::specs::Replies::first_reply, crate::specs::Replies::later_reply, crate::specs::Replies::later_replies, sip_wire::specs::Reading::read_frame, sip_wire::specs::Spelling::frame_fault, sip_wire::specs::Spelling::kind_fault, sip_wire::specs::Spelling::body_fault, sip_wire::specs::Spelling::asked, sip_wire::specs::Spelling::numbers_in, sip_wire::specs::Spelling::all_hold))]
+#![tactic(auto, unfolding(sip_replies::specs::Replies::run_from, sip_replies::specs::Replies::read_from, sip_wire::specs::Reading::read_frame, sip_wire::specs::Spelling::frame_fault, sip_wire::specs::Spelling::kind_fault, sip_wire::specs::Spelling::body_fault, sip_wire::specs::Spelling::asked, sip_wire::specs::Spelling::numbers_in, sip_wire::specs::Spelling::all_hold))]
 
 ghost use Rattle.std.specs.Prelude.{◌≡◌, ℕ, ◌+◌, ◌-◌, ◌%◌, ◌^◌, ◌<◌, ◌≤◌, ◌==◌, All, List, [], ◌∷◌, ◌++◌, length, drop, fold, zip, Ok, Err, pos};
-ghost use Rattle.sip_subvec.specs.Examples.{reply_0, reply_1, both, entry_2, verdict_of, stated_inner, stated_whole};
+ghost use Rattle.sip_subvec.specs.Examples.{reply_0, reply_1, both, entry_2, left_one, verdict_of, stated_inner, stated_whole};
 ghost use Rattle.sip_field.specs.Moduli.{m61_modulus};
 ghost use Rattle.sip_vector.specs.Weights.{weighted_sum};
 ghost use Rattle.sip_vector.specs.declared.update.Entry.{Entry as AnyEntry};
 ghost use Rattle.sip_subvec.specs.AcceptsSub.{Siblings, Stated, stated_level, next_level, folded, gives_root};
 ghost use Rattle.sip_subvec.specs.Replies.{with_entries};
 ghost use Rattle.sip_subvec.specs.Checking.{entries_sum, siblings_sum, stated_sum, AreAsked, HasPassed};
+ghost use Rattle.sip_vector.specs.Answers.{pairs};
+ghost use Rattle.sip_wire.specs.declared.version.Version.TheVariants.{One, Two};
 ghost use Rattle.sip_wire.specs.declared.message.Reason.{Reason};
 ghost use Rattle.sip_wire.specs.declared.message.Reason.TheVariants as reasons;
 
 /// The honest replies are accepted, with the entry (2, 5).
 pub fn honest_replies_are_accepted()
-    ensures { verdict_of (reply_0 ∷ reply_1 ∷ []) ≡ Ok (record { index = 2; value = pos 5 } ∷ []) }
+    ensures narrow { verdict_of One (reply_0 One ∷ reply_1 ∷ [])
+        ≡ Ok (pairs (record { index = 2; value = pos 5 } ∷ [])) }
+    ensures wide { verdict_of Two (reply_0 Two ∷ reply_1 ∷ [])
+        ≡ Ok (pairs (record { index = 2; value = pos 5 } ∷ [])) }
 {}
 
 /// One wrong number: a sibling, or the entry.
 pub fn one_wrong_number_is_rejected()
-    ensures left { verdict_of ((entry_2 5 ++ both 4 1) ∷ reply_1 ∷ [])
+    ensures left { verdict_of One ((entry_2 One 5 ++ both 4 1) ∷ reply_1 ∷ [])
         ≡ Err (record { round = 2; reason = reasons.Root }) }
-    ensures right { verdict_of ((entry_2 5 ++ both 3 2) ∷ reply_1 ∷ [])
+    ensures right { verdict_of One ((entry_2 One 5 ++ both 3 2) ∷ reply_1 ∷ [])
         ≡ Err (record { round = 2; reason = reasons.Root }) }
-    ensures entry { verdict_of ((entry_2 6 ++ both 3 1) ∷ reply_1 ∷ [])
+    ensures entry { verdict_of One ((entry_2 One 6 ++ both 3 1) ∷ reply_1 ∷ [])
         ≡ Err (record { round = 2; reason = reasons.Root }) }
-    ensures zero { verdict_of ((entry_2 0 ++ both 3 1) ∷ reply_1 ∷ [])
+    ensures wide_entry { verdict_of Two ((entry_2 Two 6 ++ both 3 1) ∷ reply_1 ∷ [])
+        ≡ Err (record { round = 2; reason = reasons.Root }) }
+    ensures zero { verdict_of One ((entry_2 One 0 ++ both 3 1) ∷ reply_1 ∷ [])
         ≡ Err (record { round = 0; reason = reasons.BadNumber }) }
+    ensures wide_zero { verdict_of Two ((entry_2 Two 0 ++ both 3 1) ∷ reply_1 ∷ [])
+        ≡ Err (record { round = 0; reason = reasons.BadNumber }) }
+{}
+
+/// Entries of the other version have no length that a frame of them may have.
+pub fn entries_of_the_other_version_are_rejected()
+    ensures narrow { verdict_of Two (reply_0 One ∷ reply_1 ∷ [])
+        ≡ Err (record { round = 0; reason = reasons.BadLength }) }
+    ensures wide { verdict_of One (reply_0 Two ∷ reply_1 ∷ [])
+        ≡ Err (record { round = 0; reason = reasons.BadLength }) }
 {}
 
 /// Replies that are cut short, and siblings that were not asked for.
 pub fn faults_have_their_rounds()
-    ensures none { verdict_of ([] ∷ []) ≡ Err (record { round = 0; reason = reasons.Closed }) }
-    ensures cut { verdict_of (reply_0 ∷ (0x14 ∷ 0x00 ∷ []) ∷ [])
+    ensures none { verdict_of One ([] ∷ []) ≡ Err (record { round = 0; reason = reasons.Closed }) }
+    ensures cut { verdict_of One (reply_0 One ∷ (0x14 ∷ 0x00 ∷ []) ∷ [])
         ≡ Err (record { round = 1; reason = reasons.Closed }) }
-    ensures flags { verdict_of
-        (reply_0 ∷ (0x14 ∷ 0x00 ∷ 0x09 ∷ 0x02 ∷ 0 ∷ 0 ∷ 0 ∷ 0 ∷ 0 ∷ 0 ∷ 0 ∷ 1 ∷ []) ∷ [])
+    ensures flags { verdict_of One (reply_0 One ∷ left_one ∷ [])
         ≡ Err (record { round = 1; reason = reasons.BadFlags }) }
-    ensures kind { verdict_of ((0x11 ∷ 0x00 ∷ 0x08 ∷ []) ∷ [])
+    ensures wide_flags { verdict_of Two (reply_0 Two ∷ left_one ∷ [])
+        ≡ Err (record { round = 1; reason = reasons.BadFlags }) }
+    ensures kind { verdict_of One ((0x11 ∷ 0x00 ∷ 0x08 ∷ []) ∷ [])
         ≡ Err (record { round = 0; reason = reasons.BadKind }) }
-    ensures length { verdict_of ((0x13 ∷ 0x00 ∷ 0x0d ∷ []) ∷ [])
+    ensures length { verdict_of One ((0x13 ∷ 0x00 ∷ 0x0d ∷ []) ∷ [])
         ≡ Err (record { round = 0; reason = reasons.BadLength }) }
-    ensures twice { verdict_of ((entry_2 5 ++ entry_2 5) ∷ [])
+    ensures twice { verdict_of One ((entry_2 One 5 ++ entry_2 One 5) ∷ [])
         ≡ Err (record { round = 0; reason = reasons.BadOrder }) }
-    ensures refused { verdict_of ((0x18 ∷ 0x00 ∷ 0x01 ∷ 0x01 ∷ []) ∷ [])
+    ensures wide_twice { verdict_of Two ((entry_2 Two 5 ++ entry_2 Two 5) ∷ [])
+        ≡ Err (record { round = 0; reason = reasons.BadOrder }) }
+    ensures refused { verdict_of One ((0x18 ∷ 0x00 ∷ 0x01 ∷ 0x01 ∷ []) ∷ [])
         ≡ Err (record { round = 0; reason = reasons.Refused 1 }) }
 {}
 

@@ -14,9 +14,7 @@
 //!   own list knows at the end that `finish` answers as the definition does of the whole list.
 //! - Folds keep weighted sums, so that one sum does for all the lists ([`laws`]).
 //! - `SubAsking` answers each frame as a step of the replies' protocol does, and the places of the
-//!   answer then hold the entries so far. Read by that protocol, replies state what they state by
-//!   their own definition, and are accepted, faulty, unfinished or missing in the same cases
-//!   ([`protocol`]).
+//!   answer then hold the entries so far.
 //! - `SubProver::siblings` gives the true siblings of the level that the challenges so far lead to.
 //! - Honest replies are accepted, and what they state is the answer of the stream; while they come they have no fault
 //!   ([`completeness`]).
@@ -28,8 +26,8 @@
 //! | Module | Definitions |
 //! |---|---|
 //! | `AcceptsSub` | what replies state, and the lists that it folds to |
-//! | `Replies` | how replies are read from bytes, and their first fault |
-//! | `Protocol` | the same replies as a protocol of the general talk, frame by frame |
+//! | `Replies` | the tests of a frame |
+//! | `Protocol` | how replies are read frame by frame, and what they come to |
 //! | `Checking` | the sum that a check keeps, and what it has taken |
 //! | `Asking` | what a check of the general talk keeps, and what it stands for |
 //! | `Honest` | what a prover knows, and the honest replies as bytes |
@@ -57,9 +55,8 @@ mod check;
 pub mod completeness;
 pub mod counting;
 pub mod laws;
-pub mod protocol;
 mod prover;
 
 pub use asking::SubAsking;
-pub use check::SubCheck;
+pub use check::{MOST_ENTRIES, SubCheck};
 pub use prover::{SiblingPair, SubProver};

@@ -2,6 +2,7 @@
 
 ghost use Rattle.std.specs.Prelude.{◌≡◌, ◌*◌, ◌^◌, ◌<◌, ◌≤◌, ◌↔◌, length, Option, IfOk};
 ghost use Rattle.std.specs.Option.{option_map};
+ghost use Rattle.sip_vector.specs.Limits.{most_depth};
 ghost use Rattle.sip_subvec.specs.Honest.{begun, learnt, its_siblings};
 
 use sip_field::{Field, OutOfMemory};
@@ -58,7 +59,7 @@ impl<F: Field> SubProver<F> {
     pub fn levels_left(&self) -> u8
         ensures exact { length self.now.level ≡ 2 ^ result }
         ensures some { (0 < result) ↔ (2 ≤ length self.now.level) }
-        ensures most { result ≤ 32 }
+        ensures most { result ≤ most_depth }
     {
         self.level.folds_left()
     }

@@ -165,7 +165,7 @@ fn roots_are_those_of_a_plain_fold(rt: HostRuntime) -> Result<(), Fail> {
 // Updates of 2^depth items, so many at the front.
 fn block(depth: usize, count: usize) -> [Update; 500]
     requires some { 1 ≤ depth }
-    requires deep { depth ≤ 32 }
+    requires deep { depth ≤ 48 }
     requires fits { count ≤ 500 }
     ensures items { All (λ u. u.item < 2 ^ depth) result }
 {
@@ -189,12 +189,12 @@ fn block(depth: usize, count: usize) -> [Update; 500]
 // Whether a block gives what its updates give one by one, at the first challenges.
 fn block_is_its_updates<F: Field>(challenges: &[F], count: usize) -> bool
     requires some { 1 ≤ length challenges.now }
-    requires deep { length challenges.now ≤ 32 }
+    requires deep { length challenges.now ≤ 48 }
     requires fits { count ≤ 500 }
 {
     let updates = block(challenges.len(), count);
-    let mut single = Root::new(Seat::<F, 32>::of(challenges).unwrap());
-    let mut whole = Root::new(Seat::<F, 32>::of(challenges).unwrap());
+    let mut single = Root::new(Seat::<F, 48>::of(challenges).unwrap());
+    let mut whole = Root::new(Seat::<F, 48>::of(challenges).unwrap());
     for update in &updates[..count] {
         single.update(update.item, update.delta);
     }
@@ -204,15 +204,15 @@ fn block_is_its_updates<F: Field>(challenges: &[F], count: usize) -> bool
 
 #[test]
 fn a_block_gives_what_its_updates_give(rt: HostRuntime) {
-    let mut small = [F31::of(0); 32];
-    let mut large = [M61::of(0); 32];
+    let mut small = [F31::of(0); 48];
+    let mut large = [M61::of(0); 48];
     let mut word = 2;
-    for at in 0..32 {
+    for at in 0..48 {
         word = next_word(word);
         small[at] = F31::of(word >> 5);
         large[at] = M61::of(word);
     }
-    for depth in [1, 7, 8, 20, 32] {
+    for depth in [1, 7, 8, 20, 48] {
         for count in [0, 1, 31, 32, 127, 500] {
             assert!(rt;
                 block_is_its_updates(&small[..depth], count),

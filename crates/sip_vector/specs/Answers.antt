@@ -5,8 +5,9 @@ use Rattle.sip_vector.specs.declared.update.Side.TheVariants.{First, Second}
 use Rattle.sip_vector.specs.declared.update.Update.{Update}
 use Rattle.sip_vector.specs.declared.update.Entry.{Entry}
 use Rattle.sip_vector.specs.declared.query.Query.{Query}
-use Rattle.sip_vector.specs.declared.query.Query.TheVariants.{Sub, Range, F2, Inner, Heavy}
-use Rattle.sip_vector.specs.Streams.{int_sum, vector}
+use Rattle.sip_vector.specs.declared.query.Query.TheVariants.{Sub, Range, F2, Inner, Heavy, Share}
+use Rattle.sip_vector.specs.Limits.{most_share}
+use Rattle.sip_vector.specs.Streams.{int_sum, total, vector}
 
 -- the query can be asked at this depth
 abbrev pub Fits : ℕ → Query → Type 0
@@ -15,6 +16,7 @@ Fits depth (Range side lo hi) = (lo ≤ hi) × (hi < 2 ^ depth)
 Fits depth (F2 side) = ⊤
 Fits depth Inner = ⊤
 Fits depth (Heavy side at_least) = (1 ≤ at_least) × (at_least < 2 ^ 63)
+Fits depth (Share side num den) = (1 ≤ num) × (num ≤ den) × (den ≤ most_share)
 
 -- the entries of a vector, each with its index
 abbrev pub entries : List ℤ → List Entry
@@ -25,6 +27,10 @@ is_within lo hi i = nat_le lo i && nat_le i hi
 
 abbrev pub is_zero : ℤ → Bool
 is_zero z = nat_abs z == 0
+
+-- an entry has this share of a total that is above 0
+abbrev pub is_shared : ℕ → ℕ → ℤ → Entry → Bool
+is_shared num den total e = int_le (pos 1) total && int_le (pos num *ℤ total) (e.value *ℤ pos den)
 
 -- An answer is pairs or a number.
 pub data Answer : Type 0 where
@@ -46,3 +52,5 @@ answer depth stream Inner =
     (map (λ x. x.0 *ℤ x.1) (zip (vector depth stream First) (vector depth stream Second))))
 answer depth stream (Heavy side at_least) =
     pairs (filter (λ e. int_le (pos at_least) e.value) (entries (vector depth stream side)))
+answer depth stream (Share side num den) =
+    pairs (filter (is_shared num den (total stream side)) (entries (vector depth stream side)))

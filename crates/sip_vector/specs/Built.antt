@@ -1,7 +1,7 @@
 -- Which kinds of query this program asks and answers.
 use Rattle.std.specs.Prelude.{Bool, true, false}
 use Rattle.sip_vector.specs.declared.query.Query.{Query}
-use Rattle.sip_vector.specs.declared.query.Query.TheVariants.{Sub, Range, F2, Inner, Heavy}
+use Rattle.sip_vector.specs.declared.query.Query.TheVariants.{Sub, Range, F2, Inner, Heavy, Share}
 
 -- The queries that a verifier checks and a helper answers. To build a kind is to change its line.
 abbrev pub is_built : Query → Bool
@@ -10,3 +10,4 @@ is_built (Range _ _ _) = false
 is_built (F2 _) = false
 is_built Inner = false
 is_built (Heavy _ _) = false
+is_built (Share _ _ _) = false

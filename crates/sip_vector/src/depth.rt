@@ -8,7 +8,7 @@ use std::marker::Model;
 /// How many challenges a query has at most: one for each level.
 pub const CAP: usize = Depth::MOST as usize;
 
-/// The depth of a tree over 2^d items, from 1 to 32. Contracts see it as the number.
+/// The depth of a tree over 2^d items, from 1 to 48. Contracts see it as the number.
 #[derive(Clone, Copy, Debug, PartialEq, Eq)]
 pub struct Depth {
     levels: u8,
@@ -29,9 +29,12 @@ impl Model for Depth {
 
 impl Depth {
     /// The greatest depth.
-    pub const MOST: u8 = 32;
+    pub const MOST: u8 = 48;
 
-    /// The depth `d`; `None` exactly where `d` is not 1 to 32.
+    /// The greatest depth at which each item has room in four bytes.
+    pub const MOST_NARROW: u8 = 32;
+
+    /// The depth `d`; `None` exactly where `d` is not 1 to 48.
     pub fn new(d: u8) -> Option<Depth>
         ensures fits { IsSome result ↔ ((1 ≤ d) × (d ≤ most_depth)) }
         ensures same { IfSome result (λ depth. depth ≡ d) }

@@ -83,4 +83,12 @@ pub fn answers_of_four()
     ensures inner { answer 2 both_sides queries.Inner ≡ number (pos 11) }
     ensures heavy { answer 2 stream (queries.Heavy sides.First 4)
         ≡ pairs (record { index = 2; value = pos 5 } ∷ []) }
+    ensures half { answer 2 stream (queries.Share sides.First 1 2)
+        ≡ pairs (record { index = 2; value = pos 5 } ∷ []) }
+    ensures five_ninths { answer 2 stream (queries.Share sides.First 5 9)
+        ≡ pairs (record { index = 2; value = pos 5 } ∷ []) }
+    ensures third { answer 2 stream (queries.Share sides.First 1 3)
+        ≡ pairs (record { index = 0; value = pos 3 } ∷ record { index = 2; value = pos 5 } ∷ []) }
+    ensures all { answer 2 stream (queries.Share sides.First 1 1) ≡ pairs [] }
+    ensures nothing { answer 2 [] (queries.Share sides.First 1 2) ≡ pairs [] }
 {}

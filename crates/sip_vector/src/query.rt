@@ -19,11 +19,16 @@ pub enum Query {
     Inner,
     /// The entries of a side that are at least `at_least`.
     Heavy { side: Side, at_least: u64 },
+    /// The entries of a side that are at least `num`/`den` of its total, none where the total is not above 0.
+    Share { side: Side, num: u32, den: u32 },
 }
 
 impl Query {
-    /// Whether the query can be asked at this depth: an interval is in order and within the items, and a threshold
-    /// is from 1 to 2^63 - 1.
+    /// The greatest denominator of a share.
+    pub const MOST_SHARE: u32 = 1_000_000;
+
+    /// Whether the query can be asked at this depth: an interval is in order and within the items, a threshold is
+    /// from 1 to 2^63 - 1, and a share is above 0, 1 at the most, and has a denominator up to 1,000,000.
     pub fn fits(&self, depth: Depth) -> bool
         ensures { IsTrue result ↔ Fits depth self.now }
     {
@@ -32,6 +37,9 @@ impl Query {
             Query::Sub { lo, hi } | Query::Range { lo, hi, .. } => lo <= hi && *hi < items,
             Query::F2 { .. } | Query::Inner => true,
             Query::Heavy { at_least, .. } => 1 <= *at_least && *at_least < 1 << 63,
+            Query::Share { num, den, .. } => {
+                1 <= *num && num <= den && *den <= Query::MOST_SHARE
+            }
         }
     }
 
@@ -44,7 +52,8 @@ impl Query {
     {
         match self {
             Query::Sub { .. } => true,
-            Query::Range { .. } | Query::F2 { .. } | Query::Inner | Query::Heavy { .. } => false,
+            Query::Range { .. } | Query::F2 { .. } | Query::Inner => false,
+            Query::Heavy { .. } | Query::Share { .. } => false,
         }
     }
 }

@@ -5,10 +5,10 @@ use std::process::Abort;
 use std::test::Fail;
 
 #[test]
-fn depths_are_1_to_32(rt: HostRuntime) {
+fn depths_are_1_to_48(rt: HostRuntime) {
     assert!(rt; Depth::new(0).is_none());
-    assert!(rt; Depth::new(33).is_none());
-    assert_eq!(rt; Depth::new(32).map(|depth| depth.get()), Some(32));
+    assert!(rt; Depth::new(49).is_none());
+    assert_eq!(rt; Depth::new(48).map(|depth| depth.get()), Some(48));
 }
 
 #[test]
@@ -32,6 +32,16 @@ fn queries_fit_a_depth(rt: HostRuntime) {
         .fits(depth)
     );
     assert!(rt; Query::Inner.fits(depth));
+    for (num, den, fits) in [
+        (0, 1, false),
+        (1, 1, true),
+        (2, 1, false),
+        (1_000_000, 1_000_000, true),
+        (1, 1_000_001, false),
+    ] {
+        let side = Side::Second;
+        assert_eq!(rt; Query::Share { side, num, den }.fits(depth), fits);
+    }
 }
 
 const MOST_WEIGHT: u64 = (1 << 30) - 1;

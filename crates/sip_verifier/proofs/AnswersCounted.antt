@@ -2,6 +2,7 @@
 use Rattle.std.proofs.Common.{◌≡◌, ◌==◌, ℕ, zero, suc, IsTrue, List, [], ◌∷◌, length, drop, Option, Result, Ok, Err, subst}
 use Rattle.std.specs.List.{list_all}
 use Rattle.std.proofs.lemmas.Bool.{and_parts}
+use Rattle.sip_wire.specs.declared.version.Version.{Version}
 use Rattle.sip_ports.specs.declared.port.TalkEvent.{TalkEvent}
 use Rattle.sip_vector.specs.declared.query.Query.{Query}
 use Rattle.sip_vector.specs.declared.update.Entry.{Entry}
@@ -26,11 +27,11 @@ left_fits depth zero (x ∷ seats) seat more all e =
 left_fits depth (suc n) [] seat more all e = absurd cc
 left_fits depth (suc n) (x ∷ seats) seat more all e = left_fits depth n seats seat more (and_parts (is_seat depth x) (list_all (is_seat depth) seats) all).1 e
 
-module _ (depth : ℕ) (stream : List Update) (query : Query) (block : List ℕ) (old new : Option (List TalkEvent)) (fits : Fits depth query) (legal : IsLegal depth stream) where
-  answered_counts : (answer : Answer) → IsAnswered depth stream query block old new answer → IsCounted depth stream query block old new answer
-  answered_counts answer is = record { replies = is.replies; talk = is.talk; counts = question_counts depth stream query block is.replies answer fits legal is.accepted }
+module _ (version : Version) (depth : ℕ) (stream : List Update) (query : Query) (block : List ℕ) (old new : Option (List TalkEvent)) (fits : Fits depth query) (legal : IsLegal depth stream) where
+  answered_counts : (answer : Answer) → IsAnswered version depth stream query block old new answer → IsCounted version depth stream query block old new answer
+  answered_counts answer is = record { replies = is.replies; talk = is.talk; counts = question_counts version depth stream query block is.replies answer fits legal is.accepted }
 
-  pub answers_count : (entries : List Entry) (result : Result Verdict SessionFault) → Asks depth stream query block old new entries result → AnswersCount depth stream query block old new entries result
+  pub answers_count : (entries : List Entry) (result : Result Verdict SessionFault) → Asks version depth stream query block old new entries result → AnswersCount version depth stream query block old new entries result
   answers_count entries (Ok (verdicts.Number n)) asks = answered_counts (number n) asks
   answers_count entries (Ok verdicts.Pairs) asks = answered_counts (pairs entries) asks
   answers_count entries (Ok (verdicts.Rejected round reason)) asks = tt

@@ -9,6 +9,7 @@ use Rattle.sip_vector.specs.declared.query.Query.{Query}
 use Rattle.sip_vector.specs.Answers.{Fits}
 use Rattle.sip_vector.specs.Streams.{IsLegal}
 use Rattle.sip_wire.specs.declared.message.Reason.{Reason}
+use Rattle.sip_verifier.specs.Tasks.{version_of}
 use Rattle.sip_verifier.specs.declared.status.Port.TheVariants as ports
 use Rattle.sip_verifier.specs.declared.status.Status.{Status}
 use Rattle.sip_verifier.specs.declared.status.Status.TheVariants as statuses
@@ -23,7 +24,7 @@ use Rattle.sip_verifier.specs.Tasks.{CanBeAsked}
 use Rattle.sip_verifier.specs.Questions.{Question, updates, Done, questions_of, lines, Reached}
 use Rattle.sip_verifier.specs.VerdictClause.{OneFaulty, WereReached, PartWritten, PartRejected, CutInLine, VerdictClause}
 use Rattle.sip_verifier.proofs.CountedQuestions.{few_wrong, question_counts}
-use Rattle.sip_verifier.proofs.LegalRecords.{records_legal}
+use Rattle.sip_stream.proofs.LegalRecords.{records_legal}
 
 module _ (task : Task) (x : Exchange) (can : All (CanBeAsked task.depth) task.queries.items) where
   fits : All (Fits task.depth) task.queries.items
@@ -33,11 +34,11 @@ module _ (task : Task) (x : Exchange) (can : All (CanBeAsked task.depth) task.qu
   legal = records_legal task.depth task.form x.stream
 
   few_of : (queries : List Query) → All (CanBeAsked task.depth) queries
-      → All (FewFor task.depth (updates task x)) queries
-  few_of [] all = All-nil (FewFor task.depth (updates task x))
+      → All (FewFor (version_of task) task.depth (updates task x)) queries
+  few_of [] all = All-nil (FewFor (version_of task) task.depth (updates task x))
   few_of (q ∷ queries) all =
-      All-cons (FewFor task.depth (updates task x)) q queries
-      (few_wrong task.depth (updates task x) q (All-head (CanBeAsked task.depth) q queries all)
+      All-cons (FewFor (version_of task) task.depth (updates task x)) q queries
+      (few_wrong (version_of task) task.depth (updates task x) q (All-head (CanBeAsked task.depth) q queries all)
       legal) (few_of queries (All-tail (CanBeAsked task.depth) q queries all))
 
   -- what was written of accepted questions
@@ -54,12 +55,12 @@ module _ (task : Task) (x : Exchange) (can : All (CanBeAsked task.depth) task.qu
   lines_same [] = refl
   lines_same (a ∷ done) = ap (λ ls. line a.question.query a.answer ++ ls) (lines_same done)
 
-  counted_of : (done : Done task x) → All (Fits task.depth) (map (λ (t : Question). t.query) (questions_of task x done)) → All (λ (w : Written). CountsFor task.depth (updates task x) w.question w.answer) (written_of done)
+  counted_of : (done : Done task x) → All (Fits task.depth) (map (λ (t : Question). t.query) (questions_of task x done)) → All (λ (w : Written). CountsFor (version_of task) task.depth (updates task x) w.question w.answer) (written_of done)
   unfolding written_of
-  counted_of [] all = All-nil (λ (w : Written). CountsFor task.depth (updates task x) w.question w.answer)
+  counted_of [] all = All-nil (λ (w : Written). CountsFor (version_of task) task.depth (updates task x) w.question w.answer)
   counted_of (a ∷ done) all =
-      All-cons (λ (w : Written). CountsFor task.depth (updates task x) w.question w.answer) (record { question = a.question; answer = a.answer }) (written_of done)
-      (question_counts task.depth (updates task x) a.question.query a.question.block a.question.replies a.answer (All-head (Fits task.depth) a.question.query _ all) legal a.accepts)
+      All-cons (λ (w : Written). CountsFor (version_of task) task.depth (updates task x) w.question w.answer) (record { question = a.question; answer = a.answer }) (written_of done)
+      (question_counts (version_of task) task.depth (updates task x) a.question.query a.question.block a.question.replies a.answer (All-head (Fits task.depth) a.question.query _ all) legal a.accepts)
       (counted_of done (All-tail (Fits task.depth) a.question.query _ all))
 
   -- the queries of questions that were reached fit
@@ -127,7 +128,7 @@ module _ (task : Task) (x : Exchange) (can : All (CanBeAsked task.depth) task.qu
   cut_in_line w (inr other) = part_rejected w.done w.part other w.report
 
   pub report_counts : (status : Status) → VerdictClause task x status → IsListed status → CountClause task x
-  report_counts statuses.Accepted v is = whole v.done (were_in_talk v.done (inr (bye_sent, v.reached))) v.report
+  report_counts statuses.Accepted v is = whole v.done (were_in_talk v.done (inr (bye_sent (version_of task), v.reached))) v.report
   report_counts (statuses.Rejected query round reason) v is = rejected query round reason v
   report_counts (statuses.Usage word) v is = nothing v
   report_counts (statuses.BadStream at why) v is = nothing v

@@ -10,9 +10,11 @@ use Rattle.sip_vector.specs.declared.update.Update.{Update}
 use Rattle.sip_stream.specs.declared.fault.StreamFault.{StreamFault}
 use Rattle.sip_stream.specs.declared.fault.StreamFault.TheVariants as faults
 use Rattle.sip_stream.specs.Reading.{Reading, IsAfter, Reads}
+use Rattle.sip_stream.specs.Layouts.{layout_of}
 use Rattle.sip_stream.specs.Records.{Records, records, records_from, pieces_of}
 use Rattle.sip_stream.proofs.Copies.{read_front}
 use Rattle.sip_stream.proofs.RecordsRead.{records_end}
+use Rattle.sip_verifier.specs.Tasks.{version_of}
 use Rattle.sip_verifier.specs.declared.task.Task.{Task}
 use Rattle.sip_verifier.specs.inside.Drawing.{HasDrawn}
 use Rattle.sip_verifier.specs.Draws.{blocks}
@@ -32,7 +34,7 @@ pub record IsUnderway (task : Task) (bytes : List ℕ) (at_blocks : List (List �
   pub stream : List Update
   pub after : IsAfter reader stream
   pub ahead : records task.depth task.form bytes ≡ records_from task.depth task.form stream rest
-  pub said : IsSentBut task.depth start now stream waiting
+  pub said : IsSentBut (version_of task) task.depth start now stream waiting
   pub stand : AreSeats task.depth task.queries.items at_blocks stream seats
 
 module _ (task : Task) (bytes seed : List ℕ) (start : Option (List TalkEvent)) (first : Seating) (has : HasDrawn task seed first) where
@@ -44,13 +46,13 @@ module _ (task : Task) (bytes seed : List ℕ) (start : Option (List TalkEvent))
 
   -- before the first record
   pub begins : (left : Option (List ℕ)) (now : Option (List TalkEvent)) (reader : Reading) (waiting : List Update)
-      → left ≡ Some bytes → IsAfter reader [] → IsSentBut task.depth start now [] waiting → IsUnderway task bytes at_blocks left start now reader first waiting
+      → left ≡ Some bytes → IsAfter reader [] → IsSentBut (version_of task) task.depth start now [] waiting → IsUnderway task bytes at_blocks left start now reader first waiting
   begins left now reader waiting all after said = record { rest = bytes; to_come = all; stream = []; after = after; ahead = refl; said = said; stand = has.stand }
 
   -- after one more record
   pub goes_on : (left left' : Option (List ℕ)) (now now' : Option (List TalkEvent)) (reader reader' : Reading) (seats seats' : Seating) (waiting waiting' : List Update) (u : Update)
       (so : IsUnderway task bytes at_blocks left start now reader seats waiting) → Reads task.depth task.form so.stream so.rest left' (Ok (Some u)) → IsAfter reader' (so.stream ++ u ∷ [])
-      → IsSentBut task.depth start now' (so.stream ++ u ∷ []) waiting' → AreSeats task.depth task.queries.items at_blocks (so.stream ++ u ∷ []) seats' → IsUnderway task bytes at_blocks left' start now' reader' seats' waiting'
+      → IsSentBut (version_of task) task.depth start now' (so.stream ++ u ∷ []) waiting' → AreSeats task.depth task.queries.items at_blocks (so.stream ++ u ∷ []) seats' → IsUnderway task bytes at_blocks left' start now' reader' seats' waiting'
   goes_on left left' now now' reader reader' seats seats' waiting waiting' u so (piece, rest, told, split, same) after said stand = record {
     rest = rest;
     to_come = told;
@@ -63,31 +65,31 @@ module _ (task : Task) (bytes seed : List ℕ) (start : Option (List TalkEvent))
 
   -- the records so far are a front of the legal ones
   is_front : (stream : List Update) (rest : List ℕ) → records task.depth task.form bytes ≡ records_from task.depth task.form stream rest → IsPrefix stream (legal task bytes seed)
-  is_front stream rest ahead = subst (λ (r : Records). IsPrefix stream r.legal) (sym ahead) (read_front task.depth task.form stream (pieces_of task.form rest))
+  is_front stream rest ahead = subst (λ (r : Records). IsPrefix stream r.legal) (sym ahead) (read_front task.depth task.form stream (pieces_of (layout_of task.form) rest))
 
   -- what was said of a front of the legal records is a front of what is said of them
-  cut_before : (now : Option (List TalkEvent)) (stream : List Update) → IsPrefix stream (legal task bytes seed) → IsStopped task.depth start now stream → IsCutBefore task bytes seed start now
+  cut_before : (now : Option (List TalkEvent)) (stream : List Update) → IsPrefix stream (legal task bytes seed) → IsStopped (version_of task) task.depth start now stream → IsCutBefore task bytes seed start now
   cut_before now stream front stop = record {
     said = stop.said;
     talk = stop.talk;
-    order = IsPrefix-trans _ _ _ stop.order (subst (λ l. IsPrefix (opening_sent task.depth (whole_frames stream)) (opening_sent task.depth (whole_frames l))) (sym front.1) (frames_front task.depth stream front.0));
+    order = IsPrefix-trans _ _ _ stop.order (subst (λ l. IsPrefix (opening_sent (version_of task) task.depth (whole_frames stream)) (opening_sent (version_of task) task.depth (whole_frames l))) (sym front.1) (frames_front (version_of task) task.depth stream front.0));
   }
 
   cut_short : (now : Option (List TalkEvent)) → IsCutBefore task bytes seed start now → IsCut task bytes seed start now
   cut_short now cut = record {
     said = cut.said;
     talk = cut.talk;
-    order = IsPrefix-trans _ _ _ cut.order (stream_sent-front task.depth (legal task bytes seed));
+    order = IsPrefix-trans _ _ _ cut.order (stream_sent-front (version_of task) task.depth (legal task bytes seed));
     illegal = λ _. cut.order;
   }
 
   -- it stopped in the opening
-  pub stops_first : (now : Option (List TalkEvent)) → IsStopped task.depth start now [] → IsCut task bytes seed start now
+  pub stops_first : (now : Option (List TalkEvent)) → IsStopped (version_of task) task.depth start now [] → IsCut task bytes seed start now
   stops_first now stop = cut_short now (cut_before now [] (legal task bytes seed, refl) stop)
 
   -- it stopped after one more record was read
   pub stops_after : (left left' : Option (List ℕ)) (now now' : Option (List TalkEvent)) (reader : Reading) (seats : Seating) (waiting : List Update) (u : Update)
-      (so : IsUnderway task bytes at_blocks left start now reader seats waiting) → Reads task.depth task.form so.stream so.rest left' (Ok (Some u)) → IsStopped task.depth start now' (so.stream ++ u ∷ []) → IsCut task bytes seed start now'
+      (so : IsUnderway task bytes at_blocks left start now reader seats waiting) → Reads task.depth task.form so.stream so.rest left' (Ok (Some u)) → IsStopped (version_of task) task.depth start now' (so.stream ++ u ∷ []) → IsCut task bytes seed start now'
   stops_after left left' now now' reader seats waiting u so (piece, rest, told, split, same) stop =
       cut_short now' (cut_before now' (so.stream ++ u ∷ []) (is_front (so.stream ++ u ∷ []) rest (so.ahead ∙ same)) stop)
 
@@ -98,19 +100,19 @@ module _ (task : Task) (bytes seed : List ℕ) (start : Option (List TalkEvent))
 
   -- the rest or the end was cut short
   pub stops_at_end : (left left' : Option (List ℕ)) (now new : Option (List TalkEvent)) (reader : Reading) (seats : Seating) (waiting : List Update)
-      (so : IsUnderway task bytes at_blocks left start now reader seats waiting) → Reads task.depth task.form so.stream so.rest left' (Ok None) → IsStoppedAtEnd task.depth start new so.stream → IsCut task bytes seed start new
+      (so : IsUnderway task bytes at_blocks left start now reader seats waiting) → Reads task.depth task.form so.stream so.rest left' (Ok None) → IsStoppedAtEnd (version_of task) task.depth start new so.stream → IsCut task bytes seed start new
   stops_at_end left left' now new reader seats waiting so reads stop =
       let is = ended left left' now reader seats waiting so reads in
       record {
         said = stop.said;
         talk = stop.talk;
-        order = subst (λ (r : Records). IsPrefix stop.said (stream_sent task.depth r.legal)) (sym is) stop.order;
+        order = subst (λ (r : Records). IsPrefix stop.said (stream_sent (version_of task) task.depth r.legal)) (sym is) stop.order;
         illegal = λ not. absurd (not (ap (λ (r : Records). r.fault) is));
       }
 
   -- the stream was read and sent whole
   pub gathered : (left left' : Option (List ℕ)) (now new : Option (List TalkEvent)) (reader : Reading) (seats : Seating) (waiting : List Update)
-      (so : IsUnderway task bytes at_blocks left start now reader seats waiting) → Reads task.depth task.form so.stream so.rest left' (Ok None) → GoesOn start new (stream_sent task.depth so.stream) → IsGathered task bytes seed left' start new seats
+      (so : IsUnderway task bytes at_blocks left start now reader seats waiting) → Reads task.depth task.form so.stream so.rest left' (Ok None) → GoesOn start new (stream_sent (version_of task) task.depth so.stream) → IsGathered task bytes seed left' start new seats
   gathered left left' now new reader seats waiting so reads said =
       let is = ended left left' now reader seats waiting so reads in
       record {
@@ -118,7 +120,7 @@ module _ (task : Task) (bytes seed : List ℕ) (start : Option (List TalkEvent))
         draws = has.draws;
         to_end = ap (λ (r : Records). r.fault) is;
         read = reads.0;
-        talk = subst (λ (r : Records). GoesOn start new (stream_sent task.depth r.legal)) (sym is) said;
+        talk = subst (λ (r : Records). GoesOn start new (stream_sent (version_of task) task.depth r.legal)) (sym is) said;
         stand = subst (λ (r : Records). AreSeats task.depth task.queries.items at_blocks r.legal seats) (sym is) so.stand;
       }
 
@@ -131,17 +133,17 @@ module _ (task : Task) (bytes seed : List ℕ) (start : Option (List TalkEvent))
 
   -- it stopped between two records
   stops_between : (left : Option (List ℕ)) (now : Option (List TalkEvent)) (reader : Reading) (seats : Seating) (waiting : List Update) → IsUnderway task bytes at_blocks left start now reader seats waiting → IsCutBefore task bytes seed start now
-  stops_between left now reader seats waiting so = cut_before now so.stream (is_front so.stream so.rest so.ahead) (stopped task.depth start now so.stream waiting so.said)
+  stops_between left now reader seats waiting so = cut_before now so.stream (is_front so.stream so.rest so.ahead) (stopped (version_of task) task.depth start now so.stream waiting so.said)
 
   -- no record was read: the next one is not legal, or the source stopped
   pub reading_stops : (left left' : Option (List ℕ)) (now : Option (List TalkEvent)) (reader : Reading) (seats : Seating) (waiting : List Update) (fault : StreamFault)
       (so : IsUnderway task bytes at_blocks left start now reader seats waiting) → Reads task.depth task.form so.stream so.rest left' (Err fault) → Gathers task bytes seed left' start now (Err (status_of_stream fault))
   reading_stops left left' now reader seats waiting (faults.Bad at why) so (front, number, same) =
       let is : records task.depth task.form bytes ≡ record { legal = so.stream; fault = Some why } = so.ahead ∙ same in
-      let frames : before_end task bytes seed ≡ opening_sent task.depth so.said.sent =
-      ap (λ (r : Records). opening_sent task.depth (whole_frames r.legal)) is
-      ∙ ap (λ l. opening_sent task.depth (whole_frames l)) so.said.order
-      ∙ ap (opening_sent task.depth) (whole_frames-waiting so.said.sent waiting so.said.whole so.said.few) in
+      let frames : before_end task bytes seed ≡ opening_sent (version_of task) task.depth so.said.sent =
+      ap (λ (r : Records). opening_sent (version_of task) task.depth (whole_frames r.legal)) is
+      ∙ ap (λ l. opening_sent (version_of task) task.depth (whole_frames l)) so.said.order
+      ∙ ap (opening_sent (version_of task) task.depth) (whole_frames-waiting so.said.sent waiting so.said.whole so.said.few) in
       (gives, number ∙ ap (λ (r : Records). length r.legal) (sym is), ap (λ (r : Records). r.fault) is, subst (GoesOn start now) (sym frames) so.said.talk)
   reading_stops left left' now reader seats waiting faults.ReadFault so front = (gives, stops_between left now reader seats waiting so)
   reading_stops left left' now reader seats waiting faults.OutOfMemory so front = inr (gives, cut_short now (stops_between left now reader seats waiting so))

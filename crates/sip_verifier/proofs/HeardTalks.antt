@@ -7,9 +7,9 @@ use Rattle.sip_ports.specs.Ports.{outs, ins, heard}
 use Rattle.sip_ports.proofs.TalkLemmas.{heard-append, heard-ins, heard-outs}
 use Rattle.sip_vector.specs.declared.query.Query.{Query}
 use Rattle.sip_vector.specs.declared.update.Update.{Update}
+use Rattle.sip_wire.specs.Versions.{number_of}
 use Rattle.sip_wire.specs.declared.message.Message.TheVariants as messages
 use Rattle.sip_wire.specs.declared.version.Version.{Version}
-use Rattle.sip_wire.specs.declared.version.Version.TheVariants.{One}
 use Rattle.sip_wire.specs.Spelling.{spelling}
 use Rattle.sip_replies.specs.Talks.{sent, exchanged, asked}
 use Rattle.sip_verifier.specs.Talks.{stream_sent, opening_sent, update_frames}
@@ -24,59 +24,59 @@ after_sent bytes talk = heard-append (outs bytes) talk ∙ ap (λ l. l ++ heard 
 before_sent : (talk : List TalkEvent) (bytes : List ℕ) → heard (talk ++ outs bytes) ≡ heard talk
 before_sent talk bytes = heard-append talk (outs bytes) ∙ ap (λ l. heard talk ++ l) (heard-outs bytes) ∙ append-nil (heard talk)
 
-heard-exchanged : (replies : List (List ℕ)) (challenges : List ℕ)
+heard-exchanged : (version : Version) (replies : List (List ℕ)) (challenges : List ℕ)
     → length replies ≤ length challenges + 1 → heard
-    (exchanged One replies challenges) ≡ joined replies
-heard-exchanged [] challenges few = refl
-heard-exchanged (r ∷ []) challenges few = heard-ins r ∙ sym (append-nil r)
-heard-exchanged (r ∷ next ∷ more) [] few = absurd (omega arith)
-heard-exchanged (r ∷ next ∷ more) (c ∷ challenges) few =
-    heard-append (ins r ++ sent One (messages.Reveal c ∷ []))
-    (exchanged One (next ∷ more) challenges)
-    ∙ ap (λ l. l ++ heard (exchanged One (next ∷ more) challenges))
-    (before_sent (ins r) (flat_map spelling (messages.Reveal c ∷ [])) ∙ heard-ins r)
-    ∙ ap (λ l. r ++ l) (heard-exchanged (next ∷ more) challenges (omega arith))
+    (exchanged version replies challenges) ≡ joined replies
+heard-exchanged version [] challenges few = refl
+heard-exchanged version (r ∷ []) challenges few = heard-ins r ∙ sym (append-nil r)
+heard-exchanged version (r ∷ next ∷ more) [] few = absurd (omega arith)
+heard-exchanged version (r ∷ next ∷ more) (c ∷ challenges) few =
+    heard-append (ins r ++ sent version (messages.Reveal c ∷ []))
+    (exchanged version (next ∷ more) challenges)
+    ∙ ap (λ l. l ++ heard (exchanged version (next ∷ more) challenges))
+    (before_sent (ins r) (flat_map (spelling version) (messages.Reveal c ∷ [])) ∙ heard-ins r)
+    ∙ ap (λ l. r ++ l) (heard-exchanged version (next ∷ more) challenges (omega arith))
 
 -- where no more replies came than there are challenges
 pub heard-asked : (version : Version) (query : Query) (block : List ℕ) (replies : List (List ℕ))
     → length replies ≤ length block → heard (asked version query block replies) ≡ joined replies
-heard-asked One query block replies few =
-    after_sent (flat_map spelling (messages.Query query ∷ [])) (exchanged One replies block)
-    ∙ heard-exchanged replies block (omega arith)
+heard-asked version query block replies few =
+    after_sent (flat_map (spelling version) (messages.Query query ∷ [])) (exchanged version replies block)
+    ∙ heard-exchanged version replies block (omega arith)
 
--- what was heard for a question are its replies
-abbrev pub IsHeard : ℕ → List Update → Question → Type 0
-IsHeard depth stream t = heard (said_for depth stream t) ≡ joined t.replies
+-- what was heard in a question are its replies
+abbrev pub IsHeard : (version : Version) → ℕ → List Update → Question → Type 0
+IsHeard version depth stream t = heard (said_for version depth stream t) ≡ joined t.replies
 
 -- the reply bytes of questions
 abbrev pub replied : List Question → List ℕ
 replied questions = flat_map (λ t. joined t.replies) questions
 
-heard-questions : (depth : ℕ) (stream : List Update) (questions : List Question)
-    → All (IsHeard depth stream) questions
-    → heard (flat_map (said_for depth stream) questions) ≡ replied questions
-heard-questions depth stream [] each = refl
-heard-questions depth stream (t ∷ questions) each =
-    heard-append (said_for depth stream t) (flat_map (said_for depth stream) questions)
-    ∙ ap (λ l. l ++ heard (flat_map (said_for depth stream) questions))
-    (All-head (IsHeard depth stream) t questions each)
+heard-questions : (version : Version) (depth : ℕ) (stream : List Update) (questions : List Question)
+    → All (IsHeard version depth stream) questions
+    → heard (flat_map (said_for version depth stream) questions) ≡ replied questions
+heard-questions version depth stream [] each = refl
+heard-questions version depth stream (t ∷ questions) each =
+    heard-append (said_for version depth stream t) (flat_map (said_for version depth stream) questions)
+    ∙ ap (λ l. l ++ heard (flat_map (said_for version depth stream) questions))
+    (All-head (IsHeard version depth stream) t questions each)
     ∙ ap (λ l. joined t.replies ++ l)
-    (heard-questions depth stream questions (All-tail (IsHeard depth stream) t questions each))
+    (heard-questions version depth stream questions (All-tail (IsHeard version depth stream) t questions each))
 
-heard-stream : (depth : ℕ) (stream : List Update) → heard (stream_sent depth stream) ≡ []
-heard-stream depth stream = before_sent (opening_sent depth stream) (flat_map spelling (messages.EndStream ∷ [])) ∙ heard-outs (flat_map spelling (messages.Open 1 depth ∷ update_frames stream))
+heard-stream : (version : Version) (depth : ℕ) (stream : List Update) → heard (stream_sent version depth stream) ≡ []
+heard-stream version depth stream = before_sent (opening_sent version depth stream) (flat_map (spelling version) (messages.EndStream ∷ [])) ∙ heard-outs (flat_map (spelling version) (messages.Open (number_of version) depth ∷ update_frames stream))
 
-pub heard-talk : (depth : ℕ) (stream : List Update) (questions : List Question) (rest : List TalkEvent)
-    → All (IsHeard depth stream) questions
-    → heard (stream_sent depth stream ++ flat_map (said_for depth stream) questions ++ rest)
+pub heard-talk : (version : Version) (depth : ℕ) (stream : List Update) (questions : List Question) (rest : List TalkEvent)
+    → All (IsHeard version depth stream) questions
+    → heard (stream_sent version depth stream ++ flat_map (said_for version depth stream) questions ++ rest)
     ≡ replied questions ++ heard rest
-heard-talk depth stream questions rest each =
-    let said : List TalkEvent = flat_map (said_for depth stream) questions in
-    heard-append (stream_sent depth stream ++ said) rest
+heard-talk version depth stream questions rest each =
+    let said : List TalkEvent = flat_map (said_for version depth stream) questions in
+    heard-append (stream_sent version depth stream ++ said) rest
     ∙ ap (λ l. l ++ heard rest)
-    (heard-append (stream_sent depth stream) said
-    ∙ ap (λ l. l ++ heard said) (heard-stream depth stream)
-    ∙ heard-questions depth stream questions each)
+    (heard-append (stream_sent version depth stream) said
+    ∙ ap (λ l. l ++ heard said) (heard-stream version depth stream)
+    ∙ heard-questions version depth stream questions each)
 
 -- the last event of a talk in which each event is such
 pub last_is : (P : TalkEvent → Type 0) (talk : List TalkEvent) (event : TalkEvent) → All P (talk ++ event ∷ []) → P event

@@ -1,6 +1,6 @@
 -- Replies whose bytes agree with honest ones: where they are accepted they are those, and they have no fault but that of the end of
 -- the link. Whatever the protocol, where the honest ones are accepted.
-use Rattle.std.proofs.Common.{◌≡◌, ◌≢◌, ℕ, suc, ◌≤◌, Result, Ok, Err, List, ◌++◌, length, refl, sym, ap, ◌∙◌, arith}
+use Rattle.std.proofs.Common.{◌≡◌, ◌≢◌, ℕ, Result, Ok, Err, List, ◌++◌, length, refl, sym, ap, ◌∙◌, arith}
 use Rattle.sip_vector.specs.Answers.{Answer}
 use Rattle.sip_vector.specs.Steps.{◌>>=◌}
 use Rattle.sip_wire.specs.declared.message.Reason.{Reason}

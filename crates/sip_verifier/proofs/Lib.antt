@@ -18,7 +18,6 @@ pub mod QueriesChecked
 pub mod RunTalks
 pub mod StreamPromises
 pub mod QueryPromises
-pub mod LegalRecords
 pub mod CountedQuestions
 pub mod CountedReports
 pub mod Blocks

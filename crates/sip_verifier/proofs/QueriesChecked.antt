@@ -5,17 +5,19 @@ use Rattle.std.proofs.Math.Seq.{take-add}
 use Rattle.std.proofs.lemmas.Grind.{flat_map-append}
 use Rattle.std.proofs.lemmas.List.{drop-map, length-append, length-map, map-append}
 use Rattle.std.proofs.lemmas.List.Elements.{All-drop}
+use Rattle.sip_wire.specs.declared.version.Version.{Version}
 use Rattle.sip_ports.specs.declared.port.PortStop.{PortStop}
 use Rattle.sip_ports.specs.declared.port.PortStop.TheVariants as port_stops
 use Rattle.sip_ports.specs.declared.port.TalkEvent.{TalkEvent}
 use Rattle.sip_ports.specs.Ports.{GoesOn, SendsWhole, outs}
 use Rattle.sip_ports.proofs.FaultLemmas.{Rose-since}
-use Rattle.sip_ports.proofs.TalkLemmas.{GoesOn-trans, outs-append}
+use Rattle.sip_ports.proofs.TalkLemmas.{GoesOn-refl, GoesOn-trans, outs-append}
 use Rattle.sip_vector.specs.declared.query.Query.{Query}
 use Rattle.sip_vector.specs.declared.update.Entry.{Entry}
 use Rattle.sip_vector.specs.declared.update.Update.{Update}
 use Rattle.sip_vector.specs.Answers.{Answer}
 use Rattle.sip_wire.specs.declared.message.Reason.{Reason}
+use Rattle.sip_verifier.specs.Tasks.{version_of}
 use Rattle.sip_verifier.specs.declared.session.SessionFault.{SessionFault}
 use Rattle.sip_verifier.specs.declared.session.SessionFault.TheVariants as faults
 use Rattle.sip_verifier.specs.declared.status.Port.TheVariants as ports
@@ -39,45 +41,53 @@ OnReport written r = MatchResult r (λ x. written ≡ Ok x) (λ status. (port : 
 
 -- ---- one query
 
-module _ (depth : ℕ) (stream : List Update) (query : Query) (block : List ℕ) (number : ℕ) (old new blank full : Option (List TalkEvent)) where
+module _ (version : Version) (depth : ℕ) (stream : List Update) (query : Query) (block : List ℕ) (number : ℕ) (old new blank full : Option (List TalkEvent)) where
   -- its replies were accepted, and its line was written, whole or not
-  pub line_checked : (answer : Answer) (written : Result (Unit {0}) PortStop) (r : Result (Unit {0}) Status) → IsAnswered depth stream query block old new answer → SendsWhole blank full written (line query answer)
-      → OnReport written r → Checks depth stream query block number old new blank full r
+  pub line_checked : (answer : Answer) (written : Result (Unit {0}) PortStop) (r : Result (Unit {0}) Status) → IsAnswered version depth stream query block old new answer → SendsWhole blank full written (line query answer)
+      → OnReport written r → Checks version depth stream query block number old new blank full r
   line_checked answer (Ok u) (Ok v) answered sent on = record { answer = answer; answered = answered; wrote = sent }
   line_checked answer (Ok u) (Err status) answered sent (port, is, so) = absurd cc
   line_checked answer (Err stop) (Ok v) answered sent on = absurd cc
   line_checked answer (Err stop) (Err status) answered (n, less, went) (port, is, so) =
       let text = line query answer in
-      let part : PassesInPart depth stream query block number old new blank full = record { answer = answer; answered = answered; part = take n text; front = (drop n text, sym (take-append-drop n text)); wrote = went } in
-      let checks : Checks depth stream query block number old new blank full (Err (status_of_report port)) =
-      elim port as (λ p. Checks depth stream query block number old new blank full (Err (status_of_report p))) [
+      let part : PassesInPart version depth stream query block number old new blank full = record { answer = answer; answered = answered; part = take n text; front = (drop n text, sym (take-append-drop n text)); wrote = went } in
+      let checks : Checks version depth stream query block number old new blank full (Err (status_of_report port)) =
+      elim port as (λ p. Checks version depth stream query block number old new blank full (Err (status_of_report p))) [
         | port_stops.Failed ↦ inl part
         | port_stops.OutOfMemory ↦ inl part
       ] in
-      subst (λ (s : Status). Checks depth stream query block number old new blank full (Err s)) (sym so) checks
+      subst (λ (s : Status). Checks version depth stream query block number old new blank full (Err s)) (sym so) checks
 
   -- its replies were rejected, and a front of the line was written
-  pub rejection_cut : (round : ℕ) (reason : Reason) (written : Result (Unit {0}) PortStop) (status : Status) → IsRejected depth stream query block old new round reason
-      → SendsWhole blank full written (rejection number round reason) → OnReport written (Err status) → Checks depth stream query block number old new blank full (Err status)
+  pub rejection_cut : (round : ℕ) (reason : Reason) (written : Result (Unit {0}) PortStop) (status : Status) → IsRejected version depth stream query block old new round reason
+      → SendsWhole blank full written (rejection number round reason) → OnReport written (Err status) → Checks version depth stream query block number old new blank full (Err status)
   rejection_cut round reason (Ok u) status rejected sent (port, is, so) = absurd cc
   rejection_cut round reason (Err stop) status rejected (n, less, went) (port, is, so) =
       let text = rejection number round reason in
-      let part : FailsInPart depth stream query block number old new blank full = record { round = round; reason = reason; rejected = rejected; part = take n text; front = (drop n text, sym (take-append-drop n text)); wrote = went } in
-      let checks : Checks depth stream query block number old new blank full (Err (status_of_report port)) =
-      elim port as (λ p. Checks depth stream query block number old new blank full (Err (status_of_report p))) [
+      let part : FailsInPart version depth stream query block number old new blank full = record { round = round; reason = reason; rejected = rejected; part = take n text; front = (drop n text, sym (take-append-drop n text)); wrote = went } in
+      let checks : Checks version depth stream query block number old new blank full (Err (status_of_report port)) =
+      elim port as (λ p. Checks version depth stream query block number old new blank full (Err (status_of_report p))) [
         | port_stops.Failed ↦ inr part
         | port_stops.OutOfMemory ↦ inr (inl part)
       ] in
-      subst (λ (s : Status). Checks depth stream query block number old new blank full (Err s)) (sym so) checks
+      subst (λ (s : Status). Checks version depth stream query block number old new blank full (Err s)) (sym so) checks
 
 -- it has no verdict, and nothing was written
-pub fault_checked : (depth : ℕ) (stream : List Update) (query : Query) (block : List ℕ) (number : ℕ) (old new blank : Option (List TalkEvent)) (entries : List Entry) (fault : SessionFault)
-    → Asks depth stream query block old new entries (Err fault) → Checks depth stream query block number old new blank blank (Err (status_of_fault fault))
-fault_checked depth stream query block number old new blank entries faults.PeerFault asks = record { interrupted = asks; same = refl }
-fault_checked depth stream query block number old new blank entries faults.KeepFault asks = absurd asks
-fault_checked depth stream query block number old new blank entries faults.OutOfMemory asks = inr (inr (record { interrupted = asks; same = refl }))
+pub fault_checked : (version : Version) (depth : ℕ) (stream : List Update) (query : Query) (block : List ℕ) (number : ℕ) (old new blank : Option (List TalkEvent)) (entries : List Entry) (fault : SessionFault)
+    → Asks version depth stream query block old new entries (Err fault) → Checks version depth stream query block number old new blank blank (Err (status_of_fault fault))
+fault_checked version depth stream query block number old new blank entries faults.PeerFault asks = record { interrupted = asks; same = refl }
+fault_checked version depth stream query block number old new blank entries faults.KeepFault asks = absurd asks
+fault_checked version depth stream query block number old new blank entries faults.OutOfMemory asks = inr (inr (record { interrupted = asks; same = refl }))
 
 -- ---- the queries so far
+
+-- before the first one
+pub none_passed : (version : Version) (depth : ℕ) (stream : List Update) (queries : List Query) (blocks : List (List ℕ)) (old blank : Option (List TalkEvent)) → PassedBy version depth stream queries blocks old old blank blank 0
+none_passed version depth stream queries blocks old blank = record {
+  done = [];
+  counted = refl;
+  passed = record { first = record { asked = refl; at_blocks = refl }; talk = GoesOn-refl old; report = GoesOn-refl blank };
+}
 
 -- one question more
 pub first_more : (queries more : List Query) (blocks others : List (List ℕ)) (questions : List Question) (query : Query) (block : List ℕ) (replies : List (List ℕ)) → AreFirst queries blocks questions
@@ -96,27 +106,27 @@ first_more queries more blocks others questions query block replies first asks a
 pub flat_map_snoc : {X Y : Type 0} (f : X → List Y) (xs : List X) (x : X) → flat_map f (xs ++ x ∷ []) ≡ flat_map f xs ++ f x
 flat_map_snoc f xs x = flat_map-append f xs (x ∷ []) ∙ ap (λ l. flat_map f xs ++ l) (append-nil (f x))
 
-module _ (depth : ℕ) (stream : List Update) (queries : List Query) (blocks : List (List ℕ)) (old mid new blank half full : Option (List TalkEvent)) where
+module _ (version : Version) (depth : ℕ) (stream : List Update) (queries : List Query) (blocks : List (List ℕ)) (old mid new blank half full : Option (List TalkEvent)) where
   -- one query more was accepted
-  pub passed_more : (count : ℕ) (query : Query) (more : List Query) (block : List ℕ) (others : List (List ℕ)) (number : ℕ) (r : Result (Unit {0}) Status) (u : Unit {0}) → r ≡ Ok u → PassedBy depth stream queries blocks old mid blank half count → drop count queries ≡ query ∷ more → drop count blocks ≡ block ∷ others
-      → Checks depth stream query block number mid new half full r → PassedBy depth stream queries blocks old new blank full (count + 1)
+  pub passed_more : (count : ℕ) (query : Query) (more : List Query) (block : List ℕ) (others : List (List ℕ)) (number : ℕ) (r : Result (Unit {0}) Status) (u : Unit {0}) → r ≡ Ok u → PassedBy version depth stream queries blocks old mid blank half count → drop count queries ≡ query ∷ more → drop count blocks ≡ block ∷ others
+      → Checks version depth stream query block number mid new half full r → PassedBy version depth stream queries blocks old new blank full (count + 1)
   passed_more count query more block others number r u went so asks at checks =
-      let passes : Passes depth stream query block number mid new half full = subst (Checks depth stream query block number mid new half full) went checks in
-      let questions = map (λ (a : Accepted depth stream). a.question) so.done in
+      let passes : Passes version depth stream query block number mid new half full = subst (Checks version depth stream query block number mid new half full) went checks in
+      let questions = map (λ (a : Accepted version depth stream). a.question) so.done in
       let question = question_of query block passes.answered.replies in
-      let one : Accepted depth stream = record { question = question; answer = passes.answer; accepts = passes.answered.accepted } in
-      let is : length questions ≡ count = length-map so.done (λ (a : Accepted depth stream). a.question) ∙ so.counted in
+      let one : Accepted version depth stream = record { question = question; answer = passes.answer; accepts = passes.answered.accepted } in
+      let is : length questions ≡ count = length-map so.done (λ (a : Accepted version depth stream). a.question) ∙ so.counted in
       let first : AreFirst queries blocks (questions ++ question ∷ []) =
       first_more queries more blocks others questions query block passes.answered.replies so.passed.first (ap (λ (n : ℕ). drop n queries) is ∙ asks) (ap (λ (n : ℕ). drop n blocks) is ∙ at) in
-      let same : map (λ (a : Accepted depth stream). a.question) (so.done ++ one ∷ []) ≡ questions ++ question ∷ [] = map-append (λ (a : Accepted depth stream). a.question) so.done (one ∷ []) in
-      let said : flat_map (said_for depth stream) questions ++ said_for depth stream question
-      ≡ flat_map (said_for depth stream) (map (λ (a : Accepted depth stream). a.question)
+      let same : map (λ (a : Accepted version depth stream). a.question) (so.done ++ one ∷ []) ≡ questions ++ question ∷ [] = map-append (λ (a : Accepted version depth stream). a.question) so.done (one ∷ []) in
+      let said : flat_map (said_for version depth stream) questions ++ said_for version depth stream question
+      ≡ flat_map (said_for version depth stream) (map (λ (a : Accepted version depth stream). a.question)
       (so.done ++ one ∷ [])) = sym (ap (λ (l : List Question). flat_map
-      (said_for depth stream) l) same ∙ flat_map_snoc
-      (said_for depth stream) questions question) in
-      let lines = flat_map (λ (a : Accepted depth stream). line a.question.query a.answer) so.done in
-      let wrote : outs lines ++ outs (line query passes.answer) ≡ outs (flat_map (λ (a : Accepted depth stream). line a.question.query a.answer) (so.done ++ one ∷ [])) =
-      sym (ap outs (flat_map_snoc (λ (a : Accepted depth stream). line a.question.query a.answer) so.done one) ∙ outs-append lines (line query passes.answer)) in
+      (said_for version depth stream) l) same ∙ flat_map_snoc
+      (said_for version depth stream) questions question) in
+      let lines = flat_map (λ (a : Accepted version depth stream). line a.question.query a.answer) so.done in
+      let wrote : outs lines ++ outs (line query passes.answer) ≡ outs (flat_map (λ (a : Accepted version depth stream). line a.question.query a.answer) (so.done ++ one ∷ [])) =
+      sym (ap outs (flat_map_snoc (λ (a : Accepted version depth stream). line a.question.query a.answer) so.done one) ∙ outs-append lines (line query passes.answer)) in
       record {
         done = so.done ++ one ∷ [];
         counted = length-append so.done (one ∷ []) ∙ ap (λ (n : ℕ). n + 1) so.counted;
@@ -128,8 +138,8 @@ module _ (depth : ℕ) (stream : List Update) (queries : List Query) (blocks : L
       }
 
   -- the next query ended the run
-  pub ends_with : (count : ℕ) (query : Query) (more : List Query) (block : List ℕ) (others : List (List ℕ)) (number : ℕ) (r : Result (Unit {0}) Status) (status : Status) → r ≡ Err status → number ≡ suc count → PassedBy depth stream queries blocks old mid blank half count → drop count queries ≡ query ∷ more → drop count blocks ≡ block ∷ others
-      → Checks depth stream query block number mid new half full r → EndsWith depth stream queries blocks old new blank full status
+  pub ends_with : (count : ℕ) (query : Query) (more : List Query) (block : List ℕ) (others : List (List ℕ)) (number : ℕ) (r : Result (Unit {0}) Status) (status : Status) → r ≡ Err status → number ≡ suc count → PassedBy version depth stream queries blocks old mid blank half count → drop count queries ≡ query ∷ more → drop count blocks ≡ block ∷ others
+      → Checks version depth stream query block number mid new half full r → EndsWith version depth stream queries blocks old new blank full status
   ends_with count query more block others number r status ended is so asks at checks = record {
     done = so.done;
     mid = mid;
@@ -141,7 +151,7 @@ module _ (depth : ℕ) (stream : List Update) (queries : List Query) (blocks : L
     next_block = others;
     asks = ap (λ (n : ℕ). drop n queries) so.counted ∙ asks;
     at = ap (λ (n : ℕ). drop n blocks) so.counted ∙ at;
-    checks = subst (λ (n : ℕ). Checks depth stream query block n mid new half full (Err status)) (is ∙ ap suc (sym so.counted)) (subst (Checks depth stream query block number mid new half full) ended checks);
+    checks = subst (λ (n : ℕ). Checks version depth stream query block n mid new half full (Err status)) (is ∙ ap suc (sym so.counted)) (subst (Checks version depth stream query block number mid new half full) ended checks);
   }
 
 -- ---- the seat of a query
@@ -182,18 +192,18 @@ pub next_seat : (depth : ℕ) (stream : List Update) (seats : List Seated) (quer
 next_seat depth stream seats queries more count query same all from = next_seat_of depth stream seats (drop count seats) queries more count query refl same (All-drop (StandsFor depth stream) count seats all) from
 
 -- what came of all queries of a task, whose seats the session had
-pub all_checked : (task : Task) (stream : List Update) (challenges : List ℕ) (seats : Seating) (depth : ℕ) (left : List Seated) (queries : List Query) (old new blank full : Option (List TalkEvent)) {r s : Result (Unit {0}) Status} → r ≡ s → depth ≡ seats.depth
+pub all_checked : (task : Task) (stream : List Update) (challenges : List ℕ) (seats : Seating) (version : Version) (depth : ℕ) (left : List Seated) (queries : List Query) (old new blank full : Option (List TalkEvent)) {r s : Result (Unit {0}) Status} → r ≡ s → version ≡ version_of task → depth ≡ seats.depth
     → left ≡ seats.seats → queries ≡ task.queries.items → AreSeats task.depth task.queries.items (blocks task challenges) stream seats
-    → ((stream : List Update) → map (λ seat. seat.query) left ≡ queries → All (StandsFor depth stream) left → ChecksAll depth stream queries (map (λ (s : Seated). s.block) left) old new blank full r)
-    → ChecksAll task.depth stream task.queries.items (blocks task challenges) old new blank full s
-all_checked task stream challenges seats depth left queries old new blank full {r = r} {s = s} ends deep its same are came =
+    → ((stream : List Update) → map (λ seat. seat.query) left ≡ queries → All (StandsFor depth stream) left → ChecksAll version depth stream queries (map (λ (s : Seated). s.block) left) old new blank full r)
+    → ChecksAll (version_of task) task.depth stream task.queries.items (blocks task challenges) old new blank full s
+all_checked task stream challenges seats version depth left queries old new blank full {r = r} {s = s} ends said deep its same are came =
     let levels : depth ≡ task.depth = deep ∙ are.levels in
     let stand = subst (λ (n : ℕ). All (StandsFor n stream) left) (sym levels) (subst (All (StandsFor task.depth stream)) (sym its) are.stand) in
-    let checks = came stream (ap (λ (seats : List Seated). map (λ (s : Seated). s.query) seats) its ∙ are.asked ∙ sym same) stand in
+    let checks = subst (λ (v : Version). ChecksAll v depth stream queries (map (λ (s : Seated). s.block) left) old new blank full r) said (came stream (ap (λ (seats : List Seated). map (λ (s : Seated). s.query) seats) its ∙ are.asked ∙ sym same) stand) in
     let at_blocks : map (λ (s : Seated). s.block) left ≡ blocks task challenges = ap (λ (seats : List Seated). map (λ (s : Seated). s.block) seats) its ∙ are.at_blocks in
-    subst (ChecksAll task.depth stream task.queries.items (blocks task challenges) old new blank full) ends
-    (subst (λ (n : ℕ). ChecksAll n stream task.queries.items (blocks task challenges) old new blank full r) levels
-    (subst (λ (qs : List Query). ChecksAll depth stream qs (blocks task challenges) old new blank full r) same (subst (λ (bs : List (List ℕ)). ChecksAll depth stream queries bs old new blank full r) at_blocks checks)))
+    subst (ChecksAll (version_of task) task.depth stream task.queries.items (blocks task challenges) old new blank full) ends
+    (subst (λ (n : ℕ). ChecksAll (version_of task) n stream task.queries.items (blocks task challenges) old new blank full r) levels
+    (subst (λ (qs : List Query). ChecksAll (version_of task) depth stream qs (blocks task challenges) old new blank full r) same (subst (λ (bs : List (List ℕ)). ChecksAll (version_of task) depth stream queries bs old new blank full r) at_blocks checks)))
 
 -- a fault of a port has its cause, since an earlier moment of the link
 pub since_before : (first firsts second seconds earlier peer peers report reports : ℕ) (status : Status) → earlier ≤ peer → FaultClause (counts first second peer report) (counts firsts seconds peers reports) status

@@ -1,5 +1,6 @@
 -- What the general talk did for a query is what a session promises of it, by the protocol of the query's kind.
 use Rattle.std.proofs.Common.{◌≡◌, ◌≢◌, ℕ, None, Option, Result, Ok, Err, List, [], ◌∷◌, ◌++◌, length, min, zero, suc, take, refl, sym, ap, subst, ◌∙◌, arith}
+use Rattle.sip_wire.specs.declared.version.Version.{Version}
 use Rattle.sip_ports.specs.declared.port.TalkEvent.{TalkEvent}
 use Rattle.sip_ports.specs.Ports.{GoesOn}
 use Rattle.sip_vector.specs.declared.query.Query.{Query}
@@ -30,29 +31,29 @@ take-min (suc n) (x ∷ xs) =
 
 -- This is the protocol of the query's kind: what is said and what holds by it is so of the query's
 -- questions.
-pub record IsProtocol (depth : ℕ) (stream : List Update) (query : Query) (block : List ℕ)
+pub record IsProtocol (version : Version) (depth : ℕ) (stream : List Update) (query : Query) (block : List ℕ)
     {S : Type 0} (P : Protocol S) : Type 0 where
   pub said : (replies : List (List ℕ))
       → asked_unless P.unasked P.rules.version query block replies
-      ≡ said_for depth stream (question_of query block replies)
+      ≡ said_for version depth stream (question_of query block replies)
   pub accepts : (replies : List (List ℕ)) (answer : Answer)
       → replied.IsAccepted P block replies answer
-      → Accepts depth stream (question_of query block replies) answer
+      → Accepts version depth stream (question_of query block replies) answer
   pub faulty : (replies : List (List ℕ)) (fault : Fault) → replied.IsFaulty P block replies fault
-      → IsFaulty depth stream (question_of query block replies) fault
+      → IsFaulty version depth stream (question_of query block replies) fault
   pub waits : (replies : List (List ℕ)) → IsDue P block replies
-      → IsWaiting depth stream (question_of query block replies)
+      → IsWaiting version depth stream (question_of query block replies)
 
-module _ (depth : ℕ) (stream : List Update) (query : Query) (block : List ℕ) (old new before now : Option (List TalkEvent)) {S : Type 0} (P : Protocol S) (is : IsProtocol depth stream query block P) where
+module _ (version : Version) (depth : ℕ) (stream : List Update) (query : Query) (block : List ℕ) (old new before now : Option (List TalkEvent)) {S : Type 0} (P : Protocol S) (is : IsProtocol version depth stream query block P) where
   asked_is : P.unasked ≡ None → (replies : List (List ℕ))
       → asked P.rules.version query block replies
-      ≡ said_for depth stream (question_of query block replies)
+      ≡ said_for version depth stream (question_of query block replies)
   asked_is due replies =
       ap (λ (u : Option Answer). asked_unless u P.rules.version query block replies) (sym due)
       ∙ is.said replies
 
   answered : (answer : Answer) → general.IsAnswered P query block old new before now answer
-      → IsAnswered depth stream query block old new answer
+      → IsAnswered version depth stream query block old new answer
   answered answer a = record {
     replies = a.replies;
     talk = subst (GoesOn old new) (is.said a.replies) a.talk;
@@ -60,7 +61,7 @@ module _ (depth : ℕ) (stream : List Update) (query : Query) (block : List ℕ)
   }
 
   rejected : (round : ℕ) (reason : Reason) → general.IsRejected P query block old new before now
-      round reason → IsRejected depth stream query block old new round reason
+      round reason → IsRejected version depth stream query block old new round reason
   rejected round reason r = record {
     replies = r.replies;
     talk = subst (GoesOn old new) (ap (λ (talk : List TalkEvent). talk ++ ending reason)
@@ -69,7 +70,7 @@ module _ (depth : ℕ) (stream : List Update) (query : Query) (block : List ℕ)
   }
 
   interrupted : general.IsInterrupted P query block old new before now
-      → IsInterrupted depth stream query block old new
+      → IsInterrupted version depth stream query block old new
   interrupted i = record {
     replies = i.replies;
     said = i.said;
@@ -82,7 +83,7 @@ module _ (depth : ℕ) (stream : List Update) (query : Query) (block : List ℕ)
   pub asks : (places : List Entry) (result : Result Said AskStop)
       → general.Answers P query block old new before now places result
       → result ≢ Err stops.KeepFault
-      → result ≢ Err stops.KeepOutOfMemory → Asks depth stream query block old new
+      → result ≢ Err stops.KeepOutOfMemory → Asks version depth stream query block old new
       (take (found_in (length places) result) places) (verdict_of result)
   asks places (Ok (saids.Number n)) a kept free = answered (number n) a
   asks places (Ok (saids.Pairs found)) a kept free = rw (take-min found places)

@@ -3,6 +3,7 @@ use Rattle.std.proofs.Common.{◌≡◌, ◌≢◌, ℕ, suc, ◌≤◌, Bool, O
 use Rattle.std.specs.Prelude.{flat_map, ◌⊎◌, if◌then◌else◌, MatchResult}
 use Rattle.std.proofs.lemmas.Bool.Decides.{Decides-eqb}
 use Rattle.std.proofs.lemmas.List.{length-map, map-append}
+use Rattle.sip_wire.specs.declared.version.Version.{Version}
 use Rattle.sip_ports.specs.declared.port.PortStop.{PortStop}
 use Rattle.sip_ports.specs.declared.port.PortStop.TheVariants as port_stops
 use Rattle.sip_ports.specs.declared.port.TalkEvent.{TalkEvent}
@@ -16,6 +17,7 @@ use Rattle.sip_vector.specs.Answers.{Answer}
 use Rattle.sip_wire.specs.declared.message.Message.TheVariants as messages
 use Rattle.sip_wire.specs.declared.message.Reason.{Reason}
 use Rattle.sip_wire.specs.Spelling.{spelling}
+use Rattle.sip_verifier.specs.Tasks.{version_of}
 use Rattle.sip_verifier.specs.declared.status.Port.TheVariants as ports
 use Rattle.sip_verifier.specs.declared.status.Status.{Status}
 use Rattle.sip_verifier.specs.declared.status.Status.TheVariants as statuses
@@ -45,12 +47,12 @@ waits_unfinished (built kind) block replies waits = waits.1
 waits_unfinished missing block replies waits = waits
 
 -- the farewell is one message's spelling
-bye_is : outs (spelling messages.Bye) ≡ bye_sent
-bye_is = ap outs (sym (append-nil (spelling messages.Bye)))
+bye_is : (version : Version) → outs (spelling version messages.Bye) ≡ (bye_sent version)
+bye_is version = ap outs (sym (append-nil (spelling version messages.Bye)))
 
 -- a front of it
-bye_front : (n : ℕ) → IsPrefix (outs (take n (spelling messages.Bye))) bye_sent
-bye_front n = (outs (drop n (spelling messages.Bye)), sym bye_is ∙ ap outs (sym (take-append-drop n (spelling messages.Bye))) ∙ outs-append _ _)
+bye_front : (version : Version) (n : ℕ) → IsPrefix (outs (take n (spelling version messages.Bye))) (bye_sent version)
+bye_front version n = (outs (drop n (spelling version messages.Bye)), sym (bye_is version) ∙ ap outs (sym (take-append-drop n (spelling version messages.Bye))) ∙ outs-append _ _)
 
 -- a fault of the link has its cause
 link_caused : (before now : Counts) (stop : PortStop) → (stop ≡ port_stops.Failed → Rose before.peer now.peer) → FaultClause before now (status_of_link stop)
@@ -62,23 +64,23 @@ regroup a b c d = sym (append_assoc (a ++ b) c d) ∙ ap (λ (l : List TalkEvent
 
 module _ (task : Task) (x : Exchange) where
   abbrev streamed : List TalkEvent
-  streamed = stream_sent task.depth (updates task x)
+  streamed = stream_sent (version_of task) task.depth (updates task x)
 
   -- a list of questions, said
   abbrev said : List Question → List TalkEvent
-  said questions = flat_map (said_for task.depth (updates task x)) questions
+  said questions = flat_map (said_for (version_of task) task.depth (updates task x)) questions
 
   -- the seed gave these challenges, and the stream was legal and sent; these queries were accepted, then this was said and this was written
   pub record Came (challenges : List ℕ) (done : Done task x) (rest : List TalkEvent) (part : List ℕ) : Type 0 where
     pub draws : drawn task x.seed ≡ Some challenges
     pub legal : IsLegalToEnd task x
     pub first : AreFirst task.queries.items (blocks task challenges) (questions_of task x done)
-    pub talk : x.talk ≡ stream_sent task.depth (updates task x) ++ flat_map
-        (said_for task.depth (updates task x)) (questions_of task x done) ++ rest
+    pub talk : x.talk ≡ stream_sent (version_of task) task.depth (updates task x) ++ flat_map
+        (said_for (version_of task) task.depth (updates task x)) (questions_of task x done) ++ rest
     pub report : x.report ≡ lines task x done ++ part
 
   pub came : (challenges : List ℕ) (done : Done task x) (rest : List TalkEvent) (part : List ℕ) (t0 t1 t2 t3 r0 r1 r2 : Option (List TalkEvent)) → drawn task x.seed ≡ Some challenges → IsLegalToEnd task x
-      → Adds t0 t3 x.talk → Adds r0 r2 (outs x.report) → GoesOn t0 t1 (stream_sent task.depth (updates task x)) → Passed task.depth (updates task x) task.queries.items (blocks task challenges) t1 t2 r0 r1 done
+      → Adds t0 t3 x.talk → Adds r0 r2 (outs x.report) → GoesOn t0 t1 (stream_sent (version_of task) task.depth (updates task x)) → Passed (version_of task) task.depth (updates task x) task.queries.items (blocks task challenges) t1 t2 r0 r1 done
       → GoesOn t2 t3 rest → GoesOn r1 r2 (outs part) → Came challenges done rest part
   came challenges done rest part t0 t1 t2 t3 r0 r1 r2 draws legal told wrote went passed goes writes = record {
     draws = draws;
@@ -108,7 +110,7 @@ module _ (task : Task) (x : Exchange) where
 
     are_questions : {query : Query} {block : List ℕ} (replies : List (List ℕ)) → Next query block → AreQuestions task x (questions_of task x done ++ question_of query block replies ∷ [])
     are_questions {query = query} {block = block} replies next =
-        let count : length (questions_of task x done) ≡ length done = length-map done (λ (a : Accepted task.depth (updates task x)). a.question) in
+        let count : length (questions_of task x done) ≡ length done = length-map done (λ (a : Accepted (version_of task) task.depth (updates task x)). a.question) in
         let first : AreFirst task.queries.items (blocks task challenges) (questions_of task x done ++ question_of query block replies ∷ []) =
         first_more task.queries.items next.more (blocks task challenges) next.others (questions_of task x done) query block replies c.first (ap (λ (n : ℕ). drop n task.queries.items) count ∙ next.asks)
         (ap (λ (n : ℕ). drop n (blocks task challenges)) count ∙ next.at) in
@@ -125,24 +127,24 @@ module _ (task : Task) (x : Exchange) where
       all_questions = questions_of task x done ++ question ∷ []
 
       -- with that query's question
-      reached_more : (end : List TalkEvent) → rest ≡ said_for task.depth
+      reached_more : (end : List TalkEvent) → rest ≡ said_for (version_of task) task.depth
           (updates task x) question ++ end → Reached task x all_questions end
       reached_more end is = record {
         are_questions = are_questions replies next;
         legal = c.legal;
         talk = c.talk ∙ ap (λ (l : List TalkEvent). streamed ++ said (questions_of task x done) ++ l) is
             ∙ regroup streamed (said (questions_of task x done))
-            (said_for task.depth (updates task x) question) end
+            (said_for (version_of task) task.depth (updates task x) question) end
             ∙ ap (λ (l : List TalkEvent). streamed ++ l ++ end)
-            (sym (flat_map_snoc (said_for task.depth (updates task x))
+            (sym (flat_map_snoc (said_for (version_of task) task.depth (updates task x))
             (questions_of task x done) question));
       }
 
       -- ---- its replies have a fault
 
-      module _ (round : ℕ) (reason : Reason) (faulty : IsFaulty task.depth (updates task x) question
+      module _ (round : ℕ) (reason : Reason) (faulty : IsFaulty (version_of task) task.depth (updates task x) question
           (record { round = round; reason = reason }))
-          (is : rest ≡ said_for task.depth (updates task x) question ++ ending reason) where
+          (is : rest ≡ said_for (version_of task) task.depth (updates task x) question ++ ending reason) where
         ends_at_fault : EndsAtFault task x (record { round = round; reason = reason })
         ends_at_fault = record { done = done; last = question; faulty = faulty; reached = reached_more (ending reason) is }
 
@@ -161,16 +163,16 @@ module _ (task : Task) (x : Exchange) where
 
       -- ---- its replies are accepted, and nothing was said since
 
-      module _ (answer : Answer) (accepts : Accepts task.depth (updates task x) question answer)
-          (is : rest ≡ said_for task.depth (updates task x) question ++ []) where
-        abbrev one : Accepted task.depth (updates task x)
+      module _ (answer : Answer) (accepts : Accepts (version_of task) task.depth (updates task x) question answer)
+          (is : rest ≡ said_for (version_of task) task.depth (updates task x) question ++ []) where
+        abbrev one : Accepted (version_of task) task.depth (updates task x)
         one = record { question = question; answer = answer; accepts = accepts }
 
         part_written : IsPrefix part (line query answer) → PartWritten task x done part
         part_written front = record { next = one; reached = reached_more [] is; front = front }
 
         with_one : questions_of task x (done ++ one ∷ []) ≡ all_questions
-        with_one = map-append (λ (a : Accepted task.depth (updates task x)). a.question) done (one ∷ [])
+        with_one = map-append (λ (a : Accepted (version_of task) task.depth (updates task x)). a.question) done (one ∷ [])
 
         -- the talk is that of all questions
         talk_is : streamed ++ said all_questions ≡ x.talk
@@ -193,8 +195,8 @@ module _ (task : Task) (x : Exchange) where
 
       -- ---- it waits for replies, and nothing was written
 
-      module _ (waits : IsWaiting task.depth (updates task x) question)
-          (order : IsPrefix rest (said_for task.depth (updates task x) question))
+      module _ (waits : IsWaiting (version_of task) task.depth (updates task x) question)
+          (order : IsPrefix rest (said_for (version_of task) task.depth (updates task x) question))
           (blank : part ≡ []) where
         only_lines : x.report ≡ lines task x done
         only_lines = c.report ∙ ap (λ (l : List ℕ). lines task x done ++ l) blank ∙ append-nil _
@@ -203,7 +205,7 @@ module _ (task : Task) (x : Exchange) where
         front_of_questions = (
           order.0,
           ap (λ (l : List TalkEvent). streamed ++ l)
-              (flat_map_snoc (said_for task.depth (updates task x)) (questions_of task x done) question)
+              (flat_map_snoc (said_for (version_of task) task.depth (updates task x)) (questions_of task x done) question)
               ∙ ap (λ (l : List TalkEvent). streamed ++ (said (questions_of task x done) ++ l)) order.1
               ∙ sym (append_assoc streamed (said (questions_of task x done)) (rest ++ order.0)) ∙ sym (append_assoc (streamed ++ said (questions_of task x done)) rest order.0)
               ∙ ap (λ (l : List TalkEvent). l ++ order.0) (sym c.talk),
@@ -217,7 +219,7 @@ module _ (task : Task) (x : Exchange) where
           done = done;
           reached = were_reached;
           current = Some question;
-          unfinished = waits_unfinished (kind_row task.depth (updates task x) query) block replies
+          unfinished = waits_unfinished (kind_row (version_of task) task.depth (updates task x) query) block replies
               waits;
           questions = λ _. are_questions replies next;
           order = in_order;
@@ -230,14 +232,14 @@ module _ (task : Task) (x : Exchange) where
 
     -- ---- every query was accepted
 
-    farewell_is : length done ≡ length task.queries.items → farewell task x done ≡ bye_sent
-    farewell_is all = ap (λ (b : Bool). if b then bye_sent else []) ((Decides-eqb (length done) (length task.queries.items)).1 all)
+    farewell_is : length done ≡ length task.queries.items → farewell task x done ≡ (bye_sent (version_of task))
+    farewell_is all = ap (λ (b : Bool). if b then (bye_sent (version_of task)) else []) ((Decides-eqb (length done) (length task.queries.items)).1 all)
 
     module _ (all : length done ≡ length task.queries.items) (blank : part ≡ []) where
       all_lines : x.report ≡ lines task x done
       all_lines = c.report ∙ ap (λ (l : List ℕ). lines task x done ++ l) blank ∙ append-nil _
 
-      module _ (front : IsPrefix rest bye_sent) where
+      module _ (front : IsPrefix rest (bye_sent (version_of task))) where
         order_at_bye : IsPrefix x.talk (streamed ++ said (questions_of task x done ++ []) ++ farewell task x done)
         order_at_bye = (
           front.0,
@@ -273,9 +275,9 @@ module _ (task : Task) (x : Exchange) where
         }
 
       -- all went well
-      pub at_end : (before now : Counts) → rest ≡ bye_sent → x.unread ≡ [] → Ended task x before now statuses.Accepted
+      pub at_end : (before now : Counts) → rest ≡ (bye_sent (version_of task)) → x.unread ≡ [] → Ended task x before now statuses.Accepted
       at_end before now is read =
-          let whole : Reached task x (questions_of task x done) bye_sent = subst (Reached task x (questions_of task x done)) is reached in
+          let whole : Reached task x (questions_of task x done) (bye_sent (version_of task)) = subst (Reached task x (questions_of task x done)) is reached in
           record {
             verdict = record { done = done; all = all; reached = whole; report = all_lines; read = read };
             talk = record { done = done; all = all; reached = whole };
@@ -285,8 +287,8 @@ module _ (task : Task) (x : Exchange) where
   -- ---- a query ended the run
 
   module _ (challenges : List ℕ) (t0 t1 t3 r0 r2 : Option (List TalkEvent)) (draws : drawn task x.seed ≡ Some challenges) (legal : IsLegalToEnd task x)
-      (told : Adds t0 t3 x.talk) (wrote : Adds r0 r2 (outs x.report)) (went : GoesOn t0 t1 (stream_sent task.depth (updates task x))) where
-    module _ {status : Status} (e : EndsWith task.depth (updates task x) task.queries.items (blocks task challenges) t1 t3 r0 r2 status) where
+      (told : Adds t0 t3 x.talk) (wrote : Adds r0 r2 (outs x.report)) (went : GoesOn t0 t1 (stream_sent (version_of task) task.depth (updates task x))) where
+    module _ {status : Status} (e : EndsWith (version_of task) task.depth (updates task x) task.queries.items (blocks task challenges) t1 t3 r0 r2 status) where
       its : {rest : List TalkEvent} {part : List ℕ} → GoesOn e.mid t3 rest → GoesOn e.half r2 (outs part) → Came challenges e.done rest part
       its {rest = rest} {part = part} goes writes = came challenges e.done rest part t0 t1 e.mid t3 r0 e.half r2 draws legal told wrote went e.passed goes writes
 
@@ -294,8 +296,8 @@ module _ (task : Task) (x : Exchange) where
       its_next c = record { more = e.next_query; others = e.next_block; asks = e.asks; at = e.at }
 
       -- its line was not written whole
-      module _ (p : PassesInPart task.depth (updates task x) e.query e.block (suc (length e.done)) e.mid t3 e.half r2) where
-        passing : Came challenges e.done (said_for task.depth (updates task x)
+      module _ (p : PassesInPart (version_of task) task.depth (updates task x) e.query e.block (suc (length e.done)) e.mid t3 e.half r2) where
+        passing : Came challenges e.done (said_for (version_of task) task.depth (updates task x)
             (question_of e.query e.block p.answered.replies) ++ []) p.part
         passing = its (subst (GoesOn e.mid t3) (sym (append-nil _)) p.answered.talk) p.wrote
 
@@ -309,8 +311,8 @@ module _ (task : Task) (x : Exchange) where
         cut_passing = record { done = e.done; part = p.part; reached = were_reached passing; verdict = inl written_in_part; report = passing.report }
 
       -- the line of its rejection was not written whole
-      module _ (p : FailsInPart task.depth (updates task x) e.query e.block (suc (length e.done)) e.mid t3 e.half r2) where
-        failing : Came challenges e.done (said_for task.depth (updates task x)
+      module _ (p : FailsInPart (version_of task) task.depth (updates task x) e.query e.block (suc (length e.done)) e.mid t3 e.half r2) where
+        failing : Came challenges e.done (said_for (version_of task) task.depth (updates task x)
             (question_of e.query e.block p.rejected.replies) ++ ending p.reason) p.part
         failing = its p.rejected.talk p.wrote
 
@@ -324,7 +326,7 @@ module _ (task : Task) (x : Exchange) where
         cut_failing = record { done = e.done; part = p.part; reached = were_reached failing; verdict = inr rejected_in_part; report = failing.report }
 
       -- it has no verdict
-      module _ (n : HasNone task.depth (updates task x) e.query e.block (suc (length e.done)) e.mid t3 e.half r2) where
+      module _ (n : HasNone (version_of task) task.depth (updates task x) e.query e.block (suc (length e.done)) e.mid t3 e.half r2) where
         waiting : Came challenges e.done n.interrupted.said []
         waiting = its n.interrupted.talk (subst (λ (o : Option (List TalkEvent)). GoesOn e.half o []) (sym n.same) (GoesOn-refl e.half))
 
@@ -335,10 +337,10 @@ module _ (task : Task) (x : Exchange) where
         left_of_none = none_left waiting (its_next waiting) n.interrupted.replies n.interrupted.waits n.interrupted.order refl
 
       -- it was rejected, and the whole line was written
-      rejects : (before now : Counts) (round : ℕ) (reason : Reason) → Fails task.depth (updates task x) e.query e.block (suc (length e.done)) e.mid t3 e.half r2 round reason
+      rejects : (before now : Counts) (round : ℕ) (reason : Reason) → Fails (version_of task) task.depth (updates task x) e.query e.block (suc (length e.done)) e.mid t3 e.half r2 round reason
           → Ended task x before now (statuses.Rejected (suc (length e.done)) round reason)
       rejects before now round reason f =
-          let c : Came challenges e.done (said_for task.depth (updates task x)
+          let c : Came challenges e.done (said_for (version_of task) task.depth (updates task x)
           (question_of e.query e.block f.rejected.replies) ++ ending reason)
           (rejection (suc (length e.done)) round reason) = its f.rejected.talk f.wrote in
           record {
@@ -347,7 +349,7 @@ module _ (task : Task) (x : Exchange) where
             cause = good c;
           }
 
-    pub after_queries : (before now : Counts) (status : Status) → EndsWith task.depth (updates task x) task.queries.items (blocks task challenges) t1 t3 r0 r2 status → FaultClause before now status → Ended task x before now status
+    pub after_queries : (before now : Counts) (status : Status) → EndsWith (version_of task) task.depth (updates task x) task.queries.items (blocks task challenges) t1 t3 r0 r2 status → FaultClause before now status → Ended task x before now status
     after_queries before now (statuses.Rejected number round reason) e cause =
         let checks = e.checks in
         subst (λ (n : ℕ). Ended task x before now (statuses.Rejected n round reason)) (sym checks.0) (rejects e before now round reason checks.1)
@@ -370,18 +372,18 @@ module _ (task : Task) (x : Exchange) where
 
     -- ---- all were accepted, and the farewell was sent, or a front of it
 
-    pub at_bye : (before now : Counts) (t2 : Option (List TalkEvent)) (sent : Result (Unit {0}) PortStop) (r : Result (Unit {0}) Status) → PassedBy task.depth (updates task x) task.queries.items (blocks task challenges) t1 t2 r0 r2 (length task.queries.items)
-        → SendsWhole t2 t3 sent (spelling messages.Bye) → MatchResult r (λ u. sent ≡ Ok u) (λ status. (port : PortStop) × (sent ≡ Err port) × (status ≡ status_of_link port))
+    pub at_bye : (before now : Counts) (t2 : Option (List TalkEvent)) (sent : Result (Unit {0}) PortStop) (r : Result (Unit {0}) Status) → PassedBy (version_of task) task.depth (updates task x) task.queries.items (blocks task challenges) t1 t2 r0 r2 (length task.queries.items)
+        → SendsWhole t2 t3 sent (spelling (version_of task) messages.Bye) → MatchResult r (λ u. sent ≡ Ok u) (λ status. (port : PortStop) × (sent ≡ Err port) × (status ≡ status_of_link port))
         → (sent ≡ Err port_stops.Failed → Rose before.peer now.peer) → x.unread ≡ [] → Ended task x before now (status_of r)
     at_bye before now t2 (Ok u) (Ok v) so goes on cause read =
-        let c : Came challenges so.done (outs (spelling messages.Bye)) [] = came challenges so.done (outs (spelling messages.Bye)) [] t0 t1 t2 t3 r0 r2 r2 draws legal told wrote went so.passed goes (GoesOn-refl r2) in
-        at_end c so.counted refl before now bye_is read
+        let c : Came challenges so.done (outs (spelling (version_of task) messages.Bye)) [] = came challenges so.done (outs (spelling (version_of task) messages.Bye)) [] t0 t1 t2 t3 r0 r2 r2 draws legal told wrote went so.passed goes (GoesOn-refl r2) in
+        at_end c so.counted refl before now (bye_is (version_of task)) read
     at_bye before now t2 (Ok u) (Err status) so goes (port, is, stops) cause read = absurd cc
     at_bye before now t2 (Err stop) (Ok v) so goes on cause read = absurd cc
     at_bye before now t2 (Err stop) (Err status) so (n, less, goes) (port, is, stops) cause read =
-        let c : Came challenges so.done (outs (take n (spelling messages.Bye))) [] =
-        came challenges so.done (outs (take n (spelling messages.Bye))) [] t0 t1 t2 t3 r0 r2 r2 draws legal told wrote went so.passed goes (GoesOn-refl r2) in
-        subst (Ended task x before now) (sym stops) (after_bye c so.counted refl (bye_front n) before now port (link_caused before now port (λ e. cause (is ∙ ap Err e))))
+        let c : Came challenges so.done (outs (take n (spelling (version_of task) messages.Bye))) [] =
+        came challenges so.done (outs (take n (spelling (version_of task) messages.Bye))) [] t0 t1 t2 t3 r0 r2 r2 draws legal told wrote went so.passed goes (GoesOn-refl r2) in
+        subst (Ended task x before now) (sym stops) (after_bye c so.counted refl (bye_front (version_of task) n) before now port (link_caused before now port (λ e. cause (is ∙ ap Err e))))
 
 -- the farewell's stop has its cause, and is listed
 pub bye_stops : (before now : Counts) (sent : Result (Unit {0}) PortStop) (r : Result (Unit {0}) Status) → MatchResult r (λ u. sent ≡ Ok u) (λ status. (port : PortStop) × (sent ≡ Err port) × (status ≡ status_of_link port))

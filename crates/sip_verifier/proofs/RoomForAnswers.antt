@@ -6,7 +6,7 @@ use Rattle.std.proofs.lemmas.Bool.{and_parts, and_from, leb-true, le-leb}
 use Rattle.std.proofs.lemmas.List.{take_more}
 use Rattle.std.proofs.lemmas.List.Folds.{list_all-append}
 use Rattle.sip_vector.specs.declared.query.Query.{Query}
-use Rattle.sip_vector.specs.declared.query.Query.TheVariants.{Sub, Range, F2, Inner, Heavy}
+use Rattle.sip_vector.specs.declared.query.Query.TheVariants.{Sub, Range, F2, Inner, Heavy, Share}
 use Rattle.sip_verifier.specs.inside.Judging.{has_places}
 use Rattle.sip_subvec.specs.Asking.{most_answer}
 use Rattle.sip_verifier.specs.QuerySeats.{Seated}
@@ -18,6 +18,7 @@ has_places-more small large (Range side lo hi) le h = refl
 has_places-more small large (F2 side) le h = refl
 has_places-more small large Inner le h = refl
 has_places-more small large (Heavy side at_least) le h = refl
+has_places-more small large (Share side num den) le h = refl
 
 all_room-more : (small large : ℕ) (seats : List Seated) → small ≤ large → list_all (λ s. has_places small s.query) seats ≡ true → list_all (λ s. has_places large s.query) seats ≡ true
 all_room-more small large [] le h = refl

@@ -12,13 +12,14 @@ use Rattle.sip_verifier.specs.RunClause.{RunClause}
 use Rattle.sip_verifier.specs.Statuses.{FaultClause, IsListed, is_accepted, stops_gathering, stops_asking}
 use Rattle.sip_verifier.specs.Tasks.{CanBeDone}
 use Rattle.sip_verifier.proofs.CompleteRuns.{completes}
+use Rattle.sip_vector.specs.Limits.{most_depth}
 use Rattle.sip_verifier.proofs.CountedReports.{report_counts}
 
 -- the queries of a task that can be done fit its depth
 all_fit : (task : Task) → CanBeDone task → All (Fits task.depth) task.queries.items
 all_fit task can i other less = (can.asked i other less).1
 
-module _ (task : Task) (can : CanBeDone task) (some : 1 ≤ task.depth) (most : task.depth ≤ 32) where
+module _ (task : Task) (can : CanBeDone task) (some : 1 ≤ task.depth) (most : task.depth ≤ most_depth) where
   -- counts follow from verdicts, and honest helpers from verdicts and causes
   promised : (x : Exchange) (before now : Counts) (status : Status) → IsListed status
       → Ended task x before now status → Promises task x before now status

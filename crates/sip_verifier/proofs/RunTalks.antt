@@ -1,6 +1,7 @@
 -- What an exchange tells of the talk and of the report.
 use Rattle.std.proofs.Common.{◌≡◌, ℕ, Option, Some, None, Result, Ok, Err, IsSome, List, [], ◌∷◌, ◌++◌, length, refl, sym, ap, subst, ◌∙◌, inl, inr, append_assoc, take, suc}
 use Rattle.std.specs.Prelude.{flat_map, ◌⊎◌}
+use Rattle.sip_wire.specs.declared.version.Version.{Version}
 use Rattle.sip_ports.specs.declared.port.PortStop.{PortStop}
 use Rattle.sip_ports.specs.declared.port.TalkEvent.{TalkEvent}
 use Rattle.sip_ports.specs.Ports.{GoesOn, SendsWhole, outs}
@@ -103,13 +104,13 @@ refuses_moves task bytes seed old new _ refuses = absurd refuses
 abbrev pub Reports : Option (List TalkEvent) → Option (List TalkEvent) → Type 0
 Reports blank full = (bytes : List ℕ) × GoesOn blank full (outs bytes)
 
-module _ (depth : ℕ) (stream : List Update) (query : Query) (block : List ℕ) (number : ℕ) (old new blank full : Option (List TalkEvent)) where
-  part_moves : PassesInPart depth stream query block number old new blank full ⊎ FailsInPart depth stream query block number old new blank full → Moves old new × Reports blank full
+module _ (version : Version) (depth : ℕ) (stream : List Update) (query : Query) (block : List ℕ) (number : ℕ) (old new blank full : Option (List TalkEvent)) where
+  part_moves : PassesInPart version depth stream query block number old new blank full ⊎ FailsInPart version depth stream query block number old new blank full → Moves old new × Reports blank full
   part_moves (inl part) = ((_, part.answered.talk), (part.part, part.wrote))
   part_moves (inr part) = ((_, part.rejected.talk), (part.part, part.wrote))
 
   -- a query that ends a run moves on the link and on the report
-  pub check_moves : (status : Status) → Checks depth stream query block number old new blank full (Err status) → Moves old new × Reports blank full
+  pub check_moves : (status : Status) → Checks version depth stream query block number old new blank full (Err status) → Moves old new × Reports blank full
   check_moves (statuses.Rejected k round reason) checks = ((_, checks.1.rejected.talk), (rejection number round reason, checks.1.wrote))
   check_moves (statuses.WriteFault ports.First) checks = absurd checks
   check_moves (statuses.WriteFault ports.Second) checks = absurd checks
@@ -122,15 +123,15 @@ module _ (depth : ℕ) (stream : List Update) (query : Query) (block : List ℕ)
   check_moves _ checks = absurd checks
 
 -- accepted queries move on the link and on the report
-pub passed_moves : (depth : ℕ) (stream : List Update) (queries : List Query) (blocks : List (List ℕ)) (old new blank full : Option (List TalkEvent)) (count : ℕ) → PassedBy depth stream queries blocks old new blank full count
+pub passed_moves : (version : Version) (depth : ℕ) (stream : List Update) (queries : List Query) (blocks : List (List ℕ)) (old new blank full : Option (List TalkEvent)) (count : ℕ) → PassedBy version depth stream queries blocks old new blank full count
     → Moves old new × Reports blank full
-passed_moves depth stream queries blocks old new blank full count so = ((_, so.passed.talk), (flat_map (λ (a : Accepted depth stream). line a.question.query a.answer) so.done, so.passed.report))
+passed_moves version depth stream queries blocks old new blank full count so = ((_, so.passed.talk), (flat_map (λ (a : Accepted version depth stream). line a.question.query a.answer) so.done, so.passed.report))
 
 -- the queries up to the last one move on the link and on the report
-pub ends_moves : (depth : ℕ) (stream : List Update) (queries : List Query) (blocks : List (List ℕ)) (old new blank full : Option (List TalkEvent)) (status : Status) → EndsWith depth stream queries blocks old new blank full status
+pub ends_moves : (version : Version) (depth : ℕ) (stream : List Update) (queries : List Query) (blocks : List (List ℕ)) (old new blank full : Option (List TalkEvent)) (status : Status) → EndsWith version depth stream queries blocks old new blank full status
     → Moves old new × Reports blank full
-ends_moves depth stream queries blocks old new blank full status e =
-    let last = check_moves depth stream e.query e.block (suc (length e.done)) e.mid new e.half full status e.checks in (
+ends_moves version depth stream queries blocks old new blank full status e =
+    let last = check_moves version depth stream e.query e.block (suc (length e.done)) e.mid new e.half full status e.checks in (
       (_, GoesOn-trans old e.mid new _ _ e.passed.talk last.0.1),
       (_, subst (GoesOn blank full) (sym (outs-append _ last.1.0)) (GoesOn-trans blank e.half full _ _ e.passed.report last.1.1)),
     )

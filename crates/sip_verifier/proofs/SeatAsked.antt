@@ -1,17 +1,16 @@
 -- The general talk of a seat's query, kind by kind.
-use Rattle.std.proofs.Common.{◌≡◌, ◌≢◌, ℕ, ◌^◌, ◌≤◌, ◌<◌, Bool, true, Option, Result, Err, List, length, take, refl, sym, ap, subst, ◌∙◌, arith}
-use Rattle.std.specs.Prelude.{nat_lt, nat_le, IsTrue}
-use Rattle.std.proofs.Math.Pow.{pow_mono}
+use Rattle.std.proofs.Common.{◌≡◌, ◌≢◌, ℕ, ◌≤◌, Option, Result, Err, List, length, take, refl, sym, ap, subst, ◌∙◌}
+use Rattle.std.specs.Prelude.{IsTrue}
 use Rattle.std.proofs.lemmas.Bool.{leb-true}
-use Rattle.std.proofs.lemmas.Bool.Decides.{nat_tests}
+use Rattle.sip_wire.specs.declared.version.Version.{Version}
 use Rattle.sip_field.specs.Moduli.{m61_modulus}
 use Rattle.sip_ports.specs.declared.port.TalkEvent.{TalkEvent}
 use Rattle.sip_vector.specs.declared.query.Query.{Query}
-use Rattle.sip_vector.specs.declared.query.Query.TheVariants.{Sub, Range, F2, Inner, Heavy}
+use Rattle.sip_vector.specs.declared.query.Query.TheVariants.{Sub, Range, F2, Inner, Heavy, Share}
 use Rattle.sip_vector.specs.declared.update.Entry.{Entry}
 use Rattle.sip_vector.specs.declared.update.Update.{Update}
 use Rattle.sip_wire.specs.declared.message.Message.TheVariants as messages
-use Rattle.sip_wire.specs.Spelling.{fits, has_room, all_hold}
+use Rattle.sip_wire.specs.Spelling.{fits}
 use Rattle.sip_replies.specs.declared.asking.AskStop.{AskStop}
 use Rattle.sip_replies.specs.declared.asking.AskStop.TheVariants as stops
 use Rattle.sip_replies.specs.declared.check.Said.{Said}
@@ -26,30 +25,20 @@ use Rattle.sip_verifier.specs.inside.Judging.{found_in, verdict_of}
 use Rattle.sip_verifier.specs.declared.seat.Running.{Running}
 use Rattle.sip_verifier.specs.declared.seat.Running.TheVariants.{Root}
 use Rattle.sip_verifier.specs.inside.Running.{block_of, numbers_of}
-use Rattle.sip_verifier.specs.QuerySeats.{RunningNumbers, Seated, root_is, RunsOn, StandsFor, can_be_asked, is_seat}
+use Rattle.sip_verifier.specs.QuerySeats.{RunningNumbers, Seated, root_is, RunsOn, StandsFor, is_seat}
+use Rattle.sip_wire.specs.Versions.{Speaks}
+use Rattle.sip_wire.proofs.Asking.{query-fits}
 use Rattle.sip_verifier.proofs.QueryAsked.{IsProtocol, asks}
 use Rattle.sip_verifier.proofs.Seating.{Has}
 use Rattle.sip_verifier.proofs.SeatsHead.{seat-fits}
 
 -- ---- a sub-vector
 
--- the query has a spelling
-sub_fits : (lo hi d : ℕ) → lo ≤ hi → hi < 2 ^ d → d ≤ 32
-    → IsTrue (fits (messages.Query (Sub lo hi)))
-unfolding fits has_room all_hold
-sub_fits lo hi d order within shallow =
-    let top : 2 ^ d ≤ 2 ^ 32 = pow_mono shallow in
-    let a : nat_lt lo 4294967296 ≡ true = grind (arith, nat_tests) in
-    let b : nat_lt hi 4294967296 ≡ true = grind (arith, nat_tests) in
-    let c : nat_le lo hi ≡ true = grind (arith, nat_tests) in
-    rw (a, b, c) refl
-
-pub sub_has_spelling : (s : Seated) (lo hi : ℕ) → s.query ≡ Sub lo hi
-    → IsTrue (is_seat (length s.block) s) → length s.block ≤ 32
-    → IsTrue (fits (messages.Query s.query))
-sub_has_spelling s lo hi is seat shallow =
-    let fit = rw is at (seat-fits (length s.block) s s.block seat refl) in
-    rw is (sub_fits lo hi (length s.block) fit.0 fit.1 shallow)
+-- the query of a seat has a spelling in each version in which it can be asked
+pub seat_has_spelling : (version : Version) (s : Seated) → IsTrue (is_seat (length s.block) s)
+    → Speaks version (length s.block) s.query → IsTrue (fits version (messages.Query s.query))
+seat_has_spelling version s seat speaks =
+    query-fits version (length s.block) s.query speaks (seat-fits (length s.block) s s.block seat refl)
 
 -- its answer has room
 pub sub_has_room : (s : Seated) (lo hi room : ℕ) → s.query ≡ Sub lo hi
@@ -58,11 +47,11 @@ sub_has_room s lo hi room is has = leb-true (most_answer lo hi) room
     (subst (λ (q : Query). IsTrue (judging.has_places room q)) is has)
 
 -- its protocol is that of the stream for which its root stands
-sub_is_protocol : (depth : ℕ) (stream : List Update) (query : Query) (block : List ℕ)
+sub_is_protocol : (version : Version) (depth : ℕ) (stream : List Update) (query : Query) (block : List ℕ)
     (running : RunningNumbers) (lo hi value : ℕ) → query ≡ Sub lo hi → running ≡ root_is value
     → RunsOn depth stream query block running
-    → IsProtocol depth stream query block (sub_protocol (sub_asked m61_modulus value lo hi block))
-sub_is_protocol depth stream (Sub low high) block (root_is found) lo hi value is has stands =
+    → IsProtocol version depth stream query block (sub_protocol (sub_asked version m61_modulus value lo hi block))
+sub_is_protocol version depth stream (Sub low high) block (root_is found) lo hi value is has stands =
     let same_lo : low ≡ lo = cc in
     let same_hi : high ≡ hi = cc in
     let same_value : found ≡ value = cc in
@@ -75,36 +64,38 @@ sub_is_protocol depth stream (Sub low high) block (root_is found) lo hi value is
           fault f. f;
       waits = λ replies w. w;
     })
-sub_is_protocol depth stream (Range side low high) block running lo hi value is has stands = absurd
+sub_is_protocol version depth stream (Range side low high) block running lo hi value is has stands = absurd
     stands
-sub_is_protocol depth stream (F2 side) block running lo hi value is has stands = absurd stands
-sub_is_protocol depth stream Inner block running lo hi value is has stands = absurd stands
-sub_is_protocol depth stream (Heavy side at_least) block running lo hi value is has stands = absurd
+sub_is_protocol version depth stream (F2 side) block running lo hi value is has stands = absurd stands
+sub_is_protocol version depth stream Inner block running lo hi value is has stands = absurd stands
+sub_is_protocol version depth stream (Heavy side at_least) block running lo hi value is has stands = absurd
+    stands
+sub_is_protocol version depth stream (Share side num den) block running lo hi value is has stands = absurd
     stands
 
 of_root : (running : Running) (block : List ℕ) (value : ℕ) → Has running block value
     → (block_of running ≡ block) × (numbers_of running ≡ root_is value)
 of_root (Root root) block value has = (has.0, ap root_is has.1)
 
-pub sub_asks : (depth : ℕ) (stream : List Update) (s : Seated) (running : Running) (lo hi value : ℕ)
+pub sub_asks : (version : Version) (depth : ℕ) (stream : List Update) (s : Seated) (running : Running) (lo hi value : ℕ)
     (block at : List ℕ) (old new before now : Option (List TalkEvent)) (places : List Entry)
     (result : Result Said AskStop)
     → s.query ≡ Sub lo hi → s.block ≡ block_of running → s.running ≡ numbers_of running
     → Has running block value → at ≡ block → StandsFor depth stream s
-    → Answers (sub_protocol (sub_asked m61_modulus value lo hi block)) s.query at old new before now
+    → Answers (sub_protocol (sub_asked version m61_modulus value lo hi block)) s.query at old new before now
     places result → result ≢ Err stops.KeepFault
-    → result ≢ Err stops.KeepOutOfMemory → Asks depth stream s.query s.block old new
+    → result ≢ Err stops.KeepOutOfMemory → Asks version depth stream s.query s.block old new
     (take (found_in (length places) result) places) (verdict_of result)
-sub_asks depth stream s running lo hi value block at old new before now places result is seen keeps
+sub_asks version depth stream s running lo hi value block at old new before now places result is seen keeps
     has same stands answers kept free =
     let root = of_root running block value has in
     let own = seen ∙ root.0 in
-    let P : Protocol Stated = sub_protocol (sub_asked m61_modulus value lo hi block) in
+    let P : Protocol Stated = sub_protocol (sub_asked version m61_modulus value lo hi block) in
     let given = subst (λ (b : List ℕ). Answers P s.query b old new before now places result) same
     answers in
     let runs = subst (λ (b : List ℕ). RunsOn depth stream s.query b s.running) own stands in
-    subst (λ (b : List ℕ). Asks depth stream s.query b old new
+    subst (λ (b : List ℕ). Asks version depth stream s.query b old new
     (take (found_in (length places) result) places) (verdict_of result)) (sym own)
-    (asks depth stream s.query block old new before now P
-    (sub_is_protocol depth stream s.query block s.running lo hi value is (keeps ∙ root.1) runs)
+    (asks version depth stream s.query block old new before now P
+    (sub_is_protocol version depth stream s.query block s.running lo hi value is (keeps ∙ root.1) runs)
     places result given kept free)

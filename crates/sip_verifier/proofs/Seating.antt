@@ -4,7 +4,7 @@ use Rattle.std.proofs.lemmas.List.FromFn.{length-map-range_with_len}
 use Rattle.sip_field.specs.Moduli.{m61_modulus}
 use Rattle.sip_tree.specs.StandsFor.{RootStandsFor}
 use Rattle.sip_vector.specs.declared.query.Query.{Query}
-use Rattle.sip_vector.specs.declared.query.Query.TheVariants.{Sub, Range, F2, Inner, Heavy}
+use Rattle.sip_vector.specs.declared.query.Query.TheVariants.{Sub, Range, F2, Inner, Heavy, Share}
 use Rattle.sip_vector.specs.declared.update.Side.TheVariants.{First}
 use Rattle.sip_vector.specs.declared.update.Update.{Update}
 use Rattle.sip_vector.specs.Streams.{same_side, frequency, vector}
@@ -35,6 +35,7 @@ runs_further depth stream u (Range side lo hi) old new block block' value value'
 runs_further depth stream u (F2 side) old new block block' value value' here within was is raised stands = absurd stands.runs
 runs_further depth stream u Inner old new block block' value value' here within was is raised stands = absurd stands.runs
 runs_further depth stream u (Heavy side least) old new block block' value value' here within was is raised stands = absurd stands.runs
+runs_further depth stream u (Share side num den) old new block block' value value' here within was is raised stands = absurd stands.runs
 
 -- it is of the other one
 pub runs_on : (depth : ℕ) (stream : List Update) (u : Update) (query : Query) (running : Running) → same_side u.side First ≡ false
@@ -44,3 +45,4 @@ runs_on depth stream u (Range side lo hi) running other stands = absurd stands.r
 runs_on depth stream u (F2 side) running other stands = absurd stands.runs
 runs_on depth stream u Inner running other stands = absurd stands.runs
 runs_on depth stream u (Heavy side least) running other stands = absurd stands.runs
+runs_on depth stream u (Share side num den) running other stands = absurd stands.runs

@@ -10,7 +10,7 @@ use Rattle.std.proofs.lemmas.List.Folds.{list_all-append}
 use Rattle.sip_field.specs.Moduli.{m61_modulus}
 use Rattle.sip_tree.specs.StandsFor.{RootStandsFor}
 use Rattle.sip_vector.specs.declared.query.Query.{Query}
-use Rattle.sip_vector.specs.declared.query.Query.TheVariants.{Sub, Range, F2, Inner, Heavy}
+use Rattle.sip_vector.specs.declared.query.Query.TheVariants.{Sub, Range, F2, Inner, Heavy, Share}
 use Rattle.sip_vector.specs.declared.update.Side.TheVariants.{First}
 use Rattle.sip_vector.specs.Pieces.{pieces, cut}
 use Rattle.sip_vector.proofs.Sides.{vector-nil}
@@ -31,6 +31,7 @@ new-seat depth (Range side lo hi) block value can size stands = absurd (let no =
 new-seat depth (F2 side) block value can size stands = absurd (let no = can.0 in cc)
 new-seat depth Inner block value can size stands = absurd (let no = can.0 in cc)
 new-seat depth (Heavy side least) block value can size stands = absurd (let no = can.0 in cc)
+new-seat depth (Share side num den) block value can size stands = absurd (let no = can.0 in cc)
 
 -- ---- blocks
 

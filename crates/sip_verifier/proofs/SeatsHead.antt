@@ -1,29 +1,38 @@
 -- The head of a transcript, seat by seat.
 use Rattle.std.proofs.Common.{◌≡◌, ℕ, zero, suc, ◌+◌, ◌^◌, ◌<◌, ◌≤◌, List, [], ◌∷◌, ◌++◌, length, map, get_or, take, drop, refl, sym, ap, ◌∙◌, subst, arith, append_assoc, append-nil, take_all}
-use Rattle.std.specs.Prelude.{◌==◌, nat_le, nat_lt, IsTrue}
+use Rattle.std.specs.Prelude.{◌==◌, nat_le, nat_lt, IsTrue, All}
 use Rattle.std.specs.List.{list_all, flat_map, zip}
-use Rattle.std.proofs.lemmas.Bool.{and_parts, eqb-true, leb-true, ltb-true}
-use Rattle.std.proofs.lemmas.List.{length-map, take_more, take-append-drop}
+use Rattle.std.proofs.lemmas.Bool.{and_from, and_parts, eqb-true, leb-true, ltb-true}
+use Rattle.std.proofs.lemmas.List.{get_or-map, length-map, take_more, take-append-drop}
+use Rattle.std.proofs.lemmas.List.Elements.{All-head, All-tail}
 use Rattle.std.proofs.lemmas.List.Concat.{flat_map-append}
+use Rattle.sip_wire.specs.declared.version.Version.{Version}
 use Rattle.sip_vector.specs.declared.query.Query.{Query}
-use Rattle.sip_vector.specs.declared.query.Query.TheVariants.{Sub, Range, F2, Inner, Heavy}
+use Rattle.sip_vector.specs.declared.query.Query.TheVariants.{Sub, Range, F2, Inner, Heavy, Share}
 use Rattle.sip_vector.specs.declared.update.Update.{Update}
 use Rattle.sip_vector.specs.Answers.{Fits}
+use Rattle.sip_vector.specs.Limits.{most_depth}
 use Rattle.sip_wire.specs.Transcript.{head_bytes, ask_bytes}
+use Rattle.sip_wire.specs.Versions.{Speaks, deepest, needed, speaks}
+use Rattle.sip_wire.proofs.Asking.{needed-speaks}
 use Rattle.sip_verifier.specs.QuerySeats.{Seated, is_seat, can_be_asked}
 use Rattle.sip_verifier.specs.Seats.{AreSeats, Seating}
 use Rattle.sip_verifier.specs.Transcripts.{head_of}
 
 -- a seat's query and its challenges
-abbrev pub ask : Seated → List ℕ
-ask s = ask_bytes s.query s.block
+abbrev pub ask : (version : Version) → Seated → List ℕ
+ask version s = ask_bytes version s.query s.block
 
-abbrev pub asks : List Seated → List ℕ
-asks seats = flat_map ask seats
+abbrev pub asks : (version : Version) → List Seated → List ℕ
+asks version seats = flat_map (ask version) seats
+
+-- the version that the seats need
+abbrev pub version_of : Seating → Version
+version_of s = needed s.depth (map (λ (x : Seated). x.query) s.seats)
 
 -- what is written of these seats
-abbrev pub head_up_to : Seating → ℕ → List ℕ
-head_up_to s k = head_bytes s.depth (length s.seats) ++ asks (take k s.seats)
+abbrev pub head_up_to : (version : Version) → Seating → ℕ → List ℕ
+head_up_to version s k = head_bytes version s.depth (length s.seats) ++ asks version (take k s.seats)
 
 -- ---- the query of a seat fits its challenges
 
@@ -38,6 +47,7 @@ fits-asked depth (Range side lo hi) can = absurd (let no = can in cc)
 fits-asked depth (F2 side) can = absurd (let no = can in cc)
 fits-asked depth Inner can = absurd (let no = can in cc)
 fits-asked depth (Heavy side least) can = absurd (let no = can in cc)
+fits-asked depth (Share side num den) can = absurd (let no = can in cc)
 
 pub seat-fits : (depth : ℕ) (s : Seated) (block : List ℕ) → IsTrue (is_seat depth s) → block ≡ s.block → Fits (length block) s.query
 seat-fits depth s block is same =
@@ -45,44 +55,91 @@ seat-fits depth s block is same =
     let levels : length block ≡ depth = ap length same ∙ eqb-true (length s.block) depth both.1 in
     subst (λ n. Fits n s.query) (sym levels) (fits-asked depth s.query both.0)
 
+-- a seat has a challenge for each level
+pub seat-long : (depth : ℕ) (s : Seated) → IsTrue (is_seat depth s) → length s.block ≡ depth
+seat-long depth s is = eqb-true (length s.block) depth ((and_parts (can_be_asked depth s.query) (length s.block == depth) is).1)
+
+-- no seat's depth is beyond the version that all need
+pub seats-shallow : (depth : ℕ) (seats : List Seated) → depth ≤ most_depth → 0 < length seats → depth ≤ deepest (needed depth (map (λ (s : Seated). s.query) seats))
+seats-shallow depth seats most some =
+    let query = λ (s : Seated). s.query in
+    (needed-speaks depth (map query seats) most 0 (Sub 0 0) (omega (arith, length-map seats query, some))).shallow
+
+-- each query can be asked in the version that all need
+pub seat-speaks : (depth k : ℕ) (seats : List Seated) (d : Seated) → depth ≤ most_depth → k < length seats → Speaks (needed depth (map (λ (s : Seated). s.query) seats)) depth ((get_or seats k d).query)
+seat-speaks depth k seats d most below =
+    let query = λ (s : Seated). s.query in
+    let inside : k < length (map query seats) = omega (arith, length-map seats query, below) in
+    subst (Speaks (needed depth (map query seats)) depth) (get_or-map query seats k d (query d) below)
+    (needed-speaks depth (map query seats) most k (query d) inside)
+
+-- no depth is beyond the version that it needs
+pub depth-shallow : (depth : ℕ) (queries : List Query) → depth ≤ most_depth → depth ≤ deepest (needed depth queries)
+depth-shallow depth queries most = (needed-speaks depth (Sub 0 0 ∷ queries) most 0 (Sub 0 0) (omega arith)).shallow
+
+-- the queries of seats can be asked in the version that they need
+pub seats-speak : (depth : ℕ) (queries : List Query) (version : Version) (s : Seating) → depth ≤ most_depth → version ≡ needed depth queries → s.depth ≡ depth → map (λ (x : Seated). x.query) s.seats ≡ queries
+    → All (λ (x : Seated). Speaks version s.depth x.query) s.seats
+seats-speak depth queries version s most is deep same = λ i other less.
+    let here : needed s.depth (map (λ (x : Seated). x.query) s.seats) ≡ version = ap (λ d. needed d (map (λ (x : Seated). x.query) s.seats)) deep ∙ ap (needed depth) same ∙ sym is in
+    subst (λ (v : Version). Speaks v s.depth ((get_or s.seats i other).query)) here
+    (seat-speaks s.depth i s.seats other (omega (arith, deep, most)) less)
+
+-- where the queries of seats can be asked, each has a code
+pub all-coded : (version : Version) (depth : ℕ) (seats : List Seated) → All (λ (x : Seated). Speaks version depth x.query) seats → IsTrue (list_all (λ (x : Seated). speaks version x.query) seats)
+all-coded version depth [] all = refl
+all-coded version depth (s ∷ seats) all =
+    let each = λ (x : Seated). Speaks version depth x.query in
+    and_from _ _ (All-head each s seats all).has_code (all-coded version depth seats (All-tail each s seats all))
+
+-- and the depth is not beyond the version
+pub all-shallow : (version : Version) (depth : ℕ) (seats : List Seated) → All (λ (x : Seated). Speaks version depth x.query) seats → 0 < length seats → depth ≤ deepest version
+all-shallow version depth [] all some = absurd (omega (arith, some))
+all-shallow version depth (s ∷ seats) all some = (All-head (λ (x : Seated). Speaks version depth x.query) s seats all).shallow
+
 -- ---- the bytes
 
-zip-asks : (seats : List Seated) → flat_map (λ (x : Query × List ℕ). ask_bytes x.0 x.1) (zip (map (λ (s : Seated). s.query) seats) (map (λ (s : Seated). s.block) seats)) ≡ asks seats
-zip-asks [] = refl
-zip-asks (s ∷ seats) = ap (λ l. ask s ++ l) (zip-asks seats)
+zip-asks : (version : Version) (seats : List Seated) → flat_map (λ (x : Query × List ℕ). ask_bytes version x.0 x.1) (zip (map (λ (s : Seated). s.query) seats) (map (λ (s : Seated). s.block) seats)) ≡ asks version seats
+zip-asks version [] = refl
+zip-asks version (s ∷ seats) = ap (λ l. ask version s ++ l) (zip-asks version seats)
+
+-- the seats need the version of their queries
+pub version-asked : (depth : ℕ) (queries : List Query) (blocks : List (List ℕ)) (stream : List Update) (s : Seating) → AreSeats depth queries blocks stream s → version_of s ≡ needed depth queries
+version-asked depth queries blocks stream s are =
+    ap (λ d. needed d (map (λ (x : Seated). x.query) s.seats)) are.levels ∙ ap (needed depth) are.asked
 
 -- the head is that of the seats
-pub head-whole : (depth : ℕ) (queries : List Query) (blocks : List (List ℕ)) (stream : List Update) (s : Seating) → AreSeats depth queries blocks stream s → head_of depth queries blocks ≡ head_bytes s.depth (length s.seats) ++ asks s.seats
-head-whole depth queries blocks stream s are =
+pub head-whole : (version : Version) (depth : ℕ) (queries : List Query) (blocks : List (List ℕ)) (stream : List Update) (s : Seating) → AreSeats depth queries blocks stream s → head_of version depth queries blocks ≡ head_bytes version s.depth (length s.seats) ++ asks version s.seats
+head-whole version depth queries blocks stream s are =
     let seats = s.seats in
-    ap (λ d. head_of d queries blocks) (sym are.levels)
-    ∙ ap (λ q. head_of s.depth q blocks) (sym are.asked)
-    ∙ ap (λ b. head_of s.depth (map (λ (x : Seated). x.query) seats) b) (sym are.at_blocks)
-    ∙ ap (λ n. head_bytes s.depth n ++ flat_map (λ (x : Query × List ℕ). ask_bytes x.0 x.1) (zip (map (λ (x : Seated). x.query) seats) (map (λ (s : Seated). s.block) seats))) (length-map seats (λ (x : Seated). x.query))
-    ∙ ap (λ l. head_bytes s.depth (length seats) ++ l) (zip-asks seats)
+    ap (λ d. head_of version d queries blocks) (sym are.levels)
+    ∙ ap (λ q. head_of version s.depth q blocks) (sym are.asked)
+    ∙ ap (λ b. head_of version s.depth (map (λ (x : Seated). x.query) seats) b) (sym are.at_blocks)
+    ∙ ap (λ n. head_bytes version s.depth n ++ flat_map (λ (x : Query × List ℕ). ask_bytes version x.0 x.1) (zip (map (λ (x : Seated). x.query) seats) (map (λ (s : Seated). s.block) seats))) (length-map seats (λ (x : Seated). x.query))
+    ∙ ap (λ l. head_bytes version s.depth (length seats) ++ l) (zip-asks version seats)
 
 -- one more seat
-pub head-more : (s : Seating) (k : ℕ) (d : Seated) → k < length s.seats → head_up_to s (k + 1) ≡ head_up_to s k ++ ask (get_or s.seats k d)
-head-more s k d lt =
-    let head = head_bytes s.depth (length s.seats) in
+pub head-more : (version : Version) (s : Seating) (k : ℕ) (d : Seated) → k < length s.seats → head_up_to version s (k + 1) ≡ head_up_to version s k ++ ask version (get_or s.seats k d)
+head-more version s k d lt =
+    let head = head_bytes version s.depth (length s.seats) in
     let seats = s.seats in
     let one = get_or seats k d in
-    ap (λ l. head ++ asks l) (take_more seats k d lt)
-    ∙ ap (λ l. head ++ l) (flat_map-append ask (take k seats) (one ∷ []))
-    ∙ ap (λ l. head ++ (asks (take k seats) ++ l)) (append-nil (ask one))
-    ∙ sym (append_assoc head (asks (take k seats)) (ask one))
+    ap (λ l. head ++ asks version l) (take_more seats k d lt)
+    ∙ ap (λ l. head ++ l) (flat_map-append (ask version) (take k seats) (one ∷ []))
+    ∙ ap (λ l. head ++ (asks version (take k seats) ++ l)) (append-nil (ask version one))
+    ∙ sym (append_assoc head (asks version (take k seats)) (ask version one))
 
-asks-from : (k : ℕ) (seats : List Seated) → asks seats ≡ asks (take k seats) ++ asks (drop k seats)
-asks-from k seats = ap asks (sym (take-append-drop k seats)) ∙ flat_map-append ask (take k seats) (drop k seats)
+asks-from : (version : Version) (k : ℕ) (seats : List Seated) → asks version seats ≡ asks version (take k seats) ++ asks version (drop k seats)
+asks-from version k seats = ap (asks version) (sym (take-append-drop k seats)) ∙ flat_map-append (ask version) (take k seats) (drop k seats)
 
 -- the whole head is what is written so far, the next seat and the rest
-pub head-split : (s : Seating) (k : ℕ) (d : Seated) → k < length s.seats
-    → head_bytes s.depth (length s.seats) ++ asks s.seats ≡ (head_up_to s k ++ ask (get_or s.seats k d)) ++ asks (drop (k + 1) s.seats)
-head-split s k d lt =
-    let head = head_bytes s.depth (length s.seats) in
-    let rest = asks (drop (k + 1) s.seats) in
-    ap (λ l. head ++ l) (asks-from (k + 1) s.seats) ∙ sym (append_assoc head (asks (take (k + 1) s.seats)) rest) ∙ ap (λ l. l ++ rest) (head-more s k d lt)
+pub head-split : (version : Version) (s : Seating) (k : ℕ) (d : Seated) → k < length s.seats
+    → head_bytes version s.depth (length s.seats) ++ asks version s.seats ≡ (head_up_to version s k ++ ask version (get_or s.seats k d)) ++ asks version (drop (k + 1) s.seats)
+head-split version s k d lt =
+    let head = head_bytes version s.depth (length s.seats) in
+    let rest = asks version (drop (k + 1) s.seats) in
+    ap (λ l. head ++ l) (asks-from version (k + 1) s.seats) ∙ sym (append_assoc head (asks version (take (k + 1) s.seats)) rest) ∙ ap (λ l. l ++ rest) (head-more version s k d lt)
 
 -- all are written
-pub head-done : (s : Seating) (k : ℕ) → length s.seats ≤ k → head_up_to s k ≡ head_bytes s.depth (length s.seats) ++ asks s.seats
-head-done s k le = ap (λ l. head_bytes s.depth (length s.seats) ++ asks l) (take_all k s.seats le)
+pub head-done : (version : Version) (s : Seating) (k : ℕ) → length s.seats ≤ k → head_up_to version s k ≡ head_bytes version s.depth (length s.seats) ++ asks version s.seats
+head-done version s k le = ap (λ l. head_bytes version s.depth (length s.seats) ++ asks version l) (take_all k s.seats le)

@@ -1,6 +1,8 @@
 -- The promises where a run ends before its first query.
 use Rattle.std.proofs.Common.{◌≡◌, ◌≢◌, Err, Option, None, List, [], ◌++◌, refl, sym, ap, subst, ◌∙◌, inl, inr, append-nil}
+use Rattle.sip_wire.specs.declared.version.Version.{Version}
 use Rattle.sip_ports.specs.declared.port.TalkEvent.{TalkEvent}
+use Rattle.sip_verifier.specs.Tasks.{version_of}
 use Rattle.sip_verifier.specs.Seats.{Seating}
 use Rattle.sip_verifier.specs.declared.session.SessionStart.{SessionStart}
 use Rattle.sip_verifier.specs.declared.session.SessionStart.TheVariants as starts
@@ -26,7 +28,7 @@ use Rattle.sip_verifier.proofs.StreamSent.{IsPrefix-trans, stream_sent-front}
 
 module _ (task : Task) (x : Exchange) where
   abbrev streamed : List TalkEvent
-  streamed = stream_sent task.depth (updates task x)
+  streamed = stream_sent (version_of task) task.depth (updates task x)
 
   -- ---- nothing written, nothing said
 
@@ -88,7 +90,7 @@ module _ (task : Task) (x : Exchange) where
       record { verdict = blank; talk = said_is old new _ x.talk went told; cause = (is_drawn seed, at_is, fault) }
   after_gather before now (statuses.ReadFault ports.First) old new told blank (seed, cut) cause =
       let front : IsPrefix x.talk (before_end task x) = fronts (said_is old new cut.said x.talk cut.talk told) cut.order in
-      record { verdict = blank; talk = (in_stream seed (IsPrefix-trans x.talk (before_end task x) streamed front (stream_sent-front task.depth (updates task x))) (λ _. front), front); cause = (is_drawn seed, cause) }
+      record { verdict = blank; talk = (in_stream seed (IsPrefix-trans x.talk (before_end task x) streamed front (stream_sent-front (version_of task) task.depth (updates task x))) (λ _. front), front); cause = (is_drawn seed, cause) }
   after_gather before now (statuses.ReadFault ports.Second) old new told blank same cause = record { verdict = blank; talk = nothing_new old new x.talk same told; cause = cause }
   after_gather before now (statuses.ReadFault ports.Report) old new told blank refuses cause = absurd refuses
   after_gather before now (statuses.ReadFault ports.Keep) old new told blank refuses cause = absurd refuses
@@ -112,6 +114,6 @@ module _ (task : Task) (x : Exchange) where
   }
 
 -- a session is not made only where there is no memory
-pub starts_short : (seats : Seating) (start : SessionStart) → Starts seats (Err start) → status_of_start start ≡ statuses.OutOfMemory
-starts_short seats (starts.TooWide query) none = absurd none
-starts_short seats starts.OutOfMemory none = refl
+pub starts_short : (version : Version) (seats : Seating) (start : SessionStart) → Starts version seats (Err start) → status_of_start start ≡ statuses.OutOfMemory
+starts_short version seats (starts.TooWide query) none = absurd none
+starts_short version seats starts.OutOfMemory none = refl

@@ -4,6 +4,8 @@ use Rattle.std.proofs.Math.Seq.{take-append-add}
 use Rattle.std.proofs.lemmas.List.{map-append, length-take-le}
 use Rattle.std.specs.List.{flat_map}
 use Rattle.std.proofs.lemmas.List.Concat.{flat_map-append}
+use Rattle.sip_wire.specs.Versions.{number_of}
+use Rattle.sip_wire.specs.declared.version.Version.{Version}
 use Rattle.sip_ports.specs.declared.port.TalkEvent.{TalkEvent}
 use Rattle.sip_ports.specs.Ports.{outs}
 use Rattle.sip_ports.proofs.TalkLemmas.{outs-append}
@@ -12,7 +14,6 @@ use Rattle.sip_vector.specs.Pieces.{cut}
 use Rattle.sip_stream.proofs.Cuts.{cut-one}
 use Rattle.sip_wire.specs.declared.message.Message.{Message}
 use Rattle.sip_wire.specs.declared.message.Message.TheVariants as messages
-use Rattle.sip_wire.specs.declared.version.Version.TheVariants.{One}
 use Rattle.sip_wire.specs.Spelling.{spelling}
 use Rattle.sip_replies.specs.Talks.{IsPrefix, sent}
 use Rattle.sip_replies.proofs.Saying.{sent-one}
@@ -37,36 +38,36 @@ sent_front events bytes n = (
 
 -- ---- messages one after another
 
-sent-append : (ms ns : List Message) → sent One (ms ++ ns) ≡ sent One ms ++ sent One ns
-sent-append ms ns = ap outs (flat_map-append spelling ms ns) ∙ outs-append (flat_map spelling ms) (flat_map spelling ns)
+sent-append : (version : Version) (ms ns : List Message) → sent version (ms ++ ns) ≡ sent version ms ++ sent version ns
+sent-append version ms ns = ap outs (flat_map-append (spelling version) ms ns) ∙ outs-append (flat_map (spelling version) ms) (flat_map (spelling version) ns)
 
 -- the frame of some updates
 abbrev pub frame : List Update → Message
 frame us = messages.Updates (record { items = us })
 
 -- whole frames, and what follows them
-opening_sent-append : (depth : ℕ) (xs ys : List Update) → length xs % 512 ≡ 0
-    → opening_sent depth (xs ++ ys) ≡ opening_sent depth xs ++ sent One (update_frames ys)
-opening_sent-append depth xs ys whole =
-    ap (λ l. sent One (messages.Open 1 depth ∷ map frame l))
+opening_sent-append : (version : Version) (depth : ℕ) (xs ys : List Update) → length xs % 512 ≡ 0
+    → opening_sent version depth (xs ++ ys) ≡ opening_sent version depth xs ++ sent version (update_frames ys)
+opening_sent-append version depth xs ys whole =
+    ap (λ l. sent version (messages.Open (number_of version) depth ∷ map frame l))
     (cut-append 512 xs ys (omega arith) whole)
-    ∙ ap (λ l. sent One (messages.Open 1 depth ∷ l)) (map-append frame (cut 512 xs) (cut 512 ys))
-    ∙ sent-append (messages.Open 1 depth ∷ update_frames xs) (update_frames ys)
+    ∙ ap (λ l. sent version (messages.Open (number_of version) depth ∷ l)) (map-append frame (cut 512 xs) (cut 512 ys))
+    ∙ sent-append version (messages.Open (number_of version) depth ∷ update_frames xs) (update_frames ys)
 
 -- whole frames, and one more
-pub opening_sent-frame : (depth : ℕ) (xs ys : List Update) → length xs % 512 ≡ 0 → 0 < length ys → length ys ≤ 512 → opening_sent depth (xs ++ ys) ≡ opening_sent depth xs ++ outs (spelling (frame ys))
-opening_sent-frame depth xs ys whole some most =
-    opening_sent-append depth xs ys whole
-    ∙ ap (λ l. opening_sent depth xs ++ sent One (map frame l)) (cut-one 512 ys some most)
-    ∙ ap (λ l. opening_sent depth xs ++ l) (sent-one One (frame ys))
+pub opening_sent-frame : (version : Version) (depth : ℕ) (xs ys : List Update) → length xs % 512 ≡ 0 → 0 < length ys → length ys ≤ 512 → opening_sent version depth (xs ++ ys) ≡ opening_sent version depth xs ++ outs (spelling version (frame ys))
+opening_sent-frame version depth xs ys whole some most =
+    opening_sent-append version depth xs ys whole
+    ∙ ap (λ l. opening_sent version depth xs ++ sent version (map frame l)) (cut-one 512 ys some most)
+    ∙ ap (λ l. opening_sent version depth xs ++ l) (sent-one version (frame ys))
 
 -- whole frames, those that wait, and the end
-pub stream_sent-rest : (depth : ℕ) (xs ys : List Update) → length xs % 512 ≡ 0 → stream_sent depth (xs ++ ys) ≡ opening_sent depth xs ++ outs (due_at_end ys)
-stream_sent-rest depth xs ys whole =
+pub stream_sent-rest : (version : Version) (depth : ℕ) (xs ys : List Update) → length xs % 512 ≡ 0 → stream_sent version depth (xs ++ ys) ≡ opening_sent version depth xs ++ outs (due_at_end version ys)
+stream_sent-rest version depth xs ys whole =
     let end = messages.EndStream ∷ [] in
-    ap (λ l. l ++ sent One end) (opening_sent-append depth xs ys whole)
-    ∙ append_assoc (opening_sent depth xs) (sent One (update_frames ys)) (sent One end)
-    ∙ ap (λ l. opening_sent depth xs ++ l) (sym (sent-append (update_frames ys) end))
+    ap (λ l. l ++ sent version end) (opening_sent-append version depth xs ys whole)
+    ∙ append_assoc (opening_sent version depth xs) (sent version (update_frames ys)) (sent version end)
+    ∙ ap (λ l. opening_sent version depth xs ++ l) (sym (sent-append version (update_frames ys) end))
 
 -- ---- the whole frames of a stream
 
@@ -83,11 +84,11 @@ whole_frames-waiting xs ys whole few =
     whole_frames-append xs ys whole ∙ ap (λ n. xs ++ take n ys) none ∙ append-nil xs
 
 -- whole frames stay in front, whatever follows
-pub opening_sent-front : (depth : ℕ) (xs more : List Update) → length xs % 512 ≡ 0 → IsPrefix (opening_sent depth xs) (opening_sent depth (whole_frames (xs ++ more)))
-opening_sent-front depth xs more whole = (
-  sent One (update_frames (whole_frames more)),
-  ap (opening_sent depth)
-      (whole_frames-append xs more whole) ∙ opening_sent-append depth xs
+pub opening_sent-front : (version : Version) (depth : ℕ) (xs more : List Update) → length xs % 512 ≡ 0 → IsPrefix (opening_sent version depth xs) (opening_sent version depth (whole_frames (xs ++ more)))
+opening_sent-front version depth xs more whole = (
+  sent version (update_frames (whole_frames more)),
+  ap (opening_sent version depth)
+      (whole_frames-append xs more whole) ∙ opening_sent-append version depth xs
       (whole_frames more) whole,
 )
 
@@ -108,14 +109,14 @@ framed stream =
     }
 
 -- the frames of a front are a front of the frames
-pub frames_front : (depth : ℕ) (stream more : List Update) → IsPrefix (opening_sent depth (whole_frames stream)) (opening_sent depth (whole_frames (stream ++ more)))
-frames_front depth stream more =
+pub frames_front : (version : Version) (depth : ℕ) (stream more : List Update) → IsPrefix (opening_sent version depth (whole_frames stream)) (opening_sent version depth (whole_frames (stream ++ more)))
+frames_front version depth stream more =
     let f = framed stream in
-    let front = opening_sent-front depth (whole_frames stream) (f.rest ++ more) f.whole in
-    (front.0, ap (λ l. opening_sent depth (whole_frames l)) (ap (λ l. l ++ more) f.split ∙ append_assoc (whole_frames stream) f.rest more) ∙ front.1)
+    let front = opening_sent-front version depth (whole_frames stream) (f.rest ++ more) f.whole in
+    (front.0, ap (λ l. opening_sent version depth (whole_frames l)) (ap (λ l. l ++ more) f.split ∙ append_assoc (whole_frames stream) f.rest more) ∙ front.1)
 
 -- what goes out before the end is a front of what goes out
-pub stream_sent-front : (depth : ℕ) (stream : List Update) → IsPrefix (opening_sent depth (whole_frames stream)) (stream_sent depth stream)
-stream_sent-front depth stream =
+pub stream_sent-front : (version : Version) (depth : ℕ) (stream : List Update) → IsPrefix (opening_sent version depth (whole_frames stream)) (stream_sent version depth stream)
+stream_sent-front version depth stream =
     let f = framed stream in
-    (outs (due_at_end f.rest), ap (stream_sent depth) f.split ∙ stream_sent-rest depth (whole_frames stream) f.rest f.whole)
+    (outs (due_at_end version f.rest), ap (stream_sent version depth) f.split ∙ stream_sent-rest version depth (whole_frames stream) f.rest f.whole)

@@ -7,6 +7,7 @@ use Rattle.sip_vector.specs.declared.update.Entry.{Entry}
 use Rattle.sip_vector.specs.declared.update.Update.{Update}
 use Rattle.sip_vector.specs.Answers.{Answer, pairs, number}
 use Rattle.sip_wire.specs.declared.message.Reason.{Reason}
+use Rattle.sip_wire.specs.declared.version.Version.{Version}
 use Rattle.sip_replies.specs.Talks.{IsPrefix, ending}
 use Rattle.sip_verifier.specs.declared.session.SessionFault.{SessionFault}
 use Rattle.sip_verifier.specs.declared.session.SessionFault.TheVariants as faults
@@ -19,20 +20,20 @@ use Rattle.sip_verifier.specs.Questions.{Question, Accepts, IsFaulty, IsWaiting,
 abbrev pub question_of : Query → List ℕ → List (List ℕ) → Question
 question_of query block replies = record { query = query; block = block; replies = replies }
 
-module _ (depth : ℕ) (stream : List Update) (query : Query) (block : List ℕ)
+module _ (version : Version) (depth : ℕ) (stream : List Update) (query : Query) (block : List ℕ)
     (old new : Option (List TalkEvent)) where
   -- all replies came and are accepted, and they state this answer
   pub record IsAnswered (answer : Answer) : Type 0 where
     pub replies : List (List ℕ)
-    pub talk : GoesOn old new (said_for depth stream (question_of query block replies))
-    pub accepted : Accepts depth stream (question_of query block replies) answer
+    pub talk : GoesOn old new (said_for version depth stream (question_of query block replies))
+    pub accepted : Accepts version depth stream (question_of query block replies) answer
 
   -- the replies that came have this first fault
   pub record IsRejected (round : ℕ) (reason : Reason) : Type 0 where
     pub replies : List (List ℕ)
-    pub talk : GoesOn old new (said_for depth stream
+    pub talk : GoesOn old new (said_for version depth stream
         (question_of query block replies) ++ ending reason)
-    pub faulty : IsFaulty depth stream (question_of query block replies)
+    pub faulty : IsFaulty version depth stream (question_of query block replies)
         (record { round = round; reason = reason })
 
   -- the talk stopped, a reply is missing or not whole, and none has a fault so far
@@ -40,8 +41,8 @@ module _ (depth : ℕ) (stream : List Update) (query : Query) (block : List ℕ)
     pub replies : List (List ℕ)
     pub said : List TalkEvent
     pub talk : GoesOn old new said
-    pub order : IsPrefix said (said_for depth stream (question_of query block replies))
-    pub waits : IsWaiting depth stream (question_of query block replies)
+    pub order : IsPrefix said (said_for version depth stream (question_of query block replies))
+    pub waits : IsWaiting version depth stream (question_of query block replies)
 
   -- What was answered, where the entries are those that the session shows then. Nothing is kept of
   -- a talk yet, so keeping it cannot fail.
@@ -56,8 +57,8 @@ module _ (depth : ℕ) (stream : List Update) (query : Query) (block : List ℕ)
   -- an answer counts for the replies that came
   pub record IsCounted (answer : Answer) : Type 0 where
     pub replies : List (List ℕ)
-    pub talk : GoesOn old new (said_for depth stream (question_of query block replies))
-    pub counts : CountsFor depth stream (question_of query block replies) answer
+    pub talk : GoesOn old new (said_for version depth stream (question_of query block replies))
+    pub counts : CountsFor version depth stream (question_of query block replies) answer
 
   -- So does each answer that is given.
   abbrev pub AnswersCount : List Entry → Result Verdict SessionFault → Type 0

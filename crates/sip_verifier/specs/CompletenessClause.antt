@@ -12,7 +12,9 @@ use Rattle.sip_vector.specs.declared.query.Query.{Query}
 use Rattle.sip_vector.specs.declared.update.Update.{Update}
 use Rattle.sip_verifier.specs.declared.status.Status.{Status}
 use Rattle.sip_verifier.specs.declared.status.Status.TheVariants as statuses
+use Rattle.sip_wire.specs.declared.version.Version.{Version}
 use Rattle.sip_verifier.specs.declared.task.Task.{Task}
+use Rattle.sip_verifier.specs.Tasks.{version_of}
 use Rattle.sip_verifier.specs.Draws.{drawn, blocks}
 use Rattle.sip_replies.specs.Talks.{IsPrefix}
 use Rattle.sip_verifier.specs.Exchanges.{Exchange}
@@ -27,13 +29,13 @@ honest_in (built kind) block = kind.honest block
 honest_in missing block = []
 
 -- the bytes of all honest replies to a query at its block
-abbrev pub honest_bytes : ℕ → List Update → Query × List ℕ → List ℕ
-honest_bytes depth stream (query, block) = flat_map (λ b. b)
-    (honest_in (kind_row depth stream query) block)
+abbrev pub honest_bytes : Version → ℕ → List Update → Query × List ℕ → List ℕ
+honest_bytes version depth stream (query, block) = flat_map (λ b. b)
+    (honest_in (kind_row version depth stream query) block)
 
 -- the query's check stands here, and its answer has no more entries than may be sent
-abbrev pub HasFewEntries : ℕ → List Update → Query → Type 0
-HasFewEntries depth stream query = OfKind depth stream query (λ kind. kind.HasFew)
+abbrev pub HasFewEntries : Version → ℕ → List Update → Query → Type 0
+HasFewEntries version depth stream query = OfKind version depth stream query (λ kind. kind.HasFew)
 
 -- no port's count of faults rose
 pub record NoneRose (before now : Counts) : Type 0 where
@@ -49,9 +51,9 @@ module _ (task : Task) (x : Exchange) where
     pub challenges : List ℕ
     pub drawn : drawn task x.seed ≡ Some challenges
     pub legal : IsLegalToEnd task x
-    pub few : All (HasFewEntries task.depth (updates task x)) task.queries.items
+    pub few : All (HasFewEntries (version_of task) task.depth (updates task x)) task.queries.items
     pub heard : IsPrefix (heard x.talk)
-        (flat_map (honest_bytes task.depth (updates task x))
+        (flat_map (honest_bytes (version_of task) task.depth (updates task x))
         (zip task.queries.items (blocks task challenges)))
     pub lasts : All (λ e. e ≢ Ended) x.talk
 

@@ -16,7 +16,9 @@ use Rattle.sip_wire.specs.declared.message.Reason.{Reason}
 use Rattle.sip_counts.specs.Clauses.{FewAndCounted}
 use Rattle.sip_counts.specs.Strategies.{Strategy, IsOfBytes, fooled}
 use Rattle.sip_replies.specs.Replies.{accepts}
+use Rattle.sip_wire.specs.declared.version.Version.{Version}
 use Rattle.sip_verifier.specs.declared.task.Task.{Task}
+use Rattle.sip_verifier.specs.Tasks.{version_of}
 use Rattle.sip_replies.specs.Talks.{IsPrefix}
 use Rattle.sip_verifier.specs.Exchanges.{Exchange}
 use Rattle.sip_verifier.specs.Kinds.{Kind, OfKind}
@@ -34,15 +36,15 @@ abbrev pub bound_of : ℕ → Kind → ℕ
 bound_of depth kind = kind.chances * depth
 
 -- no helper has a wrong answer to this query accepted at more blocks than c·d·p^(d - 1)
-abbrev pub FewFor : ℕ → List Update → Query → Type 0
-FewFor depth stream query = OfKind depth stream query (λ kind.
+abbrev pub FewFor : Version → ℕ → List Update → Query → Type 0
+FewFor version depth stream query = OfKind version depth stream query (λ kind.
     (strategy : Strategy) → IsOfBytes strategy
     → fooled m61_modulus depth (accepts_in kind) kind.is_right strategy
     ≤ bound_of depth kind * m61_modulus ^ (depth - 1))
 
 -- what a call that writes this answer for a question promises of a helper that lies
-abbrev pub CountsFor : ℕ → List Update → Question → Answer → Type 0
-CountsFor depth stream q written = OfKind depth stream q.query (λ kind.
+abbrev pub CountsFor : Version → ℕ → List Update → Question → Answer → Type 0
+CountsFor version depth stream q written = OfKind version depth stream q.query (λ kind.
     FewAndCounted m61_modulus depth (bound_of depth kind)
     (accepts_in kind) kind.is_right q.block q.replies (Some written)
     (answer depth stream q.query))
@@ -76,10 +78,11 @@ module _ (task : Task) (x : Exchange) where
       × Reached task x (questions ++ option_to_list after) rest)
 
   pub record CountClause : Type 0 where
-    pub few : All (FewFor task.depth (updates task x)) task.queries.items
+    pub few : All (FewFor (version_of task) task.depth (updates task x)) task.queries.items
     pub lines : List Written
     pub questions : AreInTalk (questions_written lines)
     pub rejected : List ℕ
     pub is_rejection : IsRejection rejected
     pub report : IsPrefix x.report (lines_written lines ++ rejected)
-    pub counted : All (λ w. CountsFor task.depth (updates task x) w.question w.answer) lines
+    pub counted : All
+        (λ w. CountsFor (version_of task) task.depth (updates task x) w.question w.answer) lines

@@ -3,6 +3,7 @@ use Rattle.std.specs.Prelude.{ℕ, List, [], ◌∷◌, ◌++◌}
 use Rattle.sip_ports.specs.declared.port.TalkEvent.{TalkEvent}
 use Rattle.sip_ports.specs.Ports.{outs, ins}
 use Rattle.sip_subvec.specs.Examples.{reply_0, reply_1}
+use Rattle.sip_wire.specs.declared.version.Version.TheVariants.{One}
 use Rattle.sip_stream.specs.declared.form.Form.TheVariants.{Binary}
 use Rattle.sip_verifier.specs.declared.task.Task.{Task}
 use Rattle.sip_vector.specs.declared.query.Query.TheVariants.{Sub, Inner}
@@ -24,7 +25,7 @@ reveal_bytes = 0x05 ∷ 0 ∷ 8 ∷ 0 ∷ 0 ∷ 0 ∷ 0 ∷ 0 ∷ 0 ∷ 0 ∷ 2 
 
 abbrev pub whole_talk : List TalkEvent
 whole_talk =
-    outs opening_bytes ++ ins reply_0 ++ outs reveal_bytes ++ ins reply_1
+    outs opening_bytes ++ ins (reply_0 One) ++ outs reveal_bytes ++ ins reply_1
     ++ outs (0x06 ∷ 0 ∷ 0 ∷ [])
 
 -- a task of two queries at depth 2

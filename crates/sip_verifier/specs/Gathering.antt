@@ -9,6 +9,7 @@ use Rattle.sip_verifier.specs.declared.status.Port.TheVariants as ports
 use Rattle.sip_verifier.specs.declared.status.Status.{Status}
 use Rattle.sip_verifier.specs.declared.status.Status.TheVariants as statuses
 use Rattle.sip_verifier.specs.declared.task.Task.{Task}
+use Rattle.sip_verifier.specs.Tasks.{version_of}
 use Rattle.sip_verifier.specs.Draws.{drawn, blocks}
 use Rattle.sip_replies.specs.Talks.{IsPrefix}
 use Rattle.sip_verifier.specs.Seats.{AreSeats, Seating}
@@ -24,7 +25,7 @@ module _ (task : Task) (bytes seed : List ℕ) where
 
   -- the opening, and a frame for each 512 legal records
   abbrev pub before_end : List TalkEvent
-  before_end = opening_sent task.depth (whole_frames legal)
+  before_end = opening_sent (version_of task) task.depth (whole_frames legal)
 
   -- the seed gives these challenges, the stream was legal and was read to its end, all of it was
   -- sent, and the seats stand for it
@@ -34,7 +35,7 @@ module _ (task : Task) (bytes seed : List ℕ) where
     pub draws : drawn task seed ≡ Some challenges
     pub to_end : EndsLegally
     pub read : left ≡ Some []
-    pub talk : GoesOn old new (stream_sent task.depth legal)
+    pub talk : GoesOn old new (stream_sent (version_of task) task.depth legal)
     pub stand : AreSeats task.depth task.queries.items (blocks task challenges) legal seats
 
   -- a front was sent of what a legal stream sends; with one that isn't legal it ends before the end
@@ -42,7 +43,7 @@ module _ (task : Task) (bytes seed : List ℕ) where
   pub record IsCut (old new : Option (List TalkEvent)) : Type 0 where
     pub said : List TalkEvent
     pub talk : GoesOn old new said
-    pub order : IsPrefix said (stream_sent task.depth legal)
+    pub order : IsPrefix said (stream_sent (version_of task) task.depth legal)
     pub illegal : ¬ EndsLegally → IsPrefix said before_end
 
   -- the same, before the stream was read to its end

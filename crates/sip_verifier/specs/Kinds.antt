@@ -3,12 +3,13 @@
 use Rattle.std.specs.Prelude.{◌≤◌, ℕ, ℤ, Bool, List, length}
 use Rattle.sip_field.specs.Moduli.{m61_modulus}
 use Rattle.sip_vector.specs.declared.query.Query.{Query}
-use Rattle.sip_vector.specs.declared.query.Query.TheVariants.{Sub, Range, F2, Inner, Heavy}
+use Rattle.sip_vector.specs.declared.query.Query.TheVariants.{Sub, Range, F2, Inner, Heavy, Share}
 use Rattle.sip_vector.specs.declared.update.Side.TheVariants.{First}
 use Rattle.sip_vector.specs.declared.update.Update.{Update}
 use Rattle.sip_vector.specs.Streams.{vector}
 use Rattle.sip_vector.specs.Trees.{root}
 use Rattle.sip_vector.specs.Vectors.{nonzero_within}
+use Rattle.sip_wire.specs.declared.version.Version.{Version}
 use Rattle.sip_replies.specs.Protocols.{Protocol}
 use Rattle.sip_subvec.specs.AcceptsSub.{Stated}
 use Rattle.sip_subvec.specs.Counting.{is_right}
@@ -32,15 +33,15 @@ pub record Kind : Type 1 where
   pub honest : List ℕ → List (List ℕ)
 
 -- the entries of these numbers from lo to hi
-abbrev pub sub_kind : List ℤ → ℕ → ℕ → Kind
-sub_kind numbers lo hi = record {
+abbrev pub sub_kind : Version → List ℤ → ℕ → ℕ → Kind
+sub_kind version numbers lo hi = record {
   State = Stated;
-  protocol = λ block. sub_protocol (sub_asked m61_modulus
+  protocol = λ block. sub_protocol (sub_asked version m61_modulus
       (root m61_modulus numbers block) lo hi block);
   chances = 1;
-  is_right = is_right lo hi numbers;
+  is_right = is_right version lo hi numbers;
   HasFew = length (nonzero_within lo hi numbers) ≤ most_entries;
-  honest = honest_replies m61_modulus numbers lo hi;
+  honest = honest_replies version m61_modulus numbers lo hi;
 }
 
 -- whether a query's check stands here
@@ -49,12 +50,14 @@ pub data KindRow : Type 1 where
   missing : KindRow
 
 -- The table of kinds: to build one is to change its row.
-abbrev pub kind_row : ℕ → List Update → Query → KindRow
-kind_row depth stream (Sub lo hi) = built (sub_kind (vector depth stream First) lo hi)
-kind_row depth stream (Range side lo hi) = missing
-kind_row depth stream (F2 side) = missing
-kind_row depth stream Inner = missing
-kind_row depth stream (Heavy side at_least) = missing
+abbrev pub kind_row : Version → ℕ → List Update → Query → KindRow
+kind_row version depth stream (Sub lo hi) =
+    built (sub_kind version (vector depth stream First) lo hi)
+kind_row version depth stream (Range side lo hi) = missing
+kind_row version depth stream (F2 side) = missing
+kind_row version depth stream Inner = missing
+kind_row version depth stream (Heavy side at_least) = missing
+kind_row version depth stream (Share side num den) = missing
 
 -- this holds of the kind in a row; of a check that doesn't stand here nothing holds
 abbrev pub Holds : (Kind → Type 0) → KindRow → Type 0
@@ -62,5 +65,5 @@ Holds of_kind (built kind) = of_kind kind
 Holds of_kind missing = ⊥
 
 -- this holds of the query's kind
-abbrev pub OfKind : ℕ → List Update → Query → (Kind → Type 0) → Type 0
-OfKind depth stream query of_kind = Holds of_kind (kind_row depth stream query)
+abbrev pub OfKind : Version → ℕ → List Update → Query → (Kind → Type 0) → Type 0
+OfKind version depth stream query of_kind = Holds of_kind (kind_row version depth stream query)

@@ -1,10 +1,11 @@
 -- The queries of a run, each with its block of challenges and the reply bytes that were taken.
-use Rattle.std.specs.Prelude.{◌≡◌, ◌==◌, ℕ, List, [], ◌∷◌, ◌++◌, length, take, map, flat_map, Some, None, if◌then◌else◌}
+use Rattle.std.specs.Prelude.{◌≡◌, ◌==◌, ℕ, List, [], ◌++◌, length, take, map, flat_map, Some, None, if◌then◌else◌}
 use Rattle.sip_ports.specs.declared.port.TalkEvent.{TalkEvent}
 use Rattle.sip_vector.specs.declared.query.Query.{Query}
 use Rattle.sip_vector.specs.declared.update.Update.{Update}
 use Rattle.sip_vector.specs.Answers.{Answer}
 use Rattle.sip_stream.specs.Records.{records}
+use Rattle.sip_wire.specs.declared.version.Version.{Version}
 use Rattle.sip_replies.specs.Protocols.{Protocol}
 use Rattle.sip_replies.specs.Replies as general
 use Rattle.sip_replies.specs.Replies.{Fault}
@@ -14,6 +15,7 @@ use Rattle.sip_verifier.specs.Draws.{drawn, blocks}
 use Rattle.sip_verifier.specs.Exchanges.{Exchange}
 use Rattle.sip_verifier.specs.Kinds.{KindRow, built, missing, kind_row, OfKind}
 use Rattle.sip_verifier.specs.Reports.{line}
+use Rattle.sip_verifier.specs.Tasks.{version_of}
 use Rattle.sip_verifier.specs.Talks.{stream_sent, bye_sent}
 
 pub record Question : Type 0 where
@@ -29,30 +31,30 @@ IsDue P block replies = (P.unasked ≡ None) × general.IsUnfinished P.rules blo
 -- ---- the states of a question; a query whose check does not stand here is never asked
 
 -- the replies are accepted, and this is the answer that they state
-abbrev pub Accepts : ℕ → List Update → Question → Answer → Type 0
-Accepts depth stream q answer = OfKind depth stream q.query
+abbrev pub Accepts : Version → ℕ → List Update → Question → Answer → Type 0
+Accepts version depth stream q answer = OfKind version depth stream q.query
     (λ kind. general.IsAccepted (kind.protocol q.block) q.block q.replies answer)
 
 -- the replies have this fault, and no byte too many was taken
-abbrev pub IsFaulty : ℕ → List Update → Question → Fault → Type 0
-IsFaulty depth stream q fault = OfKind depth stream q.query
+abbrev pub IsFaulty : Version → ℕ → List Update → Question → Fault → Type 0
+IsFaulty version depth stream q fault = OfKind version depth stream q.query
     (λ kind. general.IsFaulty (kind.protocol q.block) q.block q.replies fault)
 
 -- no fault so far
-abbrev pub IsUnfinished : ℕ → List Update → Question → Type 0
-IsUnfinished depth stream q = OfKind depth stream q.query
+abbrev pub IsUnfinished : Version → ℕ → List Update → Question → Type 0
+IsUnfinished version depth stream q = OfKind version depth stream q.query
     (λ kind. general.IsUnfinished (kind.protocol q.block).rules q.block q.replies)
 
 -- the query has to be asked, there is no fault so far, and a reply is missing or not whole yet
-abbrev pub IsWaiting : ℕ → List Update → Question → Type 0
-IsWaiting depth stream q = OfKind depth stream q.query
+abbrev pub IsWaiting : Version → ℕ → List Update → Question → Type 0
+IsWaiting version depth stream q = OfKind version depth stream q.query
     (λ kind. IsDue (kind.protocol q.block) q.block q.replies)
 
 -- a question whose replies are accepted
-pub record Accepted (depth : ℕ) (stream : List Update) : Type 0 where
+pub record Accepted (version : Version) (depth : ℕ) (stream : List Update) : Type 0 where
   pub question : Question
   pub answer : Answer
-  pub accepts : Accepts depth stream question answer
+  pub accepts : Accepts version depth stream question answer
 
 -- ---- the questions of a run
 
@@ -63,8 +65,8 @@ said_by_kind (built kind) q = asked_unless (kind.protocol q.block).unasked
 said_by_kind missing q = []
 
 -- what was said for a question
-abbrev pub said_for : ℕ → List Update → Question → List TalkEvent
-said_for depth stream q = said_by_kind (kind_row depth stream q.query) q
+abbrev pub said_for : Version → ℕ → List Update → Question → List TalkEvent
+said_for version depth stream q = said_by_kind (kind_row version depth stream q.query) q
 
 module _ (task : Task) (x : Exchange) where
   -- the legal records of the stream
@@ -76,7 +78,7 @@ module _ (task : Task) (x : Exchange) where
   IsLegalToEnd = (records task.depth task.form x.stream).fault ≡ None
 
   abbrev pub Done : Type 0
-  Done = List (Accepted task.depth updates)
+  Done = List (Accepted (version_of task) task.depth updates)
 
   abbrev pub questions_of : Done → List Question
   questions_of done = map (λ a. a.question) done
@@ -86,7 +88,8 @@ module _ (task : Task) (x : Exchange) where
 
   -- the farewell, which comes once every query was accepted
   abbrev pub farewell : Done → List TalkEvent
-  farewell done = if length done == length task.queries.items then bye_sent else []
+  farewell done =
+      if length done == length task.queries.items then bye_sent (version_of task) else []
 
   -- these are the task's first queries in order, each with its own block of the challenges that the
   -- seed gives
@@ -101,5 +104,5 @@ module _ (task : Task) (x : Exchange) where
   pub record Reached (questions : List Question) (rest : List TalkEvent) : Type 0 where
     pub are_questions : AreQuestions questions
     pub legal : IsLegalToEnd
-    pub talk : x.talk ≡ stream_sent task.depth updates ++ flat_map
-        (said_for task.depth updates) questions ++ rest
+    pub talk : x.talk ≡ stream_sent (version_of task) task.depth updates ++ flat_map
+        (said_for (version_of task) task.depth updates) questions ++ rest

@@ -1,6 +1,7 @@
 -- What is seen of a session.
 use Rattle.std.specs.Prelude.{◌≡◌, ℕ, Bool, true, false, List, [], Result, Ok, Err}
 use Rattle.sip_vector.specs.declared.update.Entry.{Entry}
+use Rattle.sip_wire.specs.declared.version.Version.{Version}
 use Rattle.sip_verifier.specs.declared.session.SessionFault.{SessionFault}
 use Rattle.sip_verifier.specs.declared.session.SessionStart.{SessionStart}
 use Rattle.sip_verifier.specs.declared.session.SessionStart.TheVariants as starts
@@ -9,9 +10,11 @@ use Rattle.sip_verifier.specs.declared.session.Verdict.TheVariants as verdicts
 use Rattle.sip_verifier.specs.QuerySeats.{Seated}
 use Rattle.sip_verifier.specs.Seats.{Seating}
 
--- The depth, the seats whose queries were not asked yet, the entries of the last answer of pairs,
--- and whether the session is over before its time: a call failed, or replies were rejected.
+-- The version of the talk, the depth, the seats whose queries were not asked yet, the entries of
+-- the last answer of pairs, and whether the session is over before its time: a call failed, or
+-- replies were rejected.
 pub record Sitting : Type 0 where
+  pub version : Version
   pub depth : ℕ
   pub left : List Seated
   pub entries : List Entry
@@ -25,8 +28,9 @@ is_over (Err _) = true
 
 -- A session has all seats to ask and shows no entries yet, or there is no memory for it. No query
 -- whose answer could be too wide stands here yet.
-abbrev pub Starts : Seating → Result Sitting SessionStart → Type 0
-Starts seats (Ok s) =
-    (s.depth ≡ seats.depth) × (s.left ≡ seats.seats) × (s.entries ≡ []) × (s.spent ≡ false)
-Starts seats (Err (starts.TooWide query)) = ⊥
-Starts seats (Err starts.OutOfMemory) = Unit {0}
+abbrev pub Starts : Version → Seating → Result Sitting SessionStart → Type 0
+Starts version seats (Ok s) =
+    (s.version ≡ version) × (s.depth ≡ seats.depth) × (s.left ≡ seats.seats) × (s.entries ≡ [])
+    × (s.spent ≡ false)
+Starts version seats (Err (starts.TooWide query)) = ⊥
+Starts version seats (Err starts.OutOfMemory) = Unit {0}

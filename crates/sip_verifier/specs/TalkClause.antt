@@ -16,6 +16,7 @@ use Rattle.sip_verifier.specs.declared.status.Port.TheVariants as ports
 use Rattle.sip_verifier.specs.declared.status.Status.{Status}
 use Rattle.sip_verifier.specs.declared.status.Status.TheVariants as statuses
 use Rattle.sip_verifier.specs.declared.task.Task.{Task}
+use Rattle.sip_verifier.specs.Tasks.{version_of}
 use Rattle.sip_replies.specs.Talks.{IsPrefix, ending}
 use Rattle.sip_verifier.specs.Exchanges.{Exchange}
 use Rattle.sip_verifier.specs.Talks.{whole_frames, opening_sent, stream_sent, bye_sent}
@@ -27,19 +28,19 @@ module _ (task : Task) (x : Exchange) where
   pub record IsWholeTalk : Type 0 where
     pub done : Done task x
     pub all : length done ≡ length task.queries.items
-    pub reached : Reached task x (questions_of task x done) bye_sent
+    pub reached : Reached task x (questions_of task x done) (bye_sent (version_of task))
 
   -- the talk up to a fault of the replies to a query, after those to the queries before were
   -- accepted
   pub record EndsAtFault (fault : Fault) : Type 0 where
     pub done : Done task x
     pub last : Question
-    pub faulty : IsFaulty task.depth (updates task x) last fault
+    pub faulty : IsFaulty (version_of task) task.depth (updates task x) last fault
     pub reached : Reached task x (questions_of task x done ++ last ∷ []) (ending fault.reason)
 
   -- what was said while the stream was read
   abbrev pub before_end : List TalkEvent
-  before_end = opening_sent task.depth (whole_frames (updates task x))
+  before_end = opening_sent (version_of task) task.depth (whole_frames (updates task x))
 
   -- The talk stopped somewhere: it has some accepted questions, each of them whole, and then a
   -- front of one that is under way or of the farewell.
@@ -47,16 +48,18 @@ module _ (task : Task) (x : Exchange) where
     pub done : Done task x
     pub reached : WereReached task x done
     pub current : Option Question
-    pub unfinished : IfSome current (IsUnfinished task.depth (updates task x))
+    pub unfinished : IfSome current (IsUnfinished (version_of task) task.depth (updates task x))
     pub questions : x.talk ≢ []
         → AreQuestions task x (questions_of task x done ++ option_to_list current)
-    pub order : IsPrefix x.talk (stream_sent task.depth (updates task x) ++ flat_map
-        (said_for task.depth (updates task x))
+    pub order : IsPrefix x.talk
+        (stream_sent (version_of task) task.depth (updates task x) ++ flat_map
+        (said_for (version_of task) task.depth (updates task x))
         (questions_of task x done ++ option_to_list current) ++ farewell task x done)
     pub legal : ¬ IsLegalToEnd task x → IsPrefix x.talk before_end
     -- what is said after the accepted questions is said only once all their lines were written
-    pub written : ¬ IsPrefix x.talk (stream_sent task.depth (updates task x) ++ flat_map
-        (said_for task.depth (updates task x)) (questions_of task x done))
+    pub written : ¬ IsPrefix x.talk
+        (stream_sent (version_of task) task.depth (updates task x) ++ flat_map
+        (said_for (version_of task) task.depth (updates task x)) (questions_of task x done))
         → x.report ≡ lines task x done
 
   -- the talk stopped somewhere, or at a fault

@@ -3,7 +3,13 @@ use Rattle.std.specs.Prelude.{ℕ, ◌<◌, IsTrue, length, All}
 use Rattle.sip_vector.specs.declared.query.Query.{Query}
 use Rattle.sip_vector.specs.Answers.{Fits}
 use Rattle.sip_vector.specs.Built.{is_built}
+use Rattle.sip_wire.specs.declared.version.Version.{Version}
+use Rattle.sip_wire.specs.Versions.{needed}
 use Rattle.sip_verifier.specs.declared.task.Task.{Task}
+
+-- the version of the talk: the least one in which the task's queries can be asked at its depth
+abbrev pub version_of : Task → Version
+version_of task = needed task.depth task.queries.items
 
 -- the query's kind is built, and the query fits the depth
 abbrev pub CanBeAsked : ℕ → Query → Type 0

@@ -18,6 +18,7 @@ use Rattle.sip_verifier.specs.declared.status.Port.TheVariants as ports
 use Rattle.sip_verifier.specs.declared.status.Status.{Status}
 use Rattle.sip_verifier.specs.declared.status.Status.TheVariants as statuses
 use Rattle.sip_verifier.specs.declared.task.Task.{Task}
+use Rattle.sip_verifier.specs.Tasks.{version_of}
 use Rattle.sip_replies.specs.Talks.{IsPrefix, ending}
 use Rattle.sip_verifier.specs.Exchanges.{Exchange}
 use Rattle.sip_verifier.specs.Reports.{line, rejection}
@@ -29,7 +30,7 @@ module _ (task : Task) (x : Exchange) where
   pub record AllWritten : Type 0 where
     pub done : Done task x
     pub all : length done ≡ length task.queries.items
-    pub reached : Reached task x (questions_of task x done) (bye_sent)
+    pub reached : Reached task x (questions_of task x done) (bye_sent (version_of task))
     pub report : x.report ≡ lines task x done
     pub read : x.unread ≡ []
 
@@ -39,7 +40,7 @@ module _ (task : Task) (x : Exchange) where
     pub done : Done task x
     pub number : query ≡ suc (length done)
     pub last : Question
-    pub faulty : IsFaulty task.depth (updates task x) last
+    pub faulty : IsFaulty (version_of task) task.depth (updates task x) last
         (record { round = round; reason = reason })
     pub reached : Reached task x (questions_of task x done ++ last ∷ []) (ending reason)
     pub report : x.report ≡ lines task x done ++ rejection query round reason
@@ -52,7 +53,7 @@ module _ (task : Task) (x : Exchange) where
   -- a part of the line of the next query, whose replies were accepted, and after which nothing was
   -- said
   pub record PartWritten (done : Done task x) (part : List ℕ) : Type 0 where
-    pub next : Accepted task.depth (updates task x)
+    pub next : Accepted (version_of task) task.depth (updates task x)
     pub reached : Reached task x (questions_of task x done ++ next.question ∷ []) []
     pub front : IsPrefix part (line next.question.query next.answer)
 
@@ -60,7 +61,7 @@ module _ (task : Task) (x : Exchange) where
   pub record PartRejected (done : Done task x) (part : List ℕ) : Type 0 where
     pub last : Question
     pub fault : Fault
-    pub faulty : IsFaulty task.depth (updates task x) last fault
+    pub faulty : IsFaulty (version_of task) task.depth (updates task x) last fault
     pub reached : Reached task x (questions_of task x done ++ last ∷ []) (ending fault.reason)
     pub front : IsPrefix part (rejection (suc (length done)) fault.round fault.reason)
 
@@ -79,10 +80,11 @@ module _ (task : Task) (x : Exchange) where
   pub record NoneLeft : Type 0 where
     pub done : Done task x
     pub current : Option Question
-    pub waits : IfSome current (IsWaiting task.depth (updates task x))
+    pub waits : IfSome current (IsWaiting (version_of task) task.depth (updates task x))
     pub reached : WereReached done
-    pub order : IsPrefix x.talk (stream_sent task.depth (updates task x) ++ flat_map
-        (said_for task.depth (updates task x))
+    pub order : IsPrefix x.talk
+        (stream_sent (version_of task) task.depth (updates task x) ++ flat_map
+        (said_for (version_of task) task.depth (updates task x))
         (questions_of task x done ++ option_to_list current) ++ farewell task x done)
     pub report : x.report ≡ lines task x done
 

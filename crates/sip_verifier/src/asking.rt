@@ -3,6 +3,7 @@
 ghost use Rattle.std.specs.Prelude.{◌≡◌, ◌≢◌, ◌≤◌, ℕ, List, length, take, IsTrue};
 ghost use Rattle.sip_ports.specs.Ports.{Lasts, Rose};
 ghost use Rattle.sip_vector.specs.declared.update.Update.{Update as AnyUpdate};
+ghost use Rattle.sip_wire.specs.Versions.{Speaks};
 ghost use Rattle.sip_verifier.specs.Asking.{Asks};
 ghost use Rattle.sip_verifier.specs.inside.Judging.{found_in, has_places, verdict_of};
 ghost use Rattle.sip_verifier.specs.QuerySeats.{StandsFor, is_seat};
@@ -12,20 +13,23 @@ use crate::session::{SessionFault, Verdict};
 use sip_ports::{Link, NullSink};
 use sip_replies::{AskStop, Said, ask};
 use sip_subvec::SubAsking;
-use sip_vector::{Entry, Query};
+use sip_vector::{CAP, Entry, Query};
 use sip_wire::{Frame, Version};
 
 /// Asks the query of a seat, takes the replies and checks them. The pairs of an answer are written to the front of `entries`.
 pub(crate) fn ask_seat<L: Link>(
+    version: Version,
     seat: &QuerySeat,
     entries: &mut [Entry],
     frame: &mut Frame,
     link: &mut L,
 ) -> Result<Said, AskStop>
     requires seat { IsTrue (is_seat (length seat.now.block) seat.now) }
+    requires speaks { Speaks version (length seat.now.block) seat.now.query }
     requires room { IsTrue (has_places (length entries.old) seat.now.query) }
     ensures asks { (depth : ℕ) (stream : List AnyUpdate) → StandsFor depth stream seat.now
-        → Asks depth stream seat.now.query seat.now.block (L.talk link.old) (L.talk link.new)
+        → Asks version depth stream seat.now.query seat.now.block
+        (L.talk link.old) (L.talk link.new)
         (take (found_in (length entries.new) result) entries.new) (verdict_of result) }
     ensures places { length entries.new ≡ length entries.old }
     ensures lasts { Lasts L.faults L.is_sure link.old link.new }
@@ -33,8 +37,7 @@ pub(crate) fn ask_seat<L: Link>(
     ensures no_keep { result ≢ Err AskStop.KeepFault }
 {
     let levels = seat.block().depth();
-    prove!(levels <= 32);
-    let version = Version::One;
+    prove!(levels <= CAP);
     // No talk is kept yet.
     let mut keep = NullSink::new();
     match (&seat.query, &seat.running) {

@@ -3,6 +3,7 @@
 ghost use Rattle.std.specs.Prelude.{◌≡◌, ◌<◌, ◌≤◌, ℕ, List, false, length, map, drop, All, OnOk};
 ghost use Rattle.sip_ports.specs.Ports.{Lasts};
 ghost use Rattle.sip_vector.specs.declared.update.Update.{Update as AnyUpdate};
+ghost use Rattle.sip_wire.specs.Table.{most_queries};
 ghost use Rattle.sip_verifier.specs.Exchanges.{TakesAtMost};
 ghost use Rattle.sip_verifier.specs.Moments.{counts, moment};
 ghost use Rattle.sip_verifier.specs.NextSeat.{IsNext};
@@ -16,7 +17,7 @@ use crate::ending::{on_link, on_report, status_of_fault, status_of_start};
 use crate::report::{write_number, write_pairs, write_rejection};
 use crate::{Session, Status, Task, Verdict, gather};
 use sip_ports::{Link, Sink, Source};
-use sip_vector::Query;
+use sip_vector::{Depth, Query};
 use sip_wire::{Message, encode};
 use std::alloc::Global;
 
@@ -33,9 +34,10 @@ fn check_query<L: Link, K: Sink, C: Sink>(
     requires live { session.old.spent ≡ false }
     ensures checks { (stream : List AnyUpdate) (seat : Seated)
         → IsNext session.old.depth stream session.old.left query.now seat
-        → Checks session.old.depth stream query.now seat.block number
+        → Checks session.old.version session.old.depth stream query.now seat.block number
         (L.talk peer.old) (L.talk peer.new) (K.talk report.old) (K.talk report.new) result }
     ensures next { session.new.left ≡ drop 1 session.old.left }
+    ensures version { session.new.version ≡ session.old.version }
     ensures depth { session.new.depth ≡ session.old.depth }
     ensures goes_on { OnOk result (session.new.spent ≡ false) }
     ensures fault { (first firsts second seconds : ℕ) → Stops stops_asking
@@ -69,12 +71,13 @@ fn check_all<L: Link, K: Sink, C: Sink>(
     keep: &mut C,
 ) -> Result<(), Status>
     requires count { length session.old.left ≡ length queries.now }
-    requires most { length queries.now ≤ 16 }
+    requires most { length queries.now ≤ most_queries }
     requires live { session.old.spent ≡ false }
     ensures checks { (stream : List AnyUpdate)
         → map (λ seat. seat.query) session.old.left ≡ queries.now
         → All (StandsFor session.old.depth stream) session.old.left
-        → ChecksAll session.old.depth stream queries.now (map (λ seat. seat.block) session.old.left)
+        → ChecksAll session.old.version session.old.depth stream queries.now
+        (map (λ seat. seat.block) session.old.left)
         (L.talk peer.old) (L.talk peer.new) (K.talk report.old) (K.talk report.new) result }
     ensures fault { (first firsts second seconds : ℕ) → Stops stops_asking
         (counts first second (L.faults peer.old) (K.faults report.old))
@@ -116,14 +119,15 @@ fn steps<A: Source, B: Source, L: Link, K: Sink, C: Sink>(
     ensures kept { keep.new ≡ keep.old }
 {
     let levels = task.depth.get();
-    prove!(levels >= 1 && levels <= 32);
+    prove!(levels >= 1 && levels <= Depth::MOST);
+    let version = task.version();
     let seats = gather(task, first, second, peer, keep)?;
-    let mut session = match Session::new(alloc, seats) {
+    let mut session = match Session::new(alloc, version, seats) {
         Ok(session) => session,
         Err(start) => return Err(status_of_start(start)),
     };
     check_all(&mut session, &task.queries, peer, report, keep)?;
-    on_link(encode(&Message::Bye, peer))
+    on_link(encode(&Message::Bye, version, peer))
 }
 
 /// Does a task: draws the challenges from `second`, reads the stream of `first` and sends it over `peer`, asks each query, judges

@@ -7,6 +7,8 @@ ghost use Rattle.sip_vector.specs.declared.query.Query.TheVariants as queries;
 ghost use Rattle.sip_vector.specs.Examples.{stream};
 ghost use Rattle.sip_subvec.specs.Examples.{reply_0, reply_1};
 ghost use Rattle.sip_vector.specs.Answers.{Fits};
+ghost use Rattle.sip_vector.specs.Limits.{most_depth};
+ghost use Rattle.sip_wire.specs.declared.version.Version.TheVariants.{One};
 ghost use Rattle.sip_verifier.specs.declared.status.Status.{Status};
 ghost use Rattle.sip_verifier.specs.declared.task.Task.{Task};
 ghost use Rattle.sip_verifier.specs.CauseClause.{CauseClause};
@@ -20,13 +22,14 @@ ghost use Rattle.sip_verifier.specs.VerdictClause.{VerdictClause};
 /// Each call that keeps to the clauses of verdicts and of causes keeps to that of completeness, where its queries fit the depth.
 pub fn honest_helpers_are_accepted()
     ensures { (task : Task) (x : Exchange) (before now : Counts) (status : Status) → 1 ≤ task.depth
-        → task.depth ≤ 32 → All (Fits task.depth) task.queries.items
+        → task.depth ≤ most_depth → All (Fits task.depth) task.queries.items
         → VerdictClause task x status → CauseClause task x before now status → IsListed status
         → CompletenessClause task x before now status }
 {}
 
 /// What is heard of an honest helper about the entries 1 to 2 of (3, 0, 5, 1), and what is reported.
 pub fn honest_run_by_hand()
-    ensures heard { honest_bytes 2 stream (queries.Sub 1 2, 2 ∷ 10 ∷ []) ≡ reply_0 ++ reply_1 }
+    ensures heard { honest_bytes One 2 stream (queries.Sub 1 2, 2 ∷ 10 ∷ [])
+        ≡ reply_0 One ++ reply_1 }
     ensures report { report_of 2 stream (queries.Sub 1 2 ∷ []) ≡ codes "sub:1:2 2:5" ++ 10 ∷ [] }
 {}

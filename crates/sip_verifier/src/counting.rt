@@ -5,6 +5,7 @@ ghost use Rattle.std.specs.Prelude.{ℕ, List, All};
 ghost use Rattle.sip_vector.specs.declared.update.Update.{Update};
 ghost use Rattle.sip_vector.specs.Answers.{Answer, Fits};
 ghost use Rattle.sip_vector.specs.Streams.{IsLegal};
+ghost use Rattle.sip_wire.specs.declared.version.Version.{Version};
 ghost use Rattle.sip_verifier.specs.declared.status.Status.{Status};
 ghost use Rattle.sip_verifier.specs.declared.task.Task.{Task};
 ghost use Rattle.sip_verifier.specs.CountClause.{CountsFor, CountClause};
@@ -21,9 +22,9 @@ pub fn records_are_legal()
 
 /// Where a question's replies are accepted and state an answer, that answer is counted.
 pub fn accepted_questions_are_counted()
-    ensures { (depth : ℕ) (stream : List Update) (t : Question) (answer : Answer)
-        → Fits depth t.query → IsLegal depth stream → Accepts depth stream t answer
-        → CountsFor depth stream t answer }
+    ensures { (version : Version) (depth : ℕ) (stream : List Update) (q : Question)
+        (answer : Answer) → Fits depth q.query → IsLegal depth stream
+        → Accepts version depth stream q answer → CountsFor version depth stream q answer }
 {}
 
 /// Each report of a verifying command is counted, where its queries can be asked.

@@ -1,29 +1,25 @@
 //! A stream on its way to the helper.
 
-ghost use Rattle.std.specs.Prelude.{◌≡◌, ◌≢◌, ◌<◌, ◌^◌, [], pos, false, OnOk};
+ghost use Rattle.std.specs.Prelude.{◌≡◌, ◌≢◌, ◌<◌, ◌≤◌, ◌^◌, [], pos, false, OnOk};
 ghost use Rattle.std.specs.Result.{is_err};
 ghost use Rattle.sip_ports.specs.Ports.{HasCause, SendsWhole};
 ghost use Rattle.sip_wire.specs.Spelling.{spelling};
+ghost use Rattle.sip_wire.specs.Versions.{deepest, index_width, number_of};
 ghost use Rattle.sip_wire.specs.declared.message.Message.TheVariants as messages;
 ghost use Rattle.sip_verifier.specs.Feeding.{due_with, due_at_end, waiting_with};
 
 use arrayvec::ArrayVec;
 use sip_ports::{Link, PortStop};
 use sip_vector::{Depth, Update};
-use sip_wire::{Message, encode};
+use sip_wire::{MOST_ROWS, Message, Version, encode};
 use std::marker::Model;
 use std::mem;
 
-/// How many updates a frame has at most.
-const FRAME: usize = 512;
-
-/// The version of the protocol.
-const VERSION: u8 = 1;
-
-/// Sends a stream in frames of 512 updates, the last one the rest. What waits for a frame is kept in a buffer of a fixed size.
+/// Sends a stream in frames of 512 updates, in a version, the last one the rest. What waits for a frame is kept in a buffer of a fixed size.
 #[derive(Drop)]
 pub struct Feed {
-    waiting: ArrayVec<Update, FRAME>,
+    version: Version,
+    waiting: ArrayVec<Update, MOST_ROWS>,
     is_spent: bool,
 }
 
@@ -31,22 +27,28 @@ impl Model for Feed {
     ghost use Rattle.std.specs.Prelude.{IsTrue, ◌<◌};
     ghost use Rattle.std.specs.List.{list_all};
     ghost use Rattle.arrayvec.specs.ArrayVec.{array_vec_len};
+    ghost use Rattle.sip_wire.specs.Table.{most_rows};
     ghost use Rattle.sip_verifier.specs.Feeding.{Waiting, has_spelling};
 
     ghost Value = { Waiting };
 
-    ghost view = { λ f. record { waiting = f.waiting.items; is_spent = f.is_spent } };
+    ghost view = { λ f. record {
+      version = f.version;
+      waiting = f.waiting.items;
+      is_spent = f.is_spent;
+    } };
 
-    ghost invariant = { λ f. (array_vec_len f.waiting < 512)
-        × IsTrue (list_all has_spelling f.waiting.items) };
+    ghost invariant = { λ f. (array_vec_len f.waiting < most_rows)
+        × IsTrue (list_all (has_spelling f.version) f.waiting.items) };
 }
 
 impl Feed {
     /// Nothing waits.
-    pub fn new() -> Feed
-        ensures { result ≡ record { waiting = []; is_spent = false } }
+    pub fn new(version: Version) -> Feed
+        ensures { result ≡ record { version = version; waiting = []; is_spent = false } }
     {
         Feed {
+            version,
             waiting: ArrayVec::new(),
             is_spent: false,
         }
@@ -58,18 +60,20 @@ impl Feed {
     ///
     /// Those of the link, which a front of the opening has then reached that is shorter than it. The feed is then spent.
     pub fn begin<L: Link>(&mut self, link: &mut L, depth: Depth) -> Result<(), PortStop>
-        requires { self.old.is_spent ≡ false }
-        ensures talk { SendsWhole (L.talk link.old)
-            (L.talk link.new) result (spelling (messages.Open 1 depth)) }
+        requires unspent { self.old.is_spent ≡ false }
+        requires shallow { depth ≤ deepest self.old.version }
+        ensures talk { SendsWhole (L.talk link.old) (L.talk link.new) result
+            (spelling self.old.version (messages.Open (number_of self.old.version) depth)) }
+        ensures version { self.new.version ≡ self.old.version }
         ensures waiting { self.new.waiting ≡ self.old.waiting }
         ensures spent { self.new.is_spent ≡ is_err result }
         ensures cause { HasCause L.faults L.is_sure link.old link.new result }
     {
         let opening = Message::Open {
-            version: VERSION,
+            version: self.version.number(),
             depth: depth.get(),
         };
-        let sent = encode(&opening, link);
+        let sent = encode(&opening, self.version, link);
         self.is_spent = sent.is_err();
         sent
     }
@@ -81,10 +85,11 @@ impl Feed {
     /// Those of the link, which a front of the frame has then reached that is shorter than it. The feed is then spent.
     pub fn update<L: Link>(&mut self, link: &mut L, update: &Update) -> Result<(), PortStop>
         requires unspent { self.old.is_spent ≡ false }
-        requires item { update.now.item < 2 ^ 32 }
+        requires item { update.now.item < 256 ^ index_width self.old.version }
         requires delta { update.now.delta ≢ pos 0 }
         ensures talk { SendsWhole (L.talk link.old)
-            (L.talk link.new) result (due_with self.old.waiting update.now) }
+            (L.talk link.new) result (due_with self.old.version self.old.waiting update.now) }
+        ensures version { self.new.version ≡ self.old.version }
         ensures waiting { OnOk result (self.new.waiting
             ≡ waiting_with self.old.waiting update.now) }
         ensures spent { self.new.is_spent ≡ is_err result }
@@ -96,7 +101,11 @@ impl Feed {
         if !self.waiting.is_full() {
             return Ok(());
         }
-        let sent = encode(&Message::Updates(mem::take(&mut self.waiting)), link);
+        let sent = encode(
+            &Message::Updates(mem::take(&mut self.waiting)),
+            self.version,
+            link,
+        );
         self.is_spent = sent.is_err();
         sent
     }
@@ -110,7 +119,8 @@ impl Feed {
     pub fn finish<L: Link>(&mut self, link: &mut L) -> Result<(), PortStop>
         requires { self.old.is_spent ≡ false }
         ensures talk { SendsWhole (L.talk link.old)
-            (L.talk link.new) result (due_at_end self.old.waiting) }
+            (L.talk link.new) result (due_at_end self.old.version self.old.waiting) }
+        ensures version { self.new.version ≡ self.old.version }
         ensures waiting { OnOk result (self.new.waiting ≡ []) }
         ensures spent { self.new.is_spent ≡ is_err result }
         ensures cause { HasCause L.faults L.is_sure link.old link.new result }
@@ -125,26 +135,16 @@ impl Feed {
     // Sends the updates that wait, where there are any, and the end of the stream.
     fn send_rest<L: Link>(&mut self, link: &mut L) -> Result<(), PortStop>
         ensures talk { SendsWhole (L.talk link.old)
-            (L.talk link.new) result (due_at_end self.old.waiting) }
+            (L.talk link.new) result (due_at_end self.old.version self.old.waiting) }
+        ensures version { self.new.version ≡ self.old.version }
         ensures waiting { OnOk result (self.new.waiting ≡ []) }
         ensures cause { HasCause L.faults L.is_sure link.old link.new result }
     {
         let rest = mem::take(&mut self.waiting);
         if !rest.is_empty() {
-            encode(&Message::Updates(rest), link)?;
+            encode(&Message::Updates(rest), self.version, link)?;
         }
-        encode(&Message::EndStream, link)
-    }
-}
-
-/// Nothing waits.
-impl Default for Feed {
-    ghost use Rattle.std.specs.Prelude.{◌≡◌, [], false};
-
-    ghost is_default = { λ feed. feed ≡ record { waiting = []; is_spent = false } };
-
-    fn default() -> Feed {
-        Feed::new()
+        encode(&Message::EndStream, self.version, link)
     }
 }
 

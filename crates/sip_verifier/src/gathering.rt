@@ -1,6 +1,6 @@
 //! All that a verifier does until the stream has ended.
 
-ghost use Rattle.std.specs.Prelude.{◌≡◌, ℕ, List, length, Some, Ok, Err, IsSome, IfOk, MatchResult};
+ghost use Rattle.std.specs.Prelude.{◌≡◌, map, ℕ, List, length, Some, Ok, Err, IsSome, IfOk, MatchResult};
 ghost use Rattle.sip_ports.specs.Ports.{Lasts};
 ghost use Rattle.sip_stream.specs.declared.fault.StreamFault.{StreamFault as AnyStreamFault};
 ghost use Rattle.sip_verifier.specs.inside.Drawing.{AreOf, Draws, HasDrawn};
@@ -81,7 +81,7 @@ fn follow<A: Source, L: Link>(
     ensures first { Lasts A.faults A.is_sure first.old first.new }
     ensures peer { Lasts L.faults L.is_sure peer.old peer.new }
 {
-    let mut feed = Feed::new();
+    let mut feed = Feed::new(task.version());
     on_link(feed.begin(peer, task.depth))?;
     let mut reader = Reader::new(task.depth, task.form);
     while let Some(update) = on_stream(reader.next(first))? {
@@ -119,8 +119,8 @@ pub fn gather<A: Source, B: Source, L: Link, C: Sink>(
     ensures fault { (report reports : ℕ) → Stops stops_gathering
         (counts (A.faults first.old) (B.faults second.old) (L.faults peer.old) report)
         (counts (A.faults first.new) (B.faults second.new) (L.faults peer.new) reports) result }
-    ensures seated { IfOk result (λ seats. length seats.seats
-        ≡ length task.now.queries.items) }
+    ensures seated { IfOk result (λ seats. (seats.depth ≡ task.now.depth)
+        × (map (λ s. s.query) seats.seats ≡ task.now.queries.items)) }
     ensures told { IsSome (A.left first.old) → IsSome (A.left first.new) }
     ensures also_told { IsSome (B.left second.old) → IsSome (B.left second.new) }
     ensures seed { TakesAtMost 32 (B.left second.old) (B.left second.new) }

@@ -17,8 +17,8 @@ ghost use Rattle.sip_verifier.specs.Talks.{stream_sent, update_frames, whole_fra
 
 /// A whole talk of one query is these bytes in this order.
 pub fn talk_of_one_query()
-    ensures { stream_sent 2 stream ++ asked One (queries.Sub 1 2) (2 ∷ 10 ∷ [])
-        (reply_0 ∷ reply_1 ∷ []) ++ bye_sent ≡ whole_talk }
+    ensures { stream_sent One 2 stream ++ asked One (queries.Sub 1 2) (2 ∷ 10 ∷ [])
+        (reply_0 One ∷ reply_1 ∷ []) ++ bye_sent One ≡ whole_talk }
 {}
 
 /// An empty stream has no frame of updates, and 513 updates have two frames, of which one is whole.

@@ -47,7 +47,7 @@ mod task;
 pub use checking::check_stream;
 pub use feed::Feed;
 pub use gathering::gather;
-pub use seats::{MOST_QUERIES, Seats};
+pub use seats::Seats;
 pub use session::{Session, SessionFault, SessionStart, Verdict};
 pub use status::{Port, Status};
 pub use task::Task;

@@ -83,6 +83,12 @@ fn begin(query: &Query) -> ArrayVec<u8, ROOM>
             put_side(&mut gathered, *side);
             put_parameter(&mut gathered, *at_least);
         }
+        Query::Share { side, num, den } => {
+            put(&mut gathered, b"share");
+            put_side(&mut gathered, *side);
+            put_parameter(&mut gathered, *num as u64);
+            put_parameter(&mut gathered, *den as u64);
+        }
     }
     gathered
 }

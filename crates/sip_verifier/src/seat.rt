@@ -10,14 +10,14 @@ ghost use Rattle.sip_verifier.specs.Tasks.{CanBeAsked};
 
 use sip_field::{M61, Seat};
 use sip_tree::Root;
-use sip_vector::{Query, Side, Update};
+use sip_vector::{CAP, Query, Side, Update};
 use std::marker::Model;
 
 /// The running number of one query, with its challenges.
 #[derive(Drop)]
 pub(crate) enum Running {
     /// Of a sub-vector: the root of the tree over side 0.
-    Root(Root<M61, 32>),
+    Root(Root<M61, CAP>),
 }
 
 impl Running {
@@ -77,7 +77,7 @@ impl Default for QuerySeat {
 
 impl QuerySeat {
     /// The seat of a query with these challenges, before any update.
-    pub(crate) fn begin(query: Query, block: Seat<M61, 32>) -> QuerySeat
+    pub(crate) fn begin(query: Query, block: Seat<M61, CAP>) -> QuerySeat
         requires built { IsTrue (is_built query) }
         ensures query { result.query ≡ query }
         ensures block { result.block ≡ block }
@@ -92,7 +92,7 @@ impl QuerySeat {
     }
 
     /// The challenges.
-    pub(crate) fn block(&self) -> &Seat<M61, 32>
+    pub(crate) fn block(&self) -> &Seat<M61, CAP>
         ensures { result.now ≡ self.now.block }
     {
         match &self.running {

@@ -7,7 +7,10 @@ ghost use Rattle.sip_field.specs.Elements.{m61_number};
 ghost use Rattle.sip_ports.specs.Ports.{HasCause, SendsWhole};
 ghost use Rattle.sip_vector.specs.declared.query.Query.{Query as AnyQuery};
 ghost use Rattle.sip_vector.specs.declared.update.Update.{Update as AnyUpdate};
+ghost use Rattle.sip_vector.specs.Limits.{most_depth};
 ghost use Rattle.sip_vector.specs.Pieces.{cut};
+ghost use Rattle.sip_wire.specs.Table.{most_queries};
+ghost use Rattle.sip_wire.specs.Versions.{needed};
 ghost use Rattle.sip_verifier.specs.QuerySeats.{is_seat};
 ghost use Rattle.sip_verifier.specs.Tasks.{CanBeAsked};
 
@@ -15,22 +18,22 @@ use crate::seat::QuerySeat;
 use arrayvec::ArrayVec;
 use sip_field::{M61, Seat, SeedSpent, draw_challenges};
 use sip_ports::{PortStop, Sink};
-use sip_vector::{Depth, Query, Update};
-use sip_wire::{put_ask, put_head};
+use sip_vector::{CAP, Depth, Query, Update};
+use sip_wire::{MOST_QUERIES, Version, put_ask, put_head};
 use std::marker::Model;
 
-/// How many queries a run has at most.
-pub const MOST_QUERIES: usize = 16;
-
-/// How many challenges a run has at most: 16 queries at depth 32.
-const MOST_CHALLENGES: usize = 512;
+/// How many challenges a run has at most: 16 queries at depth 48.
+const MOST_CHALLENGES: usize = MOST_QUERIES * CAP;
 
 /// The seats of a run: one for each query, in the order of the queries. Each has its own challenges and a running number,
 /// which stands for the stream so far. Beside these nothing of a stream is kept, and no call takes memory.
 #[derive(Drop)]
 pub struct Seats {
     depth: Depth,
+    version: Version,
     seats: ArrayVec<QuerySeat, MOST_QUERIES>,
+    ghost deep: { depth ≤ most_depth },
+    ghost least: { version ≡ needed depth (map (λ s. s.query) seats.items) },
     ghost some: { 0 < array_vec_len seats },
     ghost each: { IsTrue (list_all (is_seat depth) seats.items) },
 }
@@ -54,7 +57,7 @@ impl Seats {
     /// `SeedSpent` exactly where eight words of the generator in turn give no challenge.
     pub fn draw(seed: &[u8; 32], depth: Depth, queries: &[Query]) -> Result<Seats, SeedSpent>
         requires some { 0 < length queries.now }
-        requires most { length queries.now ≤ 16 }
+        requires most { length queries.now ≤ most_queries }
         requires asked { All (CanBeAsked depth) queries.now }
         ensures { AreDrawn depth queries.now seed.now result }
     {
@@ -66,7 +69,7 @@ impl Seats {
     /// The seats with these challenges, `depth` for each query in order, before any update.
     pub fn given(depth: Depth, queries: &[Query], challenges: &[M61]) -> Seats
         requires some { 0 < length queries.now }
-        requires most { length queries.now ≤ 16 }
+        requires most { length queries.now ≤ most_queries }
         requires asked { All (CanBeAsked depth) queries.now }
         requires count { length challenges.now ≡ depth * length queries.now }
         ensures { AreSeats depth queries.now (cut depth (map m61_number challenges.now)) [] result }
@@ -81,12 +84,17 @@ impl Seats {
             };
             seats.push(QuerySeat::begin(*query, seat));
         }
-        Seats { depth, seats }
+        Seats {
+            depth,
+            version: Version::needed(depth, queries),
+            seats,
+        }
     }
 
     /// The seats, in the order of the queries.
     pub(crate) fn all(&self) -> &[QuerySeat]
         ensures seats { result.now ≡ self.now.seats }
+        ensures some { 0 < length self.now.seats }
         ensures each { IsTrue (list_all (is_seat self.now.depth) self.now.seats) }
     {
         &self.seats
@@ -117,12 +125,13 @@ impl Seats {
         ensures talk { (depth : ℕ) (queries : List AnyQuery) (blocks : List (List ℕ))
             (stream : List AnyUpdate)
             → AreSeats depth queries blocks stream self.now
-            → SendsWhole (K.talk sink.old) (K.talk sink.new) result (head_of depth queries blocks) }
+            → SendsWhole (K.talk sink.old) (K.talk sink.new) result
+            (head_of (needed depth queries) depth queries blocks) }
         ensures cause { HasCause K.faults K.is_sure sink.old sink.new result }
     {
-        put_head(self.depth, self.seats.len() as u8, sink)?;
+        put_head(self.version, self.depth, self.seats.len() as u8, sink)?;
         for seat in self.seats.iter() {
-            put_ask(&seat.query, seat.block(), sink)?;
+            put_ask(self.version, &seat.query, seat.block(), sink)?;
         }
         Ok(())
     }

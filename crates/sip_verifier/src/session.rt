@@ -1,12 +1,13 @@
 //! The queries of a run, asked one after another.
 
-ghost use Rattle.std.specs.Prelude.{◌≡◌, ◌≢◌, ◌<◌, ◌≤◌, ◌^◌, ℕ, List, [], ◌∷◌, true, false, length, drop, vec_len, IsTrue};
+ghost use Rattle.std.specs.Prelude.{◌≡◌, ◌≢◌, ◌<◌, ◌≤◌, ◌^◌, All, ℕ, List, [], ◌∷◌, true, false, length, drop, vec_len, IsTrue};
 ghost use Rattle.std.specs.List.{list_all};
 ghost use Rattle.sip_ports.specs.Ports.{Lasts, Rose};
 ghost use Rattle.sip_vector.specs.declared.query.Query.{Query as AnyQuery};
 ghost use Rattle.sip_vector.specs.declared.update.Update.{Update as AnyUpdate};
 ghost use Rattle.sip_vector.specs.Answers.{Fits};
 ghost use Rattle.sip_vector.specs.Streams.{IsLegal};
+ghost use Rattle.sip_wire.specs.Versions.{Speaks, deepest, speaks};
 ghost use Rattle.sip_verifier.specs.Asking.{AnswersCount, Asks};
 ghost use Rattle.sip_verifier.specs.inside.Judging.{has_places};
 ghost use Rattle.sip_verifier.specs.NextSeat.{IsNext};
@@ -17,13 +18,11 @@ use crate::Seats;
 use crate::asking::{ask_seat, found_in, verdict_of};
 use crate::seat::QuerySeat;
 use sip_ports::{Link, Sink};
+use sip_subvec::MOST_ENTRIES;
 use sip_vector::{Entry, Query};
-use sip_wire::{Frame, Reason};
+use sip_wire::{Frame, Reason, Version};
 use std::alloc::Global;
 use std::marker::Model;
-
-/// How many entries an answer may have.
-const MOST_ENTRIES: u64 = 65536;
 
 /// Why there is no session.
 #[derive(Clone, Copy, Debug, PartialEq, Eq)]
@@ -61,6 +60,7 @@ pub enum SessionFault {
 #[derive(Drop)]
 pub struct Session {
     seats: Seats,
+    version: Version,
     // The number of queries that were asked.
     asked: usize,
     frame: Frame,
@@ -69,6 +69,8 @@ pub struct Session {
     found: usize,
     is_spent: bool,
     ghost within: { asked ≤ length seats.seats },
+    ghost shallow: { seats.depth ≤ deepest version },
+    ghost spoken: { IsTrue (list_all (λ s. speaks version s.query) seats.seats) },
     ghost shown: { found ≤ vec_len entries },
     ghost room: { IsTrue (list_all (λ s. has_places (vec_len entries) s.query) seats.seats) },
 }
@@ -80,6 +82,7 @@ impl Model for Session {
     ghost Value = { Sitting };
 
     ghost view = { λ s. record {
+      version = s.version;
       depth = s.seats.depth;
       left = drop s.asked s.seats.seats;
       entries = take s.found s.entries.items;
@@ -117,16 +120,17 @@ fn most_entries(seats: &[QuerySeat]) -> usize
 }
 
 impl Session {
-    /// A session that asks the queries of these seats in order.
+    /// A session that asks the queries of these seats in order, in a version in which each can be asked.
     ///
-    /// Takes a frame of 6,661 bytes and 16 bytes for each entry that the longest answer may have, at most 65,536. After that no
+    /// Takes a frame of 8,709 bytes and 16 bytes for each entry that the longest answer may have, at most 65,536. After that no
     /// call takes memory.
     ///
     /// # Errors
     ///
     /// `OutOfMemory`; the seats are then dropped.
-    pub fn new(alloc: Global, seats: Seats) -> Result<Session, SessionStart>
-        ensures { Starts seats result }
+    pub fn new(alloc: Global, version: Version, seats: Seats) -> Result<Session, SessionStart>
+        requires { All (λ s. Speaks version seats.depth s.query) seats.seats }
+        ensures { Starts version seats result }
     {
         let Ok(frame) = Frame::new(alloc) else {
             return Err(SessionStart::OutOfMemory);
@@ -137,6 +141,7 @@ impl Session {
         };
         Ok(Session {
             seats,
+            version,
             asked: 0,
             frame,
             entries,
@@ -165,11 +170,12 @@ impl Session {
         requires live { self.old.spent ≡ false }
         ensures asks { (stream : List AnyUpdate) (query : AnyQuery) (seat : Seated)
             → IsNext self.old.depth stream self.old.left query seat
-            → Asks self.old.depth stream query seat.block (L.talk link.old)
+            → Asks self.old.version self.old.depth stream query seat.block (L.talk link.old)
             (L.talk link.new) self.new.entries result }
         ensures fits { (seat : Seated) (more : List Seated) → self.old.left ≡ seat ∷ more
             → Fits self.old.depth seat.query }
         ensures next { self.new.left ≡ drop 1 self.old.left }
+        ensures version { self.new.version ≡ self.old.version }
         ensures depth { self.new.depth ≡ self.old.depth }
         ensures spent { self.new.spent ≡ is_over result }
         ensures cleared { is_over result ≡ true → self.new.entries ≡ [] }
@@ -180,7 +186,7 @@ impl Session {
     {
         let seats = self.seats.all();
         let seat = &seats[self.asked];
-        let asked = ask_seat(seat, &mut self.entries, &mut self.frame, link);
+        let asked = ask_seat(self.version, seat, &mut self.entries, &mut self.frame, link);
         self.asked += 1;
         self.found = found_in(self.entries.len(), &asked);
         self.is_spent = asked.is_err();
@@ -207,14 +213,15 @@ impl Session {
         requires live { self.old.spent ≡ false }
         ensures asks { (stream : List AnyUpdate) (query : AnyQuery) (seat : Seated)
             → IsNext self.old.depth stream self.old.left query seat
-            → Asks self.old.depth stream query seat.block (L.talk link.old)
+            → Asks self.old.version self.old.depth stream query seat.block (L.talk link.old)
             (L.talk link.new) self.new.entries result }
         ensures count { (stream : List AnyUpdate) (query : AnyQuery) (seat : Seated)
             → IsNext self.old.depth stream self.old.left query seat
             → IsLegal self.old.depth stream
-            → AnswersCount self.old.depth stream query seat.block (L.talk link.old)
+            → AnswersCount self.old.version self.old.depth stream query seat.block (L.talk link.old)
             (L.talk link.new) self.new.entries result }
         ensures next { self.new.left ≡ drop 1 self.old.left }
+        ensures version { self.new.version ≡ self.old.version }
         ensures depth { self.new.depth ≡ self.old.depth }
         ensures spent { self.new.spent ≡ is_over result }
         ensures cleared { is_over result ≡ true → self.new.entries ≡ [] }

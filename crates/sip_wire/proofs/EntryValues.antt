@@ -10,6 +10,7 @@ use Rattle.arrayvec.specs.ArrayVec.{ArrayVec}
 use Rattle.sip_vector.specs.declared.update.Entry.{Entry}
 use Rattle.sip_wire.specs.declared.kind.Kind.TheVariants as kinds
 use Rattle.sip_wire.specs.declared.message.Message.TheVariants as messages
+use Rattle.sip_wire.specs.declared.version.Version.{Version}
 use Rattle.sip_wire.specs.Table.{entry_fields, repeat, most_claim, is_small, shape}
 use Rattle.sip_wire.specs.Spelling.{all_hold, has_room, entry_numbers, fits}
 
@@ -36,24 +37,24 @@ value_spelled e range h =
     (λ zero. both_ways (eqb n 0) (not-true (eqb n 0) both.0) (eq-eqb n 0 (ap (cast_unsigned w64) zero)), most)
 
 -- the fields of the first row hold its value, and those of the rest theirs
-first_row : (i v : ℕ) (ns : List ℕ) (k : ℕ) → all_hold (repeat (suc k) entry_fields) (i ∷ v ∷ ns) ≡ true → (holds_value v ≡ true) × (all_hold (repeat k entry_fields) ns ≡ true)
+first_row : (version : Version) (i v : ℕ) (ns : List ℕ) (k : ℕ) → all_hold (repeat (suc k) (entry_fields version)) (i ∷ v ∷ ns) ≡ true → (holds_value v ≡ true) × (all_hold (repeat k (entry_fields version)) ns ≡ true)
 unfolding all_hold holds_value
-first_row i v ns k h = and_parts (not (eqb v 0) && is_small v) (all_hold (repeat k entry_fields) ns) h
+first_row version i v ns k h = and_parts (not (eqb v 0) && is_small v) (all_hold (repeat k (entry_fields version)) ns) h
 
 -- so each value
-rows_spelled : (es : List Entry) → All value_range es → all_hold (repeat (length es) entry_fields) (flat_map entry_numbers es) ≡ true → All IsSpelledValue es
-rows_spelled [] range h = All-nil IsSpelledValue
-rows_spelled (e ∷ es) range h =
+rows_spelled : (version : Version) (es : List Entry) → All value_range es → all_hold (repeat (length es) (entry_fields version)) (flat_map entry_numbers es) ≡ true → All IsSpelledValue es
+rows_spelled version [] range h = All-nil IsSpelledValue
+rows_spelled version (e ∷ es) range h =
     let numbers : flat_map entry_numbers (e ∷ es) ≡ e.index ∷ cast_unsigned w64 e.value ∷ flat_map entry_numbers es = flat_map-cons entry_numbers e es in
-    let row = first_row e.index (cast_unsigned w64 e.value) (flat_map entry_numbers es) (length es) (sym (ap (all_hold (repeat (suc (length es)) entry_fields)) numbers) ∙ h) in
-    All-cons IsSpelledValue e es (value_spelled e (All-head value_range e es range) row.0) (rows_spelled es (All-tail value_range e es range) row.1)
+    let row = first_row version e.index (cast_unsigned w64 e.value) (flat_map entry_numbers es) (length es) (sym (ap (all_hold (repeat (suc (length es)) (entry_fields version))) numbers) ∙ h) in
+    All-cons IsSpelledValue e es (value_spelled e (All-head value_range e es range) row.0) (rows_spelled version es (All-tail value_range e es range) row.1)
 
 -- entries that have a spelling have values that a frame may have
-pub values_spelled : (v : ArrayVec Entry) → fits (messages.Entries v) ≡ true → All value_range v.items → All IsSpelledValue v.items
+pub values_spelled : (version : Version) (v : ArrayVec Entry) → fits version (messages.Entries v) ≡ true → All value_range v.items → All IsSpelledValue v.items
 unfolding fits
-values_spelled v h range =
+values_spelled version v h range =
     let n : ℕ = length v.items in
     let ns : List ℕ = flat_map entry_numbers v.items in
-    let s = shape kinds.Entries in
+    let s = shape version kinds.Entries in
     let a = and_parts (s.is_mark n && has_room (s.fields n) ns && s.in_order n ns) (all_hold (s.fields n) ns) h in
-    rows_spelled v.items range a.1
+    rows_spelled version v.items range a.1

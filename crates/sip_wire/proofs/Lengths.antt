@@ -6,7 +6,9 @@ use Rattle.std.proofs.lemmas.Bool.Decides.{nat_tests}
 use Rattle.std.proofs.Math.Nat.{le_of_mul-le-mul_left}
 use Rattle.sip_wire.specs.declared.kind.Kind.{Kind}
 use Rattle.sip_wire.specs.declared.kind.Kind.TheVariants as kinds
-use Rattle.sip_wire.specs.Table.{Field, Shape, size, plain, marked, counted, query_fields, sibling_fields, query_codes, sibling_flags, ends_in_order, shape, IsLengthOfMark}
+use Rattle.sip_wire.specs.declared.version.Version.{Version}
+use Rattle.sip_wire.specs.declared.version.Version.TheVariants.{One, Two}
+use Rattle.sip_wire.specs.Table.{Field, Shape, size, ordered, plain, marked, counted, query_fields, sibling_fields, query_codes, sibling_flags, ends_in_order, shape, IsLengthOfMark}
 use Rattle.sip_wire.proofs.Counting.{size_repeat}
 use Rattle.sip_wire.proofs.Shapes.{is_shape}
 
@@ -17,8 +19,11 @@ record HasMark (s : Shape) (n : ℕ) : Type 0 where
   long : n ≡ s.mark_width + size (s.fields mark)
 
 -- a shape without marks has the mark 0
+ordered_mark : (fs : List Field) (in_order : List ℕ → Bool) (n : ℕ) → (ordered fs in_order).has_length n ≡ true → HasMark (ordered fs in_order) n
+ordered_mark fs in_order n h = record { mark = 0; is_mark = refl; long = let e = eqb-true n (size fs) h in omega arith }
+
 plain_mark : (fs : List Field) (n : ℕ) → (plain fs).has_length n ≡ true → HasMark (plain fs) n
-plain_mark fs n h = record { mark = 0; is_mark = refl; long = let e = eqb-true n (size fs) h in omega arith }
+plain_mark fs n h = ordered_mark fs (λ _. true) n h
 
 -- one of these marks gives this length
 marks_with : (ℕ → List Field) → List ℕ → ℕ → Type 0
@@ -71,26 +76,30 @@ counted_mark most layout n some h =
     record { mark = x.0; is_mark = in_range x.0 most x.1 x.2; long = x.3 ∙ ap (λ (m : ℕ). 2 + m) (sym (size_repeat x.0 layout)) }
 
 -- so for each kind
-by_kind : (kind : Kind) (n : ℕ) → (shape kind).has_length n ≡ true → HasMark (shape kind) n
-by_kind kinds.Open n h = plain_mark _ n h
-by_kind kinds.Updates n h = counted_mark _ _ n (omega arith) h
-by_kind kinds.EndStream n h = plain_mark _ n h
-by_kind kinds.Query n h = marked_mark query_codes query_fields ends_in_order n h
-by_kind kinds.Reveal n h = plain_mark _ n h
-by_kind kinds.Bye n h = plain_mark _ n h
-by_kind kinds.Claim n h = plain_mark _ n h
-by_kind kinds.Poly n h = plain_mark _ n h
-by_kind kinds.Entries n h = counted_mark _ _ n (omega arith) h
-by_kind kinds.Siblings n h = marked_mark sibling_flags sibling_fields (λ _ _. true) n h
-by_kind kinds.Leaves n h = counted_mark _ _ n (omega arith) h
-by_kind kinds.Nodes n h = counted_mark _ _ n (omega arith) h
-by_kind kinds.LevelEnd n h = plain_mark _ n h
-by_kind kinds.Refuse n h = plain_mark _ n h
+by_kind : (version : Version) (kind : Kind) (n : ℕ) → (shape version kind).has_length n ≡ true → HasMark (shape version kind) n
+by_kind version kinds.Open n h = ordered_mark _ _ n h
+by_kind One kinds.Updates n h = counted_mark _ _ n (omega arith) h
+by_kind Two kinds.Updates n h = counted_mark _ _ n (omega arith) h
+by_kind version kinds.EndStream n h = plain_mark _ n h
+by_kind version kinds.Query n h = marked_mark (query_codes version) (query_fields version) ends_in_order n h
+by_kind version kinds.Reveal n h = plain_mark _ n h
+by_kind version kinds.Bye n h = plain_mark _ n h
+by_kind version kinds.Claim n h = plain_mark _ n h
+by_kind version kinds.Poly n h = plain_mark _ n h
+by_kind One kinds.Entries n h = counted_mark _ _ n (omega arith) h
+by_kind Two kinds.Entries n h = counted_mark _ _ n (omega arith) h
+by_kind version kinds.Siblings n h = marked_mark sibling_flags sibling_fields (λ _ _. true) n h
+by_kind One kinds.Leaves n h = counted_mark _ _ n (omega arith) h
+by_kind Two kinds.Leaves n h = counted_mark _ _ n (omega arith) h
+by_kind One kinds.Nodes n h = counted_mark _ _ n (omega arith) h
+by_kind Two kinds.Nodes n h = counted_mark _ _ n (omega arith) h
+by_kind version kinds.LevelEnd n h = plain_mark _ n h
+by_kind version kinds.Refuse n h = plain_mark _ n h
 
 -- a length that a kind has is that of a mark
-pub length_of_mark : (kind : Kind) (n : ℕ) → (shape kind).has_length n ≡ true → IsLengthOfMark kind n
-length_of_mark kind n h = let x = by_kind kind n h in record { mark = x.mark; is_mark = x.is_mark; long = x.long }
+pub length_of_mark : (version : Version) (kind : Kind) (n : ℕ) → (shape version kind).has_length n ≡ true → IsLengthOfMark version kind n
+length_of_mark version kind n h = let x = by_kind version kind n h in record { mark = x.mark; is_mark = x.is_mark; long = x.long }
 
 -- and the length of a mark is one that the kind has
-pub has_length_of_mark : (kind : Kind) (n : ℕ) → IsLengthOfMark kind n → (shape kind).has_length n ≡ true
-has_length_of_mark kind n h = rw h.long ((is_shape kind).lengths h.mark h.is_mark)
+pub has_length_of_mark : (version : Version) (kind : Kind) (n : ℕ) → IsLengthOfMark version kind n → (shape version kind).has_length n ≡ true
+has_length_of_mark version kind n h = rw h.long ((is_shape version kind).lengths h.mark h.is_mark)

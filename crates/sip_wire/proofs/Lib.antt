@@ -17,3 +17,4 @@ pub mod Lengths
 pub mod Longest
 pub mod EntryValues
 pub mod SiblingElements
+pub mod Wider

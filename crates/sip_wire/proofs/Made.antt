@@ -12,6 +12,8 @@ use Rattle.sip_wire.specs.declared.message.Leaf.{Leaf}
 use Rattle.sip_wire.specs.declared.message.Node.{Node}
 use Rattle.sip_wire.specs.declared.kind.Kind.{Kind}
 use Rattle.sip_wire.specs.declared.kind.Kind.TheVariants as kinds
+use Rattle.sip_wire.specs.declared.version.Version.{Version}
+use Rattle.sip_wire.specs.declared.version.Version.TheVariants.{One, Two}
 use Rattle.sip_wire.specs.Table.{Field, side, repeat, shape, update_fields, entry_fields, leaf_fields, node_fields, query_fields, sibling_fields, query_shape, siblings_shape}
 use Rattle.sip_wire.specs.Spelling.{has_room, all_hold, fits_shape, kind_of, mark_of, numbers, side_number, update_numbers, entry_numbers, leaf_numbers, node_numbers, query_code, query_numbers}
 use Rattle.sip_wire.specs.Values.{InRange, side_at, updates_from, entries_from, leaves_from, nodes_from, query_from, message_from}
@@ -90,53 +92,53 @@ abbrev delta_range : Update → Type 0
 delta_range u = FitsSigned w64 u.delta
 
 -- updates are made again
-updates_again : (k : ℕ) (ns : List ℕ) → has_room (repeat k update_fields) ns ≡ true → all_hold (repeat k update_fields) ns ≡ true → MadeRows update_numbers delta_range k ns (updates_from k ns)
-updates_again zero ns room hold = record { its_count = refl; its_numbers = sym (no_rows ns room); all_in_range = All-nil delta_range }
-updates_again (suc k) [] room hold = absurd (let len = has_row k update_fields [] room in omega arith)
-updates_again (suc k) (s ∷ []) room hold = absurd (let len = has_row k update_fields (s ∷ []) room in omega arith)
-updates_again (suc k) (s ∷ i ∷ []) room hold = absurd (let len = has_row k update_fields (s ∷ i ∷ []) room in omega arith)
-updates_again (suc k) (s ∷ i ∷ d ∷ ns) room hold =
-    let rest = repeat k update_fields in
+updates_again : (version : Version) (k : ℕ) (ns : List ℕ) → has_room (repeat k (update_fields version)) ns ≡ true → all_hold (repeat k (update_fields version)) ns ≡ true → MadeRows update_numbers delta_range k ns (updates_from k ns)
+updates_again version zero ns room hold = record { its_count = refl; its_numbers = sym (no_rows ns room); all_in_range = All-nil delta_range }
+updates_again version (suc k) [] room hold = absurd (let len = has_row k (update_fields version) [] room in omega arith)
+updates_again version (suc k) (s ∷ []) room hold = absurd (let len = has_row k (update_fields version) (s ∷ []) room in omega arith)
+updates_again version (suc k) (s ∷ i ∷ []) room hold = absurd (let len = has_row k (update_fields version) (s ∷ i ∷ []) room in omega arith)
+updates_again version (suc k) (s ∷ i ∷ d ∷ ns) room hold =
+    let rest = repeat k (update_fields version) in
     let r = room_first _ rest d ns (room_first _ _ i (d ∷ ns) (room_first _ _ s (i ∷ d ∷ ns) room).1).1 in
     let h = holds_first _ _ s (i ∷ d ∷ ns) hold in
     let later = holds_first _ rest d ns (holds_first _ _ i (d ∷ ns) h.1).1 in
-    more_rows update_numbers delta_range k (s ∷ i ∷ d ∷ []) ns _ (updates_from k ns) (rw (side_again s h.0, signed_again d r.0) refl) (fits_signed d r.0) (updates_again k ns r.1 later.1)
+    more_rows update_numbers delta_range k (s ∷ i ∷ d ∷ []) ns _ (updates_from k ns) (rw (side_again s h.0, signed_again d r.0) refl) (fits_signed d r.0) (updates_again version k ns r.1 later.1)
 
 -- entries are made again
-entries_again : (k : ℕ) (ns : List ℕ) → has_room (repeat k entry_fields) ns ≡ true → MadeRows entry_numbers value_range k ns (entries_from k ns)
-entries_again zero ns room = record { its_count = refl; its_numbers = sym (no_rows ns room); all_in_range = All-nil value_range }
-entries_again (suc k) [] room = absurd (let len = has_row k entry_fields [] room in omega arith)
-entries_again (suc k) (i ∷ []) room = absurd (let len = has_row k entry_fields (i ∷ []) room in omega arith)
-entries_again (suc k) (i ∷ v ∷ ns) room =
-    let r = room_first _ (repeat k entry_fields) v ns (room_first _ _ i (v ∷ ns) room).1 in
-    more_rows entry_numbers value_range k (i ∷ v ∷ []) ns _ (entries_from k ns) (rw (signed_again v r.0) refl) (fits_signed v r.0) (entries_again k ns r.1)
+entries_again : (version : Version) (k : ℕ) (ns : List ℕ) → has_room (repeat k (entry_fields version)) ns ≡ true → MadeRows entry_numbers value_range k ns (entries_from k ns)
+entries_again version zero ns room = record { its_count = refl; its_numbers = sym (no_rows ns room); all_in_range = All-nil value_range }
+entries_again version (suc k) [] room = absurd (let len = has_row k (entry_fields version) [] room in omega arith)
+entries_again version (suc k) (i ∷ []) room = absurd (let len = has_row k (entry_fields version) (i ∷ []) room in omega arith)
+entries_again version (suc k) (i ∷ v ∷ ns) room =
+    let r = room_first _ (repeat k (entry_fields version)) v ns (room_first _ _ i (v ∷ ns) room).1 in
+    more_rows entry_numbers value_range k (i ∷ v ∷ []) ns _ (entries_from k ns) (rw (signed_again v r.0) refl) (fits_signed v r.0) (entries_again version k ns r.1)
 
 -- nothing is asked of a leaf
 abbrev any_leaf : Leaf → Type 0
 any_leaf _ = Unit {0}
 
 -- leaves are made again
-leaves_again : (k : ℕ) (ns : List ℕ) → has_room (repeat k leaf_fields) ns ≡ true → MadeRows leaf_numbers any_leaf k ns (leaves_from k ns)
-leaves_again zero ns room = record { its_count = refl; its_numbers = sym (no_rows ns room); all_in_range = All-nil any_leaf }
-leaves_again (suc k) [] room = absurd (let len = has_row k leaf_fields [] room in omega arith)
-leaves_again (suc k) (i ∷ []) room = absurd (let len = has_row k leaf_fields (i ∷ []) room in omega arith)
-leaves_again (suc k) (i ∷ n ∷ ns) room =
-    let r = room_first _ (repeat k leaf_fields) n ns (room_first _ _ i (n ∷ ns) room).1 in
-    more_rows leaf_numbers any_leaf k (i ∷ n ∷ []) ns _ (leaves_from k ns) refl tt (leaves_again k ns r.1)
+leaves_again : (version : Version) (k : ℕ) (ns : List ℕ) → has_room (repeat k (leaf_fields version)) ns ≡ true → MadeRows leaf_numbers any_leaf k ns (leaves_from k ns)
+leaves_again version zero ns room = record { its_count = refl; its_numbers = sym (no_rows ns room); all_in_range = All-nil any_leaf }
+leaves_again version (suc k) [] room = absurd (let len = has_row k (leaf_fields version) [] room in omega arith)
+leaves_again version (suc k) (i ∷ []) room = absurd (let len = has_row k (leaf_fields version) (i ∷ []) room in omega arith)
+leaves_again version (suc k) (i ∷ n ∷ ns) room =
+    let r = room_first _ (repeat k (leaf_fields version)) n ns (room_first _ _ i (n ∷ ns) room).1 in
+    more_rows leaf_numbers any_leaf k (i ∷ n ∷ []) ns _ (leaves_from k ns) refl tt (leaves_again version k ns r.1)
 
 -- nothing is asked of a node
 abbrev any_node : Node → Type 0
 any_node _ = Unit {0}
 
 -- nodes are made again
-nodes_again : (k : ℕ) (ns : List ℕ) → has_room (repeat k node_fields) ns ≡ true → MadeRows node_numbers any_node k ns (nodes_from k ns)
-nodes_again zero ns room = record { its_count = refl; its_numbers = sym (no_rows ns room); all_in_range = All-nil any_node }
-nodes_again (suc k) [] room = absurd (let len = has_row k node_fields [] room in omega arith)
-nodes_again (suc k) (i ∷ []) room = absurd (let len = has_row k node_fields (i ∷ []) room in omega arith)
-nodes_again (suc k) (i ∷ h ∷ []) room = absurd (let len = has_row k node_fields (i ∷ h ∷ []) room in omega arith)
-nodes_again (suc k) (i ∷ h ∷ n ∷ ns) room =
-    let r = room_first _ (repeat k node_fields) n ns (room_first _ _ h (n ∷ ns) (room_first _ _ i (h ∷ n ∷ ns) room).1).1 in
-    more_rows node_numbers any_node k (i ∷ h ∷ n ∷ []) ns _ (nodes_from k ns) refl tt (nodes_again k ns r.1)
+nodes_again : (version : Version) (k : ℕ) (ns : List ℕ) → has_room (repeat k (node_fields version)) ns ≡ true → MadeRows node_numbers any_node k ns (nodes_from k ns)
+nodes_again version zero ns room = record { its_count = refl; its_numbers = sym (no_rows ns room); all_in_range = All-nil any_node }
+nodes_again version (suc k) [] room = absurd (let len = has_row k (node_fields version) [] room in omega arith)
+nodes_again version (suc k) (i ∷ []) room = absurd (let len = has_row k (node_fields version) (i ∷ []) room in omega arith)
+nodes_again version (suc k) (i ∷ h ∷ []) room = absurd (let len = has_row k (node_fields version) (i ∷ h ∷ []) room in omega arith)
+nodes_again version (suc k) (i ∷ h ∷ n ∷ ns) room =
+    let r = room_first _ (repeat k (node_fields version)) n ns (room_first _ _ h (n ∷ ns) (room_first _ _ i (h ∷ n ∷ ns) room).1).1 in
+    more_rows node_numbers any_node k (i ∷ h ∷ n ∷ []) ns _ (nodes_from k ns) refl tt (nodes_again version k ns r.1)
 
 -- ---- kinds
 
@@ -176,38 +178,45 @@ side_first : (n : ℕ) (fs : List Field) (ns : List ℕ) → all_hold (side ∷ 
 side_first n fs ns hold = side_again n (holds_first side fs n ns hold).0
 
 -- a range is made again
-range_again : (n lo hi : ℕ) → all_hold (query_fields 2) (n ∷ lo ∷ hi ∷ []) ≡ true → MadeQuery 2 (n ∷ lo ∷ hi ∷ [])
-range_again n lo hi hold = record { its_code = refl; its_numbers = rw (side_first n _ _ hold) refl }
+range_again : (version : Version) (n lo hi : ℕ) → all_hold (query_fields version 2) (n ∷ lo ∷ hi ∷ []) ≡ true → MadeQuery 2 (n ∷ lo ∷ hi ∷ [])
+range_again version n lo hi hold = record { its_code = refl; its_numbers = rw (side_first n _ _ hold) refl }
 
 -- a second moment is made again
-moment_again : (n : ℕ) → all_hold (query_fields 3) (n ∷ []) ≡ true → MadeQuery 3 (n ∷ [])
-moment_again n hold = record { its_code = refl; its_numbers = rw (side_first n _ _ hold) refl }
+moment_again : (version : Version) (n : ℕ) → all_hold (query_fields version 3) (n ∷ []) ≡ true → MadeQuery 3 (n ∷ [])
+moment_again version n hold = record { its_code = refl; its_numbers = rw (side_first n _ _ hold) refl }
 
 -- heavy items are made again
-heavy_again : (n least : ℕ) → all_hold (query_fields 5) (n ∷ least ∷ []) ≡ true → MadeQuery 5 (n ∷ least ∷ [])
-heavy_again n least hold = record { its_code = refl; its_numbers = rw (side_first n _ _ hold) refl }
+heavy_again : (version : Version) (n least : ℕ) → all_hold (query_fields version 5) (n ∷ least ∷ []) ≡ true → MadeQuery 5 (n ∷ least ∷ [])
+heavy_again version n least hold = record { its_code = refl; its_numbers = rw (side_first n _ _ hold) refl }
 
--- the codes end at 5
-code_at_most : (code : ℕ) → query_shape.is_mark code ≡ true → code ≤ 5
-code_at_most code is = grind (arith, nat_tests)
+-- the items of a share are made again
+share_again : (version : Version) (n num den : ℕ) → all_hold (query_fields version 6) (n ∷ num ∷ den ∷ []) ≡ true → MadeQuery 6 (n ∷ num ∷ den ∷ [])
+share_again version n num den hold = record { its_code = refl; its_numbers = rw (side_first n _ _ hold) refl }
+
+-- the codes end at 6
+code_at_most : (version : Version) (code : ℕ) → (query_shape version).is_mark code ≡ true → code ≤ 6
+code_at_most One code is = grind (arith, nat_tests)
+code_at_most Two code is = grind (arith, nat_tests)
 
 -- the flags end at 3
 flags_at_most : (flags : ℕ) → siblings_shape.is_mark flags ≡ true → flags ≤ 3
 flags_at_most flags is = grind (arith, nat_tests)
 
 -- the same numbers are held
-held : (code : ℕ) (ns ms : List ℕ) → ns ≡ ms → all_hold (query_fields code) ns ≡ true → all_hold (query_fields code) ms ≡ true
-held code ns ms e hold = rw (← e) hold
+held : (version : Version) (code : ℕ) (ns ms : List ℕ) → ns ≡ ms → all_hold (query_fields version code) ns ≡ true → all_hold (query_fields version code) ms ≡ true
+held version code ns ms e hold = rw (← e) hold
 
 -- each query is made again
-query_again : (code : ℕ) (ns : List ℕ) → query_shape.is_mark code ≡ true → has_room (query_fields code) ns ≡ true → all_hold (query_fields code) ns ≡ true → MadeQuery code ns
-query_again zero ns is room hold = absurd cc
-query_again (suc zero) ns is room hold = let x = two ns (one_each (query_fields 1) ns room) in rw x.2 (record { its_code = refl; its_numbers = refl })
-query_again (suc (suc zero)) ns is room hold = let x = three ns (one_each (query_fields 2) ns room) in subst (MadeQuery 2) (sym x.3) (range_again x.0 x.1 x.2 (held 2 ns _ x.3 hold))
-query_again (suc (suc (suc zero))) ns is room hold = let x = one ns (one_each (query_fields 3) ns room) in subst (MadeQuery 3) (sym x.1) (moment_again x.0 (held 3 ns _ x.1 hold))
-query_again (suc (suc (suc (suc zero)))) ns is room hold = let x = none ns (one_each (query_fields 4) ns room) in rw x (record { its_code = refl; its_numbers = refl })
-query_again (suc (suc (suc (suc (suc zero))))) ns is room hold = let x = two ns (one_each (query_fields 5) ns room) in subst (MadeQuery 5) (sym x.2) (heavy_again x.0 x.1 (held 5 ns _ x.2 hold))
-query_again (suc (suc (suc (suc (suc (suc code)))))) ns is room hold = absurd (let le = code_at_most (suc (suc (suc (suc (suc (suc code)))))) is in omega arith)
+query_again : (version : Version) (code : ℕ) (ns : List ℕ) → (query_shape version).is_mark code ≡ true → has_room (query_fields version code) ns ≡ true → all_hold (query_fields version code) ns ≡ true → MadeQuery code ns
+query_again One zero ns is room hold = absurd cc
+query_again Two zero ns is room hold = absurd cc
+query_again version (suc zero) ns is room hold = let x = two ns (one_each (query_fields version 1) ns room) in rw x.2 (record { its_code = refl; its_numbers = refl })
+query_again version (suc (suc zero)) ns is room hold = let x = three ns (one_each (query_fields version 2) ns room) in subst (MadeQuery 2) (sym x.3) (range_again version x.0 x.1 x.2 (held version 2 ns _ x.3 hold))
+query_again version (suc (suc (suc zero))) ns is room hold = let x = one ns (one_each (query_fields version 3) ns room) in subst (MadeQuery 3) (sym x.1) (moment_again version x.0 (held version 3 ns _ x.1 hold))
+query_again version (suc (suc (suc (suc zero)))) ns is room hold = let x = none ns (one_each (query_fields version 4) ns room) in rw x (record { its_code = refl; its_numbers = refl })
+query_again version (suc (suc (suc (suc (suc zero))))) ns is room hold = let x = two ns (one_each (query_fields version 5) ns room) in subst (MadeQuery 5) (sym x.2) (heavy_again version x.0 x.1 (held version 5 ns _ x.2 hold))
+query_again version (suc (suc (suc (suc (suc (suc zero)))))) ns is room hold = let x = three ns (one_each (query_fields version 6) ns room) in subst (MadeQuery 6) (sym x.3) (share_again version x.0 x.1 x.2 (held version 6 ns _ x.3 hold))
+query_again version (suc (suc (suc (suc (suc (suc (suc code))))))) ns is room hold = absurd (let le = code_at_most version (suc (suc (suc (suc (suc (suc (suc code))))))) is in omega arith)
 
 -- siblings are made again
 siblings_again : (flags : ℕ) (ns : List ℕ) → siblings_shape.is_mark flags ≡ true → has_room (sibling_fields flags) ns ≡ true → Made kinds.Siblings flags ns
@@ -226,25 +235,25 @@ unmarked : (kind : Kind) (mark : ℕ) (ns : List ℕ) → mark ≡ 0 → Made ki
 unmarked kind mark ns e made = rw e made
 
 -- so for each kind
-by_kind : (kind : Kind) (mark : ℕ) (ns : List ℕ) → FitsAll (shape kind) mark ns → Made kind mark ns
-by_kind kinds.Open mark ns fit = let x = two ns (one_each _ ns fit.room) in unmarked kinds.Open mark ns (eqb-true mark 0 fit.is_mark) (rw x.2 (record { its_kind = refl; its_mark = refl; its_numbers = refl; in_range = tt }))
-by_kind kinds.Updates mark ns fit = let x = updates_again mark ns fit.room fit.hold in record { its_kind = refl; its_mark = x.its_count; its_numbers = x.its_numbers; in_range = x.all_in_range }
-by_kind kinds.EndStream mark ns fit = unmarked kinds.EndStream mark ns (eqb-true mark 0 fit.is_mark) (rw (no_rows ns fit.room) (record { its_kind = refl; its_mark = refl; its_numbers = refl; in_range = tt }))
-by_kind kinds.Query mark ns fit = let x = query_again mark ns fit.is_mark fit.room fit.hold in record { its_kind = refl; its_mark = x.its_code; its_numbers = x.its_numbers; in_range = tt }
-by_kind kinds.Reveal mark ns fit = let x = one ns (one_each _ ns fit.room) in unmarked kinds.Reveal mark ns (eqb-true mark 0 fit.is_mark) (rw x.1 (record { its_kind = refl; its_mark = refl; its_numbers = refl; in_range = tt }))
-by_kind kinds.Bye mark ns fit = unmarked kinds.Bye mark ns (eqb-true mark 0 fit.is_mark) (rw (no_rows ns fit.room) (record { its_kind = refl; its_mark = refl; its_numbers = refl; in_range = tt }))
-by_kind kinds.Claim mark ns fit =
+by_kind : (version : Version) (kind : Kind) (mark : ℕ) (ns : List ℕ) → FitsAll (shape version kind) mark ns → Made kind mark ns
+by_kind version kinds.Open mark ns fit = let x = two ns (one_each _ ns fit.room) in unmarked kinds.Open mark ns (eqb-true mark 0 fit.is_mark) (rw x.2 (record { its_kind = refl; its_mark = refl; its_numbers = refl; in_range = tt }))
+by_kind version kinds.Updates mark ns fit = let x = updates_again version mark ns fit.room fit.hold in record { its_kind = refl; its_mark = x.its_count; its_numbers = x.its_numbers; in_range = x.all_in_range }
+by_kind version kinds.EndStream mark ns fit = unmarked kinds.EndStream mark ns (eqb-true mark 0 fit.is_mark) (rw (no_rows ns fit.room) (record { its_kind = refl; its_mark = refl; its_numbers = refl; in_range = tt }))
+by_kind version kinds.Query mark ns fit = let x = query_again version mark ns fit.is_mark fit.room fit.hold in record { its_kind = refl; its_mark = x.its_code; its_numbers = x.its_numbers; in_range = tt }
+by_kind version kinds.Reveal mark ns fit = let x = one ns (one_each _ ns fit.room) in unmarked kinds.Reveal mark ns (eqb-true mark 0 fit.is_mark) (rw x.1 (record { its_kind = refl; its_mark = refl; its_numbers = refl; in_range = tt }))
+by_kind version kinds.Bye mark ns fit = unmarked kinds.Bye mark ns (eqb-true mark 0 fit.is_mark) (rw (no_rows ns fit.room) (record { its_kind = refl; its_mark = refl; its_numbers = refl; in_range = tt }))
+by_kind version kinds.Claim mark ns fit =
     let x = one ns (one_each _ ns fit.room) in
     let room = rw x.1 at fit.room in
     unmarked kinds.Claim mark ns (eqb-true mark 0 fit.is_mark) (subst (Made kinds.Claim 0) (sym x.1) (claim_again x.0 (room_first _ [] x.0 [] room).0))
-by_kind kinds.Poly mark ns fit = let x = three ns (one_each _ ns fit.room) in unmarked kinds.Poly mark ns (eqb-true mark 0 fit.is_mark) (rw x.3 (record { its_kind = refl; its_mark = refl; its_numbers = refl; in_range = tt }))
-by_kind kinds.Entries mark ns fit = let x = entries_again mark ns fit.room in record { its_kind = refl; its_mark = x.its_count; its_numbers = x.its_numbers; in_range = x.all_in_range }
-by_kind kinds.Siblings mark ns fit = siblings_again mark ns fit.is_mark fit.room
-by_kind kinds.Leaves mark ns fit = let x = leaves_again mark ns fit.room in record { its_kind = refl; its_mark = x.its_count; its_numbers = x.its_numbers; in_range = tt }
-by_kind kinds.Nodes mark ns fit = let x = nodes_again mark ns fit.room in record { its_kind = refl; its_mark = x.its_count; its_numbers = x.its_numbers; in_range = tt }
-by_kind kinds.LevelEnd mark ns fit = unmarked kinds.LevelEnd mark ns (eqb-true mark 0 fit.is_mark) (rw (no_rows ns fit.room) (record { its_kind = refl; its_mark = refl; its_numbers = refl; in_range = tt }))
-by_kind kinds.Refuse mark ns fit = let x = one ns (one_each _ ns fit.room) in unmarked kinds.Refuse mark ns (eqb-true mark 0 fit.is_mark) (rw x.1 (record { its_kind = refl; its_mark = refl; its_numbers = refl; in_range = tt }))
+by_kind version kinds.Poly mark ns fit = let x = three ns (one_each _ ns fit.room) in unmarked kinds.Poly mark ns (eqb-true mark 0 fit.is_mark) (rw x.3 (record { its_kind = refl; its_mark = refl; its_numbers = refl; in_range = tt }))
+by_kind version kinds.Entries mark ns fit = let x = entries_again version mark ns fit.room in record { its_kind = refl; its_mark = x.its_count; its_numbers = x.its_numbers; in_range = x.all_in_range }
+by_kind version kinds.Siblings mark ns fit = siblings_again mark ns fit.is_mark fit.room
+by_kind version kinds.Leaves mark ns fit = let x = leaves_again version mark ns fit.room in record { its_kind = refl; its_mark = x.its_count; its_numbers = x.its_numbers; in_range = tt }
+by_kind version kinds.Nodes mark ns fit = let x = nodes_again version mark ns fit.room in record { its_kind = refl; its_mark = x.its_count; its_numbers = x.its_numbers; in_range = tt }
+by_kind version kinds.LevelEnd mark ns fit = unmarked kinds.LevelEnd mark ns (eqb-true mark 0 fit.is_mark) (rw (no_rows ns fit.room) (record { its_kind = refl; its_mark = refl; its_numbers = refl; in_range = tt }))
+by_kind version kinds.Refuse mark ns fit = let x = one ns (one_each _ ns fit.room) in unmarked kinds.Refuse mark ns (eqb-true mark 0 fit.is_mark) (rw x.1 (record { its_kind = refl; its_mark = refl; its_numbers = refl; in_range = tt }))
 
 -- what is made of a mark and numbers that fit has them
-pub made : (kind : Kind) (mark : ℕ) (ns : List ℕ) → fits_shape (shape kind) mark ns ≡ true → Made kind mark ns
-made kind mark ns fit = by_kind kind mark ns (fit_parts (shape kind) mark ns fit)
+pub made : (version : Version) (kind : Kind) (mark : ℕ) (ns : List ℕ) → fits_shape (shape version kind) mark ns ≡ true → Made kind mark ns
+made version kind mark ns fit = by_kind version kind mark ns (fit_parts (shape version kind) mark ns fit)

@@ -51,6 +51,7 @@ query_back (queries.Range side lo hi) = rw (side_back side) refl
 query_back (queries.F2 side) = rw (side_back side) refl
 query_back queries.Inner = refl
 query_back (queries.Heavy side at_least) = rw (side_back side) refl
+query_back (queries.Share side num den) = rw (side_back side) refl
 
 -- siblings are those of their flags and what is present
 siblings_back : (left right : Option ℕ) → siblings_from (flag left 1 + flag right 2) (present left ++ present right) ≡ messages.Siblings left right

@@ -10,7 +10,9 @@ use Rattle.sip_wire.specs.declared.kind.Kind.{Kind}
 use Rattle.sip_wire.specs.declared.kind.Kind.TheVariants as kinds
 use Rattle.sip_wire.specs.declared.message.WireFault.{WireFault}
 use Rattle.sip_wire.specs.declared.message.WireFault.TheVariants as faults
-use Rattle.sip_wire.specs.Table.{Field, Shape, size, repeat, plain, counted, query_shape, siblings_shape, query_fields, sibling_fields, longest_body, shape}
+use Rattle.sip_wire.specs.declared.version.Version.{Version}
+use Rattle.sip_wire.specs.declared.version.Version.TheVariants.{One, Two}
+use Rattle.sip_wire.specs.Table.{Field, Shape, size, repeat, ordered, plain, counted, query_shape, siblings_shape, query_fields, sibling_fields, longest_body, shape}
 use Rattle.sip_wire.specs.Spelling.{in_bytes, spelled, has_room, all_hold, fits_shape, body_in, mark_in, mark_fits, said_in, body_fault, Stands}
 use Rattle.sip_wire.proofs.Bytes.{IsBytes, IsBytes-drop, bytes_back}
 use Rattle.sip_wire.proofs.Fields.{fields_back, fields_room, fields_size, fields_again}
@@ -23,12 +25,15 @@ pub record IsShape (s : Shape) : Type 0 where
   pub short : (n : ℕ) → s.has_length n ≡ true → n ≤ longest_body
 
 -- the same fields in each body
-plain_shape : (fs : List Field) → size fs ≤ longest_body → IsShape (plain fs)
-plain_shape fs le = record {
+ordered_shape : (fs : List Field) (in_order : List ℕ → Bool) → size fs ≤ longest_body → IsShape (ordered fs in_order)
+ordered_shape fs in_order le = record {
   mark_room = λ m h. let e = eqb-true m 0 h in omega arith;
   lengths = λ m h. eq-eqb (0 + size fs) (size fs) (omega arith);
   short = λ n h. let e = eqb-true n (size fs) h in omega arith;
 }
+
+plain_shape : (fs : List Field) → size fs ≤ longest_body → IsShape (plain fs)
+plain_shape fs le = ordered_shape fs (λ _. true) le
 
 -- a count is in its range
 le_mark : (m most : ℕ) → (nat_le 1 m && nat_le m most) ≡ true → (1 ≤ m) × (m ≤ most)
@@ -46,7 +51,7 @@ rows_length most c m total some is least le =
     and_from _ _ (and_from _ _ (le-leb _ _ first) (le-leb _ _ second)) (eq-eqb _ _ whole)
 
 -- counted rows
-counted_shape : (most : ℕ) (layout : List Field) → most ≤ 512 → 0 < size layout → most * size layout ≤ 6656 → IsShape (counted most layout)
+counted_shape : (most : ℕ) (layout : List Field) → most ≤ 512 → 0 < size layout → most * size layout ≤ 8704 → IsShape (counted most layout)
 counted_shape most layout le some narrow = record {
   mark_room = λ m h. grind (arith, nat_tests);
   lengths = λ m h. let both = le_mark m most h in rows_length most (size layout) m (size (repeat m layout)) some (size_repeat m layout) both.0 both.1;
@@ -54,20 +59,34 @@ counted_shape most layout le some narrow = record {
 }
 
 -- each code has a length of a query
-query_lengths : (m : ℕ) → query_shape.is_mark m ≡ true → query_shape.has_length (1 + size (query_fields m)) ≡ true
-query_lengths zero h = refl
-query_lengths (suc zero) h = refl
-query_lengths (suc (suc zero)) h = refl
-query_lengths (suc (suc (suc zero))) h = refl
-query_lengths (suc (suc (suc (suc zero)))) h = refl
-query_lengths (suc (suc (suc (suc (suc zero))))) h = refl
-query_lengths (suc (suc (suc (suc (suc (suc m)))))) h = refl
+query_lengths : (version : Version) (m : ℕ) → (query_shape version).is_mark m ≡ true → (query_shape version).has_length (1 + size (query_fields version m)) ≡ true
+query_lengths One zero h = refl
+query_lengths One (suc zero) h = refl
+query_lengths One (suc (suc zero)) h = refl
+query_lengths One (suc (suc (suc zero))) h = refl
+query_lengths One (suc (suc (suc (suc zero)))) h = refl
+query_lengths One (suc (suc (suc (suc (suc zero))))) h = refl
+query_lengths One (suc (suc (suc (suc (suc (suc zero)))))) h = refl
+query_lengths One (suc (suc (suc (suc (suc (suc (suc m))))))) h = refl
+query_lengths Two zero h = refl
+query_lengths Two (suc zero) h = refl
+query_lengths Two (suc (suc zero)) h = refl
+query_lengths Two (suc (suc (suc zero))) h = refl
+query_lengths Two (suc (suc (suc (suc zero)))) h = refl
+query_lengths Two (suc (suc (suc (suc (suc zero))))) h = refl
+query_lengths Two (suc (suc (suc (suc (suc (suc zero)))))) h = refl
+query_lengths Two (suc (suc (suc (suc (suc (suc (suc m))))))) h = refl
 
--- queries
-query_is : IsShape query_shape
-query_is = record {
+-- a code of a query has room in a byte, and its body in a frame
+query_is : (version : Version) → IsShape (query_shape version)
+query_is One = record {
   mark_room = λ m h. grind (arith, nat_tests);
-  lengths = query_lengths;
+  lengths = query_lengths One;
+  short = λ n h. grind (arith, nat_tests);
+}
+query_is Two = record {
+  mark_room = λ m h. grind (arith, nat_tests);
+  lengths = query_lengths Two;
   short = λ n h. grind (arith, nat_tests);
 }
 
@@ -88,21 +107,25 @@ siblings_is = record {
 }
 
 -- each kind's
-pub is_shape : (kind : Kind) → IsShape (shape kind)
-is_shape kinds.Open = plain_shape _ (omega arith)
-is_shape kinds.Updates = counted_shape _ _ (omega arith) (omega arith) (omega arith)
-is_shape kinds.EndStream = plain_shape _ (omega arith)
-is_shape kinds.Query = query_is
-is_shape kinds.Reveal = plain_shape _ (omega arith)
-is_shape kinds.Bye = plain_shape _ (omega arith)
-is_shape kinds.Claim = plain_shape _ (omega arith)
-is_shape kinds.Poly = plain_shape _ (omega arith)
-is_shape kinds.Entries = counted_shape _ _ (omega arith) (omega arith) (omega arith)
-is_shape kinds.Siblings = siblings_is
-is_shape kinds.Leaves = counted_shape _ _ (omega arith) (omega arith) (omega arith)
-is_shape kinds.Nodes = counted_shape _ _ (omega arith) (omega arith) (omega arith)
-is_shape kinds.LevelEnd = plain_shape _ (omega arith)
-is_shape kinds.Refuse = plain_shape _ (omega arith)
+pub is_shape : (version : Version) (kind : Kind) → IsShape (shape version kind)
+is_shape version kinds.Open = ordered_shape _ _ (omega arith)
+is_shape One kinds.Updates = counted_shape _ _ (omega arith) (omega arith) (omega arith)
+is_shape Two kinds.Updates = counted_shape _ _ (omega arith) (omega arith) (omega arith)
+is_shape version kinds.EndStream = plain_shape _ (omega arith)
+is_shape version kinds.Query = query_is version
+is_shape version kinds.Reveal = plain_shape _ (omega arith)
+is_shape version kinds.Bye = plain_shape _ (omega arith)
+is_shape version kinds.Claim = plain_shape _ (omega arith)
+is_shape version kinds.Poly = plain_shape _ (omega arith)
+is_shape One kinds.Entries = counted_shape _ _ (omega arith) (omega arith) (omega arith)
+is_shape Two kinds.Entries = counted_shape _ _ (omega arith) (omega arith) (omega arith)
+is_shape version kinds.Siblings = siblings_is
+is_shape One kinds.Leaves = counted_shape _ _ (omega arith) (omega arith) (omega arith)
+is_shape Two kinds.Leaves = counted_shape _ _ (omega arith) (omega arith) (omega arith)
+is_shape One kinds.Nodes = counted_shape _ _ (omega arith) (omega arith) (omega arith)
+is_shape Two kinds.Nodes = counted_shape _ _ (omega arith) (omega arith) (omega arith)
+is_shape version kinds.LevelEnd = plain_shape _ (omega arith)
+is_shape version kinds.Refuse = plain_shape _ (omega arith)
 
 -- ---- what fits a shape
 

@@ -11,6 +11,7 @@ use Rattle.sip_wire.specs.declared.kind.Place.{Place}
 use Rattle.sip_wire.specs.declared.message.Message.{Message}
 use Rattle.sip_wire.specs.declared.message.WireFault.{WireFault}
 use Rattle.sip_wire.specs.declared.message.WireFault.TheVariants as faults
+use Rattle.sip_wire.specs.declared.version.Version.{Version}
 use Rattle.sip_wire.specs.Table.{longest_body, Shape, shape, allows, kind_at, byte_of, all_kinds, size}
 use Rattle.sip_wire.specs.Spelling.{in_bytes, kind_of, mark_of, numbers, fits, body_of, spelling, length_in, body_fault, kind_fault, frame_fault, asked, asked_by, Stands}
 use Rattle.sip_wire.specs.Decoding.{Head}
@@ -54,42 +55,42 @@ kind_back byte kind e = eqb-true _ _ (found_passes (λ k. byte == byte_of k) all
 -- ---- a spelling has no fault
 
 -- with three bytes the kind decides
-pub past_length : (place : Place) (bytes : List ℕ) → 3 ≤ length bytes → frame_fault place bytes ≡ kind_fault place (kind_at (slice_index bytes 0)) bytes
+pub past_length : (version : Version) (place : Place) (bytes : List ℕ) → 3 ≤ length bytes → frame_fault version place bytes ≡ kind_fault version place (kind_at (slice_index bytes 0)) bytes
 unfolding frame_fault in_bytes
-past_length place bytes le = rw (le-ltb (length bytes) 3 le) refl
+past_length version place bytes le = rw (le-ltb (length bytes) 3 le) refl
 
 -- with a whole body the body decides
-past_head : (place : Place) (kind : Kind) (bytes : List ℕ) → allows place kind ≡ true → (shape kind).has_length (length_in bytes) ≡ true → 3 + length_in bytes ≤ length bytes → kind_fault place (Some kind) bytes ≡ body_fault (shape kind) (drop 3 bytes)
+past_head : (version : Version) (place : Place) (kind : Kind) (bytes : List ℕ) → allows place kind ≡ true → (shape version kind).has_length (length_in bytes) ≡ true → 3 + length_in bytes ≤ length bytes → kind_fault version place (Some kind) bytes ≡ body_fault (shape version kind) (drop 3 bytes)
 unfolding kind_fault in_bytes
-past_head place kind bytes a b le = rw (a, b, le-ltb (length bytes) (3 + length_in bytes) le) refl
+past_head version place kind bytes a b le = rw (a, b, le-ltb (length bytes) (3 + length_in bytes) le) refl
 
 -- with less the frame is cut short
-pub cut_short : (place : Place) (kind : Kind) (bytes : List ℕ) → allows place kind ≡ true → (shape kind).has_length (length_in bytes) ≡ true → length bytes < 3 + length_in bytes → kind_fault place (Some kind) bytes ≡ Some faults.Closed
+pub cut_short : (version : Version) (place : Place) (kind : Kind) (bytes : List ℕ) → allows place kind ≡ true → (shape version kind).has_length (length_in bytes) ≡ true → length bytes < 3 + length_in bytes → kind_fault version place (Some kind) bytes ≡ Some faults.Closed
 unfolding kind_fault in_bytes
-cut_short place kind bytes a b lt = rw (a, b, lt-ltb (length bytes) (3 + length_in bytes) lt) refl
+cut_short version place kind bytes a b lt = rw (a, b, lt-ltb (length bytes) (3 + length_in bytes) lt) refl
 
 -- fewer than three bytes are cut short
-pub no_head : (place : Place) (bytes : List ℕ) → length bytes < 3 → frame_fault place bytes ≡ Some faults.Closed
+pub no_head : (version : Version) (place : Place) (bytes : List ℕ) → length bytes < 3 → frame_fault version place bytes ≡ Some faults.Closed
 unfolding frame_fault in_bytes
-no_head place bytes lt = rw (lt-ltb (length bytes) 3 lt) refl
+no_head version place bytes lt = rw (lt-ltb (length bytes) 3 lt) refl
 
 -- a spelling has no fault at a place that allows it
-pub no_fault : (place : Place) (m : Message) → fits m ≡ true → allows place (kind_of m) ≡ true → frame_fault place (spelling m) ≡ None
+pub no_fault : (version : Version) (place : Place) (m : Message) → fits version m ≡ true → allows place (kind_of m) ≡ true → frame_fault version place (spelling version m) ≡ None
 unfolding fits spelling in_bytes
-no_fault place m fit allowed =
+no_fault version place m fit allowed =
     let kind = kind_of m in
-    let s = shape kind in
-    let body = body_of m in
-    let is = is_shape kind in
+    let s = shape version kind in
+    let body = body_of version m in
+    let is = is_shape version kind in
     let long : length body ≡ s.mark_width + size (s.fields (mark_of m)) = body_length s (mark_of m) (numbers m) fit in
     let has : s.has_length (length body) ≡ true = rw long (is.lengths (mark_of m) (mark_of_fit s (mark_of m) (numbers m) fit)) in
     let short : length body ≤ longest_body = is.short (length body) has in
     let whole : List ℕ = byte_of kind ∷ big_bytes 2 (length body) ++ body in
     let len : length_in whole ≡ length body = big_number-reads_back 2 (length body) body (omega arith) in
     let total : length whole ≡ 3 + length body = omega arith in
-    let first : frame_fault place whole ≡ kind_fault place (kind_at (byte_of kind)) whole = past_length place whole (omega arith) in
-    let second : kind_fault place (Some kind) whole ≡ body_fault s body = past_head place kind whole allowed (rw len has) (omega (arith, len)) in
-    first ∙ ap (λ (k : Option Kind). kind_fault place k whole) (kind_again kind) ∙ second ∙ (body_again s (mark_of m) (numbers m) is fit).no_fault
+    let first : frame_fault version place whole ≡ kind_fault version place (kind_at (byte_of kind)) whole = past_length version place whole (omega arith) in
+    let second : kind_fault version place (Some kind) whole ≡ body_fault s body = past_head version place kind whole allowed (rw len has) (omega (arith, len)) in
+    first ∙ ap (λ (k : Option Kind). kind_fault version place k whole) (kind_again kind) ∙ second ∙ (body_again s (mark_of m) (numbers m) is fit).no_fault
 
 -- ---- what begins a frame
 
@@ -107,12 +108,12 @@ front_kind (x ∷ a) b e = refl
 front_kind [] b e = absurd (omega arith)
 
 -- a head and a whole body
-pub whole_fault : (place : Place) (head more : List ℕ) (kind : Kind) (len : ℕ) → length head ≡ 3 → Head place head kind len → length (head ++ more) ≡ 3 + len → frame_fault place (head ++ more) ≡ body_fault (shape kind) (drop 3 (head ++ more))
-whole_fault place head more kind len three is all =
+pub whole_fault : (version : Version) (place : Place) (head more : List ℕ) (kind : Kind) (len : ℕ) → length head ≡ 3 → Head version place head kind len → length (head ++ more) ≡ 3 + len → frame_fault version place (head ++ more) ≡ body_fault (shape version kind) (drop 3 (head ++ more))
+whole_fault version place head more kind len three is all =
     let l : length_in (head ++ more) ≡ len = front_length head more three ∙ sym is.its_length in
     let k : kind_at (slice_index (head ++ more) 0) ≡ Some kind = ap kind_at (front_kind head more three) ∙ is.its_kind in
-    past_length place (head ++ more) (omega arith) ∙ ap (λ (o : Option Kind). kind_fault place o (head ++ more)) k
-    ∙ past_head place kind (head ++ more) is.allowed (rw l is.has_length) (omega (arith, l))
+    past_length version place (head ++ more) (omega arith) ∙ ap (λ (o : Option Kind). kind_fault version place o (head ++ more)) k
+    ∙ past_head version place kind (head ++ more) is.allowed (rw l is.has_length) (omega (arith, l))
 
 -- a body's fault is a fault of bytes
 by_tests : (a b : Bool) (f : WireFault) → cond (not a) (Some faults.BadCount) (cond (not b) (Some faults.BadNumber) None) ≡ Some f → IsOfBytes f
@@ -133,31 +134,31 @@ three_bytes (x ∷ bytes) fits le =
     ap (λ (bs : List ℕ). x ∷ bs) (sym (take-append-drop 2 bytes) ∙ ap (λ (bs : List ℕ). bs ++ drop 2 bytes) (sym pair))
 
 -- what has no fault is the spelling of the message that stands in it
-pub spelled_back : (place : Place) (bytes : List ℕ) (kind : Kind) (m : Message) → IsBytes bytes → length bytes ≡ 3 + length_in bytes → kind_at (slice_index bytes 0) ≡ Some kind → allows place kind ≡ true → kind_of m ≡ kind
-    → Stands (shape kind) (drop 3 bytes) (mark_of m) (numbers m) → IsTrue (fits m) × IsTrue (allows place (kind_of m)) × (bytes ≡ spelling m)
+pub spelled_back : (version : Version) (place : Place) (bytes : List ℕ) (kind : Kind) (m : Message) → IsBytes bytes → length bytes ≡ 3 + length_in bytes → kind_at (slice_index bytes 0) ≡ Some kind → allows place kind ≡ true → kind_of m ≡ kind
+    → Stands (shape version kind) (drop 3 bytes) (mark_of m) (numbers m) → IsTrue (fits version m) × IsTrue (allows place (kind_of m)) × (bytes ≡ spelling version m)
 unfolding fits spelling in_bytes
-spelled_back place bytes kind m is len k allowed same stands =
-    let back = body_back (shape kind) (drop 3 bytes) (mark_of m) (numbers m) (IsBytes-drop 3 bytes is) stands in
-    let body : drop 3 bytes ≡ body_of m = rw same back.1 in
-    let count : length_in bytes ≡ length (body_of m) = omega (arith, ap length body, length-drop 3 bytes) in
+spelled_back version place bytes kind m is len k allowed same stands =
+    let back = body_back (shape version kind) (drop 3 bytes) (mark_of m) (numbers m) (IsBytes-drop 3 bytes is) stands in
+    let body : drop 3 bytes ≡ body_of version m = rw same back.1 in
+    let count : length_in bytes ≡ length (body_of version m) = omega (arith, ap length body, length-drop 3 bytes) in
     let byte : slice_index bytes 0 ≡ byte_of (kind_of m) = kind_back _ _ k ∙ ap byte_of (sym same) in
     (rw same back.0, rw same allowed, three_bytes bytes is (omega arith) ∙ rw (byte, count, body) refl)
 
 -- a head is seen in what goes on from it
-pub same_head : (place : Place) (head more : List ℕ) (kind : Kind) (len : ℕ) → length head ≡ 3 → Head place head kind len → (kind_at (slice_index (head ++ more) 0) ≡ Some kind) × (length_in (head ++ more) ≡ len)
-same_head place head more kind len three is = (ap kind_at (front_kind head more three) ∙ is.its_kind, front_length head more three ∙ sym is.its_length)
+pub same_head : (version : Version) (place : Place) (head more : List ℕ) (kind : Kind) (len : ℕ) → length head ≡ 3 → Head version place head kind len → (kind_at (slice_index (head ++ more) 0) ≡ Some kind) × (length_in (head ++ more) ≡ len)
+same_head version place head more kind len three is = (ap kind_at (front_kind head more three) ∙ is.its_kind, front_length head more three ∙ sym is.its_length)
 
 -- what is written part by part is the spelling
-pub encoded : (m : Message) (o0 o1 o2 o3 : List ℕ) (byte len : ℕ) → fits m ≡ true → o0 ≡ [] → o1 ≡ o0 ++ byte ∷ [] → byte ≡ byte_of (kind_of m) → len ≡ (shape (kind_of m)).mark_width + size ((shape (kind_of m)).fields (mark_of m))
-    → o2 ≡ o1 ++ in_bytes 2 len → o3 ≡ o2 ++ body_of m → o3 ≡ spelling m
+pub encoded : (version : Version) (m : Message) (o0 o1 o2 o3 : List ℕ) (byte len : ℕ) → fits version m ≡ true → o0 ≡ [] → o1 ≡ o0 ++ byte ∷ [] → byte ≡ byte_of (kind_of m) → len ≡ (shape version (kind_of m)).mark_width + size ((shape version (kind_of m)).fields (mark_of m))
+    → o2 ≡ o1 ++ in_bytes 2 len → o3 ≡ o2 ++ body_of version m → o3 ≡ spelling version m
 unfolding fits spelling
-encoded m o0 o1 o2 o3 byte len fit e0 e1 b l e2 e3 =
-    let long : len ≡ length (body_of m) = l ∙ sym (body_length (shape (kind_of m)) (mark_of m) (numbers m) fit) in
+encoded version m o0 o1 o2 o3 byte len fit e0 e1 b l e2 e3 =
+    let long : len ≡ length (body_of version m) = l ∙ sym (body_length (shape version (kind_of m)) (mark_of m) (numbers m) fit) in
     let first : o1 ≡ byte_of (kind_of m) ∷ [] = e1 ∙ ap (λ (o : List ℕ). o ++ byte ∷ []) e0 ∙ ap (λ (k : ℕ). k ∷ []) b in
-    let second : o2 ≡ byte_of (kind_of m) ∷ in_bytes 2 (length (body_of m)) = e2 ∙ ap (λ (o : List ℕ). o ++ in_bytes 2 len) first ∙ ap (λ (n : ℕ). byte_of (kind_of m) ∷ in_bytes 2 n) long in
-    e3 ∙ ap (λ (o : List ℕ). o ++ body_of m) second
+    let second : o2 ≡ byte_of (kind_of m) ∷ in_bytes 2 (length (body_of version m)) = e2 ∙ ap (λ (o : List ℕ). o ++ in_bytes 2 len) first ∙ ap (λ (n : ℕ). byte_of (kind_of m) ∷ in_bytes 2 n) long in
+    e3 ∙ ap (λ (o : List ℕ). o ++ body_of version m) second
 
 -- what a frame with a head asks for
-pub asked_whole : (place : Place) (bytes : List ℕ) (kind : Kind) → kind_at (slice_index bytes 0) ≡ Some kind → allows place kind ≡ true → (shape kind).has_length (length_in bytes) ≡ true → asked place bytes ≡ 3 + length_in bytes
+pub asked_whole : (version : Version) (place : Place) (bytes : List ℕ) (kind : Kind) → kind_at (slice_index bytes 0) ≡ Some kind → allows place kind ≡ true → (shape version kind).has_length (length_in bytes) ≡ true → asked version place bytes ≡ 3 + length_in bytes
 unfolding asked
-asked_whole place bytes kind k a b = ap (λ (o : Option Kind). asked_by place o bytes) k ∙ rw (a, b) refl
+asked_whole version place bytes kind k a b = ap (λ (o : Option Kind). asked_by version place o bytes) k ∙ rw (a, b) refl

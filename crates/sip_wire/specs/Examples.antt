@@ -8,30 +8,32 @@ use Rattle.sip_wire.specs.declared.message.Message.{Message}
 use Rattle.sip_wire.specs.declared.message.Message.TheVariants as messages
 use Rattle.sip_wire.specs.declared.kind.Place.{Place}
 use Rattle.sip_wire.specs.declared.kind.Place.TheVariants as places
+use Rattle.sip_wire.specs.declared.version.Version.{Version}
 use Rattle.sip_wire.specs.Spelling.{fits, spelling}
 use Rattle.sip_wire.specs.Reading.{read_frame}
 
 -- a message, where it is awaited, and its frame
-pub record Row : Type 0 where
+pub record Example : Type 0 where
   pub place : Place
   pub message : Message
   pub frame : List ℕ
 
--- a row by its parts
-abbrev pub row : Place → Message → List ℕ → Row
-row place message frame = record { place = place; message = message; frame = frame }
+-- an example by its parts
+abbrev pub example : Place → Message → List ℕ → Example
+example place message frame = record { place = place; message = message; frame = frame }
 
 -- each message fits, is spelled by its frame, and read back off it, whatever follows
-abbrev pub AreSpelled : List Row → List ℕ → Type 0
-AreSpelled [] rest = Unit {0}
-AreSpelled (r ∷ rows) rest =
-    IsTrue (fits r.message) × (spelling r.message ≡ r.frame)
-    × (read_frame r.place (r.frame ++ rest) ≡ Ok (r.message, rest)) × AreSpelled rows rest
+abbrev pub AreSpelled : Version → List Example → List ℕ → Type 0
+AreSpelled version [] rest = Unit {0}
+AreSpelled version (r ∷ rows) rest =
+    IsTrue (fits version r.message) × (spelling version r.message ≡ r.frame)
+    × (read_frame version r.place (r.frame ++ rest) ≡ Ok (r.message, rest))
+    × AreSpelled version rows rest
 
 -- what the verifier sends
-abbrev pub sent : List Row
-sent = row places.ToHelper (messages.Open 1 2) (0x01 ∷ 0 ∷ 2 ∷ 1 ∷ 2 ∷ [])
-    ∷ row places.ToHelper
+abbrev pub sent : List Example
+sent = example places.ToHelper (messages.Open 1 2) (0x01 ∷ 0 ∷ 2 ∷ 1 ∷ 2 ∷ [])
+    ∷ example places.ToHelper
     (messages.Updates
     (record {
       items = record { side = First; item = 0; delta = pos 3 }
@@ -40,49 +42,50 @@ sent = row places.ToHelper (messages.Open 1 2) (0x01 ∷ 0 ∷ 2 ∷ 1 ∷ 2 ∷
     }))
     (0x02 ∷ 0 ∷ 0x29 ∷ 0 ∷ 3 ∷ 0 ∷ 0 ∷ 0 ∷ 0 ∷ 0 ∷ 0 ∷ 0 ∷ 0 ∷ 0 ∷ 0 ∷ 0 ∷ 0 ∷ 3 ∷ 0 ∷ 0 ∷ 0 ∷ 0 ∷ 2
     ∷ 0 ∷ 0 ∷ 0 ∷ 0 ∷ 0 ∷ 0 ∷ 0 ∷ 5 ∷ 0 ∷ 0 ∷ 0 ∷ 0 ∷ 3 ∷ 0 ∷ 0 ∷ 0 ∷ 0 ∷ 0 ∷ 0 ∷ 0 ∷ 1 ∷ [])
-    ∷ row places.ToHelper messages.EndStream (0x03 ∷ 0 ∷ 0 ∷ [])
-    ∷ row places.ToHelper (messages.Query (queries.Sub 1 2))
+    ∷ example places.ToHelper messages.EndStream (0x03 ∷ 0 ∷ 0 ∷ [])
+    ∷ example places.ToHelper (messages.Query (queries.Sub 1 2))
     (0x04 ∷ 0 ∷ 9 ∷ 1 ∷ 0 ∷ 0 ∷ 0 ∷ 1 ∷ 0 ∷ 0 ∷ 0 ∷ 2 ∷ [])
-    ∷ row places.ToHelper (messages.Reveal 2) (0x05 ∷ 0 ∷ 8 ∷ 0 ∷ 0 ∷ 0 ∷ 0 ∷ 0 ∷ 0 ∷ 0 ∷ 2 ∷ [])
-    ∷ row places.ToHelper messages.Bye (0x06 ∷ 0 ∷ 0 ∷ [])
+    ∷ example places.ToHelper (messages.Reveal 2)
+    (0x05 ∷ 0 ∷ 8 ∷ 0 ∷ 0 ∷ 0 ∷ 0 ∷ 0 ∷ 0 ∷ 0 ∷ 2 ∷ [])
+    ∷ example places.ToHelper messages.Bye (0x06 ∷ 0 ∷ 0 ∷ [])
     ∷ []
 
 -- what the helper answers to the query for items 1 to 2
-abbrev pub items_replies : List Row
+abbrev pub items_replies : List Example
 items_replies =
-    row places.Entries
+    example places.Entries
     (messages.Entries (record { items = record { index = 2; value = pos 5 } ∷ [] }))
     (0x13 ∷ 0 ∷ 0x0e ∷ 0 ∷ 1 ∷ 0 ∷ 0 ∷ 0 ∷ 2 ∷ 0 ∷ 0 ∷ 0 ∷ 0 ∷ 0 ∷ 0 ∷ 0 ∷ 5 ∷ [])
-    ∷ row places.Entries (messages.Siblings (Some 3) (Some 1))
+    ∷ example places.Entries (messages.Siblings (Some 3) (Some 1))
     (0x14 ∷ 0 ∷ 0x11 ∷ 3 ∷ 0 ∷ 0 ∷ 0 ∷ 0 ∷ 0 ∷ 0 ∷ 0 ∷ 3 ∷ 0 ∷ 0 ∷ 0 ∷ 0 ∷ 0 ∷ 0 ∷ 0 ∷ 1 ∷ [])
-    ∷ row places.Siblings (messages.Siblings None None) (0x14 ∷ 0 ∷ 1 ∷ 0 ∷ [])
+    ∷ example places.Siblings (messages.Siblings None None) (0x14 ∷ 0 ∷ 1 ∷ 0 ∷ [])
     ∷ []
 
 -- to the query for the second moment
-abbrev pub moment_replies : List Row
+abbrev pub moment_replies : List Example
 moment_replies =
-    row places.Claim (messages.Claim (pos 35))
+    example places.Claim (messages.Claim (pos 35))
     (0x11 ∷ 0 ∷ 8 ∷ 0 ∷ 0 ∷ 0 ∷ 0 ∷ 0 ∷ 0 ∷ 0 ∷ 0x23 ∷ [])
-    ∷ row places.Poly (messages.Poly 34 2305843009213693893 25)
+    ∷ example places.Poly (messages.Poly 34 2305843009213693893 25)
     (0x12 ∷ 0 ∷ 0x18 ∷ 0 ∷ 0 ∷ 0 ∷ 0 ∷ 0 ∷ 0 ∷ 0 ∷ 0x22 ∷ 0x1f ∷ 0xff ∷ 0xff ∷ 0xff ∷ 0xff
     ∷ 0xff ∷ 0xff ∷ 0xc5 ∷ 0 ∷ 0 ∷ 0 ∷ 0 ∷ 0 ∷ 0 ∷ 0 ∷ 0x19 ∷ [])
-    ∷ row places.Poly (messages.Poly 9 0 0)
+    ∷ example places.Poly (messages.Poly 9 0 0)
     (0x12 ∷ 0 ∷ 0x18 ∷ 0 ∷ 0 ∷ 0 ∷ 0 ∷ 0 ∷ 0 ∷ 0 ∷ 9 ∷ 0 ∷ 0 ∷ 0 ∷ 0 ∷ 0 ∷ 0 ∷ 0 ∷ 0 ∷ 0 ∷ 0 ∷ 0
     ∷ 0 ∷ 0 ∷ 0 ∷ 0 ∷ 0 ∷ [])
     ∷ []
 
 -- to the query for the items of count 4 at least
-abbrev pub heavy_replies : List Row
+abbrev pub heavy_replies : List Example
 heavy_replies =
-    row places.Leaves
+    example places.Leaves
     (messages.Leaves
     (record { items = record { item = 2; count = 5 } ∷ record { item = 3; count = 1 } ∷ [] }))
     (0x15 ∷ 0 ∷ 0x1a ∷ 0 ∷ 2 ∷ 0 ∷ 0 ∷ 0 ∷ 2 ∷ 0 ∷ 0 ∷ 0 ∷ 0 ∷ 0 ∷ 0 ∷ 0 ∷ 5 ∷ 0 ∷ 0 ∷ 0 ∷ 3 ∷ 0 ∷ 0
     ∷ 0 ∷ 0 ∷ 0 ∷ 0 ∷ 0 ∷ 1 ∷ [])
-    ∷ row places.Leaves messages.LevelEnd (0x17 ∷ 0 ∷ 0 ∷ [])
-    ∷ row places.Nodes
+    ∷ example places.Leaves messages.LevelEnd (0x17 ∷ 0 ∷ 0 ∷ [])
+    ∷ example places.Nodes
     (messages.Nodes (record { items = record { index = 0; hash = 9; count = 3 } ∷ [] }))
     (0x16 ∷ 0 ∷ 0x16 ∷ 0 ∷ 1 ∷ 0 ∷ 0 ∷ 0 ∷ 0 ∷ 0 ∷ 0 ∷ 0 ∷ 0 ∷ 0 ∷ 0 ∷ 0 ∷ 9 ∷ 0 ∷ 0 ∷ 0 ∷ 0 ∷ 0
     ∷ 0 ∷ 0 ∷ 3 ∷ [])
-    ∷ row places.Nodes messages.LevelEnd (0x17 ∷ 0 ∷ 0 ∷ [])
+    ∷ example places.Nodes messages.LevelEnd (0x17 ∷ 0 ∷ 0 ∷ [])
     ∷ []

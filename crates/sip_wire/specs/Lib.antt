@@ -1,9 +1,9 @@
+pub mod Versions
 pub mod Table
 pub mod Values
 pub mod Spelling
 pub mod Rows
 pub mod Reading
-pub mod Versions
 pub mod Faults
 pub mod Decoding
 pub mod Frames

@@ -18,7 +18,8 @@ use Rattle.sip_wire.specs.declared.message.WireFault.TheVariants as faults
 use Rattle.sip_wire.specs.declared.kind.Kind.{Kind}
 use Rattle.sip_wire.specs.declared.kind.Kind.TheVariants as kinds
 use Rattle.sip_wire.specs.declared.kind.Place.{Place}
-use Rattle.sip_wire.specs.Table.{Field, size, Shape, shape, kind_at, byte_of, allows}
+use Rattle.sip_wire.specs.declared.version.Version.{Version}
+use Rattle.sip_wire.specs.Table.{Field, size, Shape, shape, query_fields, ends_in_order, kind_at, byte_of, allows}
 use Rattle.sip_wire.specs.Values.{InRange}
 use Rattle.arrayvec.specs.ArrayVec.{ArrayVec}
 
@@ -47,6 +48,7 @@ query_code (queries.Range _ _ _) = 2
 query_code (queries.F2 _) = 3
 query_code queries.Inner = 4
 query_code (queries.Heavy _ _) = 5
+query_code (queries.Share _ _ _) = 6
 
 -- the numbers behind it
 abbrev pub query_numbers : Query → List ℕ
@@ -55,6 +57,7 @@ query_numbers (queries.Range side lo hi) = side_number side ∷ lo ∷ hi ∷ []
 query_numbers (queries.F2 side) = side_number side ∷ []
 query_numbers queries.Inner = []
 query_numbers (queries.Heavy side at_least) = side_number side ∷ at_least ∷ []
+query_numbers (queries.Share side num den) = side_number side ∷ num ∷ den ∷ []
 
 -- a bit that says whether a number is there
 abbrev pub flag : Option ℕ → ℕ → ℕ
@@ -150,18 +153,19 @@ fits_shape s mark ns =
 abbrev pub body_in : Shape → ℕ → List ℕ → List ℕ
 body_in s mark ns = in_bytes s.mark_width mark ++ spelled (s.fields mark) ns
 
--- whether a message has a spelling
-unfoldable pub fits : Message → Bool
-fits m = fits_shape (shape (kind_of m)) (mark_of m) (numbers m)
+-- whether a message has a spelling in a version
+unfoldable pub fits : Version → Message → Bool
+fits version m = fits_shape (shape version (kind_of m)) (mark_of m) (numbers m)
 
 -- the body of a message
-abbrev pub body_of : Message → List ℕ
-body_of m = body_in (shape (kind_of m)) (mark_of m) (numbers m)
+abbrev pub body_of : Version → Message → List ℕ
+body_of version m = body_in (shape version (kind_of m)) (mark_of m) (numbers m)
 
 -- the one spelling of a message that fits: the byte of its kind, the length of its body, and the
 -- body
-unfoldable pub spelling : Message → List ℕ
-spelling m = byte_of (kind_of m) ∷ in_bytes 2 (length (body_of m)) ++ body_of m
+unfoldable pub spelling : Version → Message → List ℕ
+spelling version m =
+    byte_of (kind_of m) ∷ in_bytes 2 (length (body_of version m)) ++ body_of version m
 
 -- ---- what bytes say
 
@@ -193,10 +197,20 @@ pub record Stands (s : Shape) (body : List ℕ) (mark : ℕ) (ns : List ℕ) : T
   pub no_fault : body_fault s body ≡ None
 
 -- what reading a body answers: the message that it says, or its fault
-abbrev pub ReadsBody : Kind → List ℕ → Result Message WireFault → Type 0
-ReadsBody kind body result = MatchResult result
-    (λ m. (kind_of m ≡ kind) × Stands (shape kind) body (mark_of m) (numbers m) × InRange m)
-    (λ f. body_fault (shape kind) body ≡ Some f)
+abbrev pub ReadsBody : Version → Kind → List ℕ → Result Message WireFault → Type 0
+ReadsBody version kind body result = MatchResult result
+    (λ m. (kind_of m ≡ kind) × Stands (shape version kind) body (mark_of m) (numbers m) × InRange m)
+    (λ f. body_fault (shape version kind) body ≡ Some f)
+
+-- the same for a query behind its code
+abbrev pub ReadsQuery : Version → ℕ → List ℕ → Option Query → Type 0
+ReadsQuery version code rest result =
+    let ns = numbers_in (query_fields version code) rest in
+    let holds = ends_in_order code ns && all_hold (query_fields version code) ns in
+    elim result [
+      | Some query ↦ (query_code query ≡ code) × (query_numbers query ≡ ns) × (holds ≡ true)
+      | None ↦ holds ≡ false
+    ]
 
 -- the same for rows behind their count
 abbrev pub ReadsRows : {T : Type 0} → (T → List ℕ) → (T → Type 0) → Shape → List ℕ
@@ -212,27 +226,27 @@ abbrev pub length_in : List ℕ → ℕ
 length_in bytes = big_number 2 (drop 1 bytes)
 
 -- the fault of what begins with three bytes, by its kind
-unfoldable pub kind_fault : Place → Option Kind → List ℕ → Option WireFault
-kind_fault place None bytes = Some faults.BadKind
-kind_fault place (Some kind) bytes =
+unfoldable pub kind_fault : Version → Place → Option Kind → List ℕ → Option WireFault
+kind_fault version place None bytes = Some faults.BadKind
+kind_fault version place (Some kind) bytes =
     if not (allows place kind) then Some faults.BadKind
-    else if not ((shape kind).has_length (length_in bytes)) then Some faults.BadLength
+    else if not ((shape version kind).has_length (length_in bytes)) then Some faults.BadLength
     else if nat_lt (length bytes) (3 + length_in bytes) then Some faults.Closed
-    else body_fault (shape kind) (drop 3 bytes)
+    else body_fault (shape version kind) (drop 3 bytes)
 
 -- the fault of what was received of a frame, up to the end of the link or of the frame
-unfoldable pub frame_fault : Place → List ℕ → Option WireFault
-frame_fault place bytes =
+unfoldable pub frame_fault : Version → Place → List ℕ → Option WireFault
+frame_fault version place bytes =
     if nat_lt (length bytes) 3 then Some faults.Closed
-    else kind_fault place (kind_at (slice_index bytes 0)) bytes
+    else kind_fault version place (kind_at (slice_index bytes 0)) bytes
 
 -- how many bytes a frame has that begins so: three, and the body where kind and length pass
-abbrev pub asked_by : Place → Option Kind → List ℕ → ℕ
-asked_by place None bytes = 3
-asked_by place (Some kind) bytes =
-    if allows place kind && (shape kind).has_length (length_in bytes) then 3 + length_in bytes
-    else 3
+abbrev pub asked_by : Version → Place → Option Kind → List ℕ → ℕ
+asked_by version place None bytes = 3
+asked_by version place (Some kind) bytes =
+    if allows place kind && (shape version kind).has_length (length_in bytes)
+    then 3 + length_in bytes else 3
 
 -- the same, by the byte in front
-unfoldable pub asked : Place → List ℕ → ℕ
-asked place bytes = asked_by place (kind_at (slice_index bytes 0)) bytes
+unfoldable pub asked : Version → Place → List ℕ → ℕ
+asked version place bytes = asked_by version place (kind_at (slice_index bytes 0)) bytes

@@ -1,13 +1,17 @@
 -- The table of frames: which byte stands for each kind, where it may stand, and the fields of its
 -- body. A frame is the byte of its kind, the length of the body in two bytes, and the body.
-use Rattle.std.specs.Prelude.{◌≡◌, ℕ, zero, suc, ◌+◌, ◌*◌, ◌-◌, ◌%◌, ◌^◌, nat_abs, Bool, true, false, not, ◌&&◌, ◌==◌, nat_lt, nat_le, List, [], ◌∷◌, ◌++◌, find, Option}
+use Rattle.std.specs.Prelude.{◌≡◌, ℕ, zero, suc, ◌+◌, ◌*◌, ◌-◌, ◌%◌, ◌^◌, nat_abs, Bool, true, false, not, ◌&&◌, ◌==◌, nat_lt, nat_le, List, [], ◌∷◌, ◌++◌, find, Option, Some, None}
 use Rattle.std.specs.Int.{w64, cast_signed}
 use Rattle.std.specs.List.{list_any}
 use Rattle.sip_field.specs.Moduli.{m61_modulus}
+use Rattle.sip_vector.specs.Limits.{most_depth, most_share}
 use Rattle.sip_wire.specs.declared.kind.Kind.{Kind}
 use Rattle.sip_wire.specs.declared.kind.Kind.TheVariants as kinds
 use Rattle.sip_wire.specs.declared.kind.Place.{Place}
 use Rattle.sip_wire.specs.declared.kind.Place.TheVariants as places
+use Rattle.sip_wire.specs.declared.version.Version.{Version}
+use Rattle.sip_wire.specs.declared.version.Version.TheVariants.{One, Two}
+use Rattle.sip_wire.specs.Versions.{version_at, deepest, index_width}
 
 -- the byte of a kind
 abbrev pub byte_of : Kind → ℕ
@@ -67,17 +71,9 @@ allows _ _ = false
 
 -- ---- numbers
 
--- how many bytes an index has, of an item or of a node
-abbrev pub index_width : ℕ
-index_width = 4
-
--- the version of the talk
-abbrev pub version : ℕ
-version = 1
-
--- the greatest depth of a talk in this version
-abbrev pub most_depth : ℕ
-most_depth = 32
+-- how many queries a talk has at most
+abbrev pub most_queries : ℕ
+most_queries = 16
 
 -- the codes of a refusal are 1 to 4
 abbrev pub most_refusal : ℕ
@@ -99,12 +95,13 @@ most_claim = 2 ^ 60 - 1
 abbrev pub most_threshold : ℕ
 most_threshold = 2 ^ 63 - 1
 
--- how many bytes a body has at most, that of updates in full, and the frame around it
+-- how many bytes a body has at most, that of updates in full with wide items, and the frame around
+-- it
 abbrev pub longest_body : ℕ
-longest_body = 6658
+longest_body = 8706
 
 abbrev pub longest_frame : ℕ
-longest_frame = 6661
+longest_frame = 8709
 
 -- a residue modulo 2^61 - 1
 abbrev pub is_element : ℕ → Bool
@@ -130,8 +127,8 @@ abbrev pub ranging : ℕ → ℕ → ℕ → Field
 ranging width least most = field width (λ n. nat_le least n && nat_le n most)
 
 -- an item, or the index of an entry or a node
-abbrev pub index : Field
-index = field index_width (λ _. true)
+abbrev pub index : Version → Field
+index version = field (index_width version) (λ _. true)
 
 -- 0 or 1
 abbrev pub side : Field
@@ -141,38 +138,45 @@ side = ranging 1 0 1
 abbrev pub element : Field
 element = field 8 is_element
 
+-- an opening: the number of a version, and a depth
+abbrev pub opening_fields : List Field
+opening_fields = ranging 1 1 2 ∷ ranging 1 1 most_depth ∷ []
+
 -- a record of the stream: its side, its item and its delta
-abbrev pub update_fields : List Field
-update_fields = side ∷ index ∷ field 8 (λ n. not (n == 0)) ∷ []
+abbrev pub update_fields : Version → List Field
+update_fields version = side ∷ index version ∷ field 8 (λ n. not (n == 0)) ∷ []
 
 -- an entry: its index and its value
-abbrev pub entry_fields : List Field
-entry_fields = index ∷ field 8 (λ n. not (n == 0) && is_small n) ∷ []
+abbrev pub entry_fields : Version → List Field
+entry_fields version = index version ∷ field 8 (λ n. not (n == 0) && is_small n) ∷ []
 
 -- an item and its count
-abbrev pub leaf_fields : List Field
-leaf_fields = index ∷ element ∷ []
+abbrev pub leaf_fields : Version → List Field
+leaf_fields version = index version ∷ element ∷ []
 
 -- a node's index, hash and count
-abbrev pub node_fields : List Field
-node_fields = index ∷ element ∷ element ∷ []
+abbrev pub node_fields : Version → List Field
+node_fields version = index version ∷ element ∷ element ∷ []
 
 -- the codes of the queries
-abbrev pub query_codes : List ℕ
-query_codes = 1 ∷ 2 ∷ 3 ∷ 4 ∷ 5 ∷ []
+abbrev pub query_codes : Version → List ℕ
+query_codes One = 1 ∷ 2 ∷ 3 ∷ 4 ∷ 5 ∷ []
+query_codes Two = 1 ∷ 2 ∷ 3 ∷ 4 ∷ 5 ∷ 6 ∷ []
 
 -- the flags of siblings
 abbrev pub sibling_flags : List ℕ
 sibling_flags = 0 ∷ 1 ∷ 2 ∷ 3 ∷ []
 
 -- the fields behind the code of a query: the sub-vector, the range, the second moment, the inner
--- product, the heavy items
-abbrev pub query_fields : ℕ → List Field
-query_fields (suc zero) = index ∷ index ∷ []
-query_fields (suc (suc zero)) = side ∷ index ∷ index ∷ []
-query_fields (suc (suc (suc zero))) = side ∷ []
-query_fields (suc (suc (suc (suc (suc zero))))) = side ∷ ranging 8 1 most_threshold ∷ []
-query_fields _ = []
+-- product, the heavy items, the items of a share
+abbrev pub query_fields : Version → ℕ → List Field
+query_fields version (suc zero) = index version ∷ index version ∷ []
+query_fields version (suc (suc zero)) = side ∷ index version ∷ index version ∷ []
+query_fields version (suc (suc (suc zero))) = side ∷ []
+query_fields version (suc (suc (suc (suc (suc zero))))) = side ∷ ranging 8 1 most_threshold ∷ []
+query_fields version (suc (suc (suc (suc (suc (suc zero)))))) =
+    side ∷ ranging 4 1 most_share ∷ ranging 4 1 most_share ∷ []
+query_fields version _ = []
 
 -- the fields behind the flags of siblings: the left one at bit 0, the right one at bit 1
 abbrev pub sibling_fields : ℕ → List Field
@@ -214,16 +218,19 @@ marked marks fields in_order = record {
   has_length = λ n. list_any (λ mark. n == 1 + size (fields mark)) marks;
 }
 
+-- the same fields in each body, whose numbers are in order
+abbrev pub ordered : List Field → (List ℕ → Bool) → Shape
+ordered fs in_order = record {
+  mark_width = 0;
+  is_mark = λ n. n == 0;
+  fields = λ _. fs;
+  in_order = λ _. in_order;
+  has_length = λ n. n == size fs;
+}
+
 -- the same fields in each body
 abbrev pub plain : List Field → Shape
-plain fs =
-    record {
-      mark_width = 0;
-      is_mark = λ n. n == 0;
-      fields = λ _. fs;
-      in_order = λ _ _. true;
-      has_length = λ n. n == size fs;
-    }
+plain fs = ordered fs (λ _. true)
 
 -- a count from 1 to `most` in two bytes, and that many rows
 abbrev pub counted : ℕ → List Field → Shape
@@ -237,39 +244,46 @@ counted most layout = record {
       && ((n - 2) % size layout == 0);
 }
 
--- the ends of an interval are in order
+-- an opening is of a version that there is, and no deeper than that goes
+abbrev pub opens : List ℕ → Bool
+opens (number ∷ depth ∷ []) =
+    elim (version_at number) [ Some version ↦ nat_le depth (deepest version) | None ↦ false ]
+opens _ = false
+
+-- the ends of an interval are in order, and a share is 1 at the most
 abbrev pub ends_in_order : ℕ → List ℕ → Bool
 ends_in_order (suc zero) (lo ∷ hi ∷ []) = nat_le lo hi
 ends_in_order (suc (suc zero)) (_ ∷ lo ∷ hi ∷ []) = nat_le lo hi
+ends_in_order (suc (suc (suc (suc (suc (suc zero)))))) (_ ∷ num ∷ den ∷ []) = nat_le num den
 ends_in_order _ _ = true
 
 -- the code of a query, and its fields
-abbrev pub query_shape : Shape
-query_shape = marked query_codes query_fields ends_in_order
+abbrev pub query_shape : Version → Shape
+query_shape version = marked (query_codes version) (query_fields version) ends_in_order
 
 -- flags, and the siblings that are present
 abbrev pub siblings_shape : Shape
 siblings_shape = marked sibling_flags sibling_fields (λ _ _. true)
 
--- what bodies of each kind look like
-abbrev pub shape : Kind → Shape
-shape kinds.Open = plain (ranging 1 version version ∷ ranging 1 1 most_depth ∷ [])
-shape kinds.Updates = counted most_rows update_fields
-shape kinds.EndStream = plain []
-shape kinds.Query = query_shape
-shape kinds.Reveal = plain (element ∷ [])
-shape kinds.Bye = plain []
-shape kinds.Claim = plain (field 8 is_small ∷ [])
-shape kinds.Poly = plain (element ∷ element ∷ element ∷ [])
-shape kinds.Entries = counted most_rows entry_fields
-shape kinds.Siblings = siblings_shape
-shape kinds.Leaves = counted most_rows leaf_fields
-shape kinds.Nodes = counted most_nodes node_fields
-shape kinds.LevelEnd = plain []
-shape kinds.Refuse = plain (ranging 1 1 most_refusal ∷ [])
+-- what bodies of each kind look like in a version
+abbrev pub shape : Version → Kind → Shape
+shape version kinds.Open = ordered opening_fields opens
+shape version kinds.Updates = counted most_rows (update_fields version)
+shape version kinds.EndStream = plain []
+shape version kinds.Query = query_shape version
+shape version kinds.Reveal = plain (element ∷ [])
+shape version kinds.Bye = plain []
+shape version kinds.Claim = plain (field 8 is_small ∷ [])
+shape version kinds.Poly = plain (element ∷ element ∷ element ∷ [])
+shape version kinds.Entries = counted most_rows (entry_fields version)
+shape version kinds.Siblings = siblings_shape
+shape version kinds.Leaves = counted most_rows (leaf_fields version)
+shape version kinds.Nodes = counted most_nodes (node_fields version)
+shape version kinds.LevelEnd = plain []
+shape version kinds.Refuse = plain (ranging 1 1 most_refusal ∷ [])
 
 -- a body of this kind is so long with some mark
-pub record IsLengthOfMark (kind : Kind) (n : ℕ) : Type 0 where
+pub record IsLengthOfMark (version : Version) (kind : Kind) (n : ℕ) : Type 0 where
   pub mark : ℕ
-  pub is_mark : (shape kind).is_mark mark ≡ true
-  pub long : n ≡ (shape kind).mark_width + size ((shape kind).fields mark)
+  pub is_mark : (shape version kind).is_mark mark ≡ true
+  pub long : n ≡ (shape version kind).mark_width + size ((shape version kind).fields mark)

@@ -4,25 +4,24 @@ use Rattle.std.specs.Prelude.{ℕ, List, [], ◌∷◌, ◌++◌, length}
 use Rattle.std.specs.List.{flat_map}
 use Rattle.sip_vector.specs.declared.query.Query.{Query}
 use Rattle.sip_wire.specs.declared.message.Message.TheVariants as messages
+use Rattle.sip_wire.specs.declared.version.Version.{Version}
+use Rattle.sip_wire.specs.Versions.{number_of}
 use Rattle.sip_wire.specs.Spelling.{in_bytes, spelling}
 
 -- the text SIPT
 abbrev pub magic : List ℕ
 magic = 0x53 ∷ 0x49 ∷ 0x50 ∷ 0x54 ∷ []
 
--- the version of transcripts
-abbrev pub transcript_version : ℕ
-transcript_version = 1
-
--- what the head begins with: the depth, and the number of queries
-abbrev pub head_bytes : ℕ → ℕ → List ℕ
-head_bytes depth queries = magic ++ transcript_version ∷ depth ∷ queries ∷ []
+-- what the head begins with: the version, the depth, and the number of queries
+abbrev pub head_bytes : Version → ℕ → ℕ → List ℕ
+head_bytes version depth queries = magic ++ number_of version ∷ depth ∷ queries ∷ []
 
 -- a query: its frame, and its challenges, each in eight bytes
-unfoldable pub ask_bytes : Query → List ℕ → List ℕ
-ask_bytes query challenges = spelling (messages.Query query) ++ flat_map (in_bytes 8) challenges
+unfoldable pub ask_bytes : Version → Query → List ℕ → List ℕ
+ask_bytes version query challenges =
+    spelling version (messages.Query query) ++ flat_map (in_bytes 8) challenges
 
 -- a transcript: its head, and the bytes that were received from the helper, in order
-abbrev pub transcript : ℕ → List (Query × List ℕ) → List ℕ → List ℕ
-transcript depth asks replies =
-    head_bytes depth (length asks) ++ flat_map (λ ask. ask_bytes ask.0 ask.1) asks ++ replies
+abbrev pub transcript : Version → ℕ → List (Query × List ℕ) → List ℕ → List ℕ
+transcript version depth asks replies = head_bytes version depth (length asks)
+    ++ flat_map (λ ask. ask_bytes version ask.0 ask.1) asks ++ replies

@@ -56,6 +56,8 @@ query_from (suc (suc zero)) (side ∷ lo ∷ hi ∷ []) = queries.Range (side_at
 query_from (suc (suc (suc zero))) (side ∷ []) = queries.F2 (side_at side)
 query_from (suc (suc (suc (suc (suc zero))))) (side ∷ at_least ∷ []) =
     queries.Heavy (side_at side) at_least
+query_from (suc (suc (suc (suc (suc (suc zero)))))) (side ∷ num ∷ den ∷ []) =
+    queries.Share (side_at side) num den
 query_from _ _ = queries.Inner
 
 -- the siblings of these flags

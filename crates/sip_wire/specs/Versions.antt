@@ -1,20 +1,49 @@
--- Spellings by the version of a talk's frames. There is one version, so these are the plain ones.
-use Rattle.std.specs.Prelude.{ℕ, Bool, List, Result}
-use Rattle.sip_wire.specs.declared.kind.Place.{Place}
-use Rattle.sip_wire.specs.declared.message.Message.{Message}
-use Rattle.sip_wire.specs.declared.message.WireFault.{WireFault}
+-- The versions of a talk's frames. They differ in the width of an item, and in one code of a query.
+use Rattle.std.specs.Prelude.{ℕ, zero, suc, ◌≤◌, Bool, true, false, not, ◌||◌, nat_lt, IsTrue, List, Option, Some, None, if◌then◌else◌}
+use Rattle.std.specs.List.{list_any}
+use Rattle.sip_vector.specs.declared.query.Query.{Query}
+use Rattle.sip_vector.specs.declared.query.Query.TheVariants as queries
+use Rattle.sip_vector.specs.Limits.{most_depth, most_narrow_depth}
 use Rattle.sip_wire.specs.declared.version.Version.{Version}
-use Rattle.sip_wire.specs.Reading.{read_frame}
-use Rattle.sip_wire.specs.Spelling.{fits, spelling}
+use Rattle.sip_wire.specs.declared.version.Version.TheVariants.{One, Two}
 
--- the message has a spelling
-abbrev pub fits_in : Version → Message → Bool
-fits_in version m = fits m
+-- the number of a version
+abbrev pub number_of : Version → ℕ
+number_of One = 1
+number_of Two = 2
 
--- its one spelling
-abbrev pub spelling_in : Version → Message → List ℕ
-spelling_in version m = spelling m
+-- the version of a number
+abbrev pub version_at : ℕ → Option Version
+version_at (suc zero) = Some One
+version_at (suc (suc zero)) = Some Two
+version_at _ = None
 
--- the message at the front of the bytes, and what follows its frame; or the fault
-abbrev pub read_in : Version → Place → List ℕ → Result (Message × List ℕ) WireFault
-read_in version place bytes = read_frame place bytes
+-- the greatest depth of a talk
+abbrev pub deepest : Version → ℕ
+deepest One = most_narrow_depth
+deepest Two = most_depth
+
+-- how many bytes an index has, of an item or of a node
+abbrev pub index_width : Version → ℕ
+index_width One = 4
+index_width Two = 8
+
+-- the query asks for a share
+abbrev pub is_share : Query → Bool
+is_share (queries.Share _ _ _) = true
+is_share _ = false
+
+-- which queries have a code
+abbrev pub speaks : Version → Query → Bool
+speaks One query = not (is_share query)
+speaks Two query = true
+
+-- a query can be asked at a depth
+pub record Speaks (version : Version) (depth : ℕ) (query : Query) : Type 0 where
+  pub shallow : depth ≤ deepest version
+  pub has_code : IsTrue (speaks version query)
+
+-- the least version in which these queries can be asked at a depth
+abbrev pub needed : ℕ → List Query → Version
+needed depth queries =
+    if nat_lt most_narrow_depth depth || list_any is_share queries then Two else One

@@ -7,6 +7,7 @@ ghost use Rattle.sip_wire.specs.Spelling.{ReadsBody};
 ghost use Rattle.sip_wire.specs.Table.{shape};
 ghost use Rattle.sip_wire.specs.Decoding.{FindsHead, IsBytes, Decodes};
 
+use crate::Version;
 use crate::frame::{Frame, HEAD};
 use crate::kind::{Kind, Place};
 use crate::message::{Message, WireFault};
@@ -16,9 +17,9 @@ use sip_ports::Link;
 
 /// The kind and the length of the body, where a frame may begin with these three bytes.
 #[tactic(auto, unfolding(crate::specs::Spelling::frame_fault, crate::specs::Spelling::kind_fault, crate::specs::Spelling::asked))]
-fn head_of(place: Place, bytes: &[u8]) -> Result<(Kind, usize), WireFault>
+fn head_of(version: Version, place: Place, bytes: &[u8]) -> Result<(Kind, usize), WireFault>
     requires { 3 ≤ length bytes.now }
-    ensures { FindsHead place bytes.now result }
+    ensures { FindsHead version place bytes.now result }
 {
     let Some(kind) = Kind::of(bytes[0]) else {
         return Err(WireFault::BadKind);
@@ -28,37 +29,42 @@ fn head_of(place: Place, bytes: &[u8]) -> Result<(Kind, usize), WireFault>
     }
     let (len, _) = take_u16(&bytes[1..]);
     let len = len as usize;
-    if !kind.has_length(len) {
+    if !kind.has_length(version, len) {
         return Err(WireFault::BadLength);
     }
     Ok((kind, len))
 }
 
 /// The message of a frame whose body is as long as its kind has it.
-fn message_in(kind: Kind, bytes: &[u8]) -> Result<Message, WireFault>
+fn message_in(version: Version, kind: Kind, bytes: &[u8]) -> Result<Message, WireFault>
     requires head { 3 ≤ length bytes.now }
-    requires body { IsTrue ((shape kind).has_length (length bytes.now - 3)) }
+    requires body { IsTrue ((shape version kind).has_length (length bytes.now - 3)) }
     ensures fits { IsBytes bytes.now }
-    ensures read { ReadsBody kind (drop 3 bytes.now) result }
+    ensures read { ReadsBody version kind (drop 3 bytes.now) result }
 {
-    message_of(kind, &bytes[HEAD..])
+    message_of(version, kind, &bytes[HEAD..])
 }
 
-/// Receives exactly one frame into `frame`, and answers its message.
+/// Receives exactly one frame of a version into `frame`, and answers its message.
 ///
 /// It receives three bytes, and then a body of the stated length if the place allows the kind and the kind has the length. The
 /// faults of the bytes are tested in the order of [`WireFault`], the count before the numbers. `Closed` comes exactly where the
 /// link ended inside the frame, and `PeerFault` only where the count of its faults rose; there and at `OutOfMemory`, which is the
 /// link's, the frame was not received whole. Whatever the answer, `frame` shows what was received, and what follows is still on
 /// the link. No memory is taken.
-pub fn decode<L: Link>(link: &mut L, place: Place, frame: &mut Frame) -> Result<Message, WireFault>
-    ensures did { Decodes place (L.talk link.old) (L.talk link.new) (L.faults link.old)
+pub fn decode<L: Link>(
+    link: &mut L,
+    place: Place,
+    version: Version,
+    frame: &mut Frame,
+) -> Result<Message, WireFault>
+    ensures did { Decodes version place (L.talk link.old) (L.talk link.new) (L.faults link.old)
         (L.faults link.new) (frame_bytes frame.new) result }
     ensures lasts { Lasts L.faults L.is_sure link.old link.new }
 {
     frame.clear();
     frame.receive(link, HEAD)?;
-    let (kind, len) = head_of(place, frame.bytes())?;
+    let (kind, len) = head_of(version, place, frame.bytes())?;
     frame.receive(link, HEAD + len)?;
-    message_in(kind, frame.bytes())
+    message_in(version, kind, frame.bytes())
 }

@@ -4,31 +4,33 @@ ghost use Rattle.std.specs.Prelude.{◌≡◌, [], IsTrue};
 ghost use Rattle.sip_ports.specs.Ports.{HasCause, SendsWhole};
 ghost use Rattle.sip_wire.specs.Spelling.{fits, spelling};
 
+use crate::Version;
 use crate::message::Message;
 use crate::numbers::{Bytes, put_u16};
 use crate::writing::{body_len, put_body};
 use arrayvec::ArrayVec;
 use sip_ports::{PortStop, Sink, write_whole};
 
-/// Appends the frame of a message to no bytes.
-pub fn put_frame(message: &Message, out: &mut Bytes)
-    requires fits { IsTrue (fits message.now) }
+/// Appends the frame of a message to no bytes, in a version.
+pub fn put_frame(version: Version, message: &Message, out: &mut Bytes)
+    requires fits { IsTrue (fits version message.now) }
     requires empty { out.old.items ≡ [] }
-    ensures { out.new.items ≡ spelling message.now }
+    ensures { out.new.items ≡ spelling version message.now }
 {
     out.push(message.kind().byte());
-    put_u16(out, body_len(message) as u16);
-    put_body(message, out);
+    put_u16(out, body_len(version, message) as u16);
+    put_body(version, message, out);
 }
 
-/// Writes the one spelling of the message, the whole frame at once. After an `Err` a part of it was written, and not all. It takes
+/// Writes the one spelling of the message in a version, the whole frame at once. After an `Err` a part of it was written, and not all. It takes
 /// no memory.
-pub fn encode<K: Sink>(message: &Message, sink: &mut K) -> Result<(), PortStop>
-    requires { IsTrue (fits message.now) }
-    ensures talk { SendsWhole (K.talk sink.old) (K.talk sink.new) result (spelling message.now) }
+pub fn encode<K: Sink>(message: &Message, version: Version, sink: &mut K) -> Result<(), PortStop>
+    requires { IsTrue (fits version message.now) }
+    ensures talk { SendsWhole (K.talk sink.old) (K.talk sink.new) result
+        (spelling version message.now) }
     ensures cause { HasCause K.faults K.is_sure sink.old sink.new result }
 {
     let mut out = ArrayVec::new();
-    put_frame(message, &mut out);
+    put_frame(version, message, &mut out);
     write_whole(sink, &out)
 }

@@ -3,32 +3,33 @@
 
 ghost use Rattle.std.specs.Prelude.{◌≡◌, ℕ, List, [], ◌∷◌, ◌++◌};
 ghost use Rattle.sip_vector.specs.declared.query.Query.TheVariants as queries;
+ghost use Rattle.sip_wire.specs.declared.version.Version.TheVariants.{One};
 ghost use Rattle.sip_wire.specs.Examples.{AreSpelled, sent, items_replies, moment_replies, heavy_replies};
 ghost use Rattle.sip_wire.specs.Transcript.{transcript};
 
 /// What the verifier sends in the worked talk is spelled by its bytes, and read back off them.
 pub fn sent_are_spelled()
-    ensures { (rest : List ℕ) → AreSpelled sent rest }
+    ensures { (rest : List ℕ) → AreSpelled One sent rest }
 {}
 
 /// So are the replies to its query for items.
 pub fn items_replies_are_spelled()
-    ensures { (rest : List ℕ) → AreSpelled items_replies rest }
+    ensures { (rest : List ℕ) → AreSpelled One items_replies rest }
 {}
 
 /// So are the replies to a query for the second moment.
 pub fn moment_replies_are_spelled()
-    ensures { (rest : List ℕ) → AreSpelled moment_replies rest }
+    ensures { (rest : List ℕ) → AreSpelled One moment_replies rest }
 {}
 
 /// So are the replies to a query for heavy items.
 pub fn heavy_replies_are_spelled()
-    ensures { (rest : List ℕ) → AreSpelled heavy_replies rest }
+    ensures { (rest : List ℕ) → AreSpelled One heavy_replies rest }
 {}
 
 /// The transcript of the worked talk: its head, the query and both challenges, and then the replies.
 pub fn transcript_of_the_talk()
-    ensures { (replies : List ℕ) → transcript 2 ((queries.Sub 1 2, 2 ∷ 10 ∷ []) ∷ []) replies
+    ensures { (replies : List ℕ) → transcript One 2 ((queries.Sub 1 2, 2 ∷ 10 ∷ []) ∷ []) replies
         ≡ 0x53 ∷ 0x49 ∷ 0x50 ∷ 0x54 ∷ 1 ∷ 2 ∷ 1
         ∷ 0x04 ∷ 0 ∷ 9 ∷ 1 ∷ 0 ∷ 0 ∷ 0 ∷ 1 ∷ 0 ∷ 0 ∷ 0 ∷ 2
         ∷ 0 ∷ 0 ∷ 0 ∷ 0 ∷ 0 ∷ 0 ∷ 0 ∷ 2

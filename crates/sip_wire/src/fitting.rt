@@ -1,25 +1,39 @@
 //! Whether a message has a spelling.
 #![tactic(auto, unfolding(crate::specs::Spelling::fits, crate::specs::Spelling::has_room, crate::specs::Spelling::all_hold))]
 
-ghost use Rattle.std.specs.Prelude.{◌≡◌};
-ghost use Rattle.sip_wire.specs.Table.{query_shape};
-ghost use Rattle.sip_wire.specs.Spelling.{fits, fits_shape, kind_of, query_code, query_numbers};
+ghost use Rattle.std.specs.Prelude.{◌≡◌, ◌&&◌, [], ◌∷◌};
+ghost use Rattle.sip_wire.specs.Table.{query_shape, opening_fields, opens};
+ghost use Rattle.sip_wire.specs.Spelling.{all_hold, fits, fits_shape, kind_of, query_code, query_numbers};
 
+use crate::Version;
 use crate::kind::Kind;
-use crate::message::{MOST_DEPTH, MOST_REFUSAL, Message, VERSION};
+use crate::message::{MOST_REFUSAL, Message};
 use crate::numbers::{is_element, is_small};
-use crate::row::INDICES;
 use crate::rows::rows_fit;
 use sip_vector::Query;
 
-fn query_fits(query: Query) -> bool
-    ensures { result ≡ fits_shape query_shape (query_code query) (query_numbers query) }
+/// Whether there is a version of this number, and it goes to this depth.
+pub fn is_opening(version: u8, depth: u8) -> bool
+    ensures { result ≡ (opens (version ∷ depth ∷ []) && all_hold opening_fields
+        (version ∷ depth ∷ [])) }
+{
+    match Version::of(version) {
+        Some(version) => 1 <= depth && depth <= version.deepest(),
+        None => false,
+    }
+}
+
+fn query_fits(version: Version, query: Query) -> bool
+    ensures { result ≡ fits_shape (query_shape version) (query_code query) (query_numbers query) }
 {
     match query {
-        Query::Sub { lo, hi } => lo <= hi && hi < INDICES,
-        Query::Range { side: _, lo, hi } => lo <= hi && hi < INDICES,
+        Query::Sub { lo, hi } => lo <= hi && version.has_room(hi),
+        Query::Range { side: _, lo, hi } => lo <= hi && version.has_room(hi),
         Query::F2 { side: _ } | Query::Inner => true,
         Query::Heavy { side: _, at_least } => 1 <= at_least && at_least <= i64::MAX as u64,
+        Query::Share { side: _, num, den } => {
+            version.speaks(&query) && 1 <= num && num <= den && den <= Query::MOST_SHARE
+        }
     }
 }
 
@@ -46,26 +60,25 @@ impl Message {
         }
     }
 
-    /// Whether the message has a spelling: each number is one that its field may hold, and rows are there.
-    pub fn fits(&self) -> bool
-        ensures { result ≡ fits self.now }
+    /// Whether the message has a spelling in a version: each number is one that its field may hold, rows are there, and a query
+    /// has a code.
+    pub fn fits(&self, version: Version) -> bool
+        ensures { result ≡ fits version self.now }
     {
         match self {
-            Message::Open { version, depth } => *version == VERSION
-                && 1 <= *depth
-                && *depth <= MOST_DEPTH,
-            Message::Updates(rows) => !rows.is_empty() && rows_fit(rows),
+            Message::Open { version, depth } => is_opening(*version, *depth),
+            Message::Updates(rows) => !rows.is_empty() && rows_fit(version, rows),
             Message::EndStream | Message::Bye | Message::LevelEnd => true,
-            Message::Query(query) => query_fits(*query),
+            Message::Query(query) => query_fits(version, *query),
             Message::Reveal { challenge } => is_element(*challenge),
             Message::Claim { value } => is_small(value.cast_unsigned()),
             Message::Poly { c0, c1, c2 } => is_element(*c0) && is_element(*c1) && is_element(*c2),
-            Message::Entries(rows) => !rows.is_empty() && rows_fit(rows),
+            Message::Entries(rows) => !rows.is_empty() && rows_fit(version, rows),
             Message::Siblings { left, right } => {
                 left.is_none_or(|x| is_element(x)) && right.is_none_or(|x| is_element(x))
             }
-            Message::Leaves(rows) => !rows.is_empty() && rows_fit(rows),
-            Message::Nodes(rows) => !rows.is_empty() && rows_fit(rows),
+            Message::Leaves(rows) => !rows.is_empty() && rows_fit(version, rows),
+            Message::Nodes(rows) => !rows.is_empty() && rows_fit(version, rows),
             Message::Refuse { code } => 1 <= *code && *code <= MOST_REFUSAL,
         }
     }

@@ -11,8 +11,8 @@ use std::alloc::Global;
 /// How many bytes stand before the body of a frame: its kind and the length of its body.
 pub const HEAD: usize = 3;
 
-/// How many bytes the longest frame has: an Updates frame of 512 records.
-pub const LONGEST_FRAME: usize = 6661;
+/// How many bytes the longest frame has: an Updates frame of 512 records with wide items.
+pub const LONGEST_FRAME: usize = 8709;
 
 /// What was received of a frame: room for the longest one, taken once, and how many bytes of it came.
 #[derive(Drop)]

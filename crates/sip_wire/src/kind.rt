@@ -1,8 +1,9 @@
 //! The kinds of message, and where each may stand. A refusal may stand wherever a reply is awaited.
 
 ghost use Rattle.std.specs.Prelude.{◌≡◌, ◌<◌, ◌≤◌, ◌^◌, ◌+◌, IsTrue, ◌*◌, ◌-◌, ◌%◌, ◌==◌, ◌&&◌, nat_le};
-ghost use Rattle.sip_wire.specs.Table.{byte_of, kind_at, allows, shape, longest_body};
+ghost use Rattle.sip_wire.specs.Table.{byte_of, kind_at, allows, shape, query_shape, longest_body};
 
+use crate::Version;
 use crate::message::{Leaf, MOST_NODES, MOST_ROWS, Node};
 use crate::row::Row;
 use sip_vector::{Entry, Update};
@@ -94,22 +95,34 @@ impl Kind {
     }
 
     /// Whether a body of this kind may be so long.
-    pub fn has_length(self, length: usize) -> bool
-        ensures answer { result ≡ (shape self).has_length length }
+    pub fn has_length(self, version: Version, length: usize) -> bool
+        ensures answer { result ≡ (shape version self).has_length length }
         ensures short { IsTrue result → length ≤ longest_body }
     {
         match self {
             Kind::Open => length == 2,
-            Kind::Updates => is_counted(length, MOST_ROWS, Update::size()),
-            Kind::Query => length == 1 || length == 2 || length == 9 || length == 10,
+            Kind::Updates => is_counted(length, MOST_ROWS, Update::size(version)),
+            Kind::Query => is_query(version, length),
             Kind::Reveal | Kind::Claim => length == 8,
             Kind::Poly => length == 24,
-            Kind::Entries => is_counted(length, MOST_ROWS, Entry::size()),
-            Kind::Leaves => is_counted(length, MOST_ROWS, Leaf::size()),
+            Kind::Entries => is_counted(length, MOST_ROWS, Entry::size(version)),
+            Kind::Leaves => is_counted(length, MOST_ROWS, Leaf::size(version)),
             Kind::Siblings => length == 1 || length == 9 || length == 17,
-            Kind::Nodes => is_counted(length, MOST_NODES, Node::size()),
+            Kind::Nodes => is_counted(length, MOST_NODES, Node::size(version)),
             Kind::Refuse => length == 1,
             Kind::EndStream | Kind::Bye | Kind::LevelEnd => length == 0,
+        }
+    }
+}
+
+/// Whether the body of a query may be so long.
+fn is_query(version: Version, length: usize) -> bool
+    ensures { result ≡ (query_shape version).has_length length }
+{
+    match version {
+        Version::One => length == 1 || length == 2 || length == 9 || length == 10,
+        Version::Two => {
+            length == 1 || length == 2 || length == 10 || length == 17 || length == 18
         }
     }
 }

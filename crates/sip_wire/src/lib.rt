@@ -48,7 +48,7 @@ pub use decoding::decode;
 pub use encoding::encode;
 pub use frame::{Frame, LONGEST_FRAME};
 pub use kind::Place;
-pub use message::{Leaf, MOST_NODES, MOST_ROWS, Message, Node, Reason, WireFault};
+pub use message::{Leaf, MOST_NODES, MOST_QUERIES, MOST_ROWS, Message, Node, Reason, WireFault};
 pub use transcript::{put_ask, put_head};
 pub use version::Version;
 

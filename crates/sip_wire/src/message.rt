@@ -4,11 +4,8 @@ use arrayvec::ArrayVec;
 use sip_ports::PortStop;
 use sip_vector::{Entry, Query, Update};
 
-/// The version of the talk.
-pub const VERSION: u8 = 1;
-
-/// The greatest depth of a talk.
-pub const MOST_DEPTH: u8 = 32;
+/// How many queries a talk has at most.
+pub const MOST_QUERIES: usize = 16;
 
 /// How many updates, entries or leaves a frame has at most.
 pub const MOST_ROWS: usize = 512;
@@ -19,14 +16,14 @@ pub const MOST_NODES: usize = 256;
 /// The greatest code of a refusal; the least is 1.
 pub const MOST_REFUSAL: u8 = 4;
 
-/// An item, below 2^32, and its count, below 2^61 - 1.
+/// An item, below 2^48, and its count, below 2^61 - 1.
 #[derive(Clone, Copy, Debug, PartialEq, Eq, Default)]
 pub struct Leaf {
     pub item: u64,
     pub count: u64,
 }
 
-/// A node of a level, by its index, below 2^32, its hash and its count, both below 2^61 - 1.
+/// A node of a level, by its index, below 2^48, its hash and its count, both below 2^61 - 1.
 #[derive(Clone, Copy, Debug, PartialEq, Eq, Default)]
 pub struct Node {
     pub index: u64,

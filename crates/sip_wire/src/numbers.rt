@@ -1,12 +1,14 @@
 //! Numbers as bytes, the high byte first: taken off the front, and put behind others.
 #![tactic(auto, unfolding(crate::specs::Spelling::in_bytes))]
 
-ghost use Rattle.std.specs.Prelude.{◌≡◌, ◌≤◌, ◌+◌, ◌++◌, length, drop};
+ghost use Rattle.std.specs.Prelude.{◌≡◌, ◌≤◌, ◌<◌, ◌^◌, ◌+◌, ◌++◌, length, drop};
 ghost use Rattle.byteorder.specs.Endian.{big_number};
 ghost use Rattle.arrayvec.specs.ArrayVec.{array_vec_len};
 ghost use Rattle.sip_wire.specs.Table.{longest_frame, is_element as element, is_small as small};
 ghost use Rattle.sip_wire.specs.Spelling.{in_bytes};
+ghost use Rattle.sip_wire.specs.Versions.{index_width};
 
+use crate::Version;
 use crate::frame::LONGEST_FRAME;
 use arrayvec::ArrayVec;
 use byteorder::{BigEndian, ByteOrder};
@@ -65,6 +67,21 @@ pub fn take_u64(bytes: &[u8]) -> (u64, &[u8])
     (BigEndian::read_u64(bytes), &bytes[8..])
 }
 
+/// The index at the front, and what follows.
+pub fn take_index(version: Version, bytes: &[u8]) -> (u64, &[u8])
+    requires { index_width version ≤ length bytes.now }
+    ensures number { result.0 ≡ big_number (index_width version) bytes.now }
+    ensures rest { result.1.now ≡ drop (index_width version) bytes.now }
+{
+    match version {
+        Version::One => {
+            let (index, rest) = take_u32(bytes);
+            (index as u64, rest)
+        }
+        Version::Two => take_u64(bytes),
+    }
+}
+
 /// Appends bytes that there is room for.
 fn put_all(out: &mut Bytes, bytes: &[u8])
     requires { array_vec_len out.old + length bytes.now ≤ longest_frame }
@@ -108,4 +125,17 @@ pub fn put_u64(out: &mut Bytes, n: u64)
     ensures len { array_vec_len out.new ≡ array_vec_len out.old + 8 }
 {
     put_all(out, &n.to_be_bytes());
+}
+
+/// Appends an index.
+pub fn put_index(version: Version, out: &mut Bytes, index: u64)
+    requires fits { index < 256 ^ index_width version }
+    requires room { array_vec_len out.old + index_width version ≤ longest_frame }
+    ensures bytes { out.new.items ≡ out.old.items ++ in_bytes (index_width version) index }
+    ensures len { array_vec_len out.new ≡ array_vec_len out.old + index_width version }
+{
+    match version {
+        Version::One => put_u32(out, index as u32),
+        Version::Two => put_u64(out, index),
+    }
 }

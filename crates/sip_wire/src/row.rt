@@ -4,21 +4,20 @@
 ghost use Rattle.std.specs.Prelude.{◌≡◌, ◌≤◌, refl, ◌^◌, ◌<◌, ◌+◌, ◌++◌, ◌&&◌, ℕ, List, true, false, length, drop, IfSome, IfNone, FitsSigned, ⊤};
 ghost use Rattle.std.specs.Int.{w64};
 ghost use Rattle.arrayvec.specs.ArrayVec.{array_vec_len};
+ghost use Rattle.sip_wire.specs.declared.version.Version.{Version as AnyVersion};
 ghost use Rattle.sip_wire.specs.Table.{Field, size, longest_frame, update_fields, entry_fields, leaf_fields, node_fields};
 ghost use Rattle.sip_wire.specs.Spelling.{numbers_in, all_hold, has_room, spelled, side_number, update_numbers, entry_numbers, leaf_numbers, node_numbers};
 
+use crate::Version;
 use crate::message::{Leaf, Node};
 use crate::numbers::{
-    Bytes, is_element, is_small, put_u8, put_u32, put_u64, take_u8, take_u32, take_u64,
+    Bytes, is_element, is_small, put_index, put_u8, put_u64, take_index, take_u8, take_u64,
 };
 use sip_vector::{Entry, Side, Update};
 
-/// How many indices there are.
-pub const INDICES: u64 = 1 << 32;
-
 /// What stands in a frame as a row of numbers.
 pub trait Row: Copy + Default {
-    ghost layout: { List Field };
+    ghost layout: { AnyVersion → List Field };
 
     ghost said: { Self → List ℕ };
 
@@ -26,32 +25,36 @@ pub trait Row: Copy + Default {
     ghost in_range: { Self → Type 0 };
 
     /// How many bytes a row has.
-    fn size() -> usize
-        ensures exact { result ≡ size layout }
+    fn size(version: Version) -> usize
+        ensures exact { result ≡ size (layout version) }
         ensures some { 0 < result }
         ensures narrow { result < 2 ^ 16 };
 
     /// The row at the front of these bytes and what follows, if each number is one that its field may hold.
-    fn take(bytes: &[u8]) -> Option<(Self, &[u8])>
-        requires { size layout ≤ length bytes.now }
-        ensures said { IfSome result (λ x. said x.0 ≡ numbers_in layout bytes.now) }
-        ensures rest { IfSome result (λ x. x.1.now ≡ drop (size layout) bytes.now) }
-        ensures some { IfSome result (λ x. all_hold layout (numbers_in layout bytes.now) ≡ true) }
+    fn take(version: Version, bytes: &[u8]) -> Option<(Self, &[u8])>
+        requires { size (layout version) ≤ length bytes.now }
+        ensures said { IfSome result (λ x. said x.0 ≡ numbers_in (layout version) bytes.now) }
+        ensures rest { IfSome result (λ x. x.1.now ≡ drop (size (layout version)) bytes.now) }
+        ensures some { IfSome result (λ x. all_hold (layout version)
+            (numbers_in (layout version) bytes.now) ≡ true) }
         ensures in_range { IfSome result (λ x. in_range x.0) }
-        ensures none { IfNone result (all_hold layout (numbers_in layout bytes.now) ≡ false) };
+        ensures none { IfNone result (all_hold (layout version)
+            (numbers_in (layout version) bytes.now) ≡ false) };
 
     /// Whether each number has room in its field, and is one that it may hold.
-    fn fits(&self) -> bool
-        ensures { result ≡ (has_room layout (said self.now) && all_hold layout (said self.now)) };
+    fn fits(&self, version: Version) -> bool
+        ensures { result ≡ (has_room (layout version) (said self.now)
+            && all_hold (layout version) (said self.now)) };
 
     /// Appends the row's bytes.
-    fn put(&self, out: &mut Bytes)
-        requires fits { has_room layout (said self.now) ≡ true }
-        requires room { array_vec_len out.old + size layout ≤ longest_frame }
-        ensures bytes { out.new.items ≡ out.old.items ++ spelled layout (said self.now) }
-        ensures len { array_vec_len out.new ≡ array_vec_len out.old + size layout };
+    fn put(&self, version: Version, out: &mut Bytes)
+        requires fits { has_room (layout version) (said self.now) ≡ true }
+        requires room { array_vec_len out.old + size (layout version) ≤ longest_frame }
+        ensures bytes { out.new.items ≡ out.old.items
+            ++ spelled (layout version) (said self.now) }
+        ensures len { array_vec_len out.new ≡ array_vec_len out.old + size (layout version) };
 
-    ghost one_each: { (x : Self) → length (said x) ≡ length layout };
+    ghost one_each: { (v : AnyVersion) (x : Self) → length (said x) ≡ length (layout v) };
 }
 
 /// The side that a number stands for.
@@ -83,15 +86,15 @@ impl Row for Update {
 
     ghost in_range = { λ x. FitsSigned w64 x.delta };
 
-    ghost one_each = { λ x. refl };
+    ghost one_each = { λ v x. refl };
 
-    fn size() -> usize {
-        13
+    fn size(version: Version) -> usize {
+        9 + version.index_width()
     }
 
-    fn take(bytes: &[u8]) -> Option<(Self, &[u8])> {
+    fn take(version: Version, bytes: &[u8]) -> Option<(Self, &[u8])> {
         let (side, rest) = take_u8(bytes);
-        let (item, rest) = take_u32(rest);
+        let (item, rest) = take_index(version, rest);
         let (delta, rest) = take_u64(rest);
         if side > 1 || delta == 0 {
             return None;
@@ -99,21 +102,21 @@ impl Row for Update {
         Some((
             Update {
                 side: side_of(side),
-                item: item as u64,
+                item,
                 delta: delta.cast_signed(),
             },
             rest,
         ))
     }
 
-    fn fits(&self) -> bool {
+    fn fits(&self, version: Version) -> bool {
         let delta = self.delta.cast_unsigned();
-        self.item < INDICES && delta != 0
+        version.has_room(self.item) && delta != 0
     }
 
-    fn put(&self, out: &mut Bytes) {
+    fn put(&self, version: Version, out: &mut Bytes) {
         put_u8(out, number_of(self.side));
-        put_u32(out, self.item as u32);
+        put_index(version, out, self.item);
         put_u64(out, self.delta.cast_unsigned());
     }
 }
@@ -125,34 +128,34 @@ impl Row for Entry {
 
     ghost in_range = { λ x. FitsSigned w64 x.value };
 
-    ghost one_each = { λ x. refl };
+    ghost one_each = { λ v x. refl };
 
-    fn size() -> usize {
-        12
+    fn size(version: Version) -> usize {
+        8 + version.index_width()
     }
 
-    fn take(bytes: &[u8]) -> Option<(Self, &[u8])> {
-        let (index, rest) = take_u32(bytes);
+    fn take(version: Version, bytes: &[u8]) -> Option<(Self, &[u8])> {
+        let (index, rest) = take_index(version, bytes);
         let (value, rest) = take_u64(rest);
         if value == 0 || !is_small(value) {
             return None;
         }
         Some((
             Entry {
-                index: index as u64,
+                index,
                 value: value.cast_signed(),
             },
             rest,
         ))
     }
 
-    fn fits(&self) -> bool {
+    fn fits(&self, version: Version) -> bool {
         let value = self.value.cast_unsigned();
-        self.index < INDICES && value != 0 && is_small(value)
+        version.has_room(self.index) && value != 0 && is_small(value)
     }
 
-    fn put(&self, out: &mut Bytes) {
-        put_u32(out, self.index as u32);
+    fn put(&self, version: Version, out: &mut Bytes) {
+        put_index(version, out, self.index);
         put_u64(out, self.value.cast_unsigned());
     }
 }
@@ -164,33 +167,27 @@ impl Row for Leaf {
 
     ghost in_range = { λ _. ⊤ };
 
-    ghost one_each = { λ x. refl };
+    ghost one_each = { λ v x. refl };
 
-    fn size() -> usize {
-        12
+    fn size(version: Version) -> usize {
+        8 + version.index_width()
     }
 
-    fn take(bytes: &[u8]) -> Option<(Self, &[u8])> {
-        let (item, rest) = take_u32(bytes);
+    fn take(version: Version, bytes: &[u8]) -> Option<(Self, &[u8])> {
+        let (item, rest) = take_index(version, bytes);
         let (count, rest) = take_u64(rest);
         if !is_element(count) {
             return None;
         }
-        Some((
-            Leaf {
-                item: item as u64,
-                count,
-            },
-            rest,
-        ))
+        Some((Leaf { item, count }, rest))
     }
 
-    fn fits(&self) -> bool {
-        self.item < INDICES && is_element(self.count)
+    fn fits(&self, version: Version) -> bool {
+        version.has_room(self.item) && is_element(self.count)
     }
 
-    fn put(&self, out: &mut Bytes) {
-        put_u32(out, self.item as u32);
+    fn put(&self, version: Version, out: &mut Bytes) {
+        put_index(version, out, self.item);
         put_u64(out, self.count);
     }
 }
@@ -202,35 +199,28 @@ impl Row for Node {
 
     ghost in_range = { λ _. ⊤ };
 
-    ghost one_each = { λ x. refl };
+    ghost one_each = { λ v x. refl };
 
-    fn size() -> usize {
-        20
+    fn size(version: Version) -> usize {
+        16 + version.index_width()
     }
 
-    fn take(bytes: &[u8]) -> Option<(Self, &[u8])> {
-        let (index, rest) = take_u32(bytes);
+    fn take(version: Version, bytes: &[u8]) -> Option<(Self, &[u8])> {
+        let (index, rest) = take_index(version, bytes);
         let (hash, rest) = take_u64(rest);
         let (count, rest) = take_u64(rest);
         if !is_element(hash) || !is_element(count) {
             return None;
         }
-        Some((
-            Node {
-                index: index as u64,
-                hash,
-                count,
-            },
-            rest,
-        ))
+        Some((Node { index, hash, count }, rest))
     }
 
-    fn fits(&self) -> bool {
-        self.index < INDICES && is_element(self.hash) && is_element(self.count)
+    fn fits(&self, version: Version) -> bool {
+        version.has_room(self.index) && is_element(self.hash) && is_element(self.count)
     }
 
-    fn put(&self, out: &mut Bytes) {
-        put_u32(out, self.index as u32);
+    fn put(&self, version: Version, out: &mut Bytes) {
+        put_index(version, out, self.index);
         put_u64(out, self.hash);
         put_u64(out, self.count);
     }

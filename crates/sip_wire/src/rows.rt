@@ -7,28 +7,33 @@ ghost use Rattle.sip_wire.specs.Table.{size, repeat, counted, most_rows, longest
 ghost use Rattle.sip_wire.specs.Spelling.{in_bytes, numbers_in, all_hold, ReadsRows};
 ghost use Rattle.sip_wire.specs.Rows.{over, rooms, holds, bytes};
 
+use crate::Version;
 use crate::message::WireFault;
 use crate::numbers::{Bytes, put_u16, take_u16};
 use crate::row::Row;
 use arrayvec::ArrayVec;
 
 /// So many rows, if each number is one that its field may hold.
-fn rows_of<T: Row + Drop, const CAP: usize>(count: usize, bytes: &[u8]) -> Option<ArrayVec<T, CAP>>
+fn rows_of<T: Row + Drop, const CAP: usize>(
+    version: Version,
+    count: usize,
+    bytes: &[u8],
+) -> Option<ArrayVec<T, CAP>>
     requires room { count ≤ CAP }
-    requires whole { length bytes.now ≡ size (repeat count T.layout) }
+    requires whole { length bytes.now ≡ size (repeat count (T.layout version)) }
     ensures count { IfSome result (λ v. length v.items ≡ count) }
     ensures said { IfSome result (λ v. flat_map T.said v.items
-        ≡ numbers_in (repeat count T.layout) bytes.now) }
-    ensures some { IfSome result (λ v. all_hold (repeat count T.layout)
-        (numbers_in (repeat count T.layout) bytes.now) ≡ true) }
+        ≡ numbers_in (repeat count (T.layout version)) bytes.now) }
+    ensures some { IfSome result (λ v. all_hold (repeat count (T.layout version))
+        (numbers_in (repeat count (T.layout version)) bytes.now) ≡ true) }
     ensures in_range { IfSome result (λ v. All T.in_range v.items) }
-    ensures none { IfNone result (all_hold (repeat count T.layout)
-        (numbers_in (repeat count T.layout) bytes.now) ≡ false) }
+    ensures none { IfNone result (all_hold (repeat count (T.layout version))
+        (numbers_in (repeat count (T.layout version)) bytes.now) ≡ false) }
 {
     let mut rows = ArrayVec::new();
     let mut rest = bytes;
     for _ in 0..count {
-        let (row, after) = T::take(rest)?;
+        let (row, after) = T::take(version, rest)?;
         rows.push(row);
         rest = after;
     }
@@ -36,11 +41,12 @@ fn rows_of<T: Row + Drop, const CAP: usize>(count: usize, bytes: &[u8]) -> Optio
 }
 
 /// Whether each row fits.
-pub fn rows_fit<T: Row>(rows: &[T]) -> bool
-    ensures { result ≡ (rooms T.said T.layout rows.now && holds T.said T.layout rows.now) }
+pub fn rows_fit<T: Row>(version: Version, rows: &[T]) -> bool
+    ensures { result ≡ (rooms T.said (T.layout version) rows.now
+        && holds T.said (T.layout version) rows.now) }
 {
     for row in rows {
-        if !row.fits() {
+        if !row.fits(version) {
             return false;
         }
     }
@@ -48,13 +54,14 @@ pub fn rows_fit<T: Row>(rows: &[T]) -> bool
 }
 
 /// Appends the rows' bytes.
-fn put_rows<T: Row>(rows: &[T], out: &mut Bytes)
-    requires fits { rooms T.said T.layout rows.now ≡ true }
-    requires room { array_vec_len out.old + size (over T.layout rows.now) ≤ longest_frame }
-    ensures bytes { out.new.items ≡ out.old.items ++ bytes T.said T.layout rows.now }
+fn put_rows<T: Row>(version: Version, rows: &[T], out: &mut Bytes)
+    requires fits { rooms T.said (T.layout version) rows.now ≡ true }
+    requires room { array_vec_len out.old + size (over (T.layout version) rows.now)
+        ≤ longest_frame }
+    ensures bytes { out.new.items ≡ out.old.items ++ bytes T.said (T.layout version) rows.now }
 {
     for row in rows {
-        row.put(out);
+        row.put(version, out);
     }
 }
 
@@ -62,17 +69,18 @@ fn put_rows<T: Row>(rows: &[T], out: &mut Bytes)
 /// `BadNumber` where a field may not hold its number.
 #[tactic(auto, using(crate::proofs::Counting::size_repeat), unfolding(crate::specs::Spelling::body_fault))]
 pub fn counted_of<T: Row + Drop, const CAP: usize>(
+    version: Version,
     body: &[u8],
 ) -> Result<ArrayVec<T, CAP>, WireFault>
     requires { 2 ≤ length body.now }
-    ensures { ReadsRows T.said T.in_range (counted CAP T.layout) body.now result }
+    ensures { ReadsRows T.said T.in_range (counted CAP (T.layout version)) body.now result }
 {
     let (count, rest) = take_u16(body);
     let count = count as usize;
-    if count < 1 || count > CAP || body.len() != 2 + count * T::size() {
+    if count < 1 || count > CAP || body.len() != 2 + count * T::size(version) {
         return Err(WireFault::BadCount);
     }
-    match rows_of(count, rest) {
+    match rows_of(version, count, rest) {
         Some(rows) => Ok(rows),
         None => Err(WireFault::BadNumber),
     }
@@ -80,13 +88,14 @@ pub fn counted_of<T: Row + Drop, const CAP: usize>(
 
 /// Appends the count of the rows, and their bytes.
 #[tactic(auto, using(std::proofs::lemmas::Grind::common_steps))]
-pub fn put_counted<T: Row>(rows: &[T], out: &mut Bytes)
-    requires fits { rooms T.said T.layout rows.now ≡ true }
+pub fn put_counted<T: Row>(version: Version, rows: &[T], out: &mut Bytes)
+    requires fits { rooms T.said (T.layout version) rows.now ≡ true }
     requires count { length rows.now ≤ most_rows }
-    requires room { array_vec_len out.old + (2 + size (over T.layout rows.now)) ≤ longest_frame }
+    requires room { array_vec_len out.old + (2 + size (over (T.layout version) rows.now))
+        ≤ longest_frame }
     ensures { out.new.items ≡ out.old.items ++ (in_bytes 2 (length rows.now)
-        ++ bytes T.said T.layout rows.now) }
+        ++ bytes T.said (T.layout version) rows.now) }
 {
     put_u16(out, rows.len() as u16);
-    put_rows(rows, out);
+    put_rows(version, rows, out);
 }

@@ -6,67 +6,70 @@ ghost use Rattle.arrayvec.specs.ArrayVec.{array_vec_len};
 ghost use Rattle.sip_wire.specs.Table.{size, shape, query_shape, siblings_shape, query_fields, longest_body, longest_frame};
 ghost use Rattle.sip_wire.specs.Spelling.{flag, present, body_in, body_of, fits, fits_shape, kind_of, mark_of, query_code, query_numbers};
 
+use crate::Version;
 use crate::message::{Leaf, Message, Node};
-use crate::numbers::{Bytes, put_u8, put_u32, put_u64};
+use crate::numbers::{Bytes, put_index, put_u8, put_u32, put_u64};
 use crate::row::{Row, number_of};
 use crate::rows::put_counted;
 use sip_vector::{Entry, Query, Update};
 
 /// How many bytes the body of a query has.
-fn query_len(query: Query) -> usize
-    ensures { result ≡ 1 + size (query_fields (query_code query)) }
+fn query_len(version: Version, query: Query) -> usize
+    ensures { result ≡ 1 + size (query_fields version (query_code query)) }
 {
     match query {
-        Query::Sub { .. } => 9,
-        Query::Range { .. } | Query::Heavy { .. } => 10,
+        Query::Sub { .. } => 1 + 2 * version.index_width(),
+        Query::Range { .. } => 2 + 2 * version.index_width(),
+        Query::Heavy { .. } | Query::Share { .. } => 10,
         Query::F2 { .. } => 2,
         Query::Inner => 1,
     }
 }
 
 /// How many bytes the body of a message has.
-pub fn body_len(message: &Message) -> usize
-    ensures exact { result ≡ (shape (kind_of message.now)).mark_width + size
-        ((shape (kind_of message.now)).fields (mark_of message.now)) }
+pub fn body_len(version: Version, message: &Message) -> usize
+    ensures exact { result ≡ (shape version (kind_of message.now)).mark_width + size
+        ((shape version (kind_of message.now)).fields (mark_of message.now)) }
     ensures room { result ≤ longest_body }
 {
     match message {
         Message::Open { .. } => 2,
-        Message::Updates(rows) => 2 + Update::size() * rows.len(),
+        Message::Updates(rows) => 2 + Update::size(version) * rows.len(),
         Message::EndStream | Message::Bye | Message::LevelEnd => 0,
-        Message::Query(query) => query_len(*query),
+        Message::Query(query) => query_len(version, *query),
         Message::Reveal { .. } | Message::Claim { .. } => 8,
         Message::Poly { .. } => 24,
-        Message::Entries(rows) => 2 + Entry::size() * rows.len(),
+        Message::Entries(rows) => 2 + Entry::size(version) * rows.len(),
         Message::Siblings { left, right } => match (left, right) {
             (None, None) => 1,
             (Some(_), Some(_)) => 17,
             _ => 9,
         },
-        Message::Leaves(rows) => 2 + Leaf::size() * rows.len(),
-        Message::Nodes(rows) => 2 + Node::size() * rows.len(),
+        Message::Leaves(rows) => 2 + Leaf::size(version) * rows.len(),
+        Message::Nodes(rows) => 2 + Node::size(version) * rows.len(),
         Message::Refuse { .. } => 1,
     }
 }
 
 /// Appends the body of a query.
-fn put_query(query: Query, out: &mut Bytes)
-    requires fits { IsTrue (fits_shape query_shape (query_code query) (query_numbers query)) }
-    requires room { array_vec_len out.old + 10 ≤ longest_frame }
-    ensures { out.new.items ≡ out.old.items ++ body_in query_shape (query_code query)
+fn put_query(version: Version, query: Query, out: &mut Bytes)
+    requires fits { IsTrue (fits_shape (query_shape version) (query_code query)
+        (query_numbers query)) }
+    requires room { array_vec_len out.old + 18 ≤ longest_frame }
+    ensures { out.new.items ≡ out.old.items ++ body_in (query_shape version) (query_code query)
         (query_numbers query) }
 {
     match query {
         Query::Sub { lo, hi } => {
             put_u8(out, 1);
-            put_u32(out, lo as u32);
-            put_u32(out, hi as u32);
+            put_index(version, out, lo);
+            put_index(version, out, hi);
         }
         Query::Range { side, lo, hi } => {
             put_u8(out, 2);
             put_u8(out, number_of(side));
-            put_u32(out, lo as u32);
-            put_u32(out, hi as u32);
+            put_index(version, out, lo);
+            put_index(version, out, hi);
         }
         Query::F2 { side } => {
             put_u8(out, 3);
@@ -77,6 +80,12 @@ fn put_query(query: Query, out: &mut Bytes)
             put_u8(out, 5);
             put_u8(out, number_of(side));
             put_u64(out, at_least);
+        }
+        Query::Share { side, num, den } => {
+            put_u8(out, 6);
+            put_u8(out, number_of(side));
+            put_u32(out, num);
+            put_u32(out, den);
         }
     }
 }
@@ -106,19 +115,22 @@ fn put_siblings(left: Option<u64>, right: Option<u64>, out: &mut Bytes)
 }
 
 /// Appends the body of a message.
-pub fn put_body(message: &Message, out: &mut Bytes)
-    requires fits { IsTrue (fits message.now) }
+pub fn put_body(version: Version, message: &Message, out: &mut Bytes)
+    requires fits { IsTrue (fits version message.now) }
     requires room { array_vec_len out.old ≡ 3 }
-    ensures { out.new.items ≡ out.old.items ++ body_of message.now }
+    ensures { out.new.items ≡ out.old.items ++ body_of version message.now }
 {
     match message {
-        Message::Open { version, depth } => {
-            put_u8(out, *version);
+        Message::Open {
+            version: number,
+            depth,
+        } => {
+            put_u8(out, *number);
             put_u8(out, *depth);
         }
-        Message::Updates(rows) => put_counted(rows, out),
+        Message::Updates(rows) => put_counted(version, rows, out),
         Message::EndStream | Message::Bye | Message::LevelEnd => {}
-        Message::Query(query) => put_query(*query, out),
+        Message::Query(query) => put_query(version, *query, out),
         Message::Reveal { challenge } => put_u64(out, *challenge),
         Message::Claim { value } => put_u64(out, value.cast_unsigned()),
         Message::Poly { c0, c1, c2 } => {
@@ -126,10 +138,10 @@ pub fn put_body(message: &Message, out: &mut Bytes)
             put_u64(out, *c1);
             put_u64(out, *c2);
         }
-        Message::Entries(rows) => put_counted(rows, out),
+        Message::Entries(rows) => put_counted(version, rows, out),
         Message::Siblings { left, right } => put_siblings(*left, *right, out),
-        Message::Leaves(rows) => put_counted(rows, out),
-        Message::Nodes(rows) => put_counted(rows, out),
+        Message::Leaves(rows) => put_counted(version, rows, out),
+        Message::Nodes(rows) => put_counted(version, rows, out),
         Message::Refuse { code } => put_u8(out, *code),
     }
 }

@@ -1,12 +1,13 @@
 -- How far the words of a command were read.
-use Rattle.std.specs.Prelude.{◌≡◌, ℕ, ◌+◌, ◌<◌, ◌≤◌, List, length, slice_index_or}
+use Rattle.std.specs.Prelude.{◌≡◌, ℕ, ◌+◌, ◌<◌, ◌≤◌, List, [], ◌∷◌, length, slice_index_or}
 use Rattle.sip_vector.specs.declared.query.Query.{Query}
 use Rattle.sip_vector.specs.declared.query.Query.TheVariants.{Inner}
+use Rattle.sip_wire.specs.Table.{most_queries}
 use Rattle.sip_cli.specs.declared.shape.Shape.{Shape}
-use Rattle.sip_cli.specs.declared.shape.Shape.TheVariants.{Name}
+use Rattle.sip_cli.specs.declared.shape.Shape.TheVariants.{Name, Stream, Depth}
 use Rattle.sip_cli.specs.declared.verb.Verb.{Verb}
 use Rattle.sip_cli.specs.Shapes.{IsOf, Asks}
-use Rattle.sip_cli.specs.Verbs.{verb_word, shapes, most_queries}
+use Rattle.sip_cli.specs.Verbs.{verb_word, shapes, least_asked, most_asked}
 use Rattle.sip_cli.specs.Words.{word}
 
 -- there are n words behind the verb, and they have the first n shapes
@@ -26,6 +27,12 @@ pub record StopsInShapes (shapes : List Shape) (words : List (List ℕ)) (number
 abbrev pub Fitted : Verb → List (List ℕ) → Type 0
 Fitted verb words =
     (word words 0 ≡ verb_word verb) × HaveShapes (shapes verb) words (length (shapes verb))
+
+-- behind the verb stand a stream and a depth, and no queries
+pub record TakesStream (verb : Verb) : Type 0 where
+  pub shaped : shapes verb ≡ Stream ∷ Depth ∷ []
+  pub least : least_asked verb ≡ 0
+  pub most : most_asked verb ≡ 0
 
 -- the words from 7 up to n are these queries
 pub record AreAsked (words : List (List ℕ)) (depth : ℕ) (queries : List Query) (n : ℕ)

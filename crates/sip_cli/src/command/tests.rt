@@ -23,7 +23,7 @@ fn refused_at(words: &Words) -> Option<u32> {
 
 // Words, and the number of the first of them that no command has behind the words before it, found by hand; none where
 // they are a command.
-const REFUSALS: [(&str, Option<u32>); 107] = [
+const REFUSALS: [(&str, Option<u32>); 145] = [
     ("", Some(0)),
     ("audit|s|t", Some(0)),
     ("show|t", Some(0)),
@@ -33,6 +33,7 @@ const REFUSALS: [(&str, Option<u32>); 107] = [
     ("verify", Some(1)),
     ("verify||k|f|t|-|3|sub:1:2", Some(1)),
     ("verify|text:|k|f|t|-|3|sub:1:2", Some(1)),
+    ("verify|wide:|k|f|t|-|3|sub:1:2", Some(1)),
     ("verify|made:|k|f|t|-|3|sub:1:2", Some(1)),
     ("verify|made:7|k|f|t|-|3|sub:1:2", Some(1)),
     ("verify|made:07:20|k|f|t|-|3|sub:1:2", Some(1)),
@@ -51,11 +52,15 @@ const REFUSALS: [(&str, Option<u32>); 107] = [
     ("verify|s|k|f||+|3|sub:1:2", Some(4)),
     ("verify|s|k|f|t", Some(5)),
     ("verify|s|k|f|t|r|3|sub:1:2", Some(5)),
+    ("verify|s|k|f|t|r|33|sub:1:2", Some(5)),
     ("verify|s|k|f|t|--|3|sub:1:2", Some(5)),
     ("verify|s|k|f|t||3|sub:1:2", Some(5)),
     ("verify|s|k|f|t|-", Some(6)),
     ("verify|s|k|f|t|-|0|sub:0:0", Some(6)),
-    ("verify|s|k|f|t|-|33|sub:1:2", Some(6)),
+    ("verify|s|k|f|t|-|49|sub:1:2", Some(6)),
+    ("verify|s|k|f|t|-|49|inner", Some(6)),
+    ("verify|wide:s|k|f|t|-|49|sub:1:2", Some(6)),
+    ("verify|s|k|f|t|-|048|sub:1:2", Some(6)),
     ("verify|s|k|f|t|-|03|sub:1:2", Some(6)),
     ("verify|s|k|f|t|-|+3|sub:1:2", Some(6)),
     ("verify|s|k|f|t|-|3x|sub:1:2", Some(6)),
@@ -77,13 +82,18 @@ const REFUSALS: [(&str, Option<u32>); 107] = [
     ("verify|s|k|f|t|-|3|inner", Some(7)),
     ("verify|s|k|f|t|-|3|heavy:0:4", Some(7)),
     ("verify|s|k|f|t|-|3|range:0:1:2", Some(7)),
+    ("verify|s|k|f|t|-|3|share:0:1:2", Some(7)),
+    ("verify|s|k|f|t|-|48|share:0:1:2", Some(7)),
     ("verify|s|k|f|t|-|20|sub:0:1048576", Some(7)),
     ("verify|s|k|f|t|-|32|sub:0:4294967296", Some(7)),
     ("verify|s|k|f|t|-|32|sub:0:18446744073709551616", Some(7)),
+    ("verify|s|k|f|t|-|33|sub:0:8589934592", Some(7)),
+    ("verify|s|k|f|t|-|48|sub:0:281474976710656", Some(7)),
     ("verify|s|k|f|t|-|2|f2:2", Some(7)),
     ("verify|s|k|f|t|-|2|sub:01:2", Some(7)),
     ("verify|s|k|f|t|-|3|sub:1:2|", Some(8)),
     ("verify|s|k|f|t|-|3|sub:1:2|f2:0", Some(8)),
+    ("verify|s|k|f|t|-|3|sub:1:2|share:1:1:1", Some(8)),
     ("verify|s|k|f|t|-|3|sub:1:2|sub:0:8|sub:2:1", Some(8)),
     ("verify|s|k|f|t|-|3|sub:1:2|sub:0:7|sub:0:8", Some(9)),
     ("verify|s|k|f|t|-|3|sub:1:2", None),
@@ -91,15 +101,21 @@ const REFUSALS: [(&str, Option<u32>); 107] = [
     ("verify|s|k|f|t|-|3|sub:0:7|sub:7:7|sub:0:0", None),
     ("verify|s|k|f|t|-|21|sub:1:2", None),
     ("verify|s|k|f|t|-|32|sub:0:4294967295", None),
+    ("verify|s|k|f|t|-|33|sub:0:8589934591", None),
+    ("verify|s|k|f|t|-|48|sub:0:281474976710655", None),
+    ("verify|wide:s|k|f|t|-|48|sub:1:2", None),
+    ("verify|wide:s|k|f|t|-|3|sub:1:2", None),
     ("verify|text:s|k|f|t|-|3|sub:1:2", None),
     ("verify|text:made:7:20|k|f|t|-|3|sub:1:2", None),
+    ("verify|wide:text:|k|f|t|-|3|sub:1:2", None),
     ("verify|made:0:0|k|f|t|-|3|sub:1:2", None),
     (
         "verify|made:18446744073709551615:10000000|k|f|t|-|20|sub:1:2",
         None,
     ),
-    ("verify|-|made:|text:|-|-|1|sub:0:0", None),
+    ("verify|-|made:|text:|wide:|-|1|sub:0:0", None),
     ("verify|made|k|f|t|-|20|sub:0:1048575", None),
+    ("verify|wide|k|f|t|-|20|sub:0:1048575", None),
     ("help", Some(1)),
     ("help|", Some(1)),
     ("help|f", Some(2)),
@@ -118,11 +134,12 @@ const REFUSALS: [(&str, Option<u32>); 107] = [
     ("gen|7|1e3|20", Some(2)),
     ("gen|7|1", Some(3)),
     ("gen|7|1|0", Some(3)),
-    ("gen|7|1|33", Some(3)),
+    ("gen|7|1|49", Some(3)),
     ("gen|7|1|020", Some(3)),
     ("gen|7|1|20|", Some(4)),
     ("gen|7|1|20|20", Some(4)),
     ("gen|18446744073709551615|10000000|32", None),
+    ("gen|18446744073709551615|10000000|48", None),
     ("gen|0|0|1", None),
     ("lines", Some(1)),
     ("lines||20", Some(1)),
@@ -130,13 +147,34 @@ const REFUSALS: [(&str, Option<u32>); 107] = [
     ("lines|made:7:1x|20", Some(1)),
     ("lines|made:7|20", Some(1)),
     ("lines|s", Some(2)),
-    ("lines|made:7:1|33", Some(2)),
+    ("lines|made:7:1|49", Some(2)),
     ("lines|made:7:1|0", Some(2)),
     ("lines|s|", Some(2)),
     ("lines|s|20|20", Some(3)),
     ("lines|text:made:7|32", None),
     ("lines|made:7:1|20", None),
     ("lines|lines|1", None),
+    ("lines|wide:s|48", None),
+    ("lines|wide:|48", Some(1)),
+    ("widen", Some(1)),
+    ("widen||20", Some(1)),
+    ("widen|wide:|20", Some(1)),
+    ("widen|text:|20", Some(1)),
+    ("widen|made:7:10000001|20", Some(1)),
+    ("widen|s", Some(2)),
+    ("widen|s|0", Some(2)),
+    ("widen|s|49", Some(2)),
+    ("widen|s|048", Some(2)),
+    ("widen|s|", Some(2)),
+    ("widen|s|20|w", Some(3)),
+    ("widen|s|20|", Some(3)),
+    ("widen|s|1", None),
+    ("widen|text:s|33", None),
+    ("widen|wide:s|48", None),
+    ("widen|made:7:10000000|48", None),
+    ("wide|s|20", Some(0)),
+    ("wide:s|20", Some(0)),
+    ("Widen|s|20", Some(0)),
 ];
 
 #[test]
@@ -187,11 +225,33 @@ fn reads_the_task(rt: HostRuntime) -> Result<(), Fail> {
     Ok(())
 }
 
+// The form of the stream of `verify`.
+#[test]
+fn the_form_of_a_made_stream_is_that_of_its_depth(rt: HostRuntime) -> Result<(), Fail> {
+    let alloc = rt.alloc();
+    for (text, form) in [
+        ("verify|made:7:20|k|f|t|-|32|sub:1:2", Form::Binary),
+        ("verify|made:7:20|k|f|t|-|33|sub:1:2", Form::Wide),
+        ("verify|made:7:20|k|f|t|-|48|sub:1:2", Form::Wide),
+        ("verify|s|k|f|t|-|48|sub:1:2", Form::Binary),
+        ("verify|wide:s|k|f|t|-|3|sub:1:2", Form::Wide),
+        ("verify|text:s|k|f|t|-|48|sub:1:2", Form::Text),
+    ] {
+        match read_words(&words(alloc, text)?) {
+            Ok(Command::Verify(task)) => assert_eq!(rt; task.form, form, "at {text}"),
+            _ => assert!(rt; false, "at {text}"),
+        }
+    }
+    Ok(())
+}
+
 // The form of what is read, if it has one, and the depth.
 fn form_and_depth(command: &Command) -> (Option<Form>, u8) {
     match command {
         Command::Gen { depth } => (None, depth.get()),
-        Command::Lines { form, depth } => (Some(*form), depth.get()),
+        Command::Lines { form, depth } | Command::Widen { form, depth } => {
+            (Some(*form), depth.get())
+        }
         Command::Verify(_) | Command::Help => (None, 0),
     }
 }
@@ -201,9 +261,18 @@ fn reads_a_depth_and_a_form(rt: HostRuntime) -> Result<(), Fail> {
     let alloc = rt.alloc();
     for (text, form, depth) in [
         ("gen|7|1|32", None, 32),
+        ("gen|7|1|48", None, 48),
         ("lines|s|1", Some(Form::Binary), 1),
         ("lines|made:7:1|20", Some(Form::Binary), 20),
         ("lines|text:s|13", Some(Form::Text), 13),
+        ("lines|made:7:1|32", Some(Form::Binary), 32),
+        ("lines|made:7:1|33", Some(Form::Wide), 33),
+        ("lines|wide:s|20", Some(Form::Wide), 20),
+        ("widen|s|48", Some(Form::Binary), 48),
+        ("widen|made:7:1|20", Some(Form::Binary), 20),
+        ("widen|made:7:1|48", Some(Form::Wide), 48),
+        ("widen|wide:s|33", Some(Form::Wide), 33),
+        ("widen|text:s|33", Some(Form::Text), 33),
     ] {
         match read_words(&words(alloc, text)?) {
             Ok(command) => assert_eq!(rt; form_and_depth(&command), (form, depth), "at {text}"),
@@ -214,7 +283,7 @@ fn reads_a_depth_and_a_form(rt: HostRuntime) -> Result<(), Fail> {
 }
 
 // The files of commands: of the stream and the seed, and the two ends of the link.
-const FILES: [(&str, [Option<&str>; 4]); 9] = [
+const FILES: [(&str, [Option<&str>; 4]); 13] = [
     (
         "verify|s|k|f|t|-|3|sub:1:2",
         [Some("s"), Some("k"), Some("f"), Some("t")],
@@ -235,7 +304,11 @@ const FILES: [(&str, [Option<&str>; 4]); 9] = [
         [Some("\u{e9}t\u{e9}"), None, None, None],
     ),
     ("lines|s|32", [Some("s"), None, None, None]),
-    ("lines|s|33", [None; 4]),
+    ("lines|s|49", [None; 4]),
+    ("lines|wide:w|48", [Some("w"), None, None, None]),
+    ("widen|wide:text:|48", [Some("text:"), None, None, None]),
+    ("widen|s|48", [Some("s"), None, None, None]),
+    ("widen|s|49", [None; 4]),
 ];
 
 #[test]
@@ -256,7 +329,7 @@ fn opens_the_files_of_a_command(rt: HostRuntime) -> Result<(), Fail> {
 }
 
 // The made streams of commands: their numbers, how many records, and their depths.
-const MADE: [(&str, (u64, u64, u8)); 4] = [
+const MADE: [(&str, (u64, u64, u8)); 6] = [
     ("verify|made:7:20|k|f|t|-|3|sub:1:2", (7, 20, 3)),
     ("gen|7|100|20", (7, 100, 20)),
     (
@@ -264,6 +337,8 @@ const MADE: [(&str, (u64, u64, u8)); 4] = [
         (u64::MAX, 10_000_000, 32),
     ),
     ("lines|made:0:1|32", (0, 1, 32)),
+    ("widen|made:7:10000000|48", (7, 10_000_000, 48)),
+    ("verify|made:7:20|k|f|t|-|48|sub:1:2", (7, 20, 48)),
 ];
 
 // What a made stream is made of.

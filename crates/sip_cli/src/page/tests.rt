@@ -43,6 +43,7 @@ fn the_page_has_an_example_of_each_command(rt: HostRuntime) -> Result<(), Fail> 
         "help to.fifo from.fifo",
         "gen 7 100000 20",
         "lines log.stream 20",
+        "widen log.stream 20",
     ] {
         assert!(rt;
             read_words(&words(alloc, example, ' ')?).is_ok(),

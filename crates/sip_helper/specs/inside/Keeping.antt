@@ -7,13 +7,16 @@ use Rattle.sip_helper.specs.declared.vectors.Vectors.{Vectors}
 use Rattle.sip_helper.specs.declared.vectors.Weights.{Weights}
 use Rattle.sip_helper.specs.inside.Answering.{CanReply}
 use Rattle.sip_helper.specs.inside.Legal.{HaveWeights}
-use Rattle.sip_helper.specs.Turns.{depth_of, is_light, most_queries, no_weight}
+use Rattle.sip_helper.specs.Turns.{depth_of, is_light, no_weight}
+use Rattle.sip_wire.specs.declared.version.Version.{Version}
+use Rattle.sip_wire.specs.Table.{most_queries}
+use Rattle.sip_wire.specs.Versions.{deepest}
 
--- No side is too heavy, the vectors are those of the depth and the weights, and a query is open
--- only behind the stream.
-pub record IsCoherent (heard : Heard) (weights : Weights) (vectors : Option Vectors) (queries : ℕ)
-    (asked : Option Asked) : Type 0 where
-  pub deep : depth_of heard ≤ 32
+-- The depth is one of the version, no side is too heavy, the vectors are those of the depth and the
+-- weights, and a query is open only behind the stream.
+pub record IsCoherent (version : Version) (heard : Heard) (weights : Weights)
+    (vectors : Option Vectors) (queries : ℕ) (asked : Option Asked) : Type 0 where
+  pub deep : depth_of heard ≤ deepest version
   pub light : IsTrue (is_light weights)
   pub none : heard ≡ Nothing → weights ≡ no_weight
   pub are : IfSome vectors (HaveWeights (depth_of heard) weights)

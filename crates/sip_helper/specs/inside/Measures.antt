@@ -1,9 +1,11 @@
 -- How many turns a talk has left at most.
 use Rattle.std.specs.Prelude.{ℕ, ◌+◌, ◌-◌, ◌*◌, length, Option, Some, None}
+use Rattle.sip_vector.specs.Limits.{most_depth}
 use Rattle.sip_vector.specs.Streams.{most_weight}
+use Rattle.sip_wire.specs.Table.{most_queries}
 use Rattle.sip_helper.specs.declared.heard.Heard.{Heard}
 use Rattle.sip_helper.specs.declared.heard.Heard.TheVariants.{Nothing, Part, Whole}
-use Rattle.sip_helper.specs.Turns.{HelperState, OpenQuery, most_queries}
+use Rattle.sip_helper.specs.Turns.{HelperState, OpenQuery}
 
 -- the opening, and the end of the stream
 abbrev pub stream_left : Heard → ℕ
@@ -14,10 +16,10 @@ stream_left (Whole depth) = 0
 -- the challenges of the open query
 abbrev pub challenges_left : Option OpenQuery → ℕ
 challenges_left None = 0
-challenges_left (Some o) = 31 - length o.revealed
+challenges_left (Some o) = most_depth - 1 - length o.revealed
 
--- an update weighs 1 at least, and a query has fewer than 32 challenges
+-- an update weighs 1 at least, and a query has fewer challenges than a talk has levels
 abbrev pub turns_left : HelperState → ℕ
 turns_left s =
     stream_left s.heard + (most_weight - s.weights.first) + (most_weight - s.weights.second)
-    + 32 * (most_queries - s.queries) + challenges_left s.open_query
+    + most_depth * (most_queries - s.queries) + challenges_left s.open_query

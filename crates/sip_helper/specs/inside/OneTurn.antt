@@ -15,7 +15,7 @@ pub record Taken (old new : Option (List TalkEvent)) (s next : HelperState)
   pub state : next ≡ after_turn s turn
   pub going : next.done ≡ false
   pub talk : GoesOn old new (turn_talk s turn)
-  pub whole : got ≡ spelling turn.message
+  pub whole : got ≡ spelling s.version turn.message
 
 -- nothing more is taken
 pub record StopsTurn (old new : Option (List TalkEvent)) (s : HelperState) (at : ℕ)

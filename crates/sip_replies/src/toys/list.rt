@@ -9,7 +9,7 @@ use super::events;
 use crate::{AskStop, Check, More, Said, ask};
 use sip_field::{Field, M61, Seat};
 use sip_ports::{MemoryLink, MemorySink};
-use sip_vector::{Entry, Query, Side};
+use sip_vector::{CAP, Entry, Query, Side};
 use sip_wire::{Frame, Message, Place, Reason, Version};
 use std::alloc::{AllocError, Global};
 use std::test::Fail;
@@ -17,7 +17,7 @@ use std::test::Fail;
 // The check of a list: how many values came, and the challenges that were revealed.
 #[derive(Drop)]
 struct ListCheck<'a> {
-    seat: &'a Seat<M61, 32>,
+    seat: &'a Seat<M61, CAP>,
     most: usize,
     count: usize,
     learnt: Vec<u64>,
@@ -31,7 +31,7 @@ impl<'a> ListCheck<'a> {
     // A check of so many values at most.
     fn start(
         alloc: Global,
-        seat: &'a Seat<M61, 32>,
+        seat: &'a Seat<M61, CAP>,
         most: usize,
     ) -> Result<ListCheck<'a>, AllocError>
         ensures stands { IfOk result (λ check. (places : List AnyEntry) → most ≤ length places

@@ -10,7 +10,7 @@ use super::events;
 use crate::{AskStop, Check, More, Said, ask};
 use sip_field::{Field, M61, Seat};
 use sip_ports::{MemoryLink, MemorySink};
-use sip_vector::{Entry, Query, Side};
+use sip_vector::{CAP, Entry, Query, Side};
 use sip_wire::{Frame, Message, Place, Reason, Version};
 use std::alloc::Global;
 use std::test::Fail;
@@ -18,7 +18,7 @@ use std::test::Fail;
 // The check of a sum: the claim, the last polynomial and what the next one has to sum to.
 #[derive(Drop)]
 struct SumCheck<'a> {
-    seat: &'a Seat<M61, 32>,
+    seat: &'a Seat<M61, CAP>,
     value: u64,
     claim: Option<i64>,
     expected: M61,
@@ -47,7 +47,7 @@ fn sum_of(c0: M61, c1: M61, c2: M61) -> M61
 
 impl<'a> SumCheck<'a> {
     // A check that the last polynomial has this value at the last challenge.
-    fn start(seat: &'a Seat<M61, 32>, value: u64) -> SumCheck<'a>
+    fn start(seat: &'a Seat<M61, CAP>, value: u64) -> SumCheck<'a>
         ensures stands { SumStands (record { value = value }) sum_rules.start result.value
             result.claim (m61_number result.expected) (m61_number result.c0) (m61_number result.c1)
             (m61_number result.c2) }

@@ -10,21 +10,40 @@ const LINES: &[u8] = b"0 1 3\n0 2 -5\n1 3 7\n";
 fn lines_are_copied_in_any_pieces(rt: HostRuntime) -> Result<(), Fail> {
     let alloc = rt.alloc();
     let depth = Depth::new(2).unwrap();
-    for chunk in [1, 10_000] {
-        let mut lines = MemorySource::new(LINES.to_vec(alloc)?, chunk, Vec::new(alloc));
-        let mut records = MemorySink::new(alloc, chunk, Vec::new(alloc));
-        assert_eq!(rt;
-            copy(depth, Form::Text, Form::Binary, &mut lines, &mut records),
-            Ok(())
-        );
-        assert_eq!(rt; records.bytes().len(), 3 * 13);
-        let mut read = MemorySource::new(records.bytes().to_vec(alloc)?, chunk, Vec::new(alloc));
-        let mut again = MemorySink::new(alloc, chunk, Vec::new(alloc));
-        assert_eq!(rt;
-            copy(depth, Form::Binary, Form::Text, &mut read, &mut again),
-            Ok(())
-        );
-        assert_eq!(rt; again.bytes(), LINES);
+    for (form, size) in [(Form::Binary, 3 * 13), (Form::Wide, 3 * 17)] {
+        for chunk in [1, 10_000] {
+            let mut lines = MemorySource::new(LINES.to_vec(alloc)?, chunk, Vec::new(alloc));
+            let mut records = MemorySink::new(alloc, chunk, Vec::new(alloc));
+            let copied = copy(depth, Form::Text, form, &mut lines, &mut records);
+            assert_eq!(rt; copied, Ok(()));
+            assert_eq!(rt; records.bytes().len(), size);
+            let bytes = records.bytes().to_vec(alloc)?;
+            let mut read = MemorySource::new(bytes, chunk, Vec::new(alloc));
+            let mut again = MemorySink::new(alloc, chunk, Vec::new(alloc));
+            let copied = copy(depth, form, Form::Text, &mut read, &mut again);
+            assert_eq!(rt; copied, Ok(()));
+            assert_eq!(rt; again.bytes(), LINES);
+        }
+    }
+    Ok(())
+}
+
+// The first record of 7, at the greatest depth of binary records and at the greatest of all.
+#[test]
+fn a_made_stream_is_copied_as_a_line(rt: HostRuntime) -> Result<(), Fail> {
+    let alloc = rt.alloc();
+    let table = [
+        (20, b"0 532219 8\n".as_slice()),
+        (32, b"0 1366826747 8\n".as_slice()),
+        (48, b"0 277653822643963 8\n".as_slice()),
+    ];
+    for (levels, line) in table {
+        let depth = Depth::new(levels).ok_or("a depth")?;
+        let mut made = MadeSource::new(7, 1, depth);
+        let mut lines = MemorySink::new(alloc, 10_000, Vec::new(alloc));
+        let copied = copy(depth, Form::made(depth), Form::Text, &mut made, &mut lines);
+        assert_eq!(rt; copied, Ok(()));
+        assert_eq!(rt; lines.bytes(), line);
     }
     Ok(())
 }

@@ -2,22 +2,34 @@
 
 ghost use Rattle.std.specs.Prelude.{◌≡◌, ◌≢◌, ◌<◌, ◌≤◌, ◌^◌, ℕ, List, [], ◌∷◌, ◌++◌, None, All, length, codes, pos, negsuc, FitsSigned};
 ghost use Rattle.std.specs.Int.{w64};
-ghost use Rattle.std.specs.List.{flat_map};
+ghost use Rattle.sip_vector.specs.Limits.{most_depth};
 ghost use Rattle.sip_vector.specs.declared.update.Side.TheVariants as sides;
 ghost use Rattle.sip_vector.specs.declared.update.Update.{Update as AnyUpdate};
 ghost use Rattle.sip_vector.specs.Streams.{IsLegal};
 ghost use Rattle.sip_stream.specs.declared.form.Form.{Form as AnyForm};
+ghost use Rattle.sip_stream.specs.Layouts.{deepest_in, layout_of, record_size};
 ghost use Rattle.sip_stream.specs.Records.{fault_at, records, records_from, update_at, update_fault};
-ghost use Rattle.sip_stream.specs.Spellings.{line_bytes, record_bytes, spelled};
+ghost use Rattle.sip_stream.specs.Spellings.{all_spelled, line_bytes, record_bytes, spelled};
 
 /// Two records: of an update of either side, one of them with a negative delta.
 #[tactic(auto, unfolding(crate::specs::Spellings::record_bytes))]
 pub fn records_of_two()
-    ensures first { record_bytes (record { side = sides.First; item = 2; delta = pos 5 })
+    ensures first { record_bytes 4 (record { side = sides.First; item = 2; delta = pos 5 })
         ≡ 0 ∷ 0 ∷ 0 ∷ 0 ∷ 2 ∷ 0 ∷ 0 ∷ 0 ∷ 0 ∷ 0 ∷ 0 ∷ 0 ∷ 5 ∷ [] }
-    ensures second { record_bytes
+    ensures second { record_bytes 4
         (record { side = sides.Second; item = 4_294_967_295; delta = negsuc 1 })
         ≡ 1 ∷ 255 ∷ 255 ∷ 255 ∷ 255 ∷ 255 ∷ 255 ∷ 255 ∷ 255 ∷ 255 ∷ 255 ∷ 255 ∷ 254 ∷ [] }
+{}
+
+/// Two wide records: of an update of either side, one of them with a negative delta.
+#[tactic(auto, unfolding(crate::specs::Spellings::record_bytes))]
+pub fn wide_records_of_two()
+    ensures first { record_bytes 8 (record { side = sides.First; item = 2 ^ 47; delta = pos 7 })
+        ≡ 0 ∷ 0 ∷ 0 ∷ 128 ∷ 0 ∷ 0 ∷ 0 ∷ 0 ∷ 0 ∷ 0 ∷ 0 ∷ 0 ∷ 0 ∷ 0 ∷ 0 ∷ 0 ∷ 7 ∷ [] }
+    ensures second { record_bytes 8
+        (record { side = sides.Second; item = 281_474_976_710_655; delta = negsuc 1 })
+        ≡ 1 ∷ 0 ∷ 0 ∷ 255 ∷ 255 ∷ 255 ∷ 255 ∷ 255 ∷ 255
+        ∷ 255 ∷ 255 ∷ 255 ∷ 255 ∷ 255 ∷ 255 ∷ 255 ∷ 254 ∷ [] }
 {}
 
 /// Two lines: of an update of either side, one of them with a negative delta.
@@ -28,34 +40,37 @@ pub fn lines_of_two()
         ≡ codes "1 0 -17" ++ 10 ∷ [] }
 {}
 
-/// A record has 13 bytes. A line has 34 at most, and its one line feed is its last byte.
+/// A record has 13 bytes, and a wide one 17. A line has 39 at most, and its one line feed is its last byte.
 pub fn spellings_are_short()
-    ensures records { (u : AnyUpdate) → length (record_bytes u) ≡ 13 }
-    ensures lines { (u : AnyUpdate) → u.item < 2 ^ 32 → FitsSigned w64 u.delta
-        → length (line_bytes u) ≤ 34 }
-    ensures feed { (u : AnyUpdate) → u.item < 2 ^ 32 → FitsSigned w64 u.delta
+    ensures records { (width : ℕ) (u : AnyUpdate)
+        → length (record_bytes width u) ≡ record_size width }
+    ensures sizes { (record_size 4 ≡ 13) × (record_size 8 ≡ 17) }
+    ensures lines { (u : AnyUpdate) → u.item < 2 ^ most_depth → FitsSigned w64 u.delta
+        → length (line_bytes u) ≤ 39 }
+    ensures feed { (u : AnyUpdate) → u.item < 2 ^ most_depth → FitsSigned w64 u.delta
         → (text : List ℕ) × (line_bytes u ≡ text ++ 10 ∷ []) × All (λ b. b ≢ 10) text }
 {}
 
 /// A spelling is read as its update, and what stands against it at its place is what stands against the update. Where
 /// the update is legal, the spelling in front of bytes is read as the next record, and then the bytes.
 pub fn spellings_are_read()
-    ensures update { (form : AnyForm) (u : AnyUpdate) → u.item < 2 ^ 32 → FitsSigned w64 u.delta
-        → update_at form (spelled form u) ≡ u }
+    ensures update { (form : AnyForm) (u : AnyUpdate) → u.item < 2 ^ deepest_in form
+        → FitsSigned w64 u.delta → update_at (layout_of form) (spelled (layout_of form) u) ≡ u }
     ensures fault { (form : AnyForm) (depth : ℕ) (before : List AnyUpdate) (u : AnyUpdate)
-        → u.item < 2 ^ 32 → FitsSigned w64 u.delta
-        → fault_at form depth before (spelled form u) ≡ update_fault depth before u }
+        → u.item < 2 ^ deepest_in form → FitsSigned w64 u.delta
+        → fault_at (layout_of form) depth before (spelled (layout_of form) u)
+        ≡ update_fault depth before u }
     ensures next { (depth : ℕ) (form : AnyForm) (before : List AnyUpdate) (u : AnyUpdate)
-        (rest : List ℕ) → u.item < 2 ^ 32 → FitsSigned w64 u.delta
+        (rest : List ℕ) → u.item < 2 ^ deepest_in form → FitsSigned w64 u.delta
         → update_fault depth before u ≡ None
-        → records_from depth form before (spelled form u ++ rest)
+        → records_from depth form before (spelled (layout_of form) u ++ rest)
         ≡ records_from depth form (before ++ u ∷ []) rest }
 {}
 
 /// The spellings of a legal stream, one after the other, are read as that stream, to their end.
 pub fn streams_are_read()
-    ensures { (depth : ℕ) (form : AnyForm) (stream : List AnyUpdate) → depth ≤ 32
-        → IsLegal depth stream
-        → records depth form (flat_map (spelled form) stream)
+    ensures { (depth : ℕ) (form : AnyForm) (stream : List AnyUpdate)
+        → depth ≤ deepest_in form → IsLegal depth stream
+        → records depth form (all_spelled form stream)
         ≡ record { legal = stream; fault = None } }
 {}

@@ -11,6 +11,7 @@ fn lines_are_written_in_any_pieces(rt: HostRuntime) -> Result<(), Fail> {
         (Side::Second, 0, -17),
         (Side::Second, u32::MAX as u64, i64::MIN),
         (Side::First, 10, i64::MAX),
+        (Side::Second, (1 << 48) - 1, i64::MIN),
     ];
     for chunk in [1, 4096] {
         let mut sink = MemorySink::new(alloc, chunk, Vec::new(alloc));
@@ -18,8 +19,8 @@ fn lines_are_written_in_any_pieces(rt: HostRuntime) -> Result<(), Fail> {
             let update = Update { side, item, delta };
             assert_eq!(rt; put_line(&update, &mut sink), Ok(()));
         }
-        let want =
-            b"0 532219 8\n1 0 -17\n1 4294967295 -9223372036854775808\n0 10 9223372036854775807\n";
+        let want = b"0 532219 8\n1 0 -17\n1 4294967295 -9223372036854775808\n\
+            0 10 9223372036854775807\n1 281474976710655 -9223372036854775808\n";
         assert_eq!(rt; sink.bytes(), want.as_slice());
     }
     Ok(())

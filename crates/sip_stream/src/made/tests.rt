@@ -78,6 +78,29 @@ const AT_32: [(u8, u32, i64); 20] = [
     (1, 1652366248, 7),
 ];
 
+const AT_48: [(u8, u64, i64); 20] = [
+    (0, 277653822643963, 8),
+    (1, 256513515921232, 3),
+    (1, 228881840052973, 2),
+    (0, 1, 5),
+    (0, 149958307446085, 4),
+    (0, 77924196586714, 5),
+    (0, 226804331798245, 2),
+    (0, 181302922939550, 2),
+    (1, 270959880478075, 4),
+    (1, 1, 8),
+    (0, 236745443401569, 2),
+    (1, 33295237404585, 8),
+    (0, 109181306842704, 5),
+    (1, 76284285893171, 7),
+    (0, 0, 1),
+    (0, 35596261737701, 6),
+    (1, 1, 8),
+    (0, 88262547753578, 2),
+    (0, 45620080599247, 3),
+    (1, 258928050772904, 7),
+];
+
 fn made(number: u64, count: u64, depth: u8) -> Result<MadeSource, Fail>
     requires { count ≤ 10_000_000 }
 {
@@ -101,6 +124,23 @@ fn first_records_are_those_of_the_tables(rt: HostRuntime) -> Result<(), Fail> {
     Ok(())
 }
 
+// The items at a lower depth are the low bits of those of the table.
+#[test]
+fn first_wide_records_are_those_of_the_table(rt: HostRuntime) -> Result<(), Fail> {
+    for depth in 33..49 {
+        let mut source = made(7, 20, depth)?;
+        let mut bytes = [0; 17];
+        for (side, item, delta) in AT_48 {
+            assert_eq!(rt; read_exact_into(&mut source, &mut bytes), Ok(17));
+            assert_eq!(rt; bytes[0], side);
+            assert_eq!(rt; BigEndian::read_u64(&bytes[1..]), item % (1 << depth));
+            assert_eq!(rt; BigEndian::read_i64(&bytes[9..]), delta);
+        }
+        assert_eq!(rt; source.read(&mut bytes), Ok(0));
+    }
+    Ok(())
+}
+
 #[test]
 fn one_record_of_7_and_of_0(rt: HostRuntime) -> Result<(), Fail> {
     let mut bytes = [0; 20];
@@ -114,18 +154,26 @@ fn one_record_of_7_and_of_0(rt: HostRuntime) -> Result<(), Fail> {
         &bytes[..13],
         [0, 0, 0x0d, 0xee, 0xcf, 0, 0, 0, 0, 0, 0, 0, 1].as_slice()
     );
+    assert_eq!(rt; made(7, 1, 48)?.read(&mut bytes), Ok(17));
+    assert_eq!(rt;
+        &bytes[..17],
+        [
+            0, 0, 0, 0xfc, 0x86, 0x51, 0x78, 0x1e, 0xfb, 0, 0, 0, 0, 0, 0, 0, 8
+        ]
+        .as_slice()
+    );
     assert_eq!(rt; made(7, 0, 20)?.read(&mut bytes), Ok(0));
     Ok(())
 }
 
 // All bytes that reads of at most so many bytes give, and how many reads gave some.
-fn read_by(alloc: Global, chunk: usize) -> Result<(Vec<u8>, usize), Fail>
+fn read_by(alloc: Global, depth: u8, chunk: usize) -> Result<(Vec<u8>, usize), Fail>
     requires chunk { chunk ≤ 10_000 }
 {
-    let mut source = made(7, 1000, 20)?;
+    let mut source = made(7, 1000, depth)?;
     let mut all = Vec::new(alloc);
     let mut buf = [0; 10_000];
-    for reads in 0..13_001 {
+    for reads in 0..17_001 {
         let Ok(came) = source.read(&mut buf[..chunk]) else {
             return Err("it never fails".into());
         };
@@ -137,26 +185,30 @@ fn read_by(alloc: Global, chunk: usize) -> Result<(Vec<u8>, usize), Fail>
     Err("it ends".into())
 }
 
-// The bytes of 1,000 records add up to 198,709, and the last record is (0, 678910, 7).
+// The bytes of 1,000 records add up to these sums, and the last records are (0, 678910, 7) and (0, 229828307082238, 7).
 #[test]
 fn pieces_of_any_size_are_the_same_bytes(rt: HostRuntime) -> Result<(), Fail> {
     let alloc = rt.alloc();
-    let (whole, reads) = read_by(alloc, 10_000)?;
-    assert_eq!(rt; whole.len(), 13_000);
-    let mut sum = 0_u64;
-    for byte in &whole {
-        sum = sum.wrapping_add(*byte as u64);
-    }
-    assert_eq!(rt; sum, 198_709);
-    assert_eq!(rt;
-        whole.ends_with(&[0, 0, 0x0a, 0x5b, 0xfe, 0, 0, 0, 0, 0, 0, 0, 7]),
-        true
-    );
-    assert_eq!(rt; reads, 2);
-    for chunk in [1, 5, 13] {
-        let (pieces, reads) = read_by(alloc, chunk)?;
-        assert_eq!(rt; pieces == whole, true);
-        assert_eq!(rt; reads, 13_000_usize.div_ceil(chunk));
+    let narrow = b"\0\0\x0a\x5b\xfe\0\0\0\0\0\0\0\x07".as_slice();
+    let wide = b"\0\0\0\xd1\x07\x12\x9a\x5b\xfe\0\0\0\0\0\0\0\x07".as_slice();
+    for (depth, bytes, total, last) in [
+        (20, 13_000, 198_709, narrow),
+        (48, 17_000, 575_520, wide),
+    ] {
+        let (whole, reads) = read_by(alloc, depth, 10_000)?;
+        assert_eq!(rt; whole.len(), bytes);
+        let mut sum = 0_u64;
+        for byte in &whole {
+            sum = sum.wrapping_add(*byte as u64);
+        }
+        assert_eq!(rt; sum, total);
+        assert_eq!(rt; whole.ends_with(last), true);
+        assert_eq!(rt; reads, 2);
+        for chunk in [1, 5, 13, 17] {
+            let (pieces, reads) = read_by(alloc, depth, chunk)?;
+            assert_eq!(rt; pieces == whole, true);
+            assert_eq!(rt; reads, bytes.div_ceil(chunk));
+        }
     }
     Ok(())
 }

@@ -18,19 +18,26 @@ fn update(side: Side, item: u64, delta: i64) -> Update {
     Update { side, item, delta }
 }
 
-fn stream(alloc: Global, records: &[(u8, u32, i64)]) -> Result<Vec<u8>, Fail> {
+// Records of bytes, in either form.
+fn stream(alloc: Global, form: Form, records: &[(u8, u64, i64)]) -> Result<Vec<u8>, Fail> {
     let mut out = Vec::new(alloc);
     for (side, item, delta) in records {
         out.push(*side)?;
-        out.extend_from_slice(&item.to_be_bytes())?;
+        let bytes = item.to_be_bytes();
+        out.extend_from_slice(if form == Form::Wide {
+            &bytes
+        } else {
+            &bytes[4..]
+        })?;
         out.extend_from_slice(&delta.to_be_bytes())?;
     }
     Ok(out)
 }
 
-// The legal updates of some bytes at depth 2, and how they end.
+// The legal updates of some bytes, and how they end.
 fn read_all(
     alloc: Global,
+    levels: u8,
     form: Form,
     bytes: &[u8],
     chunk: usize,
@@ -38,7 +45,7 @@ fn read_all(
     requires { 1 ≤ chunk }
 {
     let mut source = MemorySource::new(bytes.to_vec(alloc)?, chunk, Vec::new(alloc));
-    let mut reader = Reader::new(depth(2)?, form);
+    let mut reader = Reader::new(depth(levels)?, form);
     let mut updates = Vec::new(alloc);
     for _ in 0..100u32 {
         if reader.spent() {
@@ -54,55 +61,109 @@ fn read_all(
     Err("the source stopped")?
 }
 
-// How some bytes end.
-fn fault(alloc: Global, form: Form, bytes: &[u8]) -> Result<Option<(u64, Why)>, Fail> {
-    Ok(read_all(alloc, form, bytes, 10_000)?.1)
+// Whether some bytes end so, in pieces of one byte and in one piece.
+fn ends(
+    alloc: Global,
+    levels: u8,
+    form: Form,
+    bytes: &[u8],
+    want: Option<(u64, Why)>,
+) -> Result<bool, Fail> {
+    let pieces = read_all(alloc, levels, form, bytes, 1)?.1;
+    let whole = read_all(alloc, levels, form, bytes, 10_000)?.1;
+    Ok(pieces == want && whole == want)
 }
 
 #[test]
-fn both_forms_are_read_in_any_chunks(rt: HostRuntime) -> Result<(), Fail> {
+fn all_forms_are_read_in_any_chunks(rt: HostRuntime) -> Result<(), Fail> {
     let alloc = rt.alloc();
     let three = [
         update(Side::First, 0, 3),
         update(Side::First, 2, 5),
         update(Side::Second, 3, -1),
     ];
-    let records = stream(alloc, &[(0, 0, 3), (0, 2, 5), (1, 3, -1)])?;
-    let lines = b"0 0 3\n0 2 5\n1 3 -1\n";
-    for chunk in 1..41 {
-        let (binary, end) = read_all(alloc, Form::Binary, &records, chunk)?;
-        assert!(rt; binary.as_slice() == three.as_slice() && end.is_none());
-        let (text, end) = read_all(alloc, Form::Text, lines, chunk)?;
-        assert!(rt; text.as_slice() == three.as_slice() && end.is_none());
+    let records = [(0, 0, 3), (0, 2, 5), (1, 3, -1)];
+    let table = [
+        (Form::Binary, stream(alloc, Form::Binary, &records)?),
+        (Form::Wide, stream(alloc, Form::Wide, &records)?),
+        (Form::Text, b"0 0 3\n0 2 5\n1 3 -1\n".to_vec(alloc)?),
+    ];
+    for (form, bytes) in &table {
+        for chunk in 1..60 {
+            let (updates, end) = read_all(alloc, 2, *form, bytes, chunk)?;
+            assert!(rt; updates.as_slice() == three.as_slice() && end.is_none());
+        }
+        let (updates, end) = read_all(alloc, 2, *form, bytes, 10_000)?;
+        assert!(rt; updates.as_slice() == three.as_slice() && end.is_none());
     }
-    let (binary, end) = read_all(alloc, Form::Binary, &records, 10_000)?;
-    assert!(rt; binary.as_slice() == three.as_slice() && end.is_none());
-    let (text, end) = read_all(alloc, Form::Text, lines, 10_000)?;
-    assert!(rt; text.as_slice() == three.as_slice() && end.is_none());
     Ok(())
 }
 
+// Each record fails one test, or several of which the first one is named.
 #[test]
 fn records_with_a_fault(rt: HostRuntime) -> Result<(), Fail> {
     let alloc = rt.alloc();
     let table = [
-        ((0, 4, 1), Why::BadItem),
         ((2, 0, 1), Why::BadSide),
         ((255, 9, 0), Why::BadSide),
+        ((0, 4, 1), Why::BadItem),
+        ((0, 4_294_967_295, 0), Why::BadItem),
+        ((1, 9, i64::MIN), Why::BadItem),
         ((1, 0, 0), Why::ZeroDelta),
         ((0, 0, i64::MIN), Why::TooHeavy(Side::First)),
         ((1, 0, HEAVIEST + 1), Why::TooHeavy(Side::Second)),
     ];
-    for (record, why) in table {
-        let first = stream(alloc, &[record])?;
-        assert!(rt; fault(alloc, Form::Binary, &first)? == Some((0, why)));
-        let second = stream(alloc, &[(0, 3, -2), record])?;
-        assert!(rt; fault(alloc, Form::Binary, &second)? == Some((1, why)));
+    for form in [Form::Binary, Form::Wide] {
+        for (record, why) in table {
+            let first = stream(alloc, form, &[record])?;
+            assert!(rt; ends(alloc, 2, form, &first, Some((0, why)))?);
+            let second = stream(alloc, form, &[(0, 3, -2), record])?;
+            assert!(rt; ends(alloc, 2, form, &second, Some((1, why)))?);
+        }
+        let heavy = stream(alloc, form, &[(0, 0, HEAVIEST), (0, 0, -1)])?;
+        let why = Why::TooHeavy(Side::First);
+        assert!(rt; ends(alloc, 2, form, &heavy, Some((1, why)))?);
+        assert!(rt; ends(alloc, 2, form, &[], None)?);
     }
-    let heavy = stream(alloc, &[(0, 0, HEAVIEST), (0, 0, -1)])?;
-    assert!(rt; fault(alloc, Form::Binary, &heavy)? == Some((1, Why::TooHeavy(Side::First))));
-    assert!(rt; fault(alloc, Form::Binary, &[0; 12])? == Some((0, Why::Truncated)));
-    assert!(rt; fault(alloc, Form::Binary, &[])?.is_none());
+    Ok(())
+}
+
+// Items whose low four bytes are those of another item.
+#[test]
+fn wide_items_have_eight_bytes(rt: HostRuntime) -> Result<(), Fail> {
+    let alloc = rt.alloc();
+    let table = [
+        (2, 1 << 32, Some((0, Why::BadItem))),
+        (2, u64::MAX, Some((0, Why::BadItem))),
+        (33, 1 << 32, None),
+        (33, 1 << 33, Some((0, Why::BadItem))),
+        (48, (1 << 48) - 1, None),
+        (48, 1 << 48, Some((0, Why::BadItem))),
+    ];
+    for (levels, item, want) in table {
+        let bytes = stream(alloc, Form::Wide, &[(1, item, 7)])?;
+        assert!(rt; ends(alloc, levels, Form::Wide, &bytes, want)?);
+    }
+    let bytes = b"\0\0\0\x80\0\0\0\0\0\0\0\0\0\0\0\0\x07";
+    let (updates, end) = read_all(alloc, 48, Form::Wide, bytes, 1)?;
+    assert!(rt; end.is_none());
+    assert!(rt; updates.as_slice() == [update(Side::First, 140_737_488_355_328, 7)].as_slice());
+    Ok(())
+}
+
+// Two records, of which each is cut behind each of its bytes but the last.
+#[test]
+fn a_part_of_a_record_is_cut_short(rt: HostRuntime) -> Result<(), Fail> {
+    let alloc = rt.alloc();
+    for (form, size) in [(Form::Binary, 13), (Form::Wide, 17)] {
+        let bytes = stream(alloc, form, &[(0, 3, -2), (1, 1, 5)])?;
+        assert_eq!(rt; bytes.len(), 2 * size);
+        for len in 0..bytes.len() {
+            let at = (len / size) as u64;
+            let want = (len % size > 0).then_some((at, Why::Truncated));
+            assert!(rt; ends(alloc, 2, form, &bytes[..len], want)?);
+        }
+    }
     Ok(())
 }
 
@@ -111,7 +172,7 @@ fn expect_line(alloc: Global, line: &str, why: Option<Why>) -> Result<bool, Fail
         Some(why) => Some((0, why)),
         None => None,
     };
-    Ok(fault(alloc, Form::Text, line.as_bytes())? == want)
+    ends(alloc, 2, Form::Text, line.as_bytes(), want)
 }
 
 #[test]
@@ -199,7 +260,7 @@ fn lines_of_the_right_shape(rt: HostRuntime) -> Result<(), Fail> {
 #[test]
 fn a_source_that_fails_is_no_end(rt: HostRuntime) -> Result<(), Fail> {
     let alloc = rt.alloc();
-    let records = stream(alloc, &[(0, 0, 3), (0, 2, 5)])?;
+    let records = stream(alloc, Form::Binary, &[(0, 0, 3), (0, 2, 5)])?;
     let mut source = MemorySource::new(records, 13, vec![in alloc; 2]?);
     let mut reader = Reader::new(depth(2)?, Form::Binary);
     assert!(rt; reader.next(&mut source) == Ok(Some(update(Side::First, 0, 3))));

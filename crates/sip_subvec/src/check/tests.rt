@@ -3,19 +3,20 @@ ghost use Rattle.std.specs.Prelude.{◌≡◌, ◌^◌, ◌<◌, ◌≤◌, leng
 use crate::SubCheck;
 use sip_field::{F31, Field, M61, Seat};
 use sip_tree::Root;
+use sip_vector::CAP;
 use sip_wire::Reason;
 
 // The siblings of a level.
 type Pair = (Option<u64>, Option<u64>);
 
-fn root_of_zeros() -> Root<M61, 32>
+fn root_of_zeros() -> Root<M61, CAP>
     ensures { length result.seat ≡ 2 }
 {
     Root::new(Seat::of(&[M61::of(2), M61::of(10)]).unwrap())
 }
 
 // The root of (3, 0, 5, 1) at the challenges (2, 10), which is 73.
-fn root_of_four() -> Root<M61, 32>
+fn root_of_four() -> Root<M61, CAP>
     ensures { length result.seat ≡ 2 }
 {
     let mut root = root_of_zeros();
@@ -31,7 +32,7 @@ fn element<F: Field>(number: Option<u64>) -> Option<F> {
 
 // What a check of two levels answers to these entries and siblings: the first refusal, or that of the end.
 fn answer(
-    root: &Root<M61, 32>,
+    root: &Root<M61, CAP>,
     lo: u64,
     hi: u64,
     entries: &[(u64, i8)],
@@ -148,7 +149,7 @@ fn a_refusal_spends_the_check(rt: HostRuntime) {
 }
 
 // The root of (3, 5) at one challenge.
-fn root_of_pair<F: Field>(seat: Seat<F, 32>) -> Root<F, 32>
+fn root_of_pair<F: Field>(seat: Seat<F, CAP>) -> Root<F, CAP>
     requires { length seat ≡ 1 }
     ensures { length result.seat ≡ 1 }
 {
@@ -216,7 +217,7 @@ fn a_lie_passes_at_few_challenges(rt: HostRuntime) {
     assert_eq!(rt; accepted, 61);
 }
 
-fn zeros_of_depth_17() -> Root<M61, 32>
+fn zeros_of_depth_17() -> Root<M61, CAP>
     ensures { length result.seat ≡ 17 }
 {
     Root::new(Seat::of(&[M61::of(3); 17]).unwrap())

@@ -75,19 +75,21 @@ fn whole_levels_have_no_siblings(rt: HostRuntime) -> Result<(), Fail> {
 
 #[test]
 fn one_entry_of_all_items_is_a_sibling(rt: HostRuntime) -> Result<(), Fail> {
-    let last = [(4_294_967_295, 7)];
-    let mut prover = prover_of::<M61, _>(&rt, rt.alloc(), 32, &last, 4_294_967_294, 4_294_967_294)?;
-    assert_eq!(rt; siblings(&rt, &prover), (None, Some(7)));
-    learn(&rt, &mut prover, 3);
-    assert_eq!(rt; siblings(&rt, &prover), (Some(0), None));
-
-    let mut prover = prover_of::<M61, _>(&rt, rt.alloc(), 32, &last, 0, 0)?;
-    for _ in 0..31 {
-        assert_eq!(rt; siblings(&rt, &prover), (None, Some(0)));
+    // 7 * 3^31, and 7 * 3^47 modulo 2^61 - 1
+    for (depth, top) in [(32u8, 4_323_713_773_987_629), (48, 970_338_000_788_371_642)] {
+        let items = 1u64 << depth;
+        let last = [(items - 1, 7)];
+        let mut prover = prover_of::<M61, _>(&rt, rt.alloc(), depth, &last, items - 2, items - 2)?;
+        assert_eq!(rt; siblings(&rt, &prover), (None, Some(7)));
         learn(&rt, &mut prover, 3);
-    }
+        assert_eq!(rt; siblings(&rt, &prover), (Some(0), None));
 
-    // 7 * 3^31
-    assert_eq!(rt; siblings(&rt, &prover), (None, Some(4_323_713_773_987_629)));
+        let mut prover = prover_of::<M61, _>(&rt, rt.alloc(), depth, &last, 0, 0)?;
+        for _ in 1..depth {
+            assert_eq!(rt; siblings(&rt, &prover), (None, Some(0)));
+            learn(&rt, &mut prover, 3);
+        }
+        assert_eq!(rt; siblings(&rt, &prover), (None, Some(top)));
+    }
     Ok(())
 }

@@ -3,6 +3,7 @@ ghost use Rattle.std.specs.Prelude.{◌≡◌, ◌≤◌, ◌^◌, false, IfOk, 
 use crate::Feed;
 use sip_ports::{MemoryLink, PortStop, TalkEvent};
 use sip_vector::{Depth, Side, Update};
+use sip_wire::Version;
 use std::alloc::Global;
 use std::test::Fail;
 
@@ -19,8 +20,10 @@ fn link(alloc: Global, fails: Vec<u64>) -> MemoryLink {
 
 // Feeds so many times 1 at item 3 of the first side.
 fn push_many(feed: &mut Feed, link: &mut MemoryLink, count: usize) -> Result<(), Fail>
-    requires { feed.old.is_spent ≡ false }
-    ensures { OnOk result (feed.new.is_spent ≡ false) }
+    requires unspent { feed.old.is_spent ≡ false }
+    requires narrow { feed.old.version ≡ Version.One }
+    ensures unspent { OnOk result (feed.new.is_spent ≡ false) }
+    ensures narrow { OnOk result (feed.new.version ≡ Version.One) }
 {
     let update = Update {
         side: Side::First,
@@ -47,7 +50,7 @@ fn was_sent(link: &MemoryLink, bytes: &[u8]) -> bool {
 fn an_empty_stream_is_its_end_alone(rt: HostRuntime) -> Result<(), Fail> {
     let alloc = rt.alloc();
     let mut link = link(alloc, Vec::new(alloc));
-    let mut feed = Feed::new();
+    let mut feed = Feed::new(Version::One);
     feed.begin(&mut link, depth(1)?)?;
     assert!(rt; was_sent(&link, &[1, 0, 2, 1, 1]));
     feed.finish(&mut link)?;
@@ -59,7 +62,7 @@ fn an_empty_stream_is_its_end_alone(rt: HostRuntime) -> Result<(), Fail> {
 fn three_updates_of_both_sides_are_one_frame(rt: HostRuntime) -> Result<(), Fail> {
     let alloc = rt.alloc();
     let mut link = link(alloc, Vec::new(alloc));
-    let mut feed = Feed::new();
+    let mut feed = Feed::new(Version::One);
     let rows = [
         (Side::First, 0, 3),
         (Side::Second, 4_294_967_295, -2),
@@ -87,7 +90,7 @@ fn a_frame_goes_out_with_its_512th_update_in_one_write(rt: HostRuntime) -> Resul
     let alloc = rt.alloc();
     // The second call fails: were the frame two writes, it would fail.
     let mut link = link(alloc, vec![in alloc; 2]?);
-    let mut feed = Feed::new();
+    let mut feed = Feed::new(Version::One);
     push_many(&mut feed, &mut link, 511)?;
     assert_eq!(rt; link.talk().len(), 0);
     push_many(&mut feed, &mut link, 1)?;
@@ -108,12 +111,35 @@ fn a_frame_goes_out_with_its_512th_update_in_one_write(rt: HostRuntime) -> Resul
 fn the_rest_is_a_frame_of_its_own(rt: HostRuntime) -> Result<(), Fail> {
     let alloc = rt.alloc();
     let mut link = link(alloc, Vec::new(alloc));
-    let mut feed = Feed::default();
+    let mut feed = Feed::new(Version::One);
     push_many(&mut feed, &mut link, 513)?;
     feed.finish(&mut link)?;
     assert_eq!(rt; link.talk().len(), 6661 + 18 + 3);
     for (at, byte) in [2, 0, 15, 0, 1].iter().enumerate() {
         assert!(rt; link.talk().get(6661 + at) == Some(&TalkEvent::Out(*byte)));
     }
+    Ok(())
+}
+
+#[test]
+fn items_of_version_2_have_eight_bytes(rt: HostRuntime) -> Result<(), Fail> {
+    let alloc = rt.alloc();
+    let mut link = link(alloc, Vec::new(alloc));
+    let mut feed = Feed::new(Version::Two);
+    feed.begin(&mut link, depth(33)?)?;
+    let update = Update {
+        side: Side::Second,
+        item: 4_294_967_298,
+        delta: -1,
+    };
+    feed.update(&mut link, &update)?;
+    feed.finish(&mut link)?;
+    let want = [
+        1, 0, 2, 2, 33, // the opening
+        2, 0, 19, 0, 1, // one update
+        1, 0, 0, 0, 1, 0, 0, 0, 2, 255, 255, 255, 255, 255, 255, 255, 255, //
+        3, 0, 0,
+    ];
+    assert!(rt; was_sent(&link, &want));
     Ok(())
 }

@@ -6,7 +6,7 @@ use crate::Seats;
 use sip_field::{Field, M61};
 use sip_ports::{MemoryLink, MemorySink, TalkEvent};
 use sip_vector::{Depth, Entry, Query, Side, Update};
-use sip_wire::Reason;
+use sip_wire::{Reason, Version};
 use std::alloc::Global;
 use std::test::Fail;
 
@@ -98,7 +98,8 @@ fn session(alloc: Global) -> Result<Session, Fail>
     seats.update(&raised(0, 3));
     seats.update(&raised(2, 5));
     seats.update(&raised(3, 1));
-    Ok(Session::new(alloc, seats).ok().ok_or("a session")?)
+    let version = Version::needed(depth, &queries);
+    Ok(Session::new(alloc, version, seats).ok().ok_or("a session")?)
 }
 
 /// Asks the next query, with nothing kept.

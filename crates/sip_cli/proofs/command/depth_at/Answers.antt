@@ -1,6 +1,7 @@
 use Rattle.std.proofs.Common.{◌≡◌, ◌↔◌, ℕ, ◌^◌, ◌<◌, ◌≤◌, List, [], length, get_or, Option, None, Some, IsSome, IfSome, MatchOption, decimal, sym, ◌∙◌, refl, arith}
 use Rattle.std.proofs.lemmas.Fmt.{decimal_injective}
 use Rattle.sip_cli.specs.Shapes.{IsDepth}
+use Rattle.sip_vector.specs.Limits.{most_depth}
 use Rattle.sip_cli.proofs.Getting.{got}
 use Rattle.sip_cli.proofs.command.depth_at.Goals as goal
 
@@ -9,7 +10,7 @@ other : (levels : ℕ) (word : List ℕ) → levels < 2 ^ 64 → word ≡ decima
 other levels word small is d also = decimal_injective levels d small (omega (arith, also.1)) (sym is ∙ also.2)
 
 -- the depth of the word, where it is one
-depth_of : (words : List (List ℕ)) (number levels : ℕ) (r : Option ℕ) → number < length words → levels ≤ 32 → get_or words number [] ≡ decimal levels → IsSome r ↔ ((1 ≤ levels) × (levels ≤ 32)) → IfSome r (λ d. d ≡ levels)
+depth_of : (words : List (List ℕ)) (number levels : ℕ) (r : Option ℕ) → number < length words → levels ≤ most_depth → get_or words number [] ≡ decimal levels → IsSome r ↔ ((1 ≤ levels) × (levels ≤ most_depth)) → IfSome r (λ d. d ≡ levels)
     → MatchOption r (number < length words → (d : ℕ) → IsDepth d (get_or words number []) → ⊥) (λ d. (number < length words) × IsDepth d (get_or words number []))
 depth_of words number levels None within most is fits same =
     λ _ d also. let one = other levels _ (omega arith) is d also in let never = fits.1 (let least = also.0 in omega arith, omega arith) in cc

@@ -6,7 +6,7 @@ use Rattle.sip_cli.proofs.command.read_gen.Goals as goal
 pub returns-in_default-clause-refused : goal.returns-in_default-clause-refused
 returns-in_default-clause-refused c = λ fitted.
     let deep = fitted.1.1 2 (omega arith) in
-    absurd (c.in_default.ensures fitted.1.0 deep.0 deep.2)
+    absurd (c.in_default.ensures fitted.1.0 deep.0 deep.1)
 
 pub returns-then-has_word-clause-refused : goal.returns-then-has_word-clause-refused
 returns-then-has_word-clause-refused c = λ fitted. refused_more Gen c.args.words.now 4 fitted refl refl (c.has_word.ensures.0 c.if-has_word.true)

@@ -1,6 +1,6 @@
 use Rattle.std.proofs.Common.{subst}
 use Rattle.std.proofs.lemmas.Result.{err_from_is_err_and}
-use Rattle.sip_cli.specs.declared.verb.Verb.TheVariants.{Verify, Help, Gen, Lines}
+use Rattle.sip_cli.specs.declared.verb.Verb.TheVariants.{Verify, Help, Gen}
 use Rattle.sip_cli.specs.inside.Progress.{StopsInShapes}
 use Rattle.sip_cli.proofs.Beginning.{refused_verb}
 use Rattle.sip_cli.proofs.Stopping.{refused_shape, fitted_by, refused_by}
@@ -31,7 +31,4 @@ returns-in-Gen-clause-refused c =
     let fitted = fitted_by c.in-Some.verb c.args.words.now c.shapes.result.now c.in-Some.ensures c.shapes.ensures c.in_ok-check_shapes.ensures.fitting in
     refused_by Gen c.args.words.now c.read_gen.result c.read_gen.ensures.refused (rw c.in-Gen.is at fitted)
 
-pub returns-in-Lines-clause-refused : goal.returns-in-Lines-clause-refused
-returns-in-Lines-clause-refused c =
-    let fitted = fitted_by c.in-Some.verb c.args.words.now c.shapes.result.now c.in-Some.ensures c.shapes.ensures c.in_ok-check_shapes.ensures.fitting in
-    refused_by Lines c.args.words.now c.read_lines.result c.read_lines.ensures.refused (rw c.in-Lines.is at fitted)
+-- what stops `lines`, or `widen`, refuses its words

@@ -10,6 +10,6 @@ returns-in_err-split_at_checked-clause-whole c = λ none.
     absurd (some_not_none c.split_at_checked.result c.in_err-split_at_checked.was (c.split_at_checked.ensures.variant.1 cut))
 
 pub returns-in_err-split_at_checked-clause-marked : goal.returns-in_err-split_at_checked-clause-marked
-returns-in_err-split_at_checked-clause-marked c = λ path five is.
-    let cut = subst (IsCharBoundary c.args.text.now) (sym five) (cut_behind_mark c.args.text.now path c.utf8.text is) in
+returns-in_err-split_at_checked-clause-marked c = λ five marked.
+    let cut = subst (IsCharBoundary c.args.text.now) (sym five) (cut_behind_mark c.args.text.now c.utf8.text marked) in
     absurd (some_not_none c.split_at_checked.result c.in_err-split_at_checked.was (c.split_at_checked.ensures.variant.1 cut))

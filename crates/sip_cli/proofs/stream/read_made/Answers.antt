@@ -1,6 +1,5 @@
-use Rattle.std.proofs.Common.{◌≡◌, refl, sym, ◌∙◌, arith}
-use Rattle.std.proofs.lemmas.Fmt.{decimal_injective}
-use Rattle.sip_cli.proofs.StreamWords.{cut_numbers, joined_numbers}
+use Rattle.std.proofs.Common.{arith}
+use Rattle.sip_cli.proofs.StreamWords.{allowed, cut_numbers, joined_numbers}
 use Rattle.sip_cli.proofs.stream.read_made.Goals as goal
 
 pub returns-in_err-number : goal.returns-in_err-number
@@ -20,13 +19,7 @@ returns-in_err-count c =
     let parts = rw c.in_ok-number.was at (cut_numbers _ c.split_once.result c.split_once.ensures.cases n k low same) in
     c.in_err-count.ensures k (omega arith) parts.1)
 
-pub returns-then-count-gt-MOST_COUNT : goal.returns-then-count-gt-MOST_COUNT
-returns-then-count-gt-MOST_COUNT c = λ n k low few same.
-    let parts = rw c.in_ok-number.was at (cut_numbers _ c.split_once.result c.split_once.ensures.cases n k low same) in
-    let one : c.in_ok-count.count ≡ k = decimal_injective c.in_ok-count.count k (omega arith) (omega arith) (sym c.in_ok-count.ensures ∙ parts.1) in
-    omega arith
-
 pub returns : goal.returns
 returns c =
     let whole = joined_numbers _ (c.in_ok-number.number, c.in_ok-number.count) (rw c.in_ok-number.was at c.split_once.ensures.cases) _ _ c.in_ok-number-2.ensures c.in_ok-count.ensures in
-    (_, _, omega arith, omega arith, whole, refl)
+    rw c.then_some.ensures (allowed _ _ _ c.allows.result (omega arith) (omega arith) c.allows.ensures whole)

@@ -2,7 +2,7 @@
 use Rattle.std.proofs.Common.{[]}
 use Rattle.sip_ports.proofs.TalkLemmas.{GoesOn-refl}
 use Rattle.sip_verifier.proofs.RunTalks.{tells}
-use Rattle.sip_cli.proofs.RunLemmas.{verify_keeps, help_keeps, gen_keeps, lines_keeps}
+use Rattle.sip_cli.proofs.RunLemmas.{verify_keeps, help_keeps, copy_keeps}
 use Rattle.sip_cli.proofs.top.obey.Goals as goal
 
 pub returns-in-Verify-clause-keeps : goal.returns-in-Verify-clause-keeps
@@ -14,11 +14,18 @@ returns-in-Help-clause-keeps g c =
 
 pub returns-in-Gen-clause-keeps : goal.returns-in-Gen-clause-keeps
 returns-in-Gen-clause-keeps g c =
-    gen_keeps _ c.in-Gen.is c.copy_stream.ensures.copied (λ is. let wrote = c.copy_stream.ensures.wrote is.first in tells _ _ is c.copy_stream.ensures.told [] (GoesOn-refl _) wrote.0 wrote.1)
+    copy_keeps _ c.in-Gen.is (rw c.made-form.ensures.form at c.copy_stream.ensures.copied)
+    (λ is. let wrote = c.copy_stream.ensures.wrote is.first in tells _ _ is c.copy_stream.ensures.told [] (GoesOn-refl _) wrote.0 wrote.1)
     (c.copy_stream.ensures.fault _ _ _ _) c.copy_stream.ensures.listed
 
 pub returns-in-Lines-clause-keeps : goal.returns-in-Lines-clause-keeps
 returns-in-Lines-clause-keeps g c =
-    lines_keeps _ _ c.in-Lines.is c.copy_stream-in-Lines.ensures.copied
+    copy_keeps _ c.in-Lines.is c.copy_stream-in-Lines.ensures.copied
     (λ is. let wrote = c.copy_stream-in-Lines.ensures.wrote is.first in tells _ _ is c.copy_stream-in-Lines.ensures.told [] (GoesOn-refl _) wrote.0 wrote.1)
     (c.copy_stream-in-Lines.ensures.fault _ _ _ _) c.copy_stream-in-Lines.ensures.listed
+
+pub returns-in-Widen-clause-keeps : goal.returns-in-Widen-clause-keeps
+returns-in-Widen-clause-keeps g c =
+    copy_keeps _ c.in-Widen.is c.copy_stream-in-Widen.ensures.copied
+    (λ is. let wrote = c.copy_stream-in-Widen.ensures.wrote is.first in tells _ _ is c.copy_stream-in-Widen.ensures.told [] (GoesOn-refl _) wrote.0 wrote.1)
+    (c.copy_stream-in-Widen.ensures.fault _ _ _ _) c.copy_stream-in-Widen.ensures.listed

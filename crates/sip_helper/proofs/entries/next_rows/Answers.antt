@@ -1,5 +1,6 @@
 -- The next entry stands in front of those that are left.
 use Rattle.std.proofs.Common.{◌+◌, ◌≤◌, List, [], ◌∷◌, ◌++◌, sym, ap, ◌∙◌, arith, append_assoc}
+use Rattle.std.proofs.Math.Pow.{pow_mono}
 use Rattle.sip_vector.specs.declared.update.Entry.{Entry}
 use Rattle.sip_vector.specs.Vectors.{nonzero_within}
 use Rattle.sip_vector.proofs.Walks.{nonzero_within-next, nonzero_within-last}
@@ -9,7 +10,8 @@ use Rattle.sip_helper.proofs.entries.next_rows.Goals as goal
 pub overflow_add-next : goal.overflow_add-next
 overflow_add-next c =
     let within : c.in-Some.entry.index ≤ c.args.hi = first_within c.loop-entry.next c.args.hi c.args.vector.now.numbers c.in-Some.entry (sym c.next_entry.ensures ∙ c.in-Some.is) in
-    omega (arith, within, c.requires.small)
+    let room = pow_mono c.requires.deep in
+    omega (arith, within, c.requires.within, room)
 
 pub loop-entry-preserved : goal.loop-entry-preserved
 loop-entry-preserved c =

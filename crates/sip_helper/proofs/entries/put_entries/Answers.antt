@@ -7,6 +7,7 @@ use Rattle.sip_ports.proofs.FaultLemmas.{Lasts-trans, Lasts-of_HasCause}
 use Rattle.sip_vector.specs.Vectors.{nonzero_within}
 use Rattle.sip_subvec.proofs.HonestFrames.{IsRow, entries_fit}
 use Rattle.sip_helper.proofs.EntryFrames.{goes_on, stops}
+use Rattle.sip_helper.proofs.Hearing.{index_room}
 use Rattle.sip_helper.proofs.Rows.{nonzero_rows}
 use Rattle.sip_helper.proofs.entries.put_entries.Goals as goal
 
@@ -16,9 +17,10 @@ encode-requires g c =
     let more = nonzero_within c.next_rows-rows.result.1 c.args.hi c.args.vector.now.numbers in
     let some : 0 < length rows = search rules in
     let most : length rows ≤ 512 = search rules in
-    let all = nonzero_rows c.loop-rows.next c.args.hi c.args.vector.now.numbers c.requires.small (omega (arith, c.weight-weight.ensures.light, c.weight-weight.ensures.most)) in
-    entries_fit rows some most
-    (subst (All IsRow) (take_at rows more (length rows) refl) (All-take IsRow (length rows) (rows ++ more) (subst (All IsRow) c.next_rows-rows.ensures.split all)))
+    let room = index_room c.args.version c.args.vector.now.depth c.args.hi c.requires.deep c.requires.within in
+    let all = nonzero_rows c.args.version c.loop-version.next c.args.hi c.args.vector.now.numbers room (omega (arith, c.weight-weight.ensures.light, c.weight-weight.ensures.most)) in
+    entries_fit c.args.version rows some most
+    (subst (All (IsRow c.args.version)) (take_at rows more (length rows) refl) (All-take (IsRow c.args.version) (length rows) (rows ++ more) (subst (All (IsRow c.args.version)) c.next_rows-rows.ensures.split all)))
 
 pub returns-in_err-encode-clause-talk : goal.returns-in_err-encode-clause-talk
 returns-in_err-encode-clause-talk g c =
@@ -26,16 +28,16 @@ returns-in_err-encode-clause-talk g c =
     let some : 0 < length rows = search rules in
     let most : length rows ≤ 512 = search rules in
     let p = err_from_is_err_and c.from_residual.result c.from_residual.ensures.1 in
-    rw p.1 (stops _ _ _ _ _ _ _ c.loop-rows.invariant.partly c.next_rows-rows.ensures.split some most c.next_rows-rows.ensures.last c.in_err-encode.field-0.0 p.0 c.in_err-encode.ensures.talk)
+    rw p.1 (stops _ _ _ _ _ _ _ _ c.loop-version.invariant.partly c.next_rows-rows.ensures.split some most c.next_rows-rows.ensures.last c.in_err-encode.field-0.0 p.0 c.in_err-encode.ensures.talk)
 
-pub loop-rows-preserved : goal.loop-rows-preserved
-loop-rows-preserved g c =
+pub loop-version-preserved : goal.loop-version-preserved
+loop-version-preserved g c =
     let rows = c.next_rows-rows.result.0.items in
     let some : 0 < length rows = search rules in
     let most : length rows ≤ 512 = search rules in
     let faults = g.K.Sink.faults in
     let is_sure = g.K.Sink.is_sure in
     record {
-      partly = goes_on _ _ _ _ _ _ _ c.loop-rows.invariant.partly c.next_rows-rows.ensures.split some most c.next_rows-rows.ensures.last c.in_ok-encode.ensures.talk;
-      lasts = Lasts-trans faults is_sure c.args.out.now c.loop-rows.out c.encode.new.sink c.loop-rows.invariant.lasts (Lasts-of_HasCause faults is_sure c.loop-rows.out c.encode.new.sink c.encode.result c.encode.ensures.cause);
+      partly = goes_on _ _ _ _ _ _ _ _ c.loop-version.invariant.partly c.next_rows-rows.ensures.split some most c.next_rows-rows.ensures.last c.in_ok-encode.ensures.talk;
+      lasts = Lasts-trans faults is_sure c.args.out.now c.loop-version.out c.encode.new.sink c.loop-version.invariant.lasts (Lasts-of_HasCause faults is_sure c.loop-version.out c.encode.new.sink c.encode.result c.encode.ensures.cause);
     }

@@ -5,11 +5,11 @@ use Rattle.sip_vector.specs.Vectors.{nonzero_within}
 use Rattle.sip_helper.proofs.EntryFrames.{Partly}
 use Rattle.sip_helper.proofs.entries.put_entries.Given as goal
 
-abbrev pub invariant-loop-rows : goal.invariant-loop-rows
-invariant-loop-rows g l = record {
-  partly : Partly (g.K.Sink.talk l.initial.out) (g.K.Sink.talk l.out) (nonzero_within l.lo l.hi l.vector.numbers) (nonzero_within l.next l.hi l.vector.numbers);
+abbrev pub invariant-loop-version : goal.invariant-loop-version
+invariant-loop-version g l = record {
+  partly : Partly l.version (g.K.Sink.talk l.initial.out) (g.K.Sink.talk l.out) (nonzero_within l.lo l.hi l.vector.numbers) (nonzero_within l.next l.hi l.vector.numbers);
   lasts : Lasts g.K.Sink.faults g.K.Sink.is_sure l.initial.out l.out;
 }
 
-abbrev pub decreases-loop-rows : goal.decreases-loop-rows
-decreases-loop-rows g l = length (nonzero_within l.next l.hi l.vector.numbers)
+abbrev pub decreases-loop-version : goal.decreases-loop-version
+decreases-loop-version g l = length (nonzero_within l.next l.hi l.vector.numbers)

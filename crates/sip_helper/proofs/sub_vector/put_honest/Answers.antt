@@ -22,8 +22,8 @@ returns-in_err-put_entries-clause-talk g c =
     let len : length c.args.revealed.now ≡ 0 = search rules in
     let none = nil_from_length c.args.revealed.now len in
     let p = err_from_is_err_and c.from_residual.result c.from_residual.ensures.1 in
-    rw (p.1, none, reply_first m61_modulus numbers c.args.lo c.args.hi)
-    (stopped_in (g.K.Sink.talk c.args.out.now) (g.K.Sink.talk c.put_entries.new.out) c.in_err-put_entries.field-0.0 p.0 (framed (nonzero_within c.args.lo c.args.hi numbers)) _ c.in_err-put_entries.ensures.talk)
+    rw (p.1, none, reply_first c.args.version m61_modulus numbers c.args.lo c.args.hi)
+    (stopped_in (g.K.Sink.talk c.args.out.now) (g.K.Sink.talk c.put_entries.new.out) c.in_err-put_entries.field-0.0 p.0 (framed c.args.version (nonzero_within c.args.lo c.args.hi numbers)) _ c.in_err-put_entries.ensures.talk)
 
 pub returns-clause-talk : goal.returns-clause-talk
 returns-clause-talk g c =
@@ -36,18 +36,18 @@ returns-clause-talk g c =
     let after = g.K.Sink.talk c.encode.new.sink in
     let message : c.siblings_of.result ≡ siblings_message (its_siblings (proving m61_modulus numbers lo hi revealed)) =
     c.siblings_of.ensures.message ∙ ap (λ (x : Proving). siblings_message (its_siblings x)) c.requires.proving in
-    let sent : SendsWhole now after c.encode.result (spelling (siblings_message (its_siblings (proving m61_modulus numbers lo hi revealed)))) =
-    subst (λ (m : Message). SendsWhole now after c.encode.result (spelling m)) message c.encode.ensures.talk in
+    let sent : SendsWhole now after c.encode.result (spelling c.args.version (siblings_message (its_siblings (proving m61_modulus numbers lo hi revealed)))) =
+    subst (λ (m : Message). SendsWhole now after c.encode.result (spelling c.args.version m)) message c.encode.ensures.talk in
     elim c.if-is_empty.branch [
       | then-is_empty+in_ok-put_entries w ↦
           let len : length c.args.revealed.now ≡ 0 = search rules in
           let none = nil_from_length c.args.revealed.now len in
-          let entries = subst (λ (t : Option (List TalkEvent)). GoesOn before t (outs (framed (nonzero_within lo hi numbers)))) (sym (ap g.K.Sink.talk w.out-is)) w.in_ok-put_entries.ensures.talk in
-          subst (SendsWhole before after c.encode.result) (sym (ap (honest_reply m61_modulus numbers lo hi) none ∙ reply_first m61_modulus numbers lo hi))
-          (sends_after before now after c.encode.result (framed (nonzero_within lo hi numbers)) _ entries
-          (subst (λ (l : List ℕ). SendsWhole now after c.encode.result (spelling (siblings_message (its_siblings (proving m61_modulus numbers lo hi l))))) none sent))
+          let entries = subst (λ (t : Option (List TalkEvent)). GoesOn before t (outs (framed c.args.version (nonzero_within lo hi numbers)))) (sym (ap g.K.Sink.talk w.out-is)) w.in_ok-put_entries.ensures.talk in
+          subst (SendsWhole before after c.encode.result) (sym (ap (honest_reply c.args.version m61_modulus numbers lo hi) none ∙ reply_first c.args.version m61_modulus numbers lo hi))
+          (sends_after before now after c.encode.result (framed c.args.version (nonzero_within lo hi numbers)) _ entries
+          (subst (λ (l : List ℕ). SendsWhole now after c.encode.result (spelling c.args.version (siblings_message (its_siblings (proving m61_modulus numbers lo hi l))))) none sent))
       | else-is_empty w ↦
           let some : 0 < length revealed = search rules in
-          subst (λ (t : Option (List TalkEvent)). SendsWhole t after c.encode.result (honest_reply m61_modulus numbers lo hi revealed)) (ap g.K.Sink.talk w.out-is)
-          (subst (SendsWhole now after c.encode.result) (sym (reply_behind m61_modulus numbers lo hi revealed some)) sent)
+          subst (λ (t : Option (List TalkEvent)). SendsWhole t after c.encode.result (honest_reply c.args.version m61_modulus numbers lo hi revealed)) (ap g.K.Sink.talk w.out-is)
+          (subst (SendsWhole now after c.encode.result) (sym (reply_behind c.args.version m61_modulus numbers lo hi revealed some)) sent)
     ]

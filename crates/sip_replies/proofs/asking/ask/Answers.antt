@@ -4,6 +4,7 @@ use Rattle.std.specs.Prelude.{None, slice_index, IfOk}
 use Rattle.sip_ports.specs.Ports.{GoesOn, outs}
 use Rattle.sip_ports.proofs.FaultLemmas.{Lasts-trans, Lasts-of_HasCause}
 use Rattle.sip_wire.specs.declared.message.Message.TheVariants as messages
+use Rattle.sip_wire.specs.declared.version.Version.{Version}
 use Rattle.sip_wire.specs.Spelling.{spelling}
 use Rattle.sip_replies.specs.declared.check.More.TheVariants as mores
 use Rattle.sip_replies.specs.Protocols.{Phase, Awaits, after}
@@ -27,18 +28,20 @@ returns-in_err-encode-clause-answers g c asked same stands =
     let P = g.C.Check.protocol asked in
     let talk = c.in_err-encode.ensures.talk in
     Answers-port P c.args.query (g.C.Check.phase c.args.check.now).block _ _ _ _ c.args.places.now c.from_residual.result c.in_err-encode.field-0.0 c.from_residual.ensures.1
-    (IsInterrupted-query P (due g (goal.at.returns-in_err-encode-clause-answers g c).In_default asked stands) c.args.query (g.C.Check.phase c.args.check.now).block _ _ _ talk.0 talk.2 c.requires.begins.some)
+    (IsInterrupted-query P (due g (goal.at.returns-in_err-encode-clause-answers g c).In_default asked stands) c.args.query (g.C.Check.phase c.args.check.now).block _ _ _ talk.0
+    (subst (λ (v : Version). GoesOn (g.L.Sink.talk c.args.link.now) (g.L.Sink.talk c.encode.new.sink) (outs (take talk.0 (spelling v (messages.Query c.args.query))))) (sym same) talk.2) c.requires.begins.some)
 
 -- the query was sent
-first_ready : (g : given.Over) (c : In_ok-encode g) (asked : g.C.Check.Asked)
+first_ready : (g : given.Over) (c : In_ok-encode g) (asked : g.C.Check.Asked) → (g.C.Check.protocol asked).rules.version ≡ c.args.version
     → Ready (g.C.Check.protocol asked) c.args.query (g.C.Check.phase c.args.check.now).block (g.L.Sink.talk c.args.link.now) (g.L.Sink.talk c.encode.new.sink) (g.K.Sink.talk c.args.keep.now) (g.K.Sink.talk c.args.keep.now) [] (g.C.Check.protocol asked).rules.start
-first_ready g c asked = Ready-first (g.C.Check.protocol asked) c.args.query (g.C.Check.phase c.args.check.now).block _ _ _ c.in_ok-encode.ensures.talk c.requires.begins.some
+first_ready g c asked same = Ready-first (g.C.Check.protocol asked) c.args.query (g.C.Check.phase c.args.check.now).block _ _ _
+    (subst (λ (v : Version). GoesOn (g.L.Sink.talk c.args.link.now) (g.L.Sink.talk c.encode.new.sink) (outs (spelling v (messages.Query c.args.query)))) (sym same) c.in_ok-encode.ensures.talk) c.requires.begins.some
 
 pub returns-in_err-in_round-clause-answers : goal.returns-in_err-in_round-clause-answers
 returns-in_err-in_round-clause-answers g c asked same stands =
     let P = g.C.Check.protocol asked in
     let at = goal.at.returns-in_err-in_round-clause-answers g c in
-    Answers-reply P (due g at.In_default asked stands) c.args.query (g.C.Check.phase c.args.check.now).block _ _ _ _ _ _ [] P.rules.start (first_ready g at.In_ok-encode asked) 0
+    Answers-reply P (due g at.In_default asked stands) c.args.query (g.C.Check.phase c.args.check.now).block _ _ _ _ _ _ [] P.rules.start (first_ready g at.In_ok-encode asked same) 0
     (λ _ t. g.C.Check.stands asked t c.take_reply.new.check c.take_reply.new.places) c.take_reply.result c.take_reply.new.places
     c.from_residual-in_err-in_round.result c.in_err-in_round.field-0.0 refl c.from_residual-in_err-in_round.ensures.1 c.in_err-in_round.ensures.same (c.take_reply.ensures.took asked P.rules.start same stands)
 
@@ -54,7 +57,7 @@ loop-round-init g c =
           let P = g.C.Check.protocol asked in
           let took = subst (λ r. Takes (read_reply P.rules P.rules.start) (g.L.Sink.talk c.encode.new.sink) (g.L.Sink.talk c.take_reply.new.link) (g.K.Sink.talk c.args.keep.now) (g.K.Sink.talk c.take_reply.new.keep)
           (λ _ t. g.C.Check.stands asked t c.take_reply.new.check c.take_reply.new.places) r) c.in_ok-in_round.ensures.same (c.take_reply.ensures.took asked P.rules.start same stands) in
-          Going-next P (due g at.In_default asked stands) c.args.query (g.C.Check.phase c.args.check.now).block _ _ _ _ _ _ [] P.rules.start (first_ready g at.In_ok-encode asked) 1
+          Going-next P (due g at.In_default asked stands) c.args.query (g.C.Check.phase c.args.check.now).block _ _ _ _ _ _ [] P.rules.start (first_ready g at.In_ok-encode asked same) 1
           (λ t. g.C.Check.stands asked t c.take_reply.new.check c.take_reply.new.places) took.0 (omega arith) took.1 took.2;
       stood = λ asked stands.
           subst (λ r. IfOk r (λ _. (t : g.C.Check.State) × g.C.Check.stands asked t c.take_reply.new.check c.take_reply.new.places)) c.in_ok-in_round.ensures.same
@@ -69,7 +72,7 @@ loop-round-init g c =
     }
 
 pub encode-requires-in-loop-round : goal.encode-requires-in-loop-round
-encode-requires-in-loop-round g c = reveal_fits c.reveal-challenge.result c.reveal-challenge.ensures.below
+encode-requires-in-loop-round g c = reveal_fits c.args.version c.reveal-challenge.result c.reveal-challenge.ensures.below
 
 -- the challenge that was revealed is that of the replies so far
 challenge_is : (g : given.Over) (c : After-reveal-challenge g) → c.reveal-challenge.result ≡ slice_index (g.C.Check.phase c.args.check.now).block (c.loop-round.round - 1)
@@ -89,7 +92,8 @@ returns-in_err-encode-2-clause-answers g c asked same stands =
     Answers-port P c.args.query block _ _ _ _ c.loop-round.places c.from_residual-in_err-encode-2.result c.in_err-encode-2.field-0.0 c.from_residual-in_err-encode-2.ensures.1
     (IsInterrupted-reveal P (due g at.In_default asked stands) c.args.query block _ _ _ _ _ c.loop-round.round (λ s. g.C.Check.stands asked s c.loop-round.check c.loop-round.places) (c.loop-round.invariant.going asked same stands)
     (omega (arith, c.loop-round-test.true, c.depth-depth.ensures.exact)) talk.0
-    (subst (λ (k : ℕ). GoesOn (g.L.Sink.talk c.loop-round.link) (g.L.Sink.talk c.encode-in-loop-round.new.sink) (outs (take talk.0 (spelling (messages.Reveal k))))) r talk.2))
+    (subst (λ (v : Version). GoesOn (g.L.Sink.talk c.loop-round.link) (g.L.Sink.talk c.encode-in-loop-round.new.sink) (outs (take talk.0 (spelling v (messages.Reveal (slice_index block (c.loop-round.round - 1))))))) (sym same)
+    (subst (λ (k : ℕ). GoesOn (g.L.Sink.talk c.loop-round.link) (g.L.Sink.talk c.encode-in-loop-round.new.sink) (outs (take talk.0 (spelling c.args.version (messages.Reveal k))))) r talk.2)))
 
 pub reveal-challenge-requires-clause-stood : goal.reveal-challenge-requires-clause-stood
 reveal-challenge-requires-clause-stood g c =
@@ -120,14 +124,15 @@ take_reply-requires-in-loop-round-clause-phase g c =
     })
 
 -- the challenge was sent
-later_ready : (g : given.Over) (c : In_ok-encode-2 g) (asked : g.C.Check.Asked)
+later_ready : (g : given.Over) (c : In_ok-encode-2 g) (asked : g.C.Check.Asked) (same : (g.C.Check.protocol asked).rules.version ≡ c.args.version)
     (going : Going (g.C.Check.protocol asked) c.args.query (g.C.Check.phase c.args.check.now).block (g.L.Sink.talk c.args.link.now) (g.L.Sink.talk c.loop-round.link) (g.K.Sink.talk c.args.keep.now) (g.K.Sink.talk c.loop-round.keep) c.loop-round.round (λ s. g.C.Check.stands asked s c.loop-round.check c.loop-round.places))
     → Ready (g.C.Check.protocol asked) c.args.query (g.C.Check.phase c.args.check.now).block (g.L.Sink.talk c.args.link.now) (g.L.Sink.talk c.encode-in-loop-round.new.sink) (g.K.Sink.talk c.args.keep.now) (g.K.Sink.talk c.loop-round.keep) going.replies
     ((g.C.Check.protocol asked).rules.learn going.state (slice_index (g.C.Check.phase c.args.check.now).block (c.loop-round.round - 1)))
-later_ready g c asked going =
+later_ready g c asked same going =
     let r = challenge_is g (goal.at.In_ok-encode-2 g c).After-reveal-challenge in
     Ready-later (g.C.Check.protocol asked) c.args.query (g.C.Check.phase c.args.check.now).block _ _ _ _ _ c.loop-round.round (λ s. g.C.Check.stands asked s c.loop-round.check c.loop-round.places) going
-    (subst (λ (k : ℕ). GoesOn (g.L.Sink.talk c.loop-round.link) (g.L.Sink.talk c.encode-in-loop-round.new.sink) (outs (spelling (messages.Reveal k)))) r c.in_ok-encode-2.ensures.talk)
+    (subst (λ (v : Version). GoesOn (g.L.Sink.talk c.loop-round.link) (g.L.Sink.talk c.encode-in-loop-round.new.sink) (outs (spelling v (messages.Reveal (slice_index (g.C.Check.phase c.args.check.now).block (c.loop-round.round - 1)))))) (sym same)
+    (subst (λ (k : ℕ). GoesOn (g.L.Sink.talk c.loop-round.link) (g.L.Sink.talk c.encode-in-loop-round.new.sink) (outs (spelling c.args.version (messages.Reveal k)))) r c.in_ok-encode-2.ensures.talk))
     (omega (arith, c.loop-round-test.true, c.depth-depth.ensures.exact))
 
 -- the reply was taken
@@ -147,7 +152,7 @@ returns-in_err-in_round-2-clause-answers g c asked same stands =
     let at = goal.at.returns-in_err-in_round-2-clause-answers g c in
     let P = g.C.Check.protocol asked in
     let going = c.loop-round.invariant.going asked same stands in
-    Answers-reply P (due g at.In_default asked stands) c.args.query (g.C.Check.phase c.args.check.now).block _ _ _ _ _ _ going.replies _ (later_ready g at.In_ok-encode-2 asked going) _
+    Answers-reply P (due g at.In_default asked stands) c.args.query (g.C.Check.phase c.args.check.now).block _ _ _ _ _ _ going.replies _ (later_ready g at.In_ok-encode-2 asked same going) _
     (λ _ t. g.C.Check.stands asked t c.take_reply-in-loop-round.new.check c.take_reply-in-loop-round.new.places) c.take_reply-in-loop-round.result c.take_reply-in-loop-round.new.places
     c.from_residual-in_err-in_round-2.result c.in_err-in_round-2.field-0.0 (sym going.counted) c.from_residual-in_err-in_round-2.ensures.1 c.in_err-in_round-2.ensures.same
     (later_took g at.After-take_reply-in-loop-round asked going.state same going.stands)
@@ -167,7 +172,7 @@ loop-round-preserved g c =
           (g.L.Sink.talk c.encode-in-loop-round.new.sink) (g.L.Sink.talk c.take_reply-in-loop-round.new.link) (g.K.Sink.talk c.loop-round.keep) (g.K.Sink.talk c.take_reply-in-loop-round.new.keep)
           (λ _ t. g.C.Check.stands asked t c.take_reply-in-loop-round.new.check c.take_reply-in-loop-round.new.places) r) c.in_ok-in_round-2.ensures.same
           (later_took g at.After-take_reply-in-loop-round asked going.state same going.stands) in
-          Going-next P (due g at.In_default asked stands) c.args.query (g.C.Check.phase c.args.check.now).block _ _ _ _ _ _ going.replies _ (later_ready g at.In_ok-encode-2 asked going) (c.loop-round.round + 1)
+          Going-next P (due g at.In_default asked stands) c.args.query (g.C.Check.phase c.args.check.now).block _ _ _ _ _ _ going.replies _ (later_ready g at.In_ok-encode-2 asked same going) (c.loop-round.round + 1)
           (λ t. g.C.Check.stands asked t c.take_reply-in-loop-round.new.check c.take_reply-in-loop-round.new.places) took.0 (ap (λ (k : ℕ). k + 1) going.counted) took.1 took.2;
       stood = λ asked stands.
           let stood = c.loop-round.invariant.stood asked stands in

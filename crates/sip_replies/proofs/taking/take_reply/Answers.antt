@@ -73,7 +73,7 @@ returns-in-Complete-clause-took g c asked s same stands =
     )
 
 pub take-requires-clause-fits : goal.take-requires-clause-fits
-take-requires-clause-fits g c = c.in_ok-message.ensures.took.2.has_spelling
+take-requires-clause-fits g c = (c.args.version, c.in_ok-message.ensures.took.2.has_spelling)
 
 pub take-requires-clause-range : goal.take-requires-clause-range
 take-requires-clause-range g c = c.in_ok-message.ensures.took.2.in_range

@@ -17,6 +17,9 @@ returns-clause-made c = λ depth spells. c.run.ensures.keeps.made depth spells _
 pub returns-clause-lines : goal.returns-clause-lines
 returns-clause-lines c = λ form depth spells. c.run.ensures.keeps.lines form depth spells _ refl
 
+pub returns-clause-wide : goal.returns-clause-wide
+returns-clause-wide c = λ form depth spells. c.run.ensures.keeps.wide form depth spells _ refl
+
 pub returns-clause-help : goal.returns-clause-help
 returns-clause-help c = c.run.ensures.keeps.help
 

@@ -1,6 +1,8 @@
 -- What holds at each exit follows from how far the copy came.
 use Rattle.std.proofs.Common.{rules}
 use Rattle.std.proofs.lemmas.Result.{err_from_is_err_and}
+use Rattle.sip_stream.specs.Layouts.{deepest_in}
+use Rattle.sip_stream.proofs.ReadBack.{below_deeper}
 use Rattle.sip_stream.proofs.Copies.{goes_on, ends, stops_reading, stops_writing}
 use Rattle.sip_stream.proofs.copying.copy_on.Goals as goal
 
@@ -22,6 +24,12 @@ returns-in_err-make_room-clause-copied g c = λ bytes all.
     let p = err_from_is_err_and c.from_residual.result c.from_residual.ensures.1 in
     let talk = c.in_err-make_room.ensures.talk in
     rw p.1 (stops_writing c.args.depth c.args.from c.args.to bytes (g.K.Sink.talk c.args.sink.now) (g.A.Source.left c.loop-update.source) (g.K.Sink.talk c.loop-update.sink) (g.K.Sink.talk c.make_room.new.sink) c.loop-update.reader c.loop-update.gathered.items talk.0 so talk.1 talk.2)
+
+pub put_update-requires : goal.put_update-requires
+put_update-requires g c =
+    let room = rw (c.in-Ok-Some.is, c.in-Ok-Some.field-0-is) at c.next.ensures.legal in
+    let item = rw c.loop-update.invariant.depth at room.item in
+    (search rules, (below_deeper c.in-Ok-Some.update.item c.args.depth (deepest_in c.args.to) item c.requires.depth, search rules))
 
 pub loop-update-preserved : goal.loop-update-preserved
 loop-update-preserved g c = record {

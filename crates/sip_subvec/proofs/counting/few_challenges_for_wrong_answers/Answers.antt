@@ -7,4 +7,4 @@ use Rattle.sip_subvec.proofs.WrittenAnswers.{vector-small}
 use Rattle.sip_subvec.proofs.counting.few_challenges_for_wrong_answers.Goals as goal
 
 pub returns : goal.returns
-returns c = λ d lo hi stream strategy le lt legal bytes. few_fooled_bytes d lo hi (vector d stream First) strategy m61_prime (length-vector d stream First) le lt (vector-small d stream legal) bytes
+returns c = λ version d lo hi stream strategy le lt legal bytes. few_fooled_bytes version d lo hi (vector d stream First) strategy m61_prime (length-vector d stream First) le lt (vector-small d stream legal) bytes

@@ -4,4 +4,4 @@ use Rattle.sip_subvec.proofs.FewFooled.{same_entries}
 use Rattle.sip_subvec.proofs.counting.right_replies_say_the_entries.Goals as goal
 
 pub returns : goal.returns
-returns c = λ lo hi numbers all. same_entries (said lo hi all) (nonzero_within lo hi numbers)
+returns c = λ version lo hi numbers all. same_entries (said version lo hi all) (nonzero_within lo hi numbers)

@@ -1,20 +1,24 @@
-use Rattle.std.proofs.Common.{rules, ◌≢◌, ◌≡◌, ◌+◌, ◌-◌, ◌^◌, ◌≤◌, ℕ, min, List, length, Err, refl, sym, ap, ◌∙◌, subst, arith, IsTrue}
+use Rattle.std.proofs.Common.{rules, ◌≢◌, ◌+◌, ◌-◌, ◌^◌, ◌≤◌, min, length, Err, refl, sym, ap, ◌∙◌, subst, arith, IsTrue}
 use Rattle.sip_vector.specs.declared.query.Query.{Query}
-use Rattle.sip_vector.specs.declared.query.Query.TheVariants.{Sub}
 use Rattle.sip_wire.specs.declared.message.Message.TheVariants as messages
 use Rattle.sip_wire.specs.Spelling.{fits}
 use Rattle.sip_replies.specs.declared.asking.AskStop.TheVariants as stops
 use Rattle.sip_verifier.specs.QuerySeats.{Seated}
-use Rattle.sip_verifier.proofs.SeatAsked.{sub_has_spelling, sub_has_room, sub_asks}
+use Rattle.sip_verifier.proofs.SeatAsked.{seat_has_spelling, sub_has_room, sub_asks}
 use Rattle.sip_verifier.proofs.asking.ask_seat.Goals as goal
 
 pub ask-requires-clause-fits : goal.ask-requires-clause-fits
 ask-requires-clause-fits g c =
     let asked = ap (λ (s : Seated). s.query) c.seat.view_is in
-    subst (λ (q : Query). IsTrue (fits (messages.Query q))) (sym asked)
-    (sub_has_spelling c.args.seat.now c.in-Sub-Root.lo c.in-Sub-Root.hi
-    (sym asked ∙ c.in-Sub-Root.is-0) c.requires.seat (subst (λ (b : List ℕ). length b ≤ 32) c.block.ensures
-    (omega (arith, c.depth-levels.ensures.exact, c.depth-levels.ensures.fits))))
+    subst (λ (q : Query). IsTrue (fits c.args.version (messages.Query q))) (sym asked)
+    (seat_has_spelling c.args.version c.args.seat.now c.requires.seat c.requires.speaks)
+
+pub ask-requires-clause-stood : goal.ask-requires-clause-stood
+ask-requires-clause-stood g c =
+    let is = sym (ap (λ (s : Seated). s.query) c.seat.view_is) ∙ c.in-Sub-Root.is-0 in
+    let room = sub_has_room c.args.seat.now c.in-Sub-Root.lo c.in-Sub-Root.hi
+    (length c.args.entries.now) is c.requires.room in
+    (_, c.start-check.ensures.stands c.args.version c.args.entries.now room)
 
 pub returns-clause-asks : goal.returns-clause-asks
 returns-clause-asks g c = λ depth stream stands.
@@ -22,11 +26,11 @@ returns-clause-asks g c = λ depth stream stands.
     let is = sym asked ∙ c.in-Sub-Root.is-0 in
     let room = sub_has_room c.args.seat.now c.in-Sub-Root.lo c.in-Sub-Root.hi
     (length c.args.entries.now) is c.requires.room in
-    let stood = c.start-check.ensures.stands c.args.entries.now room in
+    let stood = c.start-check.ensures.stands c.args.version c.args.entries.now room in
     let kept : c.ask.result ≢ Err stops.KeepFault = λ is.
     (let rose : min (0 + 1) (2 ^ 64 - 1) ≤ 0 = c.ask.ensures.keeper is in omega (arith, rose))
     in
-    sub_asks depth stream c.args.seat.now c.seat.inside.running c.in-Sub-Root.lo c.in-Sub-Root.hi
+    sub_asks c.args.version depth stream c.args.seat.now c.seat.inside.running c.in-Sub-Root.lo c.in-Sub-Root.hi
     _ _ _ _ _ _ _ c.ask.new.places c.ask.result is
     (sym (ap (λ (s : Seated). s.block) c.seat.view_is))
     (sym (ap (λ (s : Seated). s.running) c.seat.view_is))

@@ -11,7 +11,7 @@ returns-in_err-on_report-in-Ok-Rejected-clause-checks g c = λ stream seat next.
     let asks = rw (c.in-Ok-Rejected.is, c.in-Ok-Rejected.field-0-is) at (c.ask.ensures.asks stream _ seat next) in
     let p = err_from_is_err_and c.from_residual.result c.from_residual.ensures.1 in
     let on = rw c.in_err-on_report-in-Ok-Rejected.was at c.on_report-in-Ok-Rejected.ensures in
-    rw (p.1, p.2) (rejection_cut _ _ _ _ _ _ _ _ _ c.in-Ok-Rejected.round c.in-Ok-Rejected.reason c.write_rejection.result c.in_err-on_report-in-Ok-Rejected.field-0.0 asks c.write_rejection.ensures.talk on)
+    rw (p.1, p.2) (rejection_cut c.args.session.now.version _ _ _ _ _ _ _ _ _ c.in-Ok-Rejected.round c.in-Ok-Rejected.reason c.write_rejection.result c.in_err-on_report-in-Ok-Rejected.field-0.0 asks c.write_rejection.ensures.talk on)
 
 pub returns-in_ok-on_report-in-Ok-Rejected-clause-checks :
     goal.returns-in_ok-on_report-in-Ok-Rejected-clause-checks
@@ -23,7 +23,7 @@ returns-in_ok-on_report-in-Ok-Rejected-clause-checks g c = λ stream seat next.
 pub returns-in-Ok-Pairs-clause-checks : goal.returns-in-Ok-Pairs-clause-checks
 returns-in-Ok-Pairs-clause-checks g c = λ stream seat next.
     let asks = rw (c.in-Ok-Pairs.is, c.in-Ok-Pairs.field-0-is, ← c.entries.ensures) at (c.ask.ensures.asks stream _ seat next) in
-    line_checked _ _ _ _ _ _ _ _ _ _ c.write_pairs.result c.on_report.result asks c.write_pairs.ensures.talk c.on_report.ensures
+    line_checked c.args.session.now.version _ _ _ _ _ _ _ _ _ _ c.write_pairs.result c.on_report.result asks c.write_pairs.ensures.talk c.on_report.ensures
 
 pub returns-in-Ok-Number-clause-checks : goal.returns-in-Ok-Number-clause-checks
 returns-in-Ok-Number-clause-checks g c = λ stream seat next.
@@ -32,10 +32,10 @@ returns-in-Ok-Number-clause-checks g c = λ stream seat next.
     let fits : FitsSigned w64 c.in-Ok-Number.value = search rules in
     let kept : to_z w64 (of_z w64 c.in-Ok-Number.value)
     ≡ c.in-Ok-Number.value = to_z-of_z w64 c.in-Ok-Number.value fits in
-    line_checked _ _ _ _ _ _ _ _ _ _ c.write_number.result c.on_report-in-Ok-Number.result asks
+    line_checked c.args.session.now.version _ _ _ _ _ _ _ _ _ _ c.write_number.result c.on_report-in-Ok-Number.result asks
     (rw kept at c.write_number.ensures.talk) c.on_report-in-Ok-Number.ensures
 
 pub returns-in-Err-clause-checks : goal.returns-in-Err-clause-checks
 returns-in-Err-clause-checks g c = λ stream seat next.
     let asks = rw (c.in-Err.is) at (c.ask.ensures.asks stream _ seat next) in
-    rw c.status_of_fault.ensures (fault_checked _ _ _ _ _ _ _ _ c.ask.new.self.entries c.in-Err.fault asks)
+    rw c.status_of_fault.ensures (fault_checked c.args.session.now.version _ _ _ _ _ _ _ _ c.ask.new.self.entries c.in-Err.fault asks)

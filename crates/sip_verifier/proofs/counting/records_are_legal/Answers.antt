@@ -1,4 +1,4 @@
-use Rattle.sip_verifier.proofs.LegalRecords.{records_legal}
+use Rattle.sip_stream.proofs.LegalRecords.{records_legal}
 use Rattle.sip_verifier.proofs.counting.records_are_legal.Goals as goal
 
 pub returns : goal.returns

@@ -4,6 +4,7 @@ use Rattle.std.specs.Prelude.{IsSome}
 use Rattle.sip_ports.specs.Ports.{Lasts}
 use Rattle.sip_stream.specs.Reading.{room}
 use Rattle.sip_verifier.specs.inside.Drawing.{AreOf, HasDrawn}
+use Rattle.sip_verifier.specs.Tasks.{version_of}
 use Rattle.sip_verifier.specs.Draws.{blocks}
 use Rattle.sip_verifier.proofs.Gathered.{IsUnderway}
 use Rattle.sip_verifier.proofs.gathering.follow.Given as goal
@@ -12,6 +13,7 @@ abbrev pub invariant-loop-update : goal.invariant-loop-update
 invariant-loop-update g l = record {
   underway : (bytes seed : List ℕ) → g.A.Source.left l.fn.first ≡ Some bytes → (has : HasDrawn l.fn.task seed l.fn.seats)
       → IsUnderway l.fn.task bytes (blocks l.fn.task has.challenges) (g.A.Source.left l.first) (g.L.Sink.talk l.fn.peer) (g.L.Sink.talk l.peer) l.reader l.seats l.feed.waiting;
+  version : l.feed.version ≡ version_of l.fn.task;
   seats : AreOf l.fn.task l.seats;
   depth : l.reader.depth ≡ l.fn.task.depth;
   form : l.reader.form ≡ l.fn.task.form;

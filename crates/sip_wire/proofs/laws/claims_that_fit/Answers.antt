@@ -2,4 +2,4 @@ use Rattle.sip_wire.proofs.Longest.{claim_fits, claim_from_fits}
 use Rattle.sip_wire.proofs.laws.claims_that_fit.Goals as goal
 
 pub returns : goal.returns
-returns c = λ value range. (claim_from_fits value range, claim_fits value range)
+returns c = λ version value range. (claim_from_fits version value range, claim_fits version value range)

@@ -10,4 +10,4 @@ returns-clause-bytes c =
     let filled = c.args.filled in
     let n = c.min-count.result in
     ap (λ left. take filled c.args.buf.now ++ left) (sym c.go_on.ensures.same)
-    ∙ filled_more filled source.at n c.args.buf.now c.copy_from_slice.new.self source.bytes (made_bytes source.state source.more source.depth) c.requires (search rules) (grind (arith, common_steps))
+    ∙ filled_more filled source.at n c.args.buf.now c.copy_from_slice.new.self source.under_way.items (made_bytes source.state source.more source.depth) c.requires (search rules) (grind (arith, common_steps))

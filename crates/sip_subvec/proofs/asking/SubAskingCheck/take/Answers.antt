@@ -13,17 +13,17 @@ use Rattle.sip_subvec.proofs.asking.SubAskingCheck.take.Goals as goal
 pub give_entries-requires-clause-values : goal.give_entries-requires-clause-values
 give_entries-requires-clause-values c =
     subst (λ (l : List Entry). All IsTakenValue l) (sym c.deref.ensures.0)
-    (values_spelled c.in-Entries.rows (subst (λ (m : Message). IsTrue
-    (fits m)) c.in-Entries.is c.requires.fits)
+    (values_spelled c.requires.fits.0 c.in-Entries.rows
+    (subst (λ (m : Message). IsTrue (fits c.requires.fits.0 m)) c.in-Entries.is c.requires.fits.1)
     (subst (λ (m : Message). InRange m) c.in-Entries.is c.requires.range))
 
 pub give_siblings-requires-clause-left : goal.give_siblings-requires-clause-left
-give_siblings-requires-clause-left c = (siblings_below c.in-Siblings.left c.in-Siblings.right
-    (subst (λ (m : Message). IsTrue (fits m)) c.in-Siblings.is c.requires.fits)).0
+give_siblings-requires-clause-left c = (siblings_below c.requires.fits.0 c.in-Siblings.left c.in-Siblings.right
+    (subst (λ (m : Message). IsTrue (fits c.requires.fits.0 m)) c.in-Siblings.is c.requires.fits.1)).0
 
 pub give_siblings-requires-clause-right : goal.give_siblings-requires-clause-right
-give_siblings-requires-clause-right c = (siblings_below c.in-Siblings.left c.in-Siblings.right
-    (subst (λ (m : Message). IsTrue (fits m)) c.in-Siblings.is c.requires.fits)).1
+give_siblings-requires-clause-right c = (siblings_below c.requires.fits.0 c.in-Siblings.left c.in-Siblings.right
+    (subst (λ (m : Message). IsTrue (fits c.requires.fits.0 m)) c.in-Siblings.is c.requires.fits.1)).1
 
 pub returns-in_err-give_siblings-in-Siblings-clause-took : goal.returns-in_err-give_siblings-in-Siblings-clause-took
 returns-in_err-give_siblings-in-Siblings-clause-took c asked s stands =
@@ -41,12 +41,13 @@ returns-in_ok-self-inside-in-Entries-clause-smaller c due =
     let same : a ≡ c.args.self.now = c.self.view_is in
     let stands = subst (λ (b : Asking). SubStands stood.0 stood.1 b c.args.places.now)
     (sym same) stood.2 in
-    let fit = subst (λ (m : Message). IsTrue (fits m)) c.in-Entries.is c.requires.fits in
+    let version = c.requires.fits.0 in
+    let fit = subst (λ (m : Message). IsTrue (fits version m)) c.in-Entries.is c.requires.fits.1 in
     let gives = subst (λ (l : List Entry). Gives a.check
     (take a.found c.args.places.now) l c.give_entries.new.check c.give_entries.new.entries
     (Ok c.in_ok-self-inside-in-Entries.field-0)) c.deref.ensures.0 c.in_ok-self-inside-in-Entries.ensures.gives in
     let fewer = entries_fewer stood.0 stood.1 a c.args.places.now stands c.if-not-self.false c.in-Entries.rows c.give_entries.new.check c.give_entries.new.entries c.in_ok-self-inside-in-Entries.field-0 gives
-    (some_entries stood.0 stood.1 a c.args.places.now stands c.if-not-self.false c.in-Entries.rows c.give_entries.new.check c.give_entries.new.entries fit) in
+    (some_entries stood.0 stood.1 a c.args.places.now stands c.if-not-self.false c.in-Entries.rows c.give_entries.new.check c.give_entries.new.entries version fit) in
     rw (ap (λ (b : Asking). b.found) same) at fewer
 
 pub returns-in_ok-give_siblings-in-Siblings-clause-took : goal.returns-in_ok-give_siblings-in-Siblings-clause-took

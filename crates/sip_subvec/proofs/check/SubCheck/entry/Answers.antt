@@ -1,8 +1,9 @@
-use Rattle.std.proofs.Common.{◌≡◌, ℕ, ◌+◌, ◌-◌, ◌*◌, ◌%◌, ◌^◌, ◌<◌, length, w64, to_z, of_z, refl, sym, subst, ap, ◌∙◌, rules, arith}
+use Rattle.std.proofs.Common.{◌≡◌, ℕ, ◌+◌, ◌-◌, ◌*◌, ◌%◌, ◌^◌, ◌<◌, ◌≤◌, length, w64, to_z, of_z, refl, sym, subst, ap, ◌∙◌, rules, arith}
 use Rattle.std.proofs.Math.Nat.{add-mod-mod}
 use Rattle.std.proofs.lemmas.Int.{to_z-of_z}
 use Rattle.sip_field.specs.Residue.{residue}
 use Rattle.sip_vector.specs.Weights.{weight_above}
+use Rattle.sip_subvec.specs.Replies.{most_entries}
 use Rattle.sip_subvec.specs.Checking.{Kept, HasTaken, entry_test}
 use Rattle.sip_subvec.proofs.TakingSteps.{entry_refused, entry_taken, entry_passes}
 use Rattle.sip_subvec.proofs.check.SubCheck.entry.Goals as goal
@@ -24,7 +25,7 @@ pub overflow_add-self : goal.overflow_add-self
 overflow_add-self g c =
     let passes = entry_passes c.args.self.now c.args.index _ (sym c.in_default.ensures) in
     let count = ap (λ (k : Kept). k.count) c.self.view_is in
-    let few : c.self.inside.count + 1 < 65537 = omega (arith, passes.1, count) in
+    let few : c.self.inside.count + 1 ≤ most_entries = omega (arith, passes.1, count) in
     omega (arith, few)
 
 pub returns-clause-answers : goal.returns-clause-answers

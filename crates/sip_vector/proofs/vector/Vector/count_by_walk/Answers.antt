@@ -10,8 +10,8 @@ loop-entry-init c = record { all = omega arith; few = omega arith; within = c.re
 pub overflow_add-count : goal.overflow_add-count
 overflow_add-count c =
     let found = nonzero_within-found c.loop-entry.at c.args.hi c.args.self.now.numbers c.in-Some.entry (sym c.in-Some.ensures) in
-    let depth : c.args.self.now.depth ≤ 32 = subst (λ d. d ≤ 32) (c.get.ensures.same ∙ c.depth.ensures.same) c.get.ensures.most in
-    let most : 2 ^ c.args.self.now.depth ≤ 2 ^ 32 = (let two : 0 < 2 = omega arith in pow-le-pow_right two depth) in
+    let depth : c.args.self.now.depth ≤ 48 = subst (λ d. d ≤ 48) (c.get.ensures.same ∙ c.depth.ensures.same) c.get.ensures.most in
+    let most : 2 ^ c.args.self.now.depth ≤ 2 ^ 48 = (let two : 0 < 2 = omega arith in pow-le-pow_right two depth) in
     omega (arith, c.loop-entry.invariant.few, c.loop-entry.invariant.within, found, c.requires.within, most)
 
 pub returns-then-entry-hi : goal.returns-then-entry-hi

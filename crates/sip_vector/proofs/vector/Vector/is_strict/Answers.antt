@@ -11,7 +11,7 @@ pub returns : goal.returns
 returns c =
     let numbers = c.args.self.now.numbers in
     let d = c.get.result in
-    let most : 2 ^ d ≤ 2 ^ 32 = (let two : 0 < 2 = omega arith in pow-le-pow_right two c.get.ensures.most) in
+    let most : 2 ^ d ≤ 2 ^ 48 = (let two : 0 < 2 = omega arith in pow-le-pow_right two c.get.ensures.most) in
     let some = pow_pos d in
     let whole : 1 * 2 ^ d % 18446744073709551616 ≡ 1 * 2 ^ d = mod-eq_of_lt (omega (arith, most)) in
     let len : length numbers ≡ 2 ^ d = c.depth.ensures.numbers ∙ ap (λ n. 2 ^ n) (sym c.get.ensures.same) in (

@@ -1,5 +1,6 @@
 use Rattle.std.proofs.Common.{◌≡◌, false}
+use Rattle.sip_wire.specs.declared.version.Version.TheVariants.{One}
 use Rattle.sip_verifier.proofs.feed.tests.push_many.Given as goal
 
 abbrev pub invariant-loop : goal.invariant-loop
-invariant-loop l = l.feed.is_spent ≡ false
+invariant-loop l = (l.feed.is_spent ≡ false) × (l.feed.version ≡ One)

@@ -3,7 +3,9 @@ use Rattle.std.proofs.Common.{◌≡◌, ◌<◌, ◌≤◌, ◌*◌, ◌+◌, �
 use Rattle.std.proofs.lemmas.List.{length-map, take-map, drop-map}
 use Rattle.std.proofs.lemmas.List.Elements.{All-nil}
 use Rattle.sip_field.specs.Elements.{m61_number}
+use Rattle.sip_vector.specs.Limits.{most_depth}
 use Rattle.sip_vector.specs.declared.query.Query.TheVariants.{Sub}
+use Rattle.sip_wire.specs.Versions.{needed}
 use Rattle.sip_verifier.specs.QuerySeats.{StandsFor}
 use Rattle.sip_verifier.proofs.SeatsGiven.{block-size, given-more, given-count, given-asked, given-blocks}
 use Rattle.sip_verifier.proofs.seats.Seats.given.Goals as goal
@@ -44,7 +46,10 @@ pub invariant_of-result : goal.invariant_of-result
 invariant_of-result c =
     let all : c.loop-index.index ≡ length c.args.queries.now = omega arith in
     let count = given-count _ _ _ _ _ _ c.loop-index.invariant (omega arith) in
-    (omega (arith, count, c.requires.some), (c.loop-index.invariant.each, tt))
+    let asked = given-asked _ _ _ _ _ _ c.loop-index.invariant (omega arith) in
+    let deep : c.args.depth ≤ most_depth = omega (arith, c.get-levels.ensures.same, c.get-levels.ensures.most) in
+    let least = c.needed.ensures ∙ ap (needed c.args.depth) (sym asked) in
+    (deep, (least, (omega (arith, count, c.requires.some), (c.loop-index.invariant.each, tt))))
 
 pub returns : goal.returns
 returns c =

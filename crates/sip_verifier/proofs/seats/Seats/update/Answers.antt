@@ -2,6 +2,7 @@
 use Rattle.std.proofs.Common.{◌≡◌, ◌<◌, ◌≤◌, ◌∙◌, List, [], ◌∷◌, ◌++◌, All, length, map, sym, ap, subst, arith}
 use Rattle.std.specs.Prelude.{IsTrue}
 use Rattle.std.specs.List.{list_all}
+use Rattle.sip_wire.specs.Versions.{needed}
 use Rattle.sip_verifier.specs.QuerySeats.{Seated, StandsFor, is_seat}
 use Rattle.sip_verifier.specs.Seats.{AreSeats, Seating}
 use Rattle.sip_verifier.proofs.SeatsRaised.{RaisedTo, raised-more, raised-queries, raised-blocks, raised-seats, raised-stand, refilled, seat-levels}
@@ -29,9 +30,16 @@ invariant_of-self-inside c =
     let items = ap (λ (s : Seating). s.seats) c.self.view_is in
     let raised = subst (λ (l : List Seated). RaisedTo c.args.update.now c.loop-seat.seat-index l c.loop-seat.seat-items) (sym items) c.loop-seat.invariant in
     let len : length c.loop-seat.seat-items ≡ length old = c.loop-seat.auto.seat-items ∙ ap length c.deref_mut-seat-items.ensures.value in
-    let same = refilled old c.loop-seat.seat-items len in (
-      subst (λ (l : List Seated). 0 < length l) (sym same) (omega (arith, len, c.self.inside.some)),
-      (subst (λ l. IsTrue (list_all (is_seat c.self.inside.depth) l)) (sym same) (raised-seats c.args.update.now c.self.inside.depth _ old c.loop-seat.seat-items raised c.self.inside.each), tt),
+    let same = refilled old c.loop-seat.seat-items len in
+    let queries = ap (map (λ (s : Seated). s.query)) same ∙ raised-queries c.args.update.now _ old c.loop-seat.seat-items raised in (
+      c.self.inside.deep,
+      (
+        c.self.inside.least ∙ ap (needed c.self.inside.depth) (sym queries),
+        (
+          subst (λ (l : List Seated). 0 < length l) (sym same) (omega (arith, len, c.self.inside.some)),
+          (subst (λ l. IsTrue (list_all (is_seat c.self.inside.depth) l)) (sym same) (raised-seats c.args.update.now c.self.inside.depth _ old c.loop-seat.seat-items raised c.self.inside.each), tt),
+        ),
+      ),
     )
 
 pub returns-clause-stands : goal.returns-clause-stands
