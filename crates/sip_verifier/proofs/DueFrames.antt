@@ -1,5 +1,5 @@
 -- What goes out at the end of a stream.
-use Rattle.std.proofs.Common.{◌≡◌, ◌+◌, ◌/◌, ◌<◌, List, [], ◌∷◌, ◌++◌, length, map, take, ap, ◌∙◌, arith, append-nil, take_all}
+use Rattle.std.proofs.Common.{◌≡◌, ◌+◌, ◌/◌, ◌<◌, ◌≤◌, List, [], ◌∷◌, ◌++◌, length, map, take, ap, ◌∙◌, arith, append-nil, take_all}
 use Rattle.std.specs.List.{flat_map}
 use Rattle.sip_wire.specs.declared.version.Version.{Version}
 use Rattle.sip_vector.specs.declared.update.Update.{Update}
@@ -14,7 +14,7 @@ pub due-none : (version : Version) → due_at_end version [] ≡ spelling versio
 due-none version = append-nil (spelling version messages.EndStream)
 
 -- where some wait, their frame and the end
-pub due-some : (version : Version) (waiting : List Update) → 0 < length waiting → length waiting < 512 → due_at_end version waiting ≡ spelling version (frame waiting) ++ spelling version messages.EndStream
+pub due-some : (version : Version) (waiting : List Update) → 0 < length waiting → length waiting ≤ 512 → due_at_end version waiting ≡ spelling version (frame waiting) ++ spelling version messages.EndStream
 due-some version waiting some few =
     let one : (length waiting + 511) / 512 ≡ 1 = omega arith in
     let all : take 512 waiting ≡ waiting = take_all 512 waiting (omega arith) in

@@ -1,5 +1,6 @@
 -- How far a stream was read, sent and added to the seats, and where the call may stop.
-use Rattle.std.proofs.Common.{◌≡◌, ℕ, List, [], ◌∷◌, ◌++◌, length, inr, refl, sym, ap, ◌∙◌, subst}
+use Rattle.std.proofs.Common.{◌≡◌, ℕ, List, [], ◌∷◌, ◌++◌, length, inr, refl, sym, ap, ◌∙◌, subst, arith, length-append}
+use Rattle.std.proofs.lemmas.List.{nil_from_length}
 use Rattle.std.specs.Prelude.{Some, None, Ok, Err}
 use Rattle.std.specs.declared.option.Option.{Option}
 use Rattle.sip_ports.specs.declared.port.PortStop.{PortStop}
@@ -27,7 +28,7 @@ use Rattle.sip_verifier.specs.Talks.{whole_frames, opening_sent, stream_sent}
 use Rattle.sip_verifier.proofs.StreamSending.{stopped}
 use Rattle.sip_verifier.proofs.StreamSent.{IsPrefix-trans, frames_front, stream_sent-front, whole_frames-waiting}
 
--- The records read so far are this stream. The seats stand for it, and all but what waits was sent.
+-- The records read so far are this stream. All but what waits was sent, and the seats stand for that.
 pub record IsUnderway (task : Task) (bytes : List ℕ) (at_blocks : List (List ℕ)) (left : Option (List ℕ)) (start now : Option (List TalkEvent)) (reader : Reading) (seats : Seating) (waiting : List Update) : Type 0 where
   pub rest : List ℕ
   pub to_come : left ≡ Some rest
@@ -35,7 +36,7 @@ pub record IsUnderway (task : Task) (bytes : List ℕ) (at_blocks : List (List �
   pub after : IsAfter reader stream
   pub ahead : records task.depth task.form bytes ≡ records_from task.depth task.form stream rest
   pub said : IsSentBut (version_of task) task.depth start now stream waiting
-  pub stand : AreSeats task.depth task.queries.items at_blocks stream seats
+  pub stand : AreSeats task.depth task.queries.items at_blocks said.sent seats
 
 module _ (task : Task) (bytes seed : List ℕ) (start : Option (List TalkEvent)) (first : Seating) (has : HasDrawn task seed first) where
   abbrev at_blocks : List (List ℕ)
@@ -47,12 +48,14 @@ module _ (task : Task) (bytes seed : List ℕ) (start : Option (List TalkEvent))
   -- before the first record
   pub begins : (left : Option (List ℕ)) (now : Option (List TalkEvent)) (reader : Reading) (waiting : List Update)
       → left ≡ Some bytes → IsAfter reader [] → IsSentBut (version_of task) task.depth start now [] waiting → IsUnderway task bytes at_blocks left start now reader first waiting
-  begins left now reader waiting all after said = record { rest = bytes; to_come = all; stream = []; after = after; ahead = refl; said = said; stand = has.stand }
+  begins left now reader waiting all after said =
+      let none : said.sent ≡ [] = nil_from_length said.sent (omega (arith, ap length said.order, length-append said.sent waiting)) in
+      record { rest = bytes; to_come = all; stream = []; after = after; ahead = refl; said = said; stand = subst (λ l. AreSeats task.depth task.queries.items at_blocks l first) (sym none) has.stand }
 
   -- after one more record
   pub goes_on : (left left' : Option (List ℕ)) (now now' : Option (List TalkEvent)) (reader reader' : Reading) (seats seats' : Seating) (waiting waiting' : List Update) (u : Update)
       (so : IsUnderway task bytes at_blocks left start now reader seats waiting) → Reads task.depth task.form so.stream so.rest left' (Ok (Some u)) → IsAfter reader' (so.stream ++ u ∷ [])
-      → IsSentBut (version_of task) task.depth start now' (so.stream ++ u ∷ []) waiting' → AreSeats task.depth task.queries.items at_blocks (so.stream ++ u ∷ []) seats' → IsUnderway task bytes at_blocks left' start now' reader' seats' waiting'
+      → (said : IsSentBut (version_of task) task.depth start now' (so.stream ++ u ∷ []) waiting') → AreSeats task.depth task.queries.items at_blocks said.sent seats' → IsUnderway task bytes at_blocks left' start now' reader' seats' waiting'
   goes_on left left' now now' reader reader' seats seats' waiting waiting' u so (piece, rest, told, split, same) after said stand = record {
     rest = rest;
     to_come = told;
@@ -110,10 +113,10 @@ module _ (task : Task) (bytes seed : List ℕ) (start : Option (List TalkEvent))
         illegal = λ not. absurd (not (ap (λ (r : Records). r.fault) is));
       }
 
-  -- the stream was read and sent whole
-  pub gathered : (left left' : Option (List ℕ)) (now new : Option (List TalkEvent)) (reader : Reading) (seats : Seating) (waiting : List Update)
-      (so : IsUnderway task bytes at_blocks left start now reader seats waiting) → Reads task.depth task.form so.stream so.rest left' (Ok None) → GoesOn start new (stream_sent (version_of task) task.depth so.stream) → IsGathered task bytes seed left' start new seats
-  gathered left left' now new reader seats waiting so reads said =
+  -- the stream was read and sent whole, and the seats took those that waited
+  pub gathered : (left left' : Option (List ℕ)) (now new : Option (List TalkEvent)) (reader : Reading) (seats seats' : Seating) (waiting : List Update)
+      (so : IsUnderway task bytes at_blocks left start now reader seats waiting) → Reads task.depth task.form so.stream so.rest left' (Ok None) → GoesOn start new (stream_sent (version_of task) task.depth so.stream) → AreSeats task.depth task.queries.items at_blocks (so.said.sent ++ waiting) seats' → IsGathered task bytes seed left' start new seats'
+  gathered left left' now new reader seats seats' waiting so reads said stand =
       let is = ended left left' now reader seats waiting so reads in
       record {
         challenges = has.challenges;
@@ -121,7 +124,7 @@ module _ (task : Task) (bytes seed : List ℕ) (start : Option (List TalkEvent))
         to_end = ap (λ (r : Records). r.fault) is;
         read = reads.0;
         talk = subst (λ (r : Records). GoesOn start new (stream_sent (version_of task) task.depth r.legal)) (sym is) said;
-        stand = subst (λ (r : Records). AreSeats task.depth task.queries.items at_blocks r.legal seats) (sym is) so.stand;
+        stand = subst (λ l. AreSeats task.depth task.queries.items at_blocks l seats') (sym (ap (λ (r : Records). r.legal) is ∙ so.said.order)) stand;
       }
 
   -- ---- what is answered

@@ -13,7 +13,9 @@ use Rattle.sip_vector.specs.declared.update.Update.{Update}
 use Rattle.sip_wire.specs.declared.message.Message.TheVariants as messages
 use Rattle.sip_wire.specs.Spelling.{spelling}
 use Rattle.sip_replies.specs.Talks.{IsPrefix}
-use Rattle.sip_verifier.specs.Feeding.{fills, due_with, due_at_end, waiting_with}
+use Rattle.sip_verifier.specs.Feeding.{due_at_end}
+use Rattle.sip_verifier.specs.Feeding.{fills, due_with, waiting_with}
+use Rattle.sip_verifier.specs.inside.Passing.{taken_with}
 use Rattle.sip_verifier.specs.inside.Sending.{IsSentBut, IsStopped, IsStoppedAtEnd}
 use Rattle.sip_verifier.specs.Talks.{whole_frames, opening_sent, stream_sent}
 use Rattle.sip_replies.proofs.Saying.{sent-one}
@@ -91,20 +93,26 @@ module _ (version : Version) (depth : ℕ) (start : Option (List TalkEvent)) whe
           order = subst (λ l. IsPrefix said (opening_sent version depth (whole_frames l))) (sym longer) (IsPrefix-trans _ _ _ front alone);
         }
 
+    -- All but what waits now was sent. What was sent then is what the seats had taken, and this.
+    pub record IsPassedOn (taken waiting' : List Update) : Type 0 where
+      pub said : IsSentBut version depth start new (stream ++ u ∷ []) waiting'
+      pub longer : said.sent ≡ so.sent ++ taken
+
     -- what was sent of it, by whether it fills the frame
     abbrev Comes : Result (Unit {0}) PortStop → Bool → Type 0
     Comes r fill = SendsWhole now new r (if fill then spelling version (frame (waiting ++ u ∷ [])) else [])
-        → MatchResult r (λ _. IsSentBut version depth start new (stream ++ u ∷ []) (if fill then [] else waiting ++ u ∷ [])) (λ _. IsStopped version depth start new (stream ++ u ∷ []))
+        → MatchResult r (λ _. IsPassedOn (if fill then waiting ++ u ∷ [] else []) (if fill then [] else waiting ++ u ∷ [])) (λ _. IsStopped version depth start new (stream ++ u ∷ []))
 
     comes : (r : Result (Unit {0}) PortStop) (fill : Bool) → fills waiting ≡ fill → Comes r fill
-    comes (Ok x) true is = λ went. frame_sent ((Decides-eqb (length waiting + 1) 512).0 is) went
+    unfolding waits frame_sent
+    comes (Ok x) true is = λ went. record { said = frame_sent ((Decides-eqb (length waiting + 1) 512).0 is) went; longer = refl }
     comes (Err e) true is = λ went. frame_cut went.0 ((Decides-eqb (length waiting + 1) 512).0 is) went.2
-    comes (Ok x) false is = λ went. let few = so.few in waits (grind (arith, nat_tests)) went
+    comes (Ok x) false is = λ went. let few = so.few in record { said = waits (grind (arith, nat_tests)) went; longer = sym (append-nil so.sent) }
     comes (Err e) false is = λ went. absurd (omega (arith, went.1))
 
     -- it waits, or the frame that it fills was sent or cut short
     pub one_more : (r : Result (Unit {0}) PortStop) → SendsWhole now new r (due_with version waiting u)
-        → MatchResult r (λ _. IsSentBut version depth start new (stream ++ u ∷ []) (waiting_with waiting u)) (λ _. IsStopped version depth start new (stream ++ u ∷ []))
+        → MatchResult r (λ _. IsPassedOn (taken_with waiting u) (waiting_with waiting u)) (λ _. IsStopped version depth start new (stream ++ u ∷ []))
     one_more r = comes r (fills waiting) refl
 
   -- the rest and the end were sent, or cut short

@@ -1,15 +1,15 @@
 -- What a feed has still to send.
 use Rattle.std.specs.Prelude.{ℕ, ◌+◌, ◌^◌, ◌==◌, ◌&&◌, Bool, not, nat_abs, nat_le, nat_lt, List, [], ◌∷◌, ◌++◌, length, flat_map, if◌then◌else◌}
+use Rattle.sip_wire.specs.Table.{most_rows}
 use Rattle.sip_vector.specs.declared.update.Update.{Update}
 use Rattle.sip_vector.specs.Answers.{is_zero}
 use Rattle.sip_wire.specs.declared.message.Message.TheVariants as messages
 use Rattle.sip_wire.specs.declared.version.Version.{Version}
 use Rattle.sip_wire.specs.Versions.{index_width}
 use Rattle.sip_wire.specs.Spelling.{spelling}
-use Rattle.sip_wire.specs.Table.{most_rows}
 use Rattle.sip_verifier.specs.Talks.{update_frames}
 
--- the version of the frames, the updates that do not fill one yet, and whether a call refused
+-- the version of the frames, the updates that wait for one, and whether a call refused
 pub record Waiting : Type 0 where
   pub version : Version
   pub waiting : List Update

@@ -4,4 +4,5 @@ pub mod Drawing
 pub mod Sending
 pub mod Judging
 pub mod Ending
+pub mod Passing
 pub mod Progress

@@ -1,12 +1,13 @@
 //! A stream on its way to the helper.
 
-ghost use Rattle.std.specs.Prelude.{◌≡◌, ◌≢◌, ◌<◌, ◌≤◌, ◌^◌, [], pos, false, OnOk};
+ghost use Rattle.std.specs.Prelude.{◌≡◌, ◌≢◌, ◌<◌, ◌≤◌, ◌^◌, ◌==◌, ◌++◌, ◌∷◌, [], length, pos, false, OnOk};
 ghost use Rattle.std.specs.Result.{is_err};
 ghost use Rattle.sip_ports.specs.Ports.{HasCause, SendsWhole};
 ghost use Rattle.sip_wire.specs.Spelling.{spelling};
+ghost use Rattle.sip_wire.specs.Table.{most_rows};
 ghost use Rattle.sip_wire.specs.Versions.{deepest, index_width, number_of};
 ghost use Rattle.sip_wire.specs.declared.message.Message.TheVariants as messages;
-ghost use Rattle.sip_verifier.specs.Feeding.{due_with, due_at_end, waiting_with};
+ghost use Rattle.sip_verifier.specs.Feeding.{due_at_end, due_with, waiting_with};
 
 use arrayvec::ArrayVec;
 use sip_ports::{Link, PortStop};
@@ -15,7 +16,8 @@ use sip_wire::{MOST_ROWS, Message, Version, encode};
 use std::marker::Model;
 use std::mem;
 
-/// Sends a stream in frames of 512 updates, in a version, the last one the rest. What waits for a frame is kept in a buffer of a fixed size.
+/// Sends a stream in frames of at most 512 updates, in a version. What waits for a frame is kept in a buffer of a fixed size, where
+/// the caller may read it before it goes out.
 #[derive(Drop)]
 pub struct Feed {
     version: Version,
@@ -24,7 +26,7 @@ pub struct Feed {
 }
 
 impl Model for Feed {
-    ghost use Rattle.std.specs.Prelude.{IsTrue, ◌<◌};
+    ghost use Rattle.std.specs.Prelude.{IsTrue, ◌≤◌};
     ghost use Rattle.std.specs.List.{list_all};
     ghost use Rattle.arrayvec.specs.ArrayVec.{array_vec_len};
     ghost use Rattle.sip_wire.specs.Table.{most_rows};
@@ -38,7 +40,7 @@ impl Model for Feed {
       is_spent = f.is_spent;
     } };
 
-    ghost invariant = { λ f. (array_vec_len f.waiting < most_rows)
+    ghost invariant = { λ f. (array_vec_len f.waiting ≤ most_rows)
         × IsTrue (list_all (has_spelling f.version) f.waiting.items) };
 }
 
@@ -78,13 +80,64 @@ impl Feed {
         sent
     }
 
-    /// Takes one more update of the stream, and sends a frame as soon as it is full, in one write.
+    /// The updates that wait for their frame, in order.
+    pub fn waiting(&self) -> &[Update]
+        ensures { result.now ≡ self.now.waiting }
+    {
+        &self.waiting
+    }
+
+    /// Whether those that wait fill a frame.
+    pub fn is_full(&self) -> bool
+        ensures { result ≡ (length self.now.waiting == most_rows) }
+    {
+        self.waiting.is_full()
+    }
+
+    /// Takes one more update of the stream, which waits for its frame.
+    pub fn push(&mut self, update: &Update)
+        requires room { length self.old.waiting < most_rows }
+        requires item { update.now.item < 256 ^ index_width self.old.version }
+        requires delta { update.now.delta ≢ pos 0 }
+        ensures version { self.new.version ≡ self.old.version }
+        ensures waiting { self.new.waiting ≡ self.old.waiting ++ update.now ∷ [] }
+        ensures spent { self.new.is_spent ≡ self.old.is_spent }
+    {
+        // The type of a delta bounds it.
+        let _delta = update.delta;
+        self.waiting.push(*update);
+    }
+
+    /// Sends the updates that wait as a frame, in one write.
+    ///
+    /// # Errors
+    ///
+    /// Those of the link, which a front of the frame has then reached that is shorter than it. The feed is then spent.
+    pub fn send<L: Link>(&mut self, link: &mut L) -> Result<(), PortStop>
+        requires unspent { self.old.is_spent ≡ false }
+        requires some { 0 < length self.old.waiting }
+        ensures talk { SendsWhole (L.talk link.old) (L.talk link.new) result
+            (spelling self.old.version (messages.Updates (record { items = self.old.waiting }))) }
+        ensures version { self.new.version ≡ self.old.version }
+        ensures waiting { OnOk result (self.new.waiting ≡ []) }
+        ensures spent { self.new.is_spent ≡ is_err result }
+        ensures cause { HasCause L.faults L.is_sure link.old link.new result }
+    {
+        let frame = Message::Updates(mem::take(&mut self.waiting));
+        let sent = encode(&frame, self.version, link);
+        self.is_spent = sent.is_err();
+        sent
+    }
+
+    /// Takes one more update of the stream, and sends a frame as soon as it is full, in one write: [`push`](Feed::push), and then
+    /// [`send`](Feed::send) where those that wait fill a frame.
     ///
     /// # Errors
     ///
     /// Those of the link, which a front of the frame has then reached that is shorter than it. The feed is then spent.
     pub fn update<L: Link>(&mut self, link: &mut L, update: &Update) -> Result<(), PortStop>
         requires unspent { self.old.is_spent ≡ false }
+        requires room { length self.old.waiting < most_rows }
         requires item { update.now.item < 256 ^ index_width self.old.version }
         requires delta { update.now.delta ≢ pos 0 }
         ensures talk { SendsWhole (L.talk link.old)
@@ -92,22 +145,15 @@ impl Feed {
         ensures version { self.new.version ≡ self.old.version }
         ensures waiting { OnOk result (self.new.waiting
             ≡ waiting_with self.old.waiting update.now) }
+        ensures room { OnOk result (length self.new.waiting < most_rows) }
         ensures spent { self.new.is_spent ≡ is_err result }
         ensures cause { HasCause L.faults L.is_sure link.old link.new result }
     {
-        // The type of a delta bounds it.
-        let _delta = update.delta;
-        self.waiting.push(*update);
-        if !self.waiting.is_full() {
+        self.push(update);
+        if !self.is_full() {
             return Ok(());
         }
-        let sent = encode(
-            &Message::Updates(mem::take(&mut self.waiting)),
-            self.version,
-            link,
-        );
-        self.is_spent = sent.is_err();
-        sent
+        self.send(link)
     }
 
     /// Sends the updates that wait, where there are any, and the end of the stream.
@@ -134,15 +180,15 @@ impl Feed {
 impl Feed {
     // Sends the updates that wait, where there are any, and the end of the stream.
     fn send_rest<L: Link>(&mut self, link: &mut L) -> Result<(), PortStop>
+        requires { self.old.is_spent ≡ false }
         ensures talk { SendsWhole (L.talk link.old)
             (L.talk link.new) result (due_at_end self.old.version self.old.waiting) }
         ensures version { self.new.version ≡ self.old.version }
         ensures waiting { OnOk result (self.new.waiting ≡ []) }
         ensures cause { HasCause L.faults L.is_sure link.old link.new result }
     {
-        let rest = mem::take(&mut self.waiting);
-        if !rest.is_empty() {
-            encode(&Message::Updates(rest), self.version, link)?;
+        if !self.waiting.is_empty() {
+            self.send(link)?;
         }
         encode(&Message::EndStream, self.version, link)
     }

@@ -1,10 +1,18 @@
 //! All that a verifier does until the stream has ended.
 
-ghost use Rattle.std.specs.Prelude.{◌≡◌, map, ℕ, List, length, Some, Ok, Err, IsSome, IfOk, MatchResult};
-ghost use Rattle.sip_ports.specs.Ports.{Lasts};
+ghost use Rattle.std.specs.Prelude.{◌≡◌, ◌≢◌, ◌<◌, ◌^◌, ◌++◌, map, ℕ, List, length, All, Some, Ok, Err, IsSome, IfOk, OnOk, MatchResult, false, pos};
+ghost use Rattle.sip_ports.specs.Ports.{HasCause, Lasts, SendsWhole};
+ghost use Rattle.sip_wire.specs.Table.{most_rows};
+ghost use Rattle.sip_wire.specs.Versions.{index_width};
+ghost use Rattle.sip_vector.specs.declared.query.Query.{Query as AnyQuery};
+ghost use Rattle.sip_vector.specs.declared.update.Update.{Update as AnyUpdate};
 ghost use Rattle.sip_stream.specs.declared.fault.StreamFault.{StreamFault as AnyStreamFault};
 ghost use Rattle.sip_verifier.specs.inside.Drawing.{AreOf, Draws, HasDrawn};
 ghost use Rattle.sip_verifier.specs.inside.Ending.{status_of_stream};
+ghost use Rattle.sip_verifier.specs.Feeding.{due_with, waiting_with};
+ghost use Rattle.sip_verifier.specs.inside.Passing.{taken_with};
+ghost use Rattle.sip_verifier.specs.Seats.{AreSeats};
+ghost use Rattle.std.specs.Result.{is_err};
 ghost use Rattle.sip_verifier.specs.Exchanges.{TakesAtMost};
 ghost use Rattle.sip_verifier.specs.Gathering.{Gathers};
 ghost use Rattle.sip_verifier.specs.Moments.{counts};
@@ -61,6 +69,44 @@ fn draw<B: Source>(task: &Task, second: &mut B) -> Result<Seats, Status>
     }
 }
 
+/// Takes one more record of the stream, which waits for its frame. With the last one of a frame the seats take the frame's updates as
+/// a block, and it is sent, in one write.
+fn pass_on<L: Link>(
+    update: &Update,
+    feed: &mut Feed,
+    seats: &mut Seats,
+    peer: &mut L,
+) -> Result<(), PortStop>
+    requires unspent { feed.old.is_spent ≡ false }
+    requires few { length feed.old.waiting < most_rows }
+    requires fits { update.now.item < 256 ^ index_width feed.old.version }
+    requires delta { update.now.delta ≢ pos 0 }
+    requires item { update.now.item < 2 ^ seats.old.depth }
+    requires items { All (λ u. u.item < 2 ^ seats.old.depth) feed.old.waiting }
+    ensures talk { SendsWhole (L.talk peer.old)
+        (L.talk peer.new) result (due_with feed.old.version feed.old.waiting update.now) }
+    ensures version { feed.new.version ≡ feed.old.version }
+    ensures waiting { OnOk result (feed.new.waiting
+        ≡ waiting_with feed.old.waiting update.now) }
+    ensures few { OnOk result (length feed.new.waiting < most_rows) }
+    ensures items { OnOk result (All (λ u. u.item < 2 ^ seats.old.depth) feed.new.waiting) }
+    ensures spent { feed.new.is_spent ≡ is_err result }
+    ensures depth { seats.new.depth ≡ seats.old.depth }
+    ensures stands { (depth : ℕ) (queries : List AnyQuery) (blocks : List (List ℕ))
+        (stream : List AnyUpdate)
+        → AreSeats depth queries blocks stream seats.old
+        → AreSeats depth queries blocks
+        (stream ++ taken_with feed.old.waiting update.now) seats.new }
+    ensures cause { HasCause L.faults L.is_sure peer.old peer.new result }
+{
+    feed.push(update);
+    if !feed.is_full() {
+        return Ok(());
+    }
+    seats.update_all(feed.waiting());
+    feed.send(peer)
+}
+
 /// Opens the talk, reads the stream of `first` to its end, sends it on over `peer` and adds it to the seats.
 fn follow<A: Source, L: Link>(
     task: &Task,
@@ -85,9 +131,10 @@ fn follow<A: Source, L: Link>(
     on_link(feed.begin(peer, task.depth))?;
     let mut reader = Reader::new(task.depth, task.form);
     while let Some(update) = on_stream(reader.next(first))? {
-        seats.update(&update);
-        on_link(feed.update(peer, &update))?;
+        on_link(pass_on(&update, &mut feed, &mut seats, peer))?;
     }
+    let rest = feed.waiting();
+    seats.update_all(rest);
     on_link(feed.finish(peer))?;
     Ok(seats)
 }
@@ -95,8 +142,9 @@ fn follow<A: Source, L: Link>(
 /// Draws the challenges from 32 bytes of `second`, opens the talk, reads the stream of `first` to its end, sends it on over `peer`
 /// and keeps the seats that stand for it.
 ///
-/// There is no allocator here: what is kept of a stream has a fixed size, whatever its length. The time for each record is at most
-/// `depth` multiplications for each query, and a frame is sent for each 512 records, in one write.
+/// There is no allocator here: what is kept of a stream has a fixed size, whatever its length. The seats take the records in blocks
+/// of 512: the time for each record is one look-up and one multiplication for each seven levels and query, and that of their tables
+/// once a block. A frame is sent for each 512 records, in one write.
 ///
 /// `keep` is left alone.
 ///

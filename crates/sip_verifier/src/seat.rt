@@ -1,16 +1,19 @@
 //! The seat of one query.
 
-ghost use Rattle.std.specs.Prelude.{◌≡◌, ◌<◌, ◌^◌, ℕ, List, [], ◌∷◌, ◌++◌, length, IsTrue};
+ghost use Rattle.std.specs.Prelude.{◌≡◌, ◌<◌, ◌≤◌, ◌^◌, ℕ, List, [], ◌++◌, length, All, IsTrue};
+ghost use Rattle.sip_vector.specs.declared.update.Side.TheVariants as sides;
 ghost use Rattle.sip_vector.specs.declared.update.Update.{Update as AnyUpdate};
 ghost use Rattle.sip_vector.specs.declared.query.Query.{Query as AnyQuery};
 ghost use Rattle.sip_verifier.specs.QuerySeats.{StandsFor, is_seat};
 ghost use Rattle.sip_verifier.specs.inside.Running.{RunsFor, block_of};
 ghost use Rattle.sip_vector.specs.Built.{is_built};
+ghost use Rattle.sip_vector.specs.Limits.{most_depth};
+ghost use Rattle.sip_vector.specs.Streams.{of_side};
 ghost use Rattle.sip_verifier.specs.Tasks.{CanBeAsked};
 
 use sip_field::{M61, Seat};
 use sip_tree::Root;
-use sip_vector::{CAP, Query, Side, Update};
+use sip_vector::{CAP, Query, Update};
 use std::marker::Model;
 
 /// The running number of one query, with its challenges.
@@ -21,20 +24,18 @@ pub(crate) enum Running {
 }
 
 impl Running {
-    // Adds an update, where it is of a side that the number is of.
-    fn update(&mut self, update: &Update)
-        requires { update.now.item < 2 ^ length (block_of self.old) }
+    // Adds updates, of which these are those of the first side.
+    fn update_all(&mut self, first: &[Update])
+        requires shallow { length (block_of self.old) ≤ most_depth }
+        requires items { All (λ u. u.item < 2 ^ length (block_of self.old)) first.now }
         ensures block { block_of self.new ≡ block_of self.old }
-        ensures runs { (depth : ℕ) (stream : List AnyUpdate) (query : AnyQuery)
+        ensures runs { (depth : ℕ) (stream updates : List AnyUpdate) (query : AnyQuery)
+            → of_side updates sides.First ≡ first.now
             → RunsFor depth stream query self.old
-            → RunsFor depth (stream ++ update.now ∷ []) query self.new }
+            → RunsFor depth (stream ++ updates) query self.new }
     {
         match self {
-            Running::Root(root) => {
-                if update.side == Side::First {
-                    root.update(update.item as u64, update.delta);
-                }
-            }
+            Running::Root(root) => root.update_all(first),
         }
     }
 }
@@ -100,14 +101,17 @@ impl QuerySeat {
         }
     }
 
-    /// Adds an update to the running number, where it is of a side that the query asks about.
-    pub(crate) fn update(&mut self, update: &Update)
-        requires { update.now.item < 2 ^ length self.old.block }
+    /// Adds updates to the running number, of which these are those of the first side, in order.
+    pub(crate) fn update_all(&mut self, first: &[Update])
+        requires shallow { length self.old.block ≤ most_depth }
+        requires items { All (λ u. u.item < 2 ^ length self.old.block) first.now }
         ensures query { self.new.query ≡ self.old.query }
         ensures block { self.new.block ≡ self.old.block }
-        ensures stands { (depth : ℕ) (stream : List AnyUpdate) → StandsFor depth stream self.old
-            → StandsFor depth (stream ++ update.now ∷ []) self.new }
+        ensures stands { (depth : ℕ) (stream updates : List AnyUpdate)
+            → of_side updates sides.First ≡ first.now
+            → StandsFor depth stream self.old
+            → StandsFor depth (stream ++ updates) self.new }
     {
-        self.running.update(update);
+        self.running.update_all(first);
     }
 }

@@ -6,10 +6,12 @@ ghost use Rattle.arrayvec.specs.ArrayVec.{array_vec_len};
 ghost use Rattle.sip_field.specs.Elements.{m61_number};
 ghost use Rattle.sip_ports.specs.Ports.{HasCause, SendsWhole};
 ghost use Rattle.sip_vector.specs.declared.query.Query.{Query as AnyQuery};
+ghost use Rattle.sip_vector.specs.declared.update.Side.TheVariants as sides;
 ghost use Rattle.sip_vector.specs.declared.update.Update.{Update as AnyUpdate};
 ghost use Rattle.sip_vector.specs.Limits.{most_depth};
 ghost use Rattle.sip_vector.specs.Pieces.{cut};
-ghost use Rattle.sip_wire.specs.Table.{most_queries};
+ghost use Rattle.sip_vector.specs.Streams.{of_side};
+ghost use Rattle.sip_wire.specs.Table.{most_queries, most_rows};
 ghost use Rattle.sip_wire.specs.Versions.{needed};
 ghost use Rattle.sip_verifier.specs.QuerySeats.{is_seat};
 ghost use Rattle.sip_verifier.specs.Tasks.{CanBeAsked};
@@ -18,8 +20,8 @@ use crate::seat::QuerySeat;
 use arrayvec::ArrayVec;
 use sip_field::{M61, Seat, SeedSpent, draw_challenges};
 use sip_ports::{PortStop, Sink};
-use sip_vector::{CAP, Depth, Query, Update};
-use sip_wire::{MOST_QUERIES, Version, put_ask, put_head};
+use sip_vector::{CAP, Depth, Query, Side, Update};
+use sip_wire::{MOST_QUERIES, MOST_ROWS, Version, put_ask, put_head};
 use std::marker::Model;
 
 /// How many challenges a run has at most: 16 queries at depth 48.
@@ -44,6 +46,20 @@ impl Model for Seats {
     ghost Value = { Seating };
 
     ghost view = { λ s. record { depth = s.depth; seats = s.seats.items } };
+}
+
+/// The updates of the first side, in order.
+fn on_first_side(updates: &[Update]) -> ArrayVec<Update, MOST_ROWS>
+    requires { length updates.now ≤ most_rows }
+    ensures { result.items ≡ of_side updates.now sides.First }
+{
+    let mut first = ArrayVec::new();
+    for update in updates {
+        if update.side == Side::First {
+            first.push(*update);
+        }
+    }
+    first
 }
 
 impl Seats {
@@ -111,8 +127,40 @@ impl Seats {
             → AreSeats depth queries blocks stream self.old
             → AreSeats depth queries blocks (stream ++ update.now ∷ []) self.new }
     {
+        match update.side {
+            Side::First => self.raise(&[*update]),
+            Side::Second => {}
+        }
+    }
+
+    /// Adds a block of updates to each running number, those that concern it.
+    ///
+    /// The block is split by side once. Then an update takes, for each query, one look-up and one multiplication for each seven
+    /// levels; their tables are made once for a block and query, on the stack. No memory.
+    pub fn update_all(&mut self, updates: &[Update])
+        requires most { length updates.now ≤ most_rows }
+        requires items { All (λ u. u.item < 2 ^ self.old.depth) updates.now }
+        ensures depth { self.new.depth ≡ self.old.depth }
+        ensures stands { (depth : ℕ) (queries : List AnyQuery) (blocks : List (List ℕ))
+            (stream : List AnyUpdate)
+            → AreSeats depth queries blocks stream self.old
+            → AreSeats depth queries blocks (stream ++ updates.now) self.new }
+    {
+        self.raise(&on_first_side(updates));
+    }
+
+    // Adds updates to each running number, of which these are those of the first side.
+    fn raise(&mut self, first: &[Update])
+        requires { All (λ u. u.item < 2 ^ self.old.depth) first.now }
+        ensures depth { self.new.depth ≡ self.old.depth }
+        ensures stands { (depth : ℕ) (queries : List AnyQuery) (blocks : List (List ℕ))
+            (stream updates : List AnyUpdate)
+            → of_side updates sides.First ≡ first.now
+            → AreSeats depth queries blocks stream self.old
+            → AreSeats depth queries blocks (stream ++ updates) self.new }
+    {
         for seat in self.seats.iter_mut() {
-            seat.update(update);
+            seat.update_all(first);
         }
     }
 

@@ -1,4 +1,5 @@
-ghost use Rattle.std.specs.Prelude.{◌≡◌, ◌≤◌, ◌^◌, false, IfOk, OnOk};
+ghost use Rattle.std.specs.Prelude.{◌≡◌, ◌<◌, ◌≤◌, ◌^◌, false, length, IfOk, OnOk};
+ghost use Rattle.sip_wire.specs.Table.{most_rows};
 
 use crate::Feed;
 use sip_ports::{MemoryLink, PortStop, TalkEvent};
@@ -18,20 +19,24 @@ fn link(alloc: Global, fails: Vec<u64>) -> MemoryLink {
     MemoryLink::new(alloc, Vec::new(alloc), 10_000, fails)
 }
 
+fn update(side: Side, item: u64, delta: i64) -> Update
+    ensures item { result.item ≡ item }
+    ensures delta { result.delta ≡ delta }
+{
+    Update { side, item, delta }
+}
+
 // Feeds so many times 1 at item 3 of the first side.
 fn push_many(feed: &mut Feed, link: &mut MemoryLink, count: usize) -> Result<(), Fail>
     requires unspent { feed.old.is_spent ≡ false }
     requires narrow { feed.old.version ≡ Version.One }
+    requires few { length feed.old.waiting < most_rows }
     ensures unspent { OnOk result (feed.new.is_spent ≡ false) }
     ensures narrow { OnOk result (feed.new.version ≡ Version.One) }
+    ensures few { OnOk result (length feed.new.waiting < most_rows) }
 {
-    let update = Update {
-        side: Side::First,
-        item: 3,
-        delta: 1,
-    };
     for _ in 0..count {
-        feed.update(link, &update)?;
+        feed.update(link, &update(Side::First, 3, 1))?;
     }
     Ok(())
 }
@@ -63,15 +68,11 @@ fn three_updates_of_both_sides_are_one_frame(rt: HostRuntime) -> Result<(), Fail
     let alloc = rt.alloc();
     let mut link = link(alloc, Vec::new(alloc));
     let mut feed = Feed::new(Version::One);
-    let rows = [
-        (Side::First, 0, 3),
-        (Side::Second, 4_294_967_295, -2),
-        (Side::First, 3, i64::MIN),
-    ];
-    for (side, item, delta) in rows {
-        let update = Update { side, item, delta };
-        feed.update(&mut link, &update)?;
-    }
+    feed.push(&update(Side::First, 0, 3));
+    feed.push(&update(Side::Second, 4_294_967_295, -2));
+    feed.push(&update(Side::First, 3, i64::MIN));
+    assert_eq!(rt; feed.waiting().len(), 3);
+    assert!(rt; !feed.is_full());
     assert!(rt; was_sent(&link, &[]));
     feed.finish(&mut link)?;
     let want = [
@@ -127,12 +128,7 @@ fn items_of_version_2_have_eight_bytes(rt: HostRuntime) -> Result<(), Fail> {
     let mut link = link(alloc, Vec::new(alloc));
     let mut feed = Feed::new(Version::Two);
     feed.begin(&mut link, depth(33)?)?;
-    let update = Update {
-        side: Side::Second,
-        item: 4_294_967_298,
-        delta: -1,
-    };
-    feed.update(&mut link, &update)?;
+    feed.push(&update(Side::Second, 4_294_967_298, -1));
     feed.finish(&mut link)?;
     let want = [
         1, 0, 2, 2, 33, // the opening

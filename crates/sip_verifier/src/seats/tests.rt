@@ -42,17 +42,17 @@ fn each_seat_has_the_root_of_the_first_side_at_its_own_challenges(
     let mut seats = two_seats()?;
     assert_eq!(rt; root_of(&seats, 0), Some(0));
     assert_eq!(rt; root_of(&seats, 1), Some(0));
-    seats.update(&first(0, 3));
-    seats.update(&first(2, 5));
-    seats.update(&first(3, 1));
-    // 3 + 5 * 10 + 1 * 2 * 10, and 3 + 5 * 5 + 1 * 3 * 5
-    assert_eq!(rt; root_of(&seats, 0), Some(73));
-    assert_eq!(rt; root_of(&seats, 1), Some(43));
-    seats.update(&Update {
+    let second = Update {
         side: Side::Second,
         item: 1,
         delta: 9,
-    });
+    };
+    seats.update(&first(0, 3));
+    seats.update_all(&[second, first(2, 5), first(3, 1)]);
+    // 3 + 5 * 10 + 1 * 2 * 10, and 3 + 5 * 5 + 1 * 3 * 5
+    assert_eq!(rt; root_of(&seats, 0), Some(73));
+    assert_eq!(rt; root_of(&seats, 1), Some(43));
+    seats.update(&second);
     assert_eq!(rt; root_of(&seats, 0), Some(73));
     assert_eq!(rt; root_of(&seats, 1), Some(43));
     assert_eq!(rt; root_of(&seats, 2), None);

@@ -95,9 +95,7 @@ fn session(alloc: Global) -> Result<Session, Fail>
     let queries = [Query::Sub { lo: 1, hi: 2 }, Query::Sub { lo: 1, hi: 2 }];
     let challenges = [M61::of(2), M61::of(10), M61::of(2), M61::of(10)];
     let mut seats = Seats::given(depth, &queries, &challenges);
-    seats.update(&raised(0, 3));
-    seats.update(&raised(2, 5));
-    seats.update(&raised(3, 1));
+    seats.update_all(&[raised(0, 3), raised(2, 5), raised(3, 1)]);
     let version = Version::needed(depth, &queries);
     Ok(Session::new(alloc, version, seats).ok().ok_or("a session")?)
 }

@@ -1,16 +1,22 @@
 -- What holds at each exit follows from how far the stream was read, sent and added to the seats.
-use Rattle.std.proofs.Common.{◌≡◌, ◌<◌, ◌≤◌, ◌^◌, ◌∙◌, ◌∷◌, ◌++◌, [], rules, ap, subst, sym}
+use Rattle.std.proofs.Common.{length, arith, All, ◌≡◌, ◌<◌, ◌≤◌, ◌^◌, ◌∙◌, ◌++◌, [], rules, ap, subst, sym}
+use Rattle.std.proofs.lemmas.List.Elements.{All-nil}
 use Rattle.std.proofs.lemmas.Result.{err_from_is_err_and}
+use Rattle.sip_wire.specs.Table.{most_rows}
+use Rattle.sip_verifier.specs.inside.Sending.{IsSentBut}
 use Rattle.sip_verifier.specs.Tasks.{version_of}
 use Rattle.sip_vector.specs.Limits.{most_depth}
+use Rattle.sip_vector.specs.declared.update.Update.{Update}
 use Rattle.sip_wire.specs.declared.version.Version.{Version}
 use Rattle.sip_wire.specs.Versions.{index_width}
 use Rattle.sip_verifier.specs.Feeding.{Waiting}
 use Rattle.sip_verifier.proofs.FramesFit.{item_below}
 use Rattle.sip_verifier.proofs.SeatsHead.{depth-shallow}
-use Rattle.sip_verifier.specs.inside.Sending.{IsSentBut}
-use Rattle.sip_verifier.proofs.Gathered.{goes_on, stops_first, stops_after, stops_at_end, gathered, link_stops, reading_stops}
-use Rattle.sip_verifier.proofs.StreamSending.{stopped_in_opening, one_more, at_end}
+use Rattle.sip_verifier.specs.inside.Passing.{taken_with}
+use Rattle.sip_verifier.specs.Draws.{blocks}
+use Rattle.sip_verifier.specs.Seats.{AreSeats}
+use Rattle.sip_verifier.proofs.Gathered.{IsUnderway, begins, goes_on, stops_first, stops_after, stops_at_end, gathered, link_stops, reading_stops}
+use Rattle.sip_verifier.proofs.StreamSending.{opened, stopped_in_opening, one_more, at_end}
 use Rattle.sip_verifier.proofs.gathering.follow.Goals as goal
 
 pub returns-in_err-on_link-clause-gathers : goal.returns-in_err-on_link-clause-gathers
@@ -21,6 +27,30 @@ returns-in_err-on_link-clause-gathers g c = λ bytes seed all has.
     let said = rw (stop, own) at c.begin.ensures.talk in
     rw (p.1, p.2, is) (link_stops _ bytes seed _ _ has (g.A.Source.left c.args.first.now) _ port (stops_first _ bytes seed _ _ has _ (stopped_in_opening (version_of c.args.task.now) _ _ _ said.0 said.2)))
 
+pub loop-update-init : goal.loop-update-init
+loop-update-init g c =
+    let task = c.args.task.now in
+    let own : c.new-feed.result.version ≡ version_of task = ap (λ (w : Waiting). w.version) c.new-feed.ensures ∙ c.version.ensures in
+    let none : c.begin.new.self.waiting ≡ [] = c.begin.ensures.waiting ∙ ap (λ (w : Waiting). w.waiting) c.new-feed.ensures in
+    let few : length c.begin.new.self.waiting < most_rows = omega (arith, ap length none) in
+    record {
+      underway = λ bytes seed all has.
+          let opening = opened (version_of task) task.depth _ _ (rw (c.in_ok-on_link.ensures, own) at c.begin.ensures.talk) in
+          begins task bytes seed _ _ has _ _ _ c.begin.new.self.waiting all c.new-reader.ensures.after (subst (IsSentBut (version_of task) task.depth _ _ []) (sym none) opening);
+      version = c.begin.ensures.version ∙ own;
+      few = few;
+      items = subst (All (λ (u : Update). u.item < 2 ^ task.depth)) (sym none) (All-nil (λ (u : Update). u.item < 2 ^ task.depth));
+      seats = c.requires;
+      levels = c.requires.stand.levels;
+      depth = search rules;
+      form = search rules;
+      ready = search rules;
+      unspent = search rules;
+      told = search rules;
+      first = search rules;
+      peer = search rules;
+    }
+
 pub returns-in_err-update-clause-gathers : goal.returns-in_err-update-clause-gathers
 returns-in_err-update-clause-gathers g c = λ bytes seed all has.
     let so = c.loop-update.invariant.underway bytes seed all has in
@@ -29,8 +59,8 @@ returns-in_err-update-clause-gathers g c = λ bytes seed all has.
     let reads = rw (c.loop-update.invariant.depth, c.loop-update.invariant.form, stop) at (c.next.ensures.reads so.stream so.rest so.after so.to_come) in
     rw (p.1, p.2, is) (reading_stops _ bytes seed _ _ has _ _ _ _ _ _ fault so reads)
 
-pub update-requires-in-Some-clause-item : goal.update-requires-in-Some-clause-item
-update-requires-in-Some-clause-item g c =
+pub pass_on-requires-clause-fits : goal.pass_on-requires-clause-fits
+pass_on-requires-clause-fits g c =
     let task = c.args.task.now in
     let most : task.depth ≤ most_depth = search rules in
     let item : c.in-Some.update.item < 2 ^ task.depth = search rules in
@@ -43,16 +73,20 @@ loop-update-preserved g c = record {
       let so = c.loop-update.invariant.underway bytes seed all has in
       let reads = rw (c.loop-update.invariant.depth, c.loop-update.invariant.form, c.in_ok-update.ensures, c.in-Some.is) at (c.next.ensures.reads so.stream so.rest so.after so.to_come) in
       let after = rw (c.in_ok-update.ensures, c.in-Some.is) at (c.next.ensures.after so.stream so.after) in
-      let moved = rw c.in_ok-on_link-2.ensures at (one_more (version_of c.args.task.now) _ _ _ _ so.stream _ c.in-Some.update so.said c.update-in-Some.result (rw c.loop-update.invariant.version at c.update-in-Some.ensures.talk)) in
-      let waiting = rw c.in_ok-on_link-2.ensures at c.update-in-Some.ensures.waiting in
-      let said = subst (λ l. IsSentBut (version_of c.args.task.now) c.args.task.now.depth (g.L.Sink.talk c.args.peer.now) (g.L.Sink.talk c.update-in-Some.new.link) (so.stream ++ c.in-Some.update ∷ []) l) (sym waiting) moved in
-      goes_on _ bytes seed _ _ has _ _ _ _ _ _ _ _ _ _ c.in-Some.update so reads after said (c.update.ensures.stands _ _ _ so.stream so.stand);
+      let moved = rw c.in_ok-on_link-2.ensures at (one_more (version_of c.args.task.now) _ _ _ _ so.stream _ c.in-Some.update so.said c.pass_on.result (rw c.loop-update.invariant.version at c.pass_on.ensures.talk)) in
+      let waiting = rw c.in_ok-on_link-2.ensures at c.pass_on.ensures.waiting in
+      let stand = subst (λ l. AreSeats c.args.task.now.depth c.args.task.now.queries.items (blocks c.args.task.now has.challenges) l c.pass_on.new.seats) (sym moved.longer) (c.pass_on.ensures.stands _ _ _ so.said.sent so.stand) in
+      subst (IsUnderway c.args.task.now bytes (blocks c.args.task.now has.challenges) _ _ _ _ _) (sym waiting)
+      (goes_on _ bytes seed _ _ has _ _ _ _ _ _ _ _ _ _ c.in-Some.update so reads after moved.said stand);
   seats = (let had = c.loop-update.invariant.seats in record {
     at_blocks = had.at_blocks;
-    stream = had.stream ++ c.in-Some.update ∷ [];
-    stand = c.update.ensures.stands _ _ _ had.stream had.stand;
+    stream = had.stream ++ taken_with c.loop-update.feed.waiting c.in-Some.update;
+    stand = c.pass_on.ensures.stands _ _ _ had.stream had.stand;
   });
-  version = c.update-in-Some.ensures.version ∙ c.loop-update.invariant.version;
+  version = c.pass_on.ensures.version ∙ c.loop-update.invariant.version;
+  few = rw c.in_ok-on_link-2.ensures at c.pass_on.ensures.few;
+  items = subst (λ n. All (λ (u : Update). u.item < 2 ^ n) c.pass_on.new.feed.waiting) c.loop-update.invariant.levels (rw c.in_ok-on_link-2.ensures at c.pass_on.ensures.items);
+  levels = c.pass_on.ensures.depth ∙ c.loop-update.invariant.levels;
   depth = search rules;
   form = search rules;
   ready = search rules;
@@ -68,7 +102,7 @@ returns-in_err-on_link-2-clause-gathers g c = λ bytes seed all has.
     let reads = rw (c.loop-update.invariant.depth, c.loop-update.invariant.form, c.in_ok-update.ensures, c.in-Some.is) at (c.next.ensures.reads so.stream so.rest so.after so.to_come) in
     let p = err_from_is_err_and c.from_residual-in_err-on_link-2.result c.from_residual-in_err-on_link-2.ensures.1 in
     let (port, stop, is) = c.in_err-on_link-2.ensures in
-    let moved = rw stop at (one_more (version_of c.args.task.now) _ _ _ _ so.stream _ c.in-Some.update so.said c.update-in-Some.result (rw c.loop-update.invariant.version at c.update-in-Some.ensures.talk)) in
+    let moved = rw stop at (one_more (version_of c.args.task.now) _ _ _ _ so.stream _ c.in-Some.update so.said c.pass_on.result (rw c.loop-update.invariant.version at c.pass_on.ensures.talk)) in
     rw (p.1, p.2, is) (link_stops _ bytes seed _ _ has (g.A.Source.left c.next.new.source) _ port (stops_after _ bytes seed _ _ has _ _ _ _ _ _ _ c.in-Some.update so reads moved))
 
 pub returns-in_err-on_link-3-clause-gathers : goal.returns-in_err-on_link-3-clause-gathers
@@ -80,9 +114,15 @@ returns-in_err-on_link-3-clause-gathers g c = λ bytes seed all has.
     let moved = rw stop at (at_end (version_of c.args.task.now) _ _ _ _ so.stream _ c.finish.result so.said (rw c.loop-update.invariant.version at c.finish.ensures.talk)) in
     rw (p.1, p.2, is) (link_stops _ bytes seed _ _ has (g.A.Source.left c.next.new.source) _ port (stops_at_end _ bytes seed _ _ has _ _ _ _ _ _ _ so reads moved))
 
+pub returns-clause-seats : goal.returns-clause-seats
+returns-clause-seats g c =
+    let had = c.loop-update.invariant.seats in
+    record { at_blocks = had.at_blocks; stream = had.stream ++ c.waiting-rest.result.now; stand = c.update_all.ensures.stands _ _ _ had.stream had.stand }
+
 pub returns-clause-gathers : goal.returns-clause-gathers
 returns-clause-gathers g c = λ bytes seed all has.
     let so = c.loop-update.invariant.underway bytes seed all has in
     let reads = rw (c.loop-update.invariant.depth, c.loop-update.invariant.form, c.in_ok-update.ensures, c.in_default.is) at (c.next.ensures.reads so.stream so.rest so.after so.to_come) in
     let moved = rw c.in_ok-on_link-3.ensures at (at_end (version_of c.args.task.now) _ _ _ _ so.stream _ c.finish.result so.said (rw c.loop-update.invariant.version at c.finish.ensures.talk)) in
-    gathered _ bytes seed _ _ has _ _ _ _ _ _ _ so reads moved
+    let stand = c.update_all.ensures.stands _ _ _ so.said.sent so.stand in
+    gathered _ bytes seed _ _ has _ _ _ _ _ _ _ _ so reads moved (rw c.waiting-rest.ensures at stand)

@@ -1,59 +1,25 @@
--- The seats keep their queries and their challenges, and each stands for the longer stream.
-use Rattle.std.proofs.Common.{◌≡◌, ◌<◌, ◌≤◌, ◌∙◌, List, [], ◌∷◌, ◌++◌, All, length, map, sym, ap, subst, arith}
-use Rattle.std.specs.Prelude.{IsTrue}
-use Rattle.std.specs.List.{list_all}
-use Rattle.sip_wire.specs.Versions.{needed}
-use Rattle.sip_verifier.specs.QuerySeats.{Seated, StandsFor, is_seat}
-use Rattle.sip_verifier.specs.Seats.{AreSeats, Seating}
-use Rattle.sip_verifier.proofs.SeatsRaised.{RaisedTo, raised-more, raised-queries, raised-blocks, raised-seats, raised-stand, refilled, seat-levels}
+-- The update is all that the first side has of it, or it is of the other side.
+use Rattle.std.proofs.Common.{◌≡◌, true, false, [], ◌∷◌, ap, get_or, refl}
+use Rattle.sip_vector.specs.declared.update.Side.{Side}
+use Rattle.sip_vector.specs.declared.update.Side.TheVariants.{First}
+use Rattle.sip_vector.specs.Streams.{same_side, of_side}
+use Rattle.sip_verifier.proofs.Seating.{runs_on}
 use Rattle.sip_verifier.proofs.seats.Seats.update.Goals as goal
 
-pub update-requires : goal.update-requires
-update-requires c =
-    let depth = c.self.inside.depth in
-    let items = ap (λ (s : Seating). s.seats) c.self.view_is in
-    let each = subst (λ (l : List Seated). IsTrue (list_all (is_seat depth) l)) items c.self.inside.each in
-    let all = raised-seats c.args.update.now depth _ _ _ c.loop-seat.invariant each in
-    let inside : c.loop-seat.seat-index < length c.loop-seat.seat-items = omega arith in
-    let levels = seat-levels depth c.loop-seat.seat-index c.loop-seat.seat-items c.seat-item.result all inside in
-    rw (levels, ap (λ (s : Seating). s.depth) c.self.view_is) c.requires
+pub returns-in-First-clause-stands : goal.returns-in-First-clause-stands
+returns-in-First-clause-stands c = λ depth queries blocks stream are.
+    let u = c.args.update.now in
+    let here : same_side u.side First ≡ true = ap (λ (s : Side). same_side s First) c.in-First.is in
+    let all : of_side (u ∷ []) First ≡ u ∷ [] = rw here refl in
+    c.raise.ensures.stands depth queries blocks stream (u ∷ []) all are
 
-pub loop-seat-preserved : goal.loop-seat-preserved
-loop-seat-preserved c =
-    let inside : c.loop-seat.seat-index < length c.loop-seat.seat-items = omega arith in
-    raised-more c.args.update.now c.loop-seat.seat-index c.args.self.now.seats c.loop-seat.seat-items c.seat-item.result c.update.new.self c.loop-seat.invariant inside
-    (record { query = c.update.ensures.query; block = c.update.ensures.block; stands = c.update.ensures.stands })
-
-pub invariant_of-self-inside : goal.invariant_of-self-inside
-invariant_of-self-inside c =
-    let old = c.self.inside.seats.items in
-    let items = ap (λ (s : Seating). s.seats) c.self.view_is in
-    let raised = subst (λ (l : List Seated). RaisedTo c.args.update.now c.loop-seat.seat-index l c.loop-seat.seat-items) (sym items) c.loop-seat.invariant in
-    let len : length c.loop-seat.seat-items ≡ length old = c.loop-seat.auto.seat-items ∙ ap length c.deref_mut-seat-items.ensures.value in
-    let same = refilled old c.loop-seat.seat-items len in
-    let queries = ap (map (λ (s : Seated). s.query)) same ∙ raised-queries c.args.update.now _ old c.loop-seat.seat-items raised in (
-      c.self.inside.deep,
-      (
-        c.self.inside.least ∙ ap (needed c.self.inside.depth) (sym queries),
-        (
-          subst (λ (l : List Seated). 0 < length l) (sym same) (omega (arith, len, c.self.inside.some)),
-          (subst (λ l. IsTrue (list_all (is_seat c.self.inside.depth) l)) (sym same) (raised-seats c.args.update.now c.self.inside.depth _ old c.loop-seat.seat-items raised c.self.inside.each), tt),
-        ),
-      ),
-    )
-
-pub returns-clause-stands : goal.returns-clause-stands
-returns-clause-stands c = λ depth queries blocks stream seen.
-    let old = c.self.inside.seats.items in
-    let items = ap (λ (s : Seating). s.seats) c.self.view_is in
-    let are = subst (AreSeats depth queries blocks stream) (sym c.self.view_is) seen in
-    let raised = subst (λ (l : List Seated). RaisedTo c.args.update.now c.loop-seat.seat-index l c.loop-seat.seat-items) (sym items) c.loop-seat.invariant in
-    let len : length c.loop-seat.seat-items ≡ length old = c.loop-seat.auto.seat-items ∙ ap length c.deref_mut-seat-items.ensures.value in
-    let end : length old ≤ c.loop-seat.seat-index = omega (arith, ap length c.deref_mut-seat-items.ensures.value) in
-    let same = refilled old c.loop-seat.seat-items len in
+pub returns-in-Second-clause-stands : goal.returns-in-Second-clause-stands
+returns-in-Second-clause-stands c = λ depth queries blocks stream are.
+    let u = c.args.update.now in
+    let other : same_side u.side First ≡ false = ap (λ (s : Side). same_side s First) c.in-Second.is in
     record {
       levels = are.levels;
-      asked = ap (λ (l : List Seated). map (λ (s : Seated). s.query) l) same ∙ raised-queries c.args.update.now _ old c.loop-seat.seat-items raised ∙ are.asked;
-      at_blocks = ap (λ (l : List Seated). map (λ (s : Seated). s.block) l) same ∙ raised-blocks c.args.update.now _ old c.loop-seat.seat-items raised ∙ are.at_blocks;
-      stand = subst (All (StandsFor depth (stream ++ c.args.update.now ∷ []))) (sym same) (raised-stand c.args.update.now _ old c.loop-seat.seat-items depth stream raised end are.stand);
+      asked = are.asked;
+      at_blocks = are.at_blocks;
+      stand = λ k d lt. let s = get_or c.args.self.now.seats k d in runs_on depth stream u s.query s.block s.running other (are.stand k d lt);
     }

@@ -1,0 +1,19 @@
+-- The seats took the frame's updates where there was one.
+use Rattle.std.proofs.Common.{◌+◌, length, length-append, ◌≡◌, true, [], ◌∷◌, ◌++◌, ◌∙◌, ap, sym, subst, rules}
+use Rattle.std.proofs.lemmas.Bool.{eq-eqb}
+use Rattle.std.specs.Prelude.{if◌then◌else◌}
+use Rattle.sip_verifier.specs.Seats.{AreSeats}
+use Rattle.sip_verifier.specs.Feeding.{fills}
+use Rattle.sip_verifier.specs.inside.Passing.{taken_with}
+use Rattle.sip_verifier.proofs.gathering.pass_on.Goals as goal
+
+pub returns-clause-stands : goal.returns-clause-stands
+returns-clause-stands g c = λ depth queries blocks stream are.
+    let waiting = c.args.feed.now.waiting in
+    let u = c.args.update.now in
+    let filled : length c.push.new.self.waiting ≡ 512 = search rules in
+    let count : length waiting + 1 ≡ 512 = sym (length-append waiting (u ∷ [])) ∙ sym (ap length c.push.ensures.waiting) ∙ filled in
+    let full : fills waiting ≡ true = eq-eqb (length waiting + 1) 512 count in
+    let taken : taken_with waiting u ≡ waiting ++ u ∷ [] = ap (λ b. if b then waiting ++ u ∷ [] else []) full in
+    let block : c.waiting.result.now ≡ waiting ++ u ∷ [] = search rules in
+    subst (λ l. AreSeats depth queries blocks (stream ++ l) c.update_all.new.self) (block ∙ sym taken) (c.update_all.ensures.stands depth queries blocks stream are)

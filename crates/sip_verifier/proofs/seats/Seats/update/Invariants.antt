@@ -1,5 +1,0 @@
-use Rattle.sip_verifier.proofs.SeatsRaised.{RaisedTo}
-use Rattle.sip_verifier.proofs.seats.Seats.update.Given as goal
-
-abbrev pub invariant-loop-seat : goal.invariant-loop-seat
-invariant-loop-seat l = RaisedTo l.update l.seat-index l.fn.self.seats l.seat-items
