@@ -11,6 +11,7 @@ pub mod HonestLaws
 pub mod HonestFronts
 pub mod WeightedFolds
 pub mod StatedSums
+pub mod SummedNodes
 pub mod TakingSteps
 pub mod Stretches
 pub mod WrongLevels

@@ -94,7 +94,7 @@ unstated least hi [] i rise before = refl
 unstated least hi (e ∷ es) i rise before =
     rw (ne_eqb e.index i (λ same. omega (arith, rise.0))) (unstated (e.index + 1) hi es i rise.2 (omega (arith, rise.0)))
 
-value_here : (e : Entry) (es : List Entry) → stated_value (e ∷ es) e.index ≡ e.value
+pub value_here : (e : Entry) (es : List Entry) → stated_value (e ∷ es) e.index ≡ e.value
 value_here e es = rw (eq-eqb e.index e.index refl)
 
 module _ (p lo hi : ℕ) (challenges : List ℕ) (some : 0 < p) where
@@ -118,10 +118,12 @@ module _ (p lo hi : ℕ) (challenges : List ℕ) (some : 0 < p) where
       ∙ sym (sum_by-cons (λ (x : Entry). residue p x.value * weight_above p challenges 0 x.index) e es)
 
   -- the stated level has the weighted sum of the entries
+  pub level_of_rising : (es : List Entry) → AreRising lo hi es → weighted_sum p challenges 0 lo (stated_level p lo hi es) ≡ entries_sum p challenges es
+  level_of_rising es rise =
+      by_index p challenges 0 (λ i. residue p (stated_value es i)) lo (hi + 1 - lo) ∙ entries_along lo es (omega arith) rise
+
   pub level_of_entries : (es : List Entry) → with_entries lo hi [] es ≡ Ok es → weighted_sum p challenges 0 lo (stated_level p lo hi es) ≡ entries_sum p challenges es
-  level_of_entries es is =
-      by_index p challenges 0 (λ i. residue p (stated_value es i)) lo (hi + 1 - lo)
-      ∙ entries_along lo es (omega arith) (rising lo hi lo [] es es (λ i le all. le) is)
+  level_of_entries es is = level_of_rising es (rising lo hi lo [] es es (λ i le all. le) is)
 
   -- the last fold is the sum of all that is stated
   pub folded_is_sum : (s : Stated) → lo ≤ hi → hi < 2 ^ length challenges → length s.siblings ≡ length challenges → HasPassed lo hi s → folded p lo hi challenges s ≡ stated_sum p lo hi challenges s ∷ []

@@ -92,7 +92,7 @@ module _ (lo hi : ℕ) (nodes : List ℕ) (s : Siblings) (order : lo ≤ hi) (lo
 
 -- ---- all levels
 
-up_below : (p r : ℕ) (level : List ℕ) → 0 < p → All (λ x. x < p) (up p level r)
+pub up_below : (p r : ℕ) (level : List ℕ) → 0 < p → All (λ x. x < p) (up p level r)
 up_below p r [] some = All-nil (λ x. x < p)
 up_below p r (u ∷ []) some = All-nil (λ x. x < p)
 up_below p r (u ∷ w ∷ level) some = All-cons (λ x. x < p) ((u + r * w) % p) (up p level r) (mod-lt (u + r * w) some) (up_below p r level some)

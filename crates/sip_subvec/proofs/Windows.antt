@@ -31,7 +31,7 @@ up-take p r (u ∷ w ∷ level) (suc k) =
     let e : suc k + suc k ≡ suc (suc (k + k)) = omega arith in
     rw e (ap (λ xs. ((u + r * w) % p) ∷ xs) (up-take p r level k))
 
-up-window : (p r a b : ℕ) (level : List ℕ) → up p (window (a + a) (b + b + 1) level) r ≡ window a b (up p level r)
+pub up-window : (p r a b : ℕ) (level : List ℕ) → up p (window (a + a) (b + b + 1) level) r ≡ window a b (up p level r)
 up-window p r a b level =
     let n : ℕ = b + 1 - a in
     let twice : b + b + 1 + 1 - (a + a) ≡ n + n = omega arith in

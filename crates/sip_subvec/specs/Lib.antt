@@ -3,6 +3,7 @@ pub mod Replies
 pub mod Counting
 pub mod Examples
 pub mod Honest
+pub mod Summing
 pub mod Checking
 pub mod Protocol
 pub mod Asking

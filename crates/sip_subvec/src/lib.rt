@@ -2,8 +2,9 @@
 //!
 //! - [`SubCheck`] is the verifier's check of the replies to one query, as one running sum.
 //! - [`SubAsking`] is that check in the form in which the general talk of `sip_replies` asks.
-//! - [`SubProver`] is the honest side. It keeps one level of the hash tree over a vector and the interval of it above the
-//!   entries that were asked for; it gives the nodes beside the interval, and goes up by one challenge.
+//! - [`SubProver`] is the honest side. It keeps a copy of a vector's entries that are not 0, the challenges so far, and the
+//!   interval of the present level above the entries that were asked for; it gives the nodes beside the interval, each as a sum
+//!   over the entries below it, and goes up by one challenge.
 //!
 //! # What is proved
 //!
@@ -31,13 +32,14 @@
 //! | `Checking` | the sum that a check keeps, and what it has taken |
 //! | `Asking` | what a check of the general talk keeps, and what it stands for |
 //! | `Honest` | what a prover knows, and the honest replies as bytes |
+//! | `Summing` | what a prover keeps, and the level that it stands for |
 //! | `Counting` | when a helper has wrong entries accepted |
 //!
 //! # Cost
 //!
 //! No call of a check takes memory: it is a root with its challenges and eight numbers, or ten in a
-//! `SubAsking`. Of a prover `start` alone takes memory, for the m nodes that are not 0. The unit of
-//! time is one `Field::times`, and d is the depth.
+//! `SubAsking`. Of a prover `start` alone takes memory, for the m entries that are not 0 and d
+//! challenges. The unit of time is one `Field::times`, and d is the depth.
 //!
 //! | Call | `times` |
 //! |---|---|
@@ -46,8 +48,10 @@
 //! | `SubCheck::siblings` | the same for each sibling, of the bits of its index in its level |
 //! | `SubCheck::depth`, `SubCheck::reveal`, `SubCheck::finish`, `SubCheck::spent` | 0 |
 //! | `SubAsking::take` | those of its frame's entries or siblings; its other calls have none |
-//! | `SubProver::start`, `SubProver::siblings` | 0; in time O(m), O(log m) |
-//! | `SubProver::learn` | one a pair of nodes that is not 0: m at most |
+//! | `SubProver::start`, `SubProver::learn` | 0; in time O(m), O(1) |
+//! | `SubProver::siblings` | 127 for each seven challenges so far, and one for each entry below a sibling and seven challenges |
+//!
+//! No two siblings of one proof lie above the same entry, so over all levels each entry is used once.
 #![tactic(auto)]
 
 mod asking;
@@ -55,6 +59,7 @@ mod check;
 pub mod completeness;
 pub mod counting;
 pub mod laws;
+mod nodes;
 mod prover;
 
 pub use asking::SubAsking;

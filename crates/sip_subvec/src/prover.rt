@@ -5,8 +5,9 @@ ghost use Rattle.std.specs.Option.{option_map};
 ghost use Rattle.sip_vector.specs.Limits.{most_depth};
 ghost use Rattle.sip_subvec.specs.Honest.{begun, learnt, its_siblings};
 
+use crate::nodes::{entries_of, node, tables_of};
 use sip_field::{Field, OutOfMemory};
-use sip_vector::{Level, Vector};
+use sip_vector::{Entry, Vector};
 use std::alloc::Global;
 use std::marker::Model;
 
@@ -20,26 +21,40 @@ pub struct SiblingPair<F> {
 /// What an honest helper keeps to prove the entries from `lo` to `hi` of a vector.
 ///
 /// A contract sees the level of the tree that the challenges so far lead to, as the list of all its residues, and the interval
-/// of its nodes above the entries. Only the nodes that are not 0 take memory; m is their number in the costs below.
+/// of its nodes above the entries. What takes memory is a copy of the m entries that are not 0 and the challenges. No level is
+/// made: a node is the sum of the entries below it, each times the product of the challenges at the bits of its index that are
+/// 1 (Cormode, Thaler, Yi, PVLDB 5(1), section 4). The siblings of different levels lie above different entries, so each entry
+/// counts for one sibling at most.
 #[derive(Drop)]
 pub struct SubProver<F: Field> {
-    level: Level<F>,
+    entries: Vec<Entry>,
+    challenges: Vec<F>,
+    levels_left: u8,
     lo: u64,
     hi: u64,
 }
 
 impl<F: Field> Model for SubProver<F> {
-    ghost use Rattle.sip_subvec.specs.Honest.{Proving, IsProving};
+    ghost use Rattle.std.specs.Prelude.{◌+◌, length, map, vec_capacity};
+    ghost use Rattle.sip_subvec.specs.Honest.{Proving};
+    ghost use Rattle.sip_subvec.specs.Summing.{level_over, IsSumming};
 
     ghost Value = { Proving };
 
-    ghost view = { λ s. record { level = s.level; lo = s.lo; hi = s.hi } };
+    ghost view = { λ s. record {
+      level = level_over F.MODULUS (s.levels_left + length s.challenges.items) s.entries.items
+          (map F.number s.challenges.items);
+      lo = s.lo;
+      hi = s.hi;
+    } };
 
-    ghost invariant = { λ s. IsProving s.level s.lo s.hi };
+    ghost invariant = { λ s. IsSumming s.entries.items (length s.challenges.items)
+        (vec_capacity s.challenges) s.levels_left s.lo s.hi };
 }
 
 impl<F: Field> SubProver<F> {
-    /// Begins at the vector's numbers. It takes memory once, for the nodes that are not 0; no later call takes any. O(m).
+    /// Begins at the vector's numbers. It takes memory for the entries that are not 0 and the challenges; no later call takes
+    /// any. O(m), and slower where additions are pending in the vector.
     pub fn start(
         alloc: Global,
         vector: &Vector,
@@ -51,8 +66,16 @@ impl<F: Field> SubProver<F> {
         ensures begun { IfOk result (λ prover. prover ≡ begun F.MODULUS vector.now.numbers lo hi) }
         ensures length { IfOk result (λ prover. length prover.level ≡ 2 ^ vector.now.depth) }
     {
-        let level = Level::of(alloc, vector)?;
-        Ok(SubProver { level, lo, hi })
+        let entries = entries_of(alloc, vector)?;
+        let levels_left = vector.depth().get();
+        let challenges = Vec::with_capacity(alloc, levels_left as usize)?;
+        Ok(SubProver {
+            entries,
+            challenges,
+            levels_left,
+            lo,
+            hi,
+        })
     }
 
     /// How many levels are left below the root, the present one among them: each has siblings to give and a challenge to learn.
@@ -61,36 +84,43 @@ impl<F: Field> SubProver<F> {
         ensures some { (0 < result) ↔ (2 ≤ length self.now.level) }
         ensures most { result ≤ most_depth }
     {
-        self.level.folds_left()
+        self.levels_left
     }
 
     /// The siblings of the interval: the node left of it where its first index is odd, and the one right of it where its last
-    /// index is even. O(log m), without memory.
+    /// index is even.
+    ///
+    /// O(log m), without memory: 127 `times` for each seven challenges so far, whose products are on the stack for this call,
+    /// and one for an entry below the siblings and seven challenges.
     pub fn siblings(&self) -> SiblingPair<F>
         requires { 2 ≤ length self.now.level }
         ensures left { option_map F.number result.left ≡ (its_siblings self.now).left }
         ensures right { option_map F.number result.right ≡ (its_siblings self.now).right }
     {
+        let mut tables = [[1; 128]; 7];
+        let count = tables_of(&mut tables, &self.challenges);
+        let height = self.challenges.len();
         let left = if self.lo % 2 == 1 {
-            Some(self.level.at(self.lo - 1))
+            Some(node(&self.entries, &tables[..count], height, self.lo - 1))
         } else {
             None
         };
         let right = if self.hi % 2 == 0 {
-            Some(self.level.at(self.hi + 1))
+            Some(node(&self.entries, &tables[..count], height, self.hi + 1))
         } else {
             None
         };
         SiblingPair { left, right }
     }
 
-    /// Goes to the level above by its challenge. O(m), one `times` a pair, without memory.
+    /// Goes to the level above by its challenge. O(1), without memory.
     pub fn learn(&mut self, r: F)
         requires { 2 ≤ length self.old.level }
         ensures learnt { self.new ≡ learnt F.MODULUS self.old (F.number r) }
         ensures half { 2 * length self.new.level ≡ length self.old.level }
     {
-        self.level.fold_tree(r);
+        self.challenges.push(r).unwrap();
+        self.levels_left -= 1;
         self.lo /= 2;
         self.hi /= 2;
     }

@@ -1,6 +1,6 @@
 use crate::{SiblingPair, SubProver};
 use sip_field::{F31, Field, M61};
-use sip_vector::{Depth, Vector};
+use sip_vector::{Depth, Level, Vector};
 use std::alloc::Global;
 use std::process::Abort;
 use std::test::Fail;
@@ -90,6 +90,69 @@ fn one_entry_of_all_items_is_a_sibling(rt: HostRuntime) -> Result<(), Fail> {
             learn(&rt, &mut prover, 3);
         }
         assert_eq!(rt; siblings(&rt, &prover), (None, Some(top)));
+    }
+    Ok(())
+}
+
+// 300 entries, of which two neighbours are far apart at depth 48 and all lie close at depth 16.
+fn spread<R: Abort>(rt: &R, alloc: Global, depth: u8) -> Result<Vector, Fail> {
+    let mut vector = Vector::new(alloc, Depth::new(depth).ok_or(())?)?;
+    for count in 0..300u64 {
+        let index = count * 264_021_386_319_479 % (1 << vector.depth().get());
+        let delta = count as i64 - 150;
+        assert!(rt; vector.weight() + delta.unsigned_abs() <= MOST_WEIGHT);
+        vector.add(index, delta)?;
+    }
+    Ok(vector)
+}
+
+// All siblings of an interval of a vector, compared with the nodes of levels that are folded whole.
+fn compare_with_folds<F: Field, R: Abort>(
+    rt: &R,
+    alloc: Global,
+    vector: &Vector,
+    lo: u64,
+    hi: u64,
+) -> Result<(), Fail> {
+    assert!(rt; lo <= hi && hi < 1 << vector.depth().get());
+    let mut prover = SubProver::<F>::start(alloc, vector, lo, hi)?;
+    let mut level = Level::<F>::of(alloc, vector)?;
+    let (mut first, mut last) = (lo, hi);
+    for height in 0..vector.depth().get() {
+        assert!(rt; level.folds_left() > 0);
+        let nodes = 1u64 << level.folds_left();
+        assert!(rt; first <= last && last < nodes);
+        let mut expected = (None, None);
+        if first % 2 == 1 {
+            expected.0 = Some(level.at(first - 1).number());
+        }
+        if last % 2 == 0 {
+            assert!(rt; last < nodes - 1);
+            expected.1 = Some(level.at(last + 1).number());
+        }
+        assert_eq!(rt; siblings(rt, &prover), expected);
+
+        let r = 1_000_003 * height as u64 + 7;
+        learn(rt, &mut prover, r);
+        level.fold_tree(F::of(r));
+        first /= 2;
+        last /= 2;
+    }
+    assert_eq!(rt; prover.levels_left(), 0);
+    Ok(())
+}
+
+#[test]
+fn siblings_are_the_nodes_of_folded_levels(rt: HostRuntime) -> Result<(), Fail> {
+    for depth in [16, 48] {
+        let mut vector = spread(&rt, rt.alloc(), depth)?;
+        let items = 1u64 << vector.depth().get();
+        let (lo, hi) = (items / 3, items / 3 + items / 5);
+        compare_with_folds::<M61, _>(&rt, rt.alloc(), &vector, lo, hi)?;
+        vector.settle()?;
+        compare_with_folds::<M61, _>(&rt, rt.alloc(), &vector, lo, hi)?;
+        compare_with_folds::<F31, _>(&rt, rt.alloc(), &vector, lo, hi)?;
+        compare_with_folds::<F31, _>(&rt, rt.alloc(), &vector, items / 2, items / 2)?;
     }
     Ok(())
 }
