@@ -66,6 +66,8 @@ impl Source for MemorySource {
 
     ghost left = { λ source. Some (source_left source) };
 
+    ghost ahead = { λ _. [] };
+
     ghost faults = { source_faults };
 
     ghost is_sure = { source_is_sure };
@@ -95,6 +97,16 @@ impl Source for MemorySource {
         self.at += count;
         Ok(count)
     }
+
+    fn held(&self) -> &[u8]
+        ensures none { result.now ≡ [] }
+    {
+        &[]
+    }
+
+    fn skip(&mut self, _count: usize)
+        ensures same { self.new ≡ self.old }
+    {}
 }
 
 /// A sink that keeps its bytes in memory. A call takes at most a chunk, and the calls whose numbers, from 1,

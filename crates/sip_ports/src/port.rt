@@ -1,8 +1,8 @@
 // What bytes come from and go to: a source, a sink, and a link, which is a sink that can be heard.
-ghost use Rattle.std.specs.Prelude.{◌≡◌, ◌<◌, ◌^◌, ◌-◌, List, ℕ, length, IfOk, OnOk};
+ghost use Rattle.std.specs.Prelude.{◌≡◌, ◌≤◌, ◌<◌, ◌^◌, ◌-◌, List, ℕ, length, take, IfOk, IfSome, OnOk};
 ghost use Rattle.std.specs.declared.option.Option.{Option};
-ghost use Rattle.std.specs.Io.{ReadsAtMost, WritesAtMost};
-ghost use Rattle.std.specs.Io.KnownBytes.{ReadConsumes};
+ghost use Rattle.std.specs.Io.{ReadsAtMost, WritesAtMost, StartsWith};
+ghost use Rattle.std.specs.Io.KnownBytes.{Consumes, ReadConsumes};
 ghost use Rattle.sip_ports.specs.declared.port.PortStop.TheVariants.{OutOfMemory};
 ghost use Rattle.sip_ports.specs.declared.port.TalkEvent.{TalkEvent};
 ghost use Rattle.sip_ports.specs.Ports.{HasCause, Sends, Hears};
@@ -50,6 +50,9 @@ pub trait Source {
     /// The bytes to come, where they are told.
     ghost left: { Self → Option (List ℕ) };
 
+    /// The bytes to come that earlier calls brought, and that it holds.
+    ghost ahead: { Self → List ℕ };
+
     /// How often it has failed. The count never falls, and stands still at 2^64 - 1.
     ghost faults: { Self → ℕ };
 
@@ -63,6 +66,19 @@ pub trait Source {
         ensures bytes { ReadConsumes (left self.old) (left self.new) result buf.new }
         ensures empty { length buf.old ≡ 0 → OnOk result (faults self.new ≡ faults self.old) }
         ensures cause { HasCause faults is_sure self.old self.new result };
+
+    /// The bytes that it holds, to be read where they lie: a front of those to come, where they are told. A source
+    /// that holds none answers an empty slice, which says nothing about the end.
+    fn held(&self) -> &[u8]
+        ensures bytes { result.now ≡ ahead self.now }
+        ensures front { IfSome (left self.now) (λ bytes. StartsWith bytes result.now) };
+
+    /// Drops bytes that it holds from the front, so many, as a read of them does. It cannot fail.
+    fn skip(&mut self, count: usize)
+        requires held { count ≤ length (ahead self.old) }
+        ensures bytes { Consumes (left self.old) (left self.new) (take count (ahead self.old)) }
+        ensures faults { faults self.new ≡ faults self.old }
+        ensures sure { is_sure self.old → is_sure self.new };
 
     ghost faults_fit: { (source : Self) → faults source < 2 ^ 64 };
 

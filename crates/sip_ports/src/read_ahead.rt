@@ -46,6 +46,21 @@ impl ReadAhead {
         self.end - self.start
     }
 
+    /// The bytes that it holds, where they lie.
+    pub fn held(&self) -> &[u8]
+        ensures { result.now ≡ self.now }
+    {
+        &self.bytes[self.start..self.end]
+    }
+
+    /// Drops bytes that it holds from the front, so many.
+    pub fn skip(&mut self, count: usize)
+        requires { count ≤ length self.old }
+        ensures { self.new ≡ drop count self.old }
+    {
+        self.start += count;
+    }
+
     // Reads once, for as many bytes as there is room for.
     fn fill<R: Read>(&mut self, reader: &mut R) -> io::Result<()>
         requires { length self.old ≡ 0 }
@@ -68,7 +83,7 @@ impl ReadAhead {
     {
         let count = buf.len().min(self.end - self.start);
         give(&self.bytes[..self.end], self.start, count, buf);
-        self.start += count;
+        self.skip(count);
         count
     }
 

@@ -1,8 +1,8 @@
 // A source over a reader. What the reader tells, the source tells: the bytes that it holds, and then
 // the reader's.
-ghost use Rattle.std.specs.Prelude.{◌≡◌, ◌↔◌, ◌<◌, [], length, IsNone, IsErr, OnErr};
-ghost use Rattle.std.specs.Io.{ReadsAtMost};
-ghost use Rattle.std.specs.Io.KnownBytes.{ReadConsumes};
+ghost use Rattle.std.specs.Prelude.{◌≡◌, ◌↔◌, ◌<◌, ◌≤◌, [], length, take, drop, IsNone, IsErr, IfSome, OnErr};
+ghost use Rattle.std.specs.Io.{ReadsAtMost, StartsWith};
+ghost use Rattle.std.specs.Io.KnownBytes.{Consumes, ReadConsumes};
 ghost use Rattle.sip_ports.specs.Ports.{Counts};
 ghost use Rattle.sip_ports.specs.ReadAhead.{GivesHeld};
 
@@ -41,6 +41,8 @@ impl<R: Read + Drop> Source for ReaderSource<R> {
 
     ghost left = { source_left R.remaining };
 
+    ghost ahead = { source_ahead };
+
     ghost faults = { source_faults };
 
     ghost is_sure = { λ _. ⊥ };
@@ -70,5 +72,24 @@ impl<R: Read + Drop> Source for ReaderSource<R> {
             return Ok(count);
         }
         Err(self.faults.failed())
+    }
+
+    fn held(&self) -> &[u8]
+        ensures bytes { result.now ≡ source_ahead self.now }
+        ensures front { IfSome (source_left R.remaining self.now)
+            (λ bytes. StartsWith bytes result.now) }
+    {
+        self.ahead.held()
+    }
+
+    fn skip(&mut self, count: usize)
+        requires held { count ≤ length (source_ahead self.old) }
+        ensures bytes { Consumes (source_left R.remaining self.old)
+            (source_left R.remaining self.new) (take count (source_ahead self.old)) }
+        ensures ahead { source_ahead self.new ≡ drop count (source_ahead self.old) }
+        ensures faults { source_faults self.new ≡ source_faults self.old }
+        ensures reader { source_reader self.new ≡ source_reader self.old }
+    {
+        self.ahead.skip(count);
     }
 }

@@ -8,6 +8,7 @@ ghost use Rattle.sip_ports.specs.Memory.{sink_bytes, sink_is_sure, link_talk, li
 ghost use Rattle.sip_ports.specs.Ports.{ReadsWhole, ins, ended_if};
 
 use super::*;
+use crate::give::give;
 use crate::read_ahead::ReadAhead;
 use crate::uninterrupted::{read_uninterrupted, write_uninterrupted};
 use std::alloc::Global;
@@ -367,4 +368,84 @@ fn a_write_that_takes_nothing_is_a_fault(rt: HostRuntime) {
     let mut sink = StderrSink::new(TakesNothing);
     assert_eq!(rt; sink.write(b"a"), Err(PortStop::Failed));
     assert_eq!(rt; sink.write(&[]), Ok(0));
+}
+
+// A source that holds all of its bytes, and gives one a read.
+#[derive(Drop)]
+struct HoldsAll {
+    bytes: Vec<u8>,
+    at: usize,
+    ghost within: { at ≤ length bytes.items },
+}
+
+impl Source for HoldsAll {
+    ghost use Rattle.std.specs.Prelude.{Some, drop, refl};
+    ghost use Rattle.std.proofs.Common.{rules};
+
+    ghost left = { λ source. Some (drop source.at source.bytes.items) };
+
+    ghost ahead = { λ source. drop source.at source.bytes.items };
+
+    ghost faults = { λ _. 0 };
+
+    ghost is_sure = { λ _. Unit {0} };
+
+    ghost faults_fit = { λ _. Prim.search rules };
+
+    ghost sure_counts = { λ _ _. refl };
+
+    fn read(&mut self, buf: &mut [u8]) -> Result<usize, PortStop> {
+        let count = buf.len().min(1).min(self.bytes.len() - self.at);
+        give(&self.bytes, self.at, count, buf);
+        self.at += count;
+        Ok(count)
+    }
+
+    fn held(&self) -> &[u8] {
+        &self.bytes[self.at..]
+    }
+
+    fn skip(&mut self, count: usize) {
+        self.at += count;
+    }
+}
+
+// Whether the bytes `abcde` come so, of which the first is read, two are read where they lie, the fourth is
+// read and the last one is dropped.
+fn comes_held<S: Source>(source: &mut S) -> bool {
+    let mut byte = [0];
+    let first = source.read(&mut byte) == Ok(1) && byte[0] == b'a';
+    let held = source.held() == b"bcde".as_slice();
+    let two = source.held().len().min(2);
+    source.skip(two);
+    source.skip(0);
+    let rest = source.held() == b"de".as_slice();
+    let fourth = source.read(&mut byte) == Ok(1) && byte[0] == b'd';
+    let last = source.held().len();
+    source.skip(last);
+    let end = source.held().is_empty() && source.read(&mut byte) == Ok(0);
+    first && held && rest && fourth && last == 1 && end
+}
+
+#[test]
+fn held_bytes_are_read_where_they_lie(rt: HostRuntime) -> Result<(), Fail> {
+    let mut source = HoldsAll {
+        bytes: b"abcde".to_vec(rt.alloc())?,
+        at: 0,
+    };
+    assert!(rt; comes_held(&mut source));
+    assert!(rt; comes_held(&mut ReaderSource::new(Some(b"abcde".as_slice()))));
+    Ok(())
+}
+
+// A source over memory holds nothing, so each byte comes by a call that may fail.
+#[test]
+fn a_source_over_memory_holds_nothing(rt: HostRuntime) -> Result<(), Fail> {
+    let mut source = source(rt.alloc(), b"ab", 1, &[])?;
+    assert_eq!(rt; source.read(&mut [0; 1]), Ok(1));
+    assert_eq!(rt; source.held().len(), 0);
+    source.skip(0);
+    assert_eq!(rt; source.read(&mut [0; 1]), Ok(1));
+    assert_eq!(rt; source.read(&mut [0; 1]), Ok(0));
+    Ok(())
 }

@@ -17,3 +17,9 @@ filled_more filled at n buf part bytes more within room is =
     ∙ ap (λ l. take filled buf ++ l) (append_assoc part (drop (at + n) bytes) more)
     ∙ sym (append_assoc (take filled buf) part (drop (at + n) bytes ++ more))
     ∙ ap (λ l. l ++ (drop (at + n) bytes ++ more)) (sym front)
+
+-- What is left of a list loses its front where the place moves on.
+pub dropped_more : (at n : ℕ) (bytes more : List ℕ) → drop at bytes ++ more ≡ take n (drop at bytes) ++ (drop (at + n) bytes ++ more)
+dropped_more at n bytes more =
+    ap (λ l. l ++ more) (sym (take-append-drop n (drop at bytes)) ∙ ap (λ l. take n (drop at bytes) ++ l) (drop-drop n at bytes))
+    ∙ append_assoc (take n (drop at bytes)) (drop (at + n) bytes) more

@@ -1,6 +1,8 @@
 -- Lines, taken byte by byte: what a whole line says, and where it was cut short or is too long.
-use Rattle.std.proofs.Common.{◌≡◌, ◌≢◌, ℕ, ◌+◌, ◌<◌, ◌≤◌, Bool, true, false, cond, eqb, List, [], ◌∷◌, ◌++◌, length, refl, sym, ap, ◌∙◌, subst, arith, append_assoc, length-append}
+use Rattle.std.proofs.Common.{◌≡◌, ◌≢◌, ℕ, ◌+◌, ◌<◌, ◌≤◌, Bool, true, false, cond, eqb, List, [], ◌∷◌, ◌++◌, length, refl, sym, ap, ◌∙◌, subst, arith, append_assoc, append-nil, length-append, take, drop, take-append-drop, eq-eqb}
 use Rattle.std.specs.Prelude.{Option, Some, None, Result, Ok, Err, nat_lt, nat_le, ◌||◌, option_and_then, pos}
+use Rattle.std.specs.Io.KnownBytes.{Consumes}
+use Rattle.std.proofs.Math.Seq.{take-append_seam}
 use Rattle.std.proofs.lemmas.Bool.{ne_eqb}
 use Rattle.std.proofs.lemmas.Bool.Decides.{nat_tests}
 use Rattle.sip_vector.specs.declared.update.Side.TheVariants.{First}
@@ -12,7 +14,8 @@ use Rattle.sip_stream.specs.Layouts.{of_line}
 use Rattle.sip_stream.specs.Lines.{parts_at, numbers_at, lines_from, begun, most_line}
 use Rattle.sip_stream.specs.Records.{said, said_fault, line_at, line_fault, update_fault}
 use Rattle.sip_stream.specs.Pieces.{IsBegun, IsFirst, Says, ReadsPiece, line_said}
-use Rattle.sip_stream.proofs.Parts.{parts_found, parts_more}
+use Rattle.sip_stream.proofs.Parts.{none_from, parts_found, parts_more}
+use Rattle.sip_stream.proofs.RecordsRead.{came_front}
 
 -- nothing was taken yet
 pub begun_empty : (bytes : List ℕ) → IsBegun bytes [] bytes
@@ -39,6 +42,21 @@ ended bytes front rest b so ends = record {
   order = so.order ∙ sym (append_assoc front (b ∷ []) rest);
   cut = so.same ∙ ap (line_step front b rest) ends;
 }
+
+-- a byte that is not found equal is another one
+eqb_ne : (b mark : ℕ) → eqb b mark ≡ false → b ≢ mark
+eqb_ne b mark is = λ same. false_true (sym is ∙ eq-eqb b mark same)
+  where
+    false_true : false ≡ true → ⊥
+    false_true e = cc
+
+-- more bytes of the line, none of which ends it
+begun_all : (bytes front more rest : List ℕ) → IsBegun bytes front (more ++ rest) → parts_at 10 more ≡ None → length front + length more ≤ 40 → IsBegun bytes (front ++ more) rest
+begun_all bytes front [] rest so clean short = subst (λ l. IsBegun bytes l rest) (sym (append-nil front)) so
+begun_all bytes front (b ∷ bs) rest so clean short =
+    let k = none_from b bs (eqb b 10) (parts_at 10 bs) clean in
+    let next = begun_more bytes front (bs ++ rest) b so (eqb_ne b 10 k.0) (omega (arith, short)) in
+    subst (λ l. IsBegun bytes l rest) (append_assoc front (b ∷ []) bs) (begun_all bytes (front ++ b ∷ []) bs rest next k.1 (omega (arith, short, length-append front (b ∷ []))))
 
 longer : (front : List ℕ) (b : ℕ) → length (front ++ b ∷ []) ≡ length front + 1
 longer front b = length-append front (b ∷ [])
@@ -132,3 +150,21 @@ module _ (front : List ℕ) (clean : parts_at 10 front ≡ None) (short : length
 pub reads_line : (bytes front rest : List ℕ) (left : Option (List ℕ)) (answer : Result Update Why) → IsBegun bytes front (10 ∷ rest) → left ≡ Some rest → length front < 40 → answer ≡ line_said front → ReadsPiece of_line bytes left (Ok (Some answer))
 reads_line bytes front rest left answer so told short is =
     (front ++ 10 ∷ [], rest, told, ended bytes front rest 10 so refl, subst (Says of_line (front ++ 10 ∷ [])) (sym is) (says_line front so.clean short))
+
+-- ---- a whole line that is held
+
+-- the line and its line feed, in front of what is held
+pub held_line : (ahead near line behind : List ℕ) (n : ℕ) → near ≡ take n ahead → near ≡ line ++ 10 ∷ behind → take (length line + 1) ahead ≡ line ++ 10 ∷ []
+held_line ahead near line behind n is parts =
+    let whole : ahead ≡ (line ++ 10 ∷ []) ++ (behind ++ drop n ahead) =
+    sym (take-append-drop n ahead) ∙ ap (λ l. l ++ drop n ahead) (sym is ∙ parts) ∙ append_assoc line (10 ∷ behind) (drop n ahead) ∙ sym (append_assoc line (10 ∷ []) (behind ++ drop n ahead)) in
+    ap (λ m. take m ahead) (sym (longer line 10)) ∙ ap (take (length (line ++ 10 ∷ []))) whole ∙ take-append_seam (line ++ 10 ∷ []) (behind ++ drop n ahead)
+
+-- a whole line in front, which was consumed
+pub reads_held : (old new : Option (List ℕ)) (bytes line : List ℕ) (answer : Result Update Why) → old ≡ Some bytes → Consumes old new (line ++ 10 ∷ []) → parts_at 10 line ≡ None → length line < 40 → answer ≡ line_said line
+    → ReadsPiece of_line bytes new (Ok (Some answer))
+reads_held old new bytes line answer told took clean short is =
+    let came = came_front old new bytes (line ++ 10 ∷ []) told took in
+    let order : bytes ≡ line ++ 10 ∷ came.0 = came.2 ∙ append_assoc line (10 ∷ []) came.0 in
+    let so = begun_all bytes [] line (10 ∷ came.0) (subst (IsBegun bytes []) order (begun_empty bytes)) clean (omega (arith, short)) in
+    reads_line bytes line came.0 new answer so came.1 short is

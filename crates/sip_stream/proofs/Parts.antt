@@ -16,7 +16,7 @@ abbrev first_step : ℕ → List ℕ → Bool → Parts → Parts
 first_step x xs is rest = cond is (Some ([], xs)) (push x rest)
 
 -- there is no mark, so the first byte is none
-none_from : (x : ℕ) (xs : List ℕ) (is : Bool) (rest : Parts) → first_step x xs is rest ≡ None → (is ≡ false) × (rest ≡ None)
+pub none_from : (x : ℕ) (xs : List ℕ) (is : Bool) (rest : Parts) → first_step x xs is rest ≡ None → (is ≡ false) × (rest ≡ None)
 none_from x xs true rest e = cc
 none_from x xs false None e = (refl, refl)
 none_from x xs false (Some p) e = cc
@@ -62,3 +62,9 @@ pub split_there : (text : List ℕ) (mark i : ℕ) → i < length text → parts
 split_there text mark i l none is =
     let all : take (length text - (i + 1)) (drop (i + 1) text) ≡ drop (i + 1) text = take_all (length text - (i + 1)) (drop (i + 1) text) (omega (arith, length-drop (i + 1) text)) in
     ap (λ t. Some (take i text, t)) all ∙ split_found text mark i l none is
+
+-- the text is what stands in front of the mark, the mark, and what stands behind it, as the code has that
+pub split_whole : (text : List ℕ) (mark i : ℕ) → i < length text → get_or text i 0 ≡ mark → text ≡ take i text ++ mark ∷ take (length text - (i + 1)) (drop (i + 1) text)
+split_whole text mark i l is =
+    let all : take (length text - (i + 1)) (drop (i + 1) text) ≡ drop (i + 1) text = take_all (length text - (i + 1)) (drop (i + 1) text) (omega (arith, length-drop (i + 1) text)) in
+    sym (take-append-drop i text) ∙ ap (λ t. take i text ++ t) (drop_cons text i l) ∙ ap (λ x. take i text ++ x ∷ drop (i + 1) text) is ∙ ap (λ t. take i text ++ mark ∷ t) (sym all)

@@ -7,3 +7,7 @@ use Rattle.sip_stream.specs.declared.made.MadeSource.{MadeSource}
 abbrev pub made_left : MadeSource → List ℕ
 made_left source =
     drop source.at source.under_way.items ++ made_bytes source.state source.more source.depth
+
+-- the bytes to come that are held: the rest of the record under way
+abbrev pub made_ahead : MadeSource → List ℕ
+made_ahead source = drop source.at source.under_way.items

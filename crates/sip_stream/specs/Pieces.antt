@@ -1,5 +1,5 @@
 -- What a call that takes one record off the front of some bytes did.
-use Rattle.std.specs.Prelude.{◌≡◌, ◌<◌, ◌≤◌, ℕ, nat_lt, List, [], ◌∷◌, ◌++◌, length, Option, Some, None, Result, Ok, Err, if◌then◌else◌}
+use Rattle.std.specs.Prelude.{◌≡◌, ◌<◌, ◌≤◌, ℕ, nat_lt, List, [], ◌∷◌, ◌++◌, length, slice_index, Option, Some, None, Result, Ok, Err, if◌then◌else◌}
 use Rattle.sip_ports.specs.declared.port.PortStop.{PortStop}
 use Rattle.sip_vector.specs.declared.update.Update.{Update}
 use Rattle.sip_stream.specs.declared.line_reader.LineEnd.{LineEnd}
@@ -8,7 +8,7 @@ use Rattle.sip_stream.specs.declared.why.Why.{Why}
 use Rattle.sip_stream.specs.declared.why.Why.TheVariants.{BadLine, BadSide}
 use Rattle.sip_stream.specs.Layouts.{Layout}
 use Rattle.sip_stream.specs.Lines.{numbers_at, parts_at, lines_from, most_line}
-use Rattle.sip_stream.specs.Records.{said, update_at, fault_at, update_fault, pieces_of}
+use Rattle.sip_stream.specs.Records.{said, record_at, update_at, fault_at, update_fault, pieces_of}
 
 -- what was taken is a front of the bytes, and the rest is left
 abbrev pub TakesFront : List ℕ → Option (List ℕ) → Type 0
@@ -67,3 +67,8 @@ line_said text = elim (numbers_at text) [
   | None ↦ Err BadLine
   | Some n ↦ if nat_lt 1 n.side then Err BadSide else Ok (said n)
 ]
+
+-- what a whole record of bytes says, the item by so many of them
+abbrev pub record_said : ℕ → List ℕ → Result Update Why
+record_said width bytes =
+    if nat_lt 1 (slice_index bytes 0) then Err BadSide else Ok (record_at width bytes)

@@ -1,4 +1,4 @@
-//! Records in text, a line each, read byte by byte.
+//! Records in text, a line each, read where they lie, or else byte by byte.
 
 ghost use Rattle.std.specs.Prelude.{◌≡◌, ◌<◌, ◌≤◌, ℕ, List, [], Some, IsSome, length};
 ghost use Rattle.arrayvec.specs.ArrayVec.{array_vec_len};
@@ -7,7 +7,7 @@ ghost use Rattle.sip_stream.specs.Layouts.{of_line};
 ghost use Rattle.sip_stream.specs.Pieces.{ReadsByte, ReadsPiece, TakesLine, line_said};
 
 use crate::Why;
-use crate::numbers::read_numbers;
+use crate::numbers::{read_numbers, split_at};
 use arrayvec::ArrayVec;
 use sip_ports::{PortStop, Source, read_exact_into};
 use sip_vector::{Side, Update};
@@ -89,8 +89,8 @@ fn update_of(line: &[u8]) -> Result<Update, Why>
     })
 }
 
-/// What the next line says, or why it says no update; `None` at the end.
-pub(crate) fn next_line<S: Source>(source: &mut S) -> Result<Option<Result<Update, Why>>, PortStop>
+// The next line, taken byte by byte.
+fn read_line<S: Source>(source: &mut S) -> Result<Option<Result<Update, Why>>, PortStop>
     ensures reads { (bytes : List ℕ) → S.left source.old ≡ Some bytes
         → ReadsPiece of_line bytes (S.left source.new) result }
     ensures told { IsSome (S.left source.old) → IsSome (S.left source.new) }
@@ -103,4 +103,23 @@ pub(crate) fn next_line<S: Source>(source: &mut S) -> Result<Option<Result<Updat
         LineEnd::TooLong => Ok(Some(Err(Why::BadLine))),
         LineEnd::Feed => Ok(Some(update_of(line.as_slice()))),
     }
+}
+
+/// What the next line says, or why it says no update; `None` at the end. One that the source holds with its line feed
+/// is read where it lies, unless it is too long.
+pub(crate) fn next_line<S: Source>(source: &mut S) -> Result<Option<Result<Update, Why>>, PortStop>
+    ensures reads { (bytes : List ℕ) → S.left source.old ≡ Some bytes
+        → ReadsPiece of_line bytes (S.left source.new) result }
+    ensures told { IsSome (S.left source.old) → IsSome (S.left source.new) }
+    ensures cause { HasCause S.faults S.is_sure source.old source.new result }
+{
+    let held = source.held();
+    let near = &held[..held.len().min(MOST_LINE)];
+    let Some((line, _)) = split_at(near, b'\n') else {
+        return read_line(source);
+    };
+    let size = line.len() + 1;
+    let said = update_of(line);
+    source.skip(size);
+    Ok(Some(said))
 }

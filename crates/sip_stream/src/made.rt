@@ -11,7 +11,7 @@ use sip_vector::Depth;
 
 /// A source of the records that a generator makes from a number: about a quarter of them are of the items 0 and 1, the
 /// others of items from everywhere. They have the form `Form::made` of the depth. It tells the bytes to come, never fails
-/// and takes no memory. A read fills the buffer as far as there are bytes.
+/// and takes no memory. A read fills the buffer as far as there are bytes. After a call it holds the record under way.
 #[derive(Drop)]
 pub struct MadeSource {
     depth: Depth,
@@ -86,13 +86,15 @@ impl MadeSource {
 }
 
 impl Source for MadeSource {
-    ghost use Rattle.std.specs.Prelude.{◌≡◌, min, length, Some, refl};
+    ghost use Rattle.std.specs.Prelude.{◌≡◌, ◌≤◌, ◌++◌, min, length, take, Some, refl};
     ghost use Rattle.std.specs.Io.{ReadsAtMost};
     ghost use Rattle.std.specs.Io.KnownBytes.{ReadConsumes};
     ghost use Rattle.std.proofs.Common.{rules};
-    ghost use Rattle.sip_stream.specs.MadeSources.{made_left};
+    ghost use Rattle.sip_stream.specs.MadeSources.{made_ahead, made_left};
 
     ghost left = { λ source. Some (made_left source) };
+
+    ghost ahead = { made_ahead };
 
     ghost faults = { λ _. 0 };
 
@@ -116,7 +118,24 @@ impl Source for MadeSource {
             }
             filled += count;
         }
+        self.go_on();
         Ok(filled)
+    }
+
+    fn held(&self) -> &[u8]
+        ensures bytes { result.now ≡ made_ahead self.now }
+    {
+        &self.under_way.as_slice()[self.at..]
+    }
+
+    fn skip(&mut self, count: usize)
+        requires held { count ≤ length (made_ahead self.old) }
+        ensures bytes { made_left self.old
+            ≡ take count (made_ahead self.old) ++ made_left self.new }
+    {
+        prove!(count <= self.under_way.len() - self.at);
+        self.at += count;
+        self.go_on();
     }
 }
 

@@ -1,6 +1,6 @@
 //! The numbers of a line of text.
 
-ghost use Rattle.std.specs.Prelude.{◌≡◌, ◌≢◌, ◌≤◌, ◌<◌, ◌+◌, ◌^◌, ℕ, length, option_map, IfSome, MatchOption, decimal};
+ghost use Rattle.std.specs.Prelude.{◌≡◌, ◌≢◌, ◌≤◌, ◌<◌, ◌+◌, ◌^◌, ◌++◌, ◌∷◌, ℕ, None, length, option_map, IfSome, MatchOption, decimal};
 ghost use Rattle.sip_stream.specs.Lines.{decimal_at, delta_at, item_at, numbers_at, parts_at, above_zero, below_zero};
 
 /// The most digits of a number below 2^64.
@@ -14,14 +14,17 @@ pub(crate) struct Numbers {
     pub(crate) delta: i64,
 }
 
-/// The text in front of its first space, and the text behind that.
-fn split_at_space(text: &[u8]) -> Option<(&[u8], &[u8])>
-    ensures parts { option_map (λ parts. (parts.0.now, parts.1.now)) result ≡ parts_at 32 text.now }
+/// The text in front of its first such byte, and the text behind that.
+pub(crate) fn split_at(text: &[u8], mark: u8) -> Option<(&[u8], &[u8])>
+    ensures parts { option_map (λ parts. (parts.0.now, parts.1.now)) result
+        ≡ parts_at mark text.now }
+    ensures clean { IfSome result (λ parts. parts_at mark parts.0.now ≡ None) }
+    ensures whole { IfSome result (λ parts. text.now ≡ parts.0.now ++ mark ∷ parts.1.now) }
     ensures lens { IfSome result (λ parts. length parts.0.now + length parts.1.now + 1
         ≡ length text.now) }
 {
     for index in 0..text.len() {
-        if text[index] == b' ' {
+        if text[index] == mark {
             return Some((&text[..index], &text[index + 1..]));
         }
     }
@@ -106,8 +109,8 @@ pub(crate) fn read_numbers(line: &[u8]) -> Option<Numbers>
     requires { length line.now ≤ 39 }
     ensures { result ≡ numbers_at line.now }
 {
-    let (first, rest) = split_at_space(line)?;
-    let (second, third) = split_at_space(rest)?;
+    let (first, rest) = split_at(line, b' ')?;
+    let (second, third) = split_at(rest, b' ')?;
     Some(Numbers {
         side: digits(first)?,
         item: item(second)?,

@@ -23,7 +23,7 @@ const MOST_WEIGHT: u64 = (1 << 30) - 1;
 
 /// A reader of a stream: how many legal records came, and the weight of each side.
 ///
-/// It takes no memory, and reads no byte ahead.
+/// It takes no memory, and reads no byte ahead. What the source holds is read where it lies.
 #[derive(Clone, Copy, Debug, PartialEq, Eq)]
 pub struct Reader {
     depth: Depth,

@@ -5,7 +5,7 @@ ghost use Rattle.sip_ports.specs.Ports.{HasCause};
 ghost use Rattle.sip_vector.specs.declared.update.Side.TheVariants.{First, Second};
 ghost use Rattle.sip_stream.specs.Layouts.{of_bytes, record_size};
 ghost use Rattle.sip_stream.specs.Records.{record_at};
-ghost use Rattle.sip_stream.specs.Pieces.{ReadsPiece};
+ghost use Rattle.sip_stream.specs.Pieces.{ReadsPiece, record_said};
 
 use crate::Why;
 use crate::record_bytes::{MOST_RECORD, size_of};
@@ -38,8 +38,21 @@ fn update_of<const WIDTH: usize>(bytes: &[u8]) -> Update
     }
 }
 
-/// What the next record says, whose item has so many bytes, or why it says no update; `None` at the end.
-pub(crate) fn next_record<const WIDTH: usize, S: Source>(
+/// What a whole record says, whose item has so many bytes, or why it says no update.
+fn said_by<const WIDTH: usize>(bytes: &[u8]) -> Result<Update, Why>
+    requires some { 1 ≤ WIDTH }
+    requires most { WIDTH ≤ 8 }
+    requires whole { length bytes.now ≡ record_size WIDTH }
+    ensures { result ≡ record_said WIDTH bytes.now }
+{
+    if bytes[0] > 1 {
+        return Err(Why::BadSide);
+    }
+    Ok(update_of::<WIDTH>(bytes))
+}
+
+// The next record, cut out of the source by reads.
+fn read_record<const WIDTH: usize, S: Source>(
     source: &mut S,
 ) -> Result<Option<Result<Update, Why>>, PortStop>
     requires some { 1 ≤ WIDTH }
@@ -58,8 +71,27 @@ pub(crate) fn next_record<const WIDTH: usize, S: Source>(
     if came < bytes.len() {
         return Ok(Some(Err(Why::Truncated)));
     }
-    if bytes[0] > 1 {
-        return Ok(Some(Err(Why::BadSide)));
+    Ok(Some(said_by::<WIDTH>(bytes)))
+}
+
+/// What the next record says, whose item has so many bytes, or why it says no update; `None` at the end. One that the
+/// source holds is read where it lies.
+pub(crate) fn next_record<const WIDTH: usize, S: Source>(
+    source: &mut S,
+) -> Result<Option<Result<Update, Why>>, PortStop>
+    requires some { 1 ≤ WIDTH }
+    requires most { WIDTH ≤ 8 }
+    ensures reads { (bytes : List ℕ) → S.left source.old ≡ Some bytes
+        → ReadsPiece (of_bytes WIDTH) bytes (S.left source.new) result }
+    ensures told { IsSome (S.left source.old) → IsSome (S.left source.new) }
+    ensures cause { HasCause S.faults S.is_sure source.old source.new result }
+{
+    let size = size_of(WIDTH);
+    let held = source.held();
+    if held.len() < size {
+        return read_record::<WIDTH, S>(source);
     }
-    Ok(Some(Ok(update_of::<WIDTH>(bytes))))
+    let said = said_by::<WIDTH>(&held[..size]);
+    source.skip(size);
+    Ok(Some(said))
 }

@@ -1,7 +1,7 @@
 ghost use Rattle.std.specs.Prelude.{◌≡◌, ◌≤◌, IfOk};
 
 use crate::{Form, Reader, StreamFault, Why};
-use sip_ports::MemorySource;
+use sip_ports::{MemorySource, ReaderSource, Source};
 use sip_vector::{Depth, Side, Update};
 use std::alloc::Global;
 use std::test::Fail;
@@ -34,7 +34,30 @@ fn stream(alloc: Global, form: Form, records: &[(u8, u64, i64)]) -> Result<Vec<u
     Ok(out)
 }
 
-// The legal updates of some bytes, and how they end.
+// The legal updates of a source, and how they end.
+fn read_from<S: Source>(
+    alloc: Global,
+    levels: u8,
+    form: Form,
+    source: &mut S,
+) -> Result<(Vec<Update>, Option<(u64, Why)>), Fail> {
+    let mut reader = Reader::new(depth(levels)?, form);
+    let mut updates = Vec::new(alloc);
+    for _ in 0..100u32 {
+        if reader.spent() {
+            break;
+        }
+        match reader.next(source) {
+            Ok(Some(update)) => updates.push(update)?,
+            Ok(None) => return Ok((updates, None)),
+            Err(StreamFault::Bad { at, why }) => return Ok((updates, Some((at, why)))),
+            Err(_) => break,
+        }
+    }
+    Err("the source stopped")?
+}
+
+// Those of some bytes, which come in pieces and are not held.
 fn read_all(
     alloc: Global,
     levels: u8,
@@ -45,23 +68,26 @@ fn read_all(
     requires { 1 ≤ chunk }
 {
     let mut source = MemorySource::new(bytes.to_vec(alloc)?, chunk, Vec::new(alloc));
-    let mut reader = Reader::new(depth(levels)?, form);
-    let mut updates = Vec::new(alloc);
-    for _ in 0..100u32 {
-        if reader.spent() {
-            break;
-        }
-        match reader.next(&mut source) {
-            Ok(Some(update)) => updates.push(update)?,
-            Ok(None) => return Ok((updates, None)),
-            Err(StreamFault::Bad { at, why }) => return Ok((updates, Some((at, why)))),
-            Err(_) => break,
-        }
-    }
-    Err("the source stopped")?
+    read_from(alloc, levels, form, &mut source)
 }
 
-// Whether some bytes end so, in pieces of one byte and in one piece.
+// Those of some bytes, which are held from the first one on, since a byte was read in front of them.
+fn read_held(
+    alloc: Global,
+    levels: u8,
+    form: Form,
+    bytes: &[u8],
+) -> Result<(Vec<Update>, Option<(u64, Why)>), Fail> {
+    let mut more = b"x".to_vec(alloc)?;
+    more.extend_from_slice(bytes)?;
+    let mut source = ReaderSource::new(Some(more.as_slice()));
+    if source.read(&mut [0; 1]) != Ok(1) || source.held() != bytes {
+        return Err("all bytes are held")?;
+    }
+    read_from(alloc, levels, form, &mut source)
+}
+
+// Whether some bytes end so, in pieces of one byte, in one piece, and held.
 fn ends(
     alloc: Global,
     levels: u8,
@@ -71,7 +97,8 @@ fn ends(
 ) -> Result<bool, Fail> {
     let pieces = read_all(alloc, levels, form, bytes, 1)?.1;
     let whole = read_all(alloc, levels, form, bytes, 10_000)?.1;
-    Ok(pieces == want && whole == want)
+    let held = read_held(alloc, levels, form, bytes)?.1;
+    Ok(pieces == want && whole == want && held == want)
 }
 
 #[test]
@@ -94,6 +121,8 @@ fn all_forms_are_read_in_any_chunks(rt: HostRuntime) -> Result<(), Fail> {
             assert!(rt; updates.as_slice() == three.as_slice() && end.is_none());
         }
         let (updates, end) = read_all(alloc, 2, *form, bytes, 10_000)?;
+        assert!(rt; updates.as_slice() == three.as_slice() && end.is_none());
+        let (updates, end) = read_held(alloc, 2, *form, bytes)?;
         assert!(rt; updates.as_slice() == three.as_slice() && end.is_none());
     }
     Ok(())

@@ -1,20 +1,14 @@
--- A whole record came, or fewer bytes at the end.
-use Rattle.std.proofs.Common.{◌≡◌, length, arith, rules}
+-- A whole record that the source holds.
+use Rattle.std.proofs.Common.{◌≡◌, length, take, sym, subst, ◌∙◌, arith, length-take-le}
+use Rattle.std.specs.Io.KnownBytes.{Consumes}
 use Rattle.sip_stream.specs.Layouts.{record_size}
-use Rattle.sip_stream.proofs.RecordsRead.{reads_part, reads_side, reads_record}
+use Rattle.sip_stream.proofs.RecordsRead.{reads_front}
 use Rattle.sip_stream.proofs.record_reader.next_record.Goals as goal
-
-pub returns-then-came-bytes-clause-reads : goal.returns-then-came-bytes-clause-reads
-returns-then-came-bytes-clause-reads g c = λ bytes told.
-    let size : length c.read_exact_into.new.buf ≡ record_size g.row.WIDTH = search rules in
-    reads_part g.row.WIDTH _ _ bytes c.read_exact_into.new.buf c.in_ok-came.came told c.in_ok-came.ensures.bytes.1 (c.in_ok-came.ensures.bytes.2 c.if-came-bytes.true) size (omega arith) (omega arith)
-
-pub returns-then-bytes-gt1-clause-reads : goal.returns-then-bytes-gt1-clause-reads
-returns-then-bytes-gt1-clause-reads g c = λ bytes told.
-    let size : length c.read_exact_into.new.buf ≡ record_size g.row.WIDTH = search rules in
-    reads_side g.row.WIDTH _ _ bytes c.read_exact_into.new.buf c.in_ok-came.came told c.in_ok-came.ensures.bytes.1 size (omega arith) c.if-bytes-gt1.true
 
 pub returns-clause-reads : goal.returns-clause-reads
 returns-clause-reads g c = λ bytes told.
-    let size : length c.read_exact_into.new.buf ≡ record_size g.row.WIDTH = search rules in
-    reads_record g.row.WIDTH _ _ bytes c.read_exact_into.new.buf c.in_ok-came.came c.update_of.result told c.in_ok-came.ensures.bytes.1 size (omega arith) c.if-bytes-gt1.false c.update_of.ensures
+    let held = c.held-held.result.now in
+    let size = c.size_of-size.result in
+    let len : length (take size held) ≡ record_size g.row.WIDTH = length-take-le size held (omega (arith, c.if-held-size.false)) ∙ c.size_of-size.ensures.size in
+    let took = subst (λ l. Consumes (g.S.Source.left c.args.source.now) (g.S.Source.left c.skip.new.self) (take size l)) (sym c.held-held.ensures.bytes) c.skip.ensures.bytes in
+    reads_front g.row.WIDTH _ _ bytes (take size held) c.said_by-said.result told took len c.said_by-said.ensures

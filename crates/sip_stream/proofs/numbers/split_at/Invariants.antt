@@ -1,10 +1,10 @@
--- There is no space in front of this place.
+-- The mark is not in front of this place.
 use Rattle.std.proofs.Common.{◌≡◌, take}
 use Rattle.std.specs.Prelude.{None}
 use Rattle.sip_stream.specs.Lines.{parts_at}
-use Rattle.sip_stream.proofs.numbers.split_at_space.Given as goal
+use Rattle.sip_stream.proofs.numbers.split_at.Given as goal
 
 abbrev pub invariant-loop-index : goal.invariant-loop-index
 invariant-loop-index l = record {
-  clean : parts_at 32 (take l.index l.text) ≡ None;
+  clean : parts_at l.mark (take l.index l.text) ≡ None;
 }
