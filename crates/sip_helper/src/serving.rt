@@ -10,14 +10,16 @@ use crate::asked::is_known;
 use crate::refusal::OUT_OF_TURN;
 use crate::{HelpStatus, HelperCore};
 use sip_ports::Link;
-use sip_wire::{Frame, Message, Place, decode, encode};
+use sip_wire::{Frame, Message, Place, decode_into, encode};
 use std::alloc::Global;
 
-/// Receives one frame, hears its message and sends the reply that is owed. The status says why the talk is over.
+/// Receives one frame, hears its message and sends the reply that is owed. The message of the frame before gives its room. The
+/// status says why the talk is over.
 fn take_turn<L: Link>(
     core: &mut HelperCore,
     link: &mut L,
     frame: &mut Frame,
+    message: &mut Message,
     offset: u64,
 ) -> Result<(), HelpStatus>
     requires live { core.old.spent ≡ false }
@@ -30,14 +32,13 @@ fn take_turn<L: Link>(
 {
     // A frame is read, and refused, in the version of the talk up to it.
     let version = core.version();
-    let message = match decode(link, Place::ToHelper, version, frame) {
-        Ok(message) => message,
-        Err(fault) => return Err(HelpStatus::of_fault(fault, offset)),
-    };
-    if !is_known(&message) {
+    if let Err(fault) = decode_into(link, Place::ToHelper, version, frame, message) {
+        return Err(HelpStatus::of_fault(fault, offset));
+    }
+    if !is_known(message) {
         return Err(HelpStatus::BadFrame { offset });
     }
-    if core.hear(&message).is_err() {
+    if core.hear(message).is_err() {
         encode(&Message::Refuse { code: OUT_OF_TURN }, version, link)?;
         return Err(HelpStatus::BadFrame { offset });
     }
@@ -67,9 +68,11 @@ pub fn serve<L: Link>(alloc: Global, link: &mut L) -> HelpStatus
         return HelpStatus::OutOfMemory;
     };
     let mut core = HelperCore::new(alloc);
+    // One message for the whole talk: the updates of a frame are read in place of those of the frame before.
+    let mut message = Message::Bye;
     let mut offset = 0;
     loop {
-        if let Err(status) = take_turn(&mut core, link, &mut frame, offset) {
+        if let Err(status) = take_turn(&mut core, link, &mut frame, &mut message, offset) {
             return status;
         }
         offset += frame.bytes().len() as u64;

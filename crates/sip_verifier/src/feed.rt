@@ -12,9 +12,8 @@ ghost use Rattle.sip_verifier.specs.Feeding.{due_at_end, due_with, waiting_with}
 use arrayvec::ArrayVec;
 use sip_ports::{Link, PortStop};
 use sip_vector::{Depth, Update};
-use sip_wire::{MOST_ROWS, Message, Version, encode};
+use sip_wire::{MOST_ROWS, Message, Version, encode, encode_updates};
 use std::marker::Model;
-use std::mem;
 
 /// Sends a stream in frames of at most 512 updates, in a version. What waits for a frame is kept in a buffer of a fixed size, where
 /// the caller may read it before it goes out.
@@ -123,8 +122,8 @@ impl Feed {
         ensures spent { self.new.is_spent ≡ is_err result }
         ensures cause { HasCause L.faults L.is_sure link.old link.new result }
     {
-        let frame = Message::Updates(mem::take(&mut self.waiting));
-        let sent = encode(&frame, self.version, link);
+        let sent = encode_updates(&self.waiting, self.version, link);
+        self.waiting.clear();
         self.is_spent = sent.is_err();
         sent
     }

@@ -48,18 +48,17 @@ impl Model for Seats {
     ghost view = { λ s. record { depth = s.depth; seats = s.seats.items } };
 }
 
-/// The updates of the first side, in order.
-fn on_first_side(updates: &[Update]) -> ArrayVec<Update, MOST_ROWS>
-    requires { length updates.now ≤ most_rows }
-    ensures { result.items ≡ of_side updates.now sides.First }
+/// Puts the updates of the first side into `first`, which holds none, in order.
+fn take_first_side(updates: &[Update], first: &mut ArrayVec<Update, MOST_ROWS>)
+    requires most { length updates.now ≤ most_rows }
+    requires empty { first.old.items ≡ [] }
+    ensures { first.new.items ≡ of_side updates.now sides.First }
 {
-    let mut first = ArrayVec::new();
     for update in updates {
         if update.side == Side::First {
             first.push(*update);
         }
     }
-    first
 }
 
 impl Seats {
@@ -146,7 +145,9 @@ impl Seats {
             → AreSeats depth queries blocks stream self.old
             → AreSeats depth queries blocks (stream ++ updates.now) self.new }
     {
-        self.raise(&on_first_side(updates));
+        let mut first = ArrayVec::new();
+        take_first_side(updates, &mut first);
+        self.raise(&first);
     }
 
     // Adds updates to each running number, of which these are those of the first side.

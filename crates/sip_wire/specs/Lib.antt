@@ -2,6 +2,7 @@ pub mod Versions
 pub mod Table
 pub mod Values
 pub mod Spelling
+pub mod Filling
 pub mod Rows
 pub mod Reading
 pub mod Faults

@@ -5,6 +5,7 @@ ghost use Rattle.sip_ports.specs.Ports.{Lasts};
 ghost use Rattle.sip_wire.specs.Frames.{frame_bytes};
 ghost use Rattle.sip_wire.specs.Spelling.{ReadsBody};
 ghost use Rattle.sip_wire.specs.Table.{shape};
+ghost use Rattle.sip_wire.specs.Filling.{filled};
 ghost use Rattle.sip_wire.specs.Decoding.{FindsHead, IsBytes, Decodes};
 
 use crate::Version;
@@ -12,7 +13,7 @@ use crate::frame::{Frame, HEAD};
 use crate::kind::{Kind, Place};
 use crate::message::{Message, WireFault};
 use crate::numbers::take_u16;
-use crate::reading::message_of;
+use crate::reading::read_body;
 use sip_ports::Link;
 
 /// The kind and the length of the body, where a frame may begin with these three bytes.
@@ -35,14 +36,41 @@ fn head_of(version: Version, place: Place, bytes: &[u8]) -> Result<(Kind, usize)
     Ok((kind, len))
 }
 
-/// The message of a frame whose body is as long as its kind has it.
-fn message_in(version: Version, kind: Kind, bytes: &[u8]) -> Result<Message, WireFault>
+/// Reads the message of a frame whose body is as long as its kind has it.
+fn read_message(
+    version: Version,
+    kind: Kind,
+    bytes: &[u8],
+    message: &mut Message,
+) -> Result<(), WireFault>
     requires head { 3 ≤ length bytes.now }
     requires body { IsTrue ((shape version kind).has_length (length bytes.now - 3)) }
     ensures fits { IsBytes bytes.now }
-    ensures read { ReadsBody version kind (drop 3 bytes.now) result }
+    ensures read { ReadsBody version kind (drop 3 bytes.now) (filled message.new result) }
 {
-    message_of(version, kind, &bytes[HEAD..])
+    read_body(version, kind, &bytes[HEAD..], message)
+}
+
+/// Receives exactly one frame of a version into `frame`, and reads its message into `message`.
+///
+/// It is [`decode`] for one frame after the other: what it would answer is in `message` after an `Ok`, and where the frame has rows
+/// of the same kind as `message` they are read in place of those, so that nothing is moved. After an `Err` the message is any.
+pub fn decode_into<L: Link>(
+    link: &mut L,
+    place: Place,
+    version: Version,
+    frame: &mut Frame,
+    message: &mut Message,
+) -> Result<(), WireFault>
+    ensures did { Decodes version place (L.talk link.old) (L.talk link.new) (L.faults link.old)
+        (L.faults link.new) (frame_bytes frame.new) (filled message.new result) }
+    ensures lasts { Lasts L.faults L.is_sure link.old link.new }
+{
+    frame.clear();
+    frame.receive(link, HEAD)?;
+    let (kind, len) = head_of(version, place, frame.bytes())?;
+    frame.receive(link, HEAD + len)?;
+    read_message(version, kind, frame.bytes(), message)
 }
 
 /// Receives exactly one frame of a version into `frame`, and answers its message.
@@ -62,9 +90,9 @@ pub fn decode<L: Link>(
         (L.faults link.new) (frame_bytes frame.new) result }
     ensures lasts { Lasts L.faults L.is_sure link.old link.new }
 {
-    frame.clear();
-    frame.receive(link, HEAD)?;
-    let (kind, len) = head_of(version, place, frame.bytes())?;
-    frame.receive(link, HEAD + len)?;
-    message_in(version, kind, frame.bytes())
+    let mut message = Message::Bye;
+    match decode_into(link, place, version, frame, &mut message) {
+        Ok(()) => Ok(message),
+        Err(fault) => Err(fault),
+    }
 }

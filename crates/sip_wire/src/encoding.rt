@@ -1,15 +1,19 @@
 //! From a message to its frame.
 
-ghost use Rattle.std.specs.Prelude.{◌≡◌, [], IsTrue};
+ghost use Rattle.std.specs.Prelude.{◌≡◌, ◌≤◌, [], IsTrue, length};
 ghost use Rattle.sip_ports.specs.Ports.{HasCause, SendsWhole};
+ghost use Rattle.sip_wire.specs.Table.{most_rows};
+ghost use Rattle.sip_wire.specs.declared.message.Message.TheVariants as messages;
 ghost use Rattle.sip_wire.specs.Spelling.{fits, spelling};
 
 use crate::Version;
+use crate::kind::Kind;
 use crate::message::Message;
 use crate::numbers::{Bytes, put_u16};
-use crate::writing::{body_len, put_body};
+use crate::writing::{body_len, put_body, put_updates_body, updates_len};
 use arrayvec::ArrayVec;
 use sip_ports::{PortStop, Sink, write_whole};
+use sip_vector::Update;
 
 /// Appends the frame of a message to no bytes, in a version.
 pub fn put_frame(version: Version, message: &Message, out: &mut Bytes)
@@ -20,6 +24,36 @@ pub fn put_frame(version: Version, message: &Message, out: &mut Bytes)
     out.push(message.kind().byte());
     put_u16(out, body_len(version, message) as u16);
     put_body(version, message, out);
+}
+
+/// Appends the frame of updates to no bytes, in a version.
+fn put_updates(version: Version, updates: &[Update], out: &mut Bytes)
+    requires fits { IsTrue (fits version (messages.Updates (record { items = updates.now }))) }
+    requires few { length updates.now ≤ most_rows }
+    requires empty { out.old.items ≡ [] }
+    ensures { out.new.items
+        ≡ spelling version (messages.Updates (record { items = updates.now })) }
+{
+    out.push(Kind::Updates.byte());
+    put_u16(out, updates_len(version, updates) as u16);
+    put_updates_body(version, updates, out);
+}
+
+/// Writes the frame of updates that lie anywhere, as [`encode`] writes that of a message of them, which would be made for it.
+pub fn encode_updates<K: Sink>(
+    updates: &[Update],
+    version: Version,
+    sink: &mut K,
+) -> Result<(), PortStop>
+    requires fits { IsTrue (fits version (messages.Updates (record { items = updates.now }))) }
+    requires few { length updates.now ≤ most_rows }
+    ensures talk { SendsWhole (K.talk sink.old) (K.talk sink.new) result
+        (spelling version (messages.Updates (record { items = updates.now }))) }
+    ensures cause { HasCause K.faults K.is_sure sink.old sink.new result }
+{
+    let mut out = ArrayVec::new();
+    put_updates(version, updates, &mut out);
+    write_whole(sink, &out)
 }
 
 /// Writes the one spelling of the message in a version, the whole frame at once. After an `Err` a part of it was written, and not all. It takes

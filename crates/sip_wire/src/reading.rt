@@ -1,10 +1,11 @@
-//! From the body of a frame to its message.
+//! From the body of a frame to its message, which is written where a message of the caller's lies.
 #![tactic(auto, unfolding(crate::specs::Spelling::body_fault, crate::specs::Spelling::numbers_in, crate::specs::Spelling::all_hold))]
 
 ghost use Rattle.std.specs.Prelude.{◌≡◌, ◌≤◌, ◌+◌, ◌*◌, IsTrue, length};
 ghost use Rattle.sip_wire.specs.declared.kind.Kind.TheVariants as kinds;
 ghost use Rattle.sip_wire.specs.Table.{query_shape, shape};
 ghost use Rattle.sip_wire.specs.Versions.{index_width};
+ghost use Rattle.sip_wire.specs.Filling.{filled};
 ghost use Rattle.sip_wire.specs.Spelling.{ReadsBody, ReadsQuery, mark_fits};
 
 use crate::Version;
@@ -13,51 +14,55 @@ use crate::kind::Kind;
 use crate::message::{MOST_REFUSAL, Message, WireFault};
 use crate::numbers::{is_element, is_small, take_index, take_u8, take_u32, take_u64};
 use crate::row::side_of;
-use crate::rows::counted_of;
+use crate::rows::fill_counted;
+use arrayvec::ArrayVec;
 use sip_vector::Query;
 
-fn open_of(version: Version, body: &[u8]) -> Result<Message, WireFault>
+fn read_open(version: Version, body: &[u8], message: &mut Message) -> Result<(), WireFault>
     requires { length body.now ≡ 2 }
-    ensures { ReadsBody version kinds.Open body.now result }
+    ensures { ReadsBody version kinds.Open body.now (filled message.new result) }
 {
     let (number, rest) = take_u8(body);
     let (depth, _) = take_u8(rest);
     if !is_opening(number, depth) {
         return Err(WireFault::BadNumber);
     }
-    Ok(Message::Open {
+    *message = Message::Open {
         version: number,
         depth,
-    })
+    };
+    Ok(())
 }
 
-fn reveal_of(version: Version, body: &[u8]) -> Result<Message, WireFault>
+fn read_reveal(version: Version, body: &[u8], message: &mut Message) -> Result<(), WireFault>
     requires { length body.now ≡ 8 }
-    ensures { ReadsBody version kinds.Reveal body.now result }
+    ensures { ReadsBody version kinds.Reveal body.now (filled message.new result) }
 {
     let (challenge, _) = take_u64(body);
     if !is_element(challenge) {
         return Err(WireFault::BadNumber);
     }
-    Ok(Message::Reveal { challenge })
+    *message = Message::Reveal { challenge };
+    Ok(())
 }
 
-fn claim_of(version: Version, body: &[u8]) -> Result<Message, WireFault>
+fn read_claim(version: Version, body: &[u8], message: &mut Message) -> Result<(), WireFault>
     requires { length body.now ≡ 8 }
-    ensures { ReadsBody version kinds.Claim body.now result }
+    ensures { ReadsBody version kinds.Claim body.now (filled message.new result) }
 {
     let (value, _) = take_u64(body);
     if !is_small(value) {
         return Err(WireFault::BadNumber);
     }
-    Ok(Message::Claim {
+    *message = Message::Claim {
         value: value.cast_signed(),
-    })
+    };
+    Ok(())
 }
 
-fn poly_of(version: Version, body: &[u8]) -> Result<Message, WireFault>
+fn read_poly(version: Version, body: &[u8], message: &mut Message) -> Result<(), WireFault>
     requires { length body.now ≡ 24 }
-    ensures { ReadsBody version kinds.Poly body.now result }
+    ensures { ReadsBody version kinds.Poly body.now (filled message.new result) }
 {
     let (c0, rest) = take_u64(body);
     let (c1, rest) = take_u64(rest);
@@ -65,49 +70,56 @@ fn poly_of(version: Version, body: &[u8]) -> Result<Message, WireFault>
     if !is_element(c0) || !is_element(c1) || !is_element(c2) {
         return Err(WireFault::BadNumber);
     }
-    Ok(Message::Poly { c0, c1, c2 })
+    *message = Message::Poly { c0, c1, c2 };
+    Ok(())
 }
 
-fn refuse_of(version: Version, body: &[u8]) -> Result<Message, WireFault>
+fn read_refuse(version: Version, body: &[u8], message: &mut Message) -> Result<(), WireFault>
     requires { length body.now ≡ 1 }
-    ensures { ReadsBody version kinds.Refuse body.now result }
+    ensures { ReadsBody version kinds.Refuse body.now (filled message.new result) }
 {
     let (code, _) = take_u8(body);
     if code < 1 || code > MOST_REFUSAL {
         return Err(WireFault::BadNumber);
     }
-    Ok(Message::Refuse { code })
+    *message = Message::Refuse { code };
+    Ok(())
 }
 
-fn siblings_of(version: Version, body: &[u8]) -> Result<Message, WireFault>
+fn read_siblings(version: Version, body: &[u8], message: &mut Message) -> Result<(), WireFault>
     requires { IsTrue ((shape version kinds.Siblings).has_length (length body.now)) }
-    ensures { ReadsBody version kinds.Siblings body.now result }
+    ensures { ReadsBody version kinds.Siblings body.now (filled message.new result) }
 {
     let (flags, rest) = take_u8(body);
     match (flags, body.len()) {
-        (0, 1) => Ok(Message::Siblings {
-            left: None,
-            right: None,
-        }),
+        (0, 1) => {
+            *message = Message::Siblings {
+                left: None,
+                right: None,
+            };
+            Ok(())
+        }
         (1, 9) => {
             let (left, _) = take_u64(rest);
             if !is_element(left) {
                 return Err(WireFault::BadNumber);
             }
-            Ok(Message::Siblings {
+            *message = Message::Siblings {
                 left: Some(left),
                 right: None,
-            })
+            };
+            Ok(())
         }
         (2, 9) => {
             let (right, _) = take_u64(rest);
             if !is_element(right) {
                 return Err(WireFault::BadNumber);
             }
-            Ok(Message::Siblings {
+            *message = Message::Siblings {
                 left: None,
                 right: Some(right),
-            })
+            };
+            Ok(())
         }
         (3, 17) => {
             let (left, rest) = take_u64(rest);
@@ -115,10 +127,11 @@ fn siblings_of(version: Version, body: &[u8]) -> Result<Message, WireFault>
             if !is_element(left) || !is_element(right) {
                 return Err(WireFault::BadNumber);
             }
-            Ok(Message::Siblings {
+            *message = Message::Siblings {
                 left: Some(left),
                 right: Some(right),
-            })
+            };
+            Ok(())
         }
         _ => Err(WireFault::BadCount),
     }
@@ -229,51 +242,110 @@ fn query_behind(version: Version, code: u8, rest: &[u8]) -> Option<Query>
     }
 }
 
-fn query_of(version: Version, body: &[u8]) -> Result<Message, WireFault>
+fn read_query(version: Version, body: &[u8], message: &mut Message) -> Result<(), WireFault>
     requires { IsTrue ((shape version kinds.Query).has_length (length body.now)) }
-    ensures { ReadsBody version kinds.Query body.now result }
+    ensures { ReadsBody version kinds.Query body.now (filled message.new result) }
 {
     let (code, rest) = take_u8(body);
     if !is_query_of(version, code, body.len()) {
         return Err(WireFault::BadCount);
     }
     match query_behind(version, code, rest) {
-        Some(query) => Ok(Message::Query(query)),
+        Some(query) => {
+            *message = Message::Query(query);
+            Ok(())
+        }
         None => Err(WireFault::BadNumber),
     }
 }
 
-/// The message of a body that is as long as its kind has it.
-pub fn message_of(version: Version, kind: Kind, body: &[u8]) -> Result<Message, WireFault>
+// Rows are read into those of the message where it is of their kind, so that a frame like the last one moves nothing.
+
+fn read_updates(version: Version, body: &[u8], message: &mut Message) -> Result<(), WireFault>
+    requires { 2 ≤ length body.now }
+    ensures { ReadsBody version kinds.Updates body.now (filled message.new result) }
+{
+    if let Message::Updates(rows) = message {
+        return fill_counted(version, body, rows);
+    }
+    let mut rows = ArrayVec::new();
+    fill_counted(version, body, &mut rows)?;
+    *message = Message::Updates(rows);
+    Ok(())
+}
+
+fn read_entries(version: Version, body: &[u8], message: &mut Message) -> Result<(), WireFault>
+    requires { 2 ≤ length body.now }
+    ensures { ReadsBody version kinds.Entries body.now (filled message.new result) }
+{
+    if let Message::Entries(rows) = message {
+        return fill_counted(version, body, rows);
+    }
+    let mut rows = ArrayVec::new();
+    fill_counted(version, body, &mut rows)?;
+    *message = Message::Entries(rows);
+    Ok(())
+}
+
+fn read_leaves(version: Version, body: &[u8], message: &mut Message) -> Result<(), WireFault>
+    requires { 2 ≤ length body.now }
+    ensures { ReadsBody version kinds.Leaves body.now (filled message.new result) }
+{
+    if let Message::Leaves(rows) = message {
+        return fill_counted(version, body, rows);
+    }
+    let mut rows = ArrayVec::new();
+    fill_counted(version, body, &mut rows)?;
+    *message = Message::Leaves(rows);
+    Ok(())
+}
+
+fn read_nodes(version: Version, body: &[u8], message: &mut Message) -> Result<(), WireFault>
+    requires { 2 ≤ length body.now }
+    ensures { ReadsBody version kinds.Nodes body.now (filled message.new result) }
+{
+    if let Message::Nodes(rows) = message {
+        return fill_counted(version, body, rows);
+    }
+    let mut rows = ArrayVec::new();
+    fill_counted(version, body, &mut rows)?;
+    *message = Message::Nodes(rows);
+    Ok(())
+}
+
+/// Reads the message of a body that is as long as its kind has it. After a fault `message` is any.
+pub fn read_body(
+    version: Version,
+    kind: Kind,
+    body: &[u8],
+    message: &mut Message,
+) -> Result<(), WireFault>
     requires { IsTrue ((shape version kind).has_length (length body.now)) }
-    ensures { ReadsBody version kind body.now result }
+    ensures { ReadsBody version kind body.now (filled message.new result) }
 {
     match kind {
-        Kind::Open => open_of(version, body),
-        Kind::Updates => match counted_of(version, body) {
-            Ok(rows) => Ok(Message::Updates(rows)),
-            Err(fault) => Err(fault),
-        },
-        Kind::EndStream => Ok(Message::EndStream),
-        Kind::Query => query_of(version, body),
-        Kind::Reveal => reveal_of(version, body),
-        Kind::Bye => Ok(Message::Bye),
-        Kind::Claim => claim_of(version, body),
-        Kind::Poly => poly_of(version, body),
-        Kind::Entries => match counted_of(version, body) {
-            Ok(rows) => Ok(Message::Entries(rows)),
-            Err(fault) => Err(fault),
-        },
-        Kind::Siblings => siblings_of(version, body),
-        Kind::Leaves => match counted_of(version, body) {
-            Ok(rows) => Ok(Message::Leaves(rows)),
-            Err(fault) => Err(fault),
-        },
-        Kind::Nodes => match counted_of(version, body) {
-            Ok(rows) => Ok(Message::Nodes(rows)),
-            Err(fault) => Err(fault),
-        },
-        Kind::LevelEnd => Ok(Message::LevelEnd),
-        Kind::Refuse => refuse_of(version, body),
+        Kind::Open => read_open(version, body, message),
+        Kind::Updates => read_updates(version, body, message),
+        Kind::EndStream => {
+            *message = Message::EndStream;
+            Ok(())
+        }
+        Kind::Query => read_query(version, body, message),
+        Kind::Reveal => read_reveal(version, body, message),
+        Kind::Bye => {
+            *message = Message::Bye;
+            Ok(())
+        }
+        Kind::Claim => read_claim(version, body, message),
+        Kind::Poly => read_poly(version, body, message),
+        Kind::Entries => read_entries(version, body, message),
+        Kind::Siblings => read_siblings(version, body, message),
+        Kind::Leaves => read_leaves(version, body, message),
+        Kind::Nodes => read_nodes(version, body, message),
+        Kind::LevelEnd => {
+            *message = Message::LevelEnd;
+            Ok(())
+        }
+        Kind::Refuse => read_refuse(version, body, message),
     }
 }

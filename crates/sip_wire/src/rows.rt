@@ -1,10 +1,11 @@
 //! Rows, one after the other.
 
-ghost use Rattle.std.specs.Prelude.{◌≡◌, ◌≤◌, ◌+◌, ◌++◌, ◌&&◌, true, false, length, IfSome, IfNone, All};
+ghost use Rattle.std.specs.Prelude.{◌≡◌, ◌≤◌, ◌+◌, ◌++◌, ◌&&◌, true, false, length, OnSome, IfNone, All};
 ghost use Rattle.std.specs.List.{flat_map};
 ghost use Rattle.arrayvec.specs.ArrayVec.{array_vec_len};
 ghost use Rattle.sip_wire.specs.Table.{size, repeat, counted, most_rows, longest_frame};
 ghost use Rattle.sip_wire.specs.Spelling.{in_bytes, numbers_in, all_hold, ReadsRows};
+ghost use Rattle.sip_wire.specs.Filling.{filled};
 ghost use Rattle.sip_wire.specs.Rows.{over, rooms, holds, bytes};
 
 use crate::Version;
@@ -13,31 +14,32 @@ use crate::numbers::{Bytes, put_u16, take_u16};
 use crate::row::Row;
 use arrayvec::ArrayVec;
 
-/// So many rows, if each number is one that its field may hold.
-fn rows_of<T: Row + Drop, const CAP: usize>(
+/// So many rows, if each number is one that its field may hold. They lie where the rows before lay.
+fn fill_rows<T: Row + Drop, const CAP: usize>(
     version: Version,
     count: usize,
     bytes: &[u8],
-) -> Option<ArrayVec<T, CAP>>
+    rows: &mut ArrayVec<T, CAP>,
+) -> Option<()>
     requires room { count ≤ CAP }
     requires whole { length bytes.now ≡ size (repeat count (T.layout version)) }
-    ensures count { IfSome result (λ v. length v.items ≡ count) }
-    ensures said { IfSome result (λ v. flat_map T.said v.items
+    ensures count { OnSome result (length rows.new.items ≡ count) }
+    ensures said { OnSome result (flat_map T.said rows.new.items
         ≡ numbers_in (repeat count (T.layout version)) bytes.now) }
-    ensures some { IfSome result (λ v. all_hold (repeat count (T.layout version))
+    ensures some { OnSome result (all_hold (repeat count (T.layout version))
         (numbers_in (repeat count (T.layout version)) bytes.now) ≡ true) }
-    ensures in_range { IfSome result (λ v. All T.in_range v.items) }
+    ensures in_range { OnSome result (All T.in_range rows.new.items) }
     ensures none { IfNone result (all_hold (repeat count (T.layout version))
         (numbers_in (repeat count (T.layout version)) bytes.now) ≡ false) }
 {
-    let mut rows = ArrayVec::new();
+    rows.clear();
     let mut rest = bytes;
     for _ in 0..count {
         let (row, after) = T::take(version, rest)?;
         rows.push(row);
         rest = after;
     }
-    Some(rows)
+    Some(())
 }
 
 /// Whether each row fits.
@@ -65,23 +67,25 @@ fn put_rows<T: Row>(version: Version, rows: &[T], out: &mut Bytes)
     }
 }
 
-/// The rows of a body that begins with their count. `BadCount` where the body is not of this count, which is 1 to `CAP`, else
-/// `BadNumber` where a field may not hold its number.
+/// Reads the rows of a body that begins with their count, in place of those before. `BadCount` where the body is not of this
+/// count, which is 1 to `CAP`, else `BadNumber` where a field may not hold its number.
 #[tactic(auto, using(crate::proofs::Counting::size_repeat), unfolding(crate::specs::Spelling::body_fault))]
-pub fn counted_of<T: Row + Drop, const CAP: usize>(
+pub fn fill_counted<T: Row + Drop, const CAP: usize>(
     version: Version,
     body: &[u8],
-) -> Result<ArrayVec<T, CAP>, WireFault>
+    rows: &mut ArrayVec<T, CAP>,
+) -> Result<(), WireFault>
     requires { 2 ≤ length body.now }
-    ensures { ReadsRows T.said T.in_range (counted CAP (T.layout version)) body.now result }
+    ensures { ReadsRows T.said T.in_range (counted CAP (T.layout version)) body.now
+        (filled rows.new result) }
 {
     let (count, rest) = take_u16(body);
     let count = count as usize;
     if count < 1 || count > CAP || body.len() != 2 + count * T::size(version) {
         return Err(WireFault::BadCount);
     }
-    match rows_of(version, count, rest) {
-        Some(rows) => Ok(rows),
+    match fill_rows(version, count, rest, rows) {
+        Some(()) => Ok(()),
         None => Err(WireFault::BadNumber),
     }
 }

@@ -1,9 +1,11 @@
 //! From a message to the body of its frame.
 #![tactic(auto, using(crate::proofs::Counting::size_repeat, crate::proofs::Counting::no_bytes, std::proofs::lemmas::Grind::common_steps), unfolding(crate::specs::Spelling::fits, crate::specs::Spelling::has_room, crate::specs::Spelling::spelled))]
 
-ghost use Rattle.std.specs.Prelude.{◌≡◌, ◌≤◌, ◌+◌, ◌++◌, IsTrue};
+ghost use Rattle.std.specs.Prelude.{◌≡◌, ◌≤◌, ◌+◌, ◌++◌, IsTrue, length};
 ghost use Rattle.arrayvec.specs.ArrayVec.{array_vec_len};
-ghost use Rattle.sip_wire.specs.Table.{size, shape, query_shape, siblings_shape, query_fields, longest_body, longest_frame};
+ghost use Rattle.sip_wire.specs.declared.kind.Kind.TheVariants as kinds;
+ghost use Rattle.sip_wire.specs.declared.message.Message.TheVariants as messages;
+ghost use Rattle.sip_wire.specs.Table.{size, most_rows, shape, query_shape, siblings_shape, query_fields, longest_body, longest_frame};
 ghost use Rattle.sip_wire.specs.Spelling.{flag, present, body_in, body_of, fits, fits_shape, kind_of, mark_of, query_code, query_numbers};
 
 use crate::Version;
@@ -24,6 +26,16 @@ fn query_len(version: Version, query: Query) -> usize
         Query::F2 { .. } => 2,
         Query::Inner => 1,
     }
+}
+
+/// How many bytes the body of so many updates has.
+pub fn updates_len(version: Version, updates: &[Update]) -> usize
+    requires { length updates.now ≤ most_rows }
+    ensures exact { result ≡ (shape version kinds.Updates).mark_width + size
+        ((shape version kinds.Updates).fields (length updates.now)) }
+    ensures room { result ≤ longest_body }
+{
+    2 + Update::size(version) * updates.len()
 }
 
 /// How many bytes the body of a message has.
@@ -112,6 +124,17 @@ fn put_siblings(left: Option<u64>, right: Option<u64>, out: &mut Bytes)
             put_u64(out, right);
         }
     }
+}
+
+/// Appends the body of a message of updates.
+pub fn put_updates_body(version: Version, updates: &[Update], out: &mut Bytes)
+    requires fits { IsTrue (fits version (messages.Updates (record { items = updates.now }))) }
+    requires few { length updates.now ≤ most_rows }
+    requires room { array_vec_len out.old ≡ 3 }
+    ensures { out.new.items ≡ out.old.items
+        ++ body_of version (messages.Updates (record { items = updates.now })) }
+{
+    put_counted(version, updates, out);
 }
 
 /// Appends the body of a message.

@@ -9,9 +9,9 @@ use Rattle.sip_verifier.proofs.seats.Seats.update_all.Goals as goal
 pub raise-requires : goal.raise-requires
 raise-requires c =
     let Fits : Update → Type 0 = λ u. u.item < 2 ^ c.args.self.now.depth in
-    subst (All Fits) (sym (c.deref.ensures.0 ∙ c.on_first_side.ensures))
+    subst (All Fits) (sym (c.deref.ensures.0 ∙ c.take_first_side.ensures))
     (All-filter (λ (u : Update). same_side u.side First) Fits c.args.updates.now c.requires.items)
 
 pub returns-clause-stands : goal.returns-clause-stands
 returns-clause-stands c = λ depth queries blocks stream.
-    c.raise.ensures.stands depth queries blocks stream c.args.updates.now (sym (c.deref.ensures.0 ∙ c.on_first_side.ensures))
+    c.raise.ensures.stands depth queries blocks stream c.args.updates.now (sym (c.deref.ensures.0 ∙ c.take_first_side.ensures))

@@ -6,8 +6,8 @@ use Rattle.std.proofs.lemmas.List.Sums.{length-filter, count_by-le-length}
 use Rattle.sip_vector.specs.declared.update.Side.TheVariants.{First}
 use Rattle.sip_vector.specs.declared.update.Update.{Update}
 use Rattle.sip_vector.specs.Streams.{same_side, of_side}
-use Rattle.sip_verifier.proofs.seats.on_first_side.Goals as goal
-use Rattle.sip_verifier.proofs.seats.on_first_side.Goals.{then-eq, else-eq}
+use Rattle.sip_verifier.proofs.seats.take_first_side.Goals as goal
+use Rattle.sip_verifier.proofs.seats.take_first_side.Goals.{then-eq, else-eq}
 
 pub push-requires : goal.push-requires
 push-requires c =
@@ -15,7 +15,7 @@ push-requires c =
     let front = take c.loop-update.update-index c.args.updates.now in
     let part : length (filter test front) ≤ length front = subst (λ n. n ≤ length front) (sym (length-filter test front)) (count_by-le-length test front) in
     let size = length-take-le c.loop-update.update-index c.args.updates.now c.loop-update.auto.update-index-end in
-    (search rules, omega (arith, ap length c.loop-update.invariant, part, size, c.loop-update-test.true, c.requires))
+    (search rules, omega (arith, ap length c.loop-update.invariant, part, size, c.loop-update-test.true, c.requires.most))
 
 pub loop-update-preserved : goal.loop-update-preserved
 loop-update-preserved c =

@@ -1,6 +1,6 @@
 use Rattle.std.proofs.Common.{All}
 use Rattle.sip_wire.proofs.Repeated.{SoFar}
-use Rattle.sip_wire.proofs.rows.rows_of.Given as goal
+use Rattle.sip_wire.proofs.rows.fill_rows.Given as goal
 
 abbrev pub invariant-loop : goal.invariant-loop
 invariant-loop g l = record {

@@ -1,7 +1,7 @@
 use Rattle.std.proofs.Common.{arith}
 use Rattle.std.proofs.lemmas.List.Elements.{All-push, All-same}
 use Rattle.sip_wire.proofs.Repeated.{none_from, has_row, goes_on_to, stops, all_said, all_held}
-use Rattle.sip_wire.proofs.rows.rows_of.Goals as goal
+use Rattle.sip_wire.proofs.rows.fill_rows.Goals as goal
 
 pub take-requires : goal.take-requires
 take-requires g c = has_row g.T.Row.said (g.T.Row.layout c.args.version) c.args.count c.args.bytes.now c.loop.counter c.loop.rows.items c.loop.rest.now c.loop.invariant.so_far (omega arith)

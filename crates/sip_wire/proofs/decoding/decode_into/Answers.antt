@@ -1,6 +1,6 @@
 use Rattle.std.proofs.lemmas.Result.{err_from_is_err_and}
 use Rattle.sip_wire.proofs.Answering.{stopped_in_head, bad_head, stopped_in_body, body_length, came_all}
-use Rattle.sip_wire.proofs.decoding.decode.Goals as goal
+use Rattle.sip_wire.proofs.decoding.decode_into.Goals as goal
 
 pub returns-in_err-receive-clause-did : goal.returns-in_err-receive-clause-did
 returns-in_err-receive-clause-did g c =
@@ -19,13 +19,13 @@ returns-in_err-receive-2-clause-did g c =
     let is = rw c.bytes.ensures at c.in_ok-kind.ensures in
     rw (p.1, p.2) (stopped_in_body c.args.version c.args.place _ _ _ _ _ _ _ _ _ _ _ _ c.clear.ensures c.in_ok-receive.ensures.heard is c.receive.ensures.lasts.later c.in_err-receive-2.ensures.heard c.in_err-receive-2.ensures.failed)
 
-pub message_in-requires-clause-body : goal.message_in-requires-clause-body
-message_in-requires-clause-body g c =
+pub read_message-requires-clause-body : goal.read_message-requires-clause-body
+read_message-requires-clause-body g c =
     let is = rw c.bytes.ensures at c.in_ok-kind.ensures in
     rw c.bytes-2.ensures (body_length c.args.version c.args.place _ _ _ _ _ _ is c.in_ok-receive-2.ensures.heard)
 
 pub returns-clause-did : goal.returns-clause-did
 returns-clause-did g c =
     let is = rw c.bytes.ensures at c.in_ok-kind.ensures in
-    let read = rw c.bytes-2.ensures at c.message_in.ensures in
+    let read = rw c.bytes-2.ensures at c.read_message.ensures in
     came_all c.args.version c.args.place _ _ _ _ _ _ _ _ _ _ _ c.clear.ensures c.in_ok-receive.ensures.heard is c.in_ok-receive-2.ensures.heard read.fits read.read
