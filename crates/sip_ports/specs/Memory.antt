@@ -57,6 +57,10 @@ source_next_fails source = next_fails source.calls.fails.items source.calls.made
 abbrev pub source_faults : MemorySource → ℕ
 source_faults source = failed_of source.calls.fails.items source.calls.made
 
+-- how often memory was refused to it
+abbrev pub sink_wants : MemorySink → ℕ
+sink_wants sink = sink.wants.count
+
 -- the next call is to fail
 abbrev pub sink_next_fails : MemorySink → Bool
 sink_next_fails sink = next_fails sink.calls.fails.items sink.calls.made
@@ -64,6 +68,10 @@ sink_next_fails sink = next_fails sink.calls.fails.items sink.calls.made
 -- how many of those calls failed
 abbrev pub sink_faults : MemorySink → ℕ
 sink_faults sink = failed_of sink.calls.fails.items sink.calls.made
+
+-- how often memory was refused to it
+abbrev pub link_wants : MemoryLink → ℕ
+link_wants link = link.wants.count
 
 -- the next call is to fail
 abbrev pub link_next_fails : MemoryLink → Bool

@@ -1,9 +1,9 @@
 -- What the calls of a port do to what it tells, and when they may fail.
-use Rattle.std.specs.Prelude.{◌≡◌, ℕ, ◌+◌, ◌-◌, ◌^◌, ◌<◌, ◌≤◌, min, List, [], ◌∷◌, ◌++◌, length, take, map, ⊤, None, Some, Result, MatchResult, IsErrOf, zero, suc, nat_lt, if◌then◌else◌}
+use Rattle.std.specs.Prelude.{◌≡◌, ℕ, ◌+◌, ◌-◌, ◌^◌, ◌<◌, ◌≤◌, min, List, [], ◌∷◌, ◌++◌, length, take, map, ⊤, None, Some, Result, MatchResult, IsErrOf, zero, suc, nat_lt, if◌then◌else◌, Ok, Err}
 use Rattle.std.specs.declared.option.Option.{Option}
 use Rattle.std.specs.Io.KnownBytes.{Consumes, IsAtEnd}
 use Rattle.sip_ports.specs.declared.port.PortStop.{PortStop}
-use Rattle.sip_ports.specs.declared.port.PortStop.TheVariants.{Failed}
+use Rattle.sip_ports.specs.declared.port.PortStop.TheVariants.{Failed, OutOfMemory}
 use Rattle.sip_ports.specs.declared.port.TalkEvent.{TalkEvent}
 use Rattle.sip_ports.specs.declared.port.TalkEvent.TheVariants.{Out, In, Ended}
 
@@ -11,19 +11,27 @@ use Rattle.sip_ports.specs.declared.port.TalkEvent.TheVariants.{Out, In, Ended}
 abbrev pub Rose : ℕ → ℕ → Type 0
 Rose before now = min (before + 1) (2 ^ 64 - 1) ≤ now
 
--- the count of faults never falls, and `Failed` is answered only where it rose
--- one that never fails stays so
-pub record HasCause {P T : Type 0} (faults : P → ℕ) (is_sure : P → Type 0) (before now : P)
+-- The counts of faults and of wants of memory never fall. `Failed` is answered only where the first
+-- rose, `OutOfMemory` only where the second did. One that never fails stays so.
+pub record HasCause {P T : Type 0} (faults wants : P → ℕ) (is_sure : P → Type 0) (before now : P)
     (result : Result T PortStop) : Type 0 where
   pub later : faults before ≤ faults now
+  pub wants_later : wants before ≤ wants now
   pub failed : IsErrOf result Failed → Rose (faults before) (faults now)
+  pub wanted : IsErrOf result OutOfMemory → Rose (wants before) (wants now)
   pub sure : is_sure before → is_sure now
 
--- the count of faults never falls, and one that never fails stays so, whatever was answered
-pub record Lasts {P : Type 0} (faults : P → ℕ) (is_sure : P → Type 0)
+-- neither count falls, and one that never fails stays so, whatever was answered
+pub record Lasts {P : Type 0} (faults wants : P → ℕ) (is_sure : P → Type 0)
     (before now : P) : Type 0 where
   pub later : faults before ≤ faults now
+  pub wants_later : wants before ≤ wants now
   pub sure : is_sure before → is_sure now
+
+-- neither count changes
+pub record StandsStill {P : Type 0} (faults wants : P → ℕ) (before now : P) : Type 0 where
+  pub faults_same : faults now ≡ faults before
+  pub wants_same : wants now ≡ wants before
 
 -- these bytes, sent
 abbrev pub outs : List ℕ → List TalkEvent
@@ -101,6 +109,12 @@ HearsWhole old new r buf = MatchResult r
 abbrev pub Counts : {T : Type 0} → ℕ → ℕ → Result T PortStop → Type 0
 Counts before now r =
     MatchResult r (λ _. now ≡ before) (λ e. (e ≡ Failed) × (now ≡ min (before + 1) (2 ^ 64 - 1)))
+
+-- the count rose at `OutOfMemory`, and stays otherwise
+abbrev pub CountsWants : {T : Type 0} → ℕ → ℕ → Result T PortStop → Type 0
+CountsWants before now (Ok _) = now ≡ before
+CountsWants before now (Err Failed) = now ≡ before
+CountsWants before now (Err OutOfMemory) = now ≡ min (before + 1) (2 ^ 64 - 1)
 
 -- what was written before, and then these bytes
 abbrev pub Writes : Option (List TalkEvent) → Option (List TalkEvent) → List ℕ → Type 0

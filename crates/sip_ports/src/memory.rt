@@ -1,11 +1,12 @@
 // Ports over memory: calls of chosen numbers fail, and each call moves a chunk at most.
-ghost use Rattle.std.specs.Prelude.{◌≡◌, ◌↔◌, ◌<◌, ◌≤◌, ◌++◌, [], min, length, take, true, false, Some, IfOk, MatchResult, IsErrOf};
+ghost use Rattle.std.specs.Prelude.{◌≡◌, ◌↔◌, ◌<◌, ◌≤◌, ◌++◌, [], min, length, take, true, false, Some, IfOk, MatchResult, IsErrOf, IsOk, OnOk};
 ghost use Rattle.std.specs.Io.{ReadsAtMost, WritesAtMost};
 ghost use Rattle.std.specs.Io.KnownBytes.{ReadConsumes};
-ghost use Rattle.sip_ports.specs.Ports.{Sends, Hears, outs, ins};
+ghost use Rattle.sip_ports.specs.Ports.{Sends, Hears, CountsWants, outs, ins};
 ghost use Rattle.sip_ports.specs.Calls.{MakesCall, failed_of-fits, failed_of-sure};
 
 use crate::calls::Calls;
+use crate::count::Count;
 use crate::give::give;
 use crate::{Link, PortStop, Sink, Source, TalkEvent};
 use std::alloc::{AllocError, Global};
@@ -59,6 +60,7 @@ impl MemorySource {
 
 impl Source for MemorySource {
     ghost use Rattle.std.specs.Prelude.{◌≡◌, min, length, true, false, Some, MatchResult};
+    ghost use Rattle.std.proofs.Common.{rules};
     ghost use Rattle.std.specs.Io.{ReadsAtMost};
     ghost use Rattle.std.specs.Io.KnownBytes.{ReadConsumes};
     ghost use Rattle.sip_ports.specs.Calls.{MakesCall, failed_of-fits, failed_of-sure};
@@ -70,10 +72,14 @@ impl Source for MemorySource {
 
     ghost faults = { source_faults };
 
+    ghost wants = { λ _. 0 };
+
     ghost is_sure = { source_is_sure };
 
     ghost faults_fit = { λ source. failed_of-fits (source_fails source) (source_calls source)
         source.calls.counted };
+
+    ghost wants_fit = { λ _. Prim.search rules };
 
     ghost sure_counts = { λ source sure. failed_of-sure (source_fails source) (source_calls source)
         sure };
@@ -116,11 +122,12 @@ pub struct MemorySink {
     bytes: Vec<u8>,
     chunk: usize,
     calls: Calls,
+    wants: Count,
     ghost moves: { 0 < chunk },
 }
 
 impl MemorySink {
-    ghost use Rattle.sip_ports.specs.Memory.{sink_bytes, sink_chunk, sink_fails, sink_calls};
+    ghost use Rattle.sip_ports.specs.Memory.{sink_bytes, sink_chunk, sink_fails, sink_calls, sink_wants};
 
     /// An empty sink, of which no call was made.
     pub fn new(alloc: Global, chunk: usize, fails: Vec<u64>) -> Self
@@ -129,11 +136,13 @@ impl MemorySink {
         ensures chunk { sink_chunk result ≡ chunk }
         ensures fails { sink_fails result ≡ fails.items }
         ensures calls { sink_calls result ≡ 0 }
+        ensures wants { sink_wants result ≡ 0 }
     {
         MemorySink {
             bytes: Vec::new(alloc),
             chunk,
             calls: Calls::new(fails),
+            wants: Count::none(),
         }
     }
 
@@ -146,16 +155,20 @@ impl MemorySink {
 }
 
 impl Sink for MemorySink {
-    ghost use Rattle.sip_ports.specs.Memory.{sink_bytes, sink_chunk, sink_fails, sink_calls, sink_next_fails, sink_faults, sink_is_sure};
+    ghost use Rattle.sip_ports.specs.Memory.{sink_bytes, sink_chunk, sink_fails, sink_calls, sink_next_fails, sink_faults, sink_wants, sink_is_sure};
 
     ghost talk = { λ sink. Some (outs (sink_bytes sink)) };
 
     ghost faults = { sink_faults };
 
+    ghost wants = { sink_wants };
+
     ghost is_sure = { sink_is_sure };
 
     ghost faults_fit = { λ sink. failed_of-fits (sink_fails sink) (sink_calls sink)
         sink.calls.counted };
+
+    ghost wants_fit = { λ sink. sink.wants.fits };
 
     ghost sure_counts = { λ sink sure. failed_of-sure (sink_fails sink) (sink_calls sink) sure };
 
@@ -170,12 +183,15 @@ impl Sink for MemorySink {
             × (sink_bytes self.new ≡ sink_bytes self.old ++ take n buf.now))
             (λ _. sink_bytes self.new ≡ sink_bytes self.old) }
         ensures call { MakesCall sink_fails sink_calls sink_chunk self.old self.new }
+        ensures wants { CountsWants (sink_wants self.old) (sink_wants self.new) result }
     {
         if self.calls.next_fails() {
             return Err(PortStop::Failed);
         }
         let count = buf.len().min(self.chunk);
-        self.bytes.extend_from_slice(&buf[..count])?;
+        if self.bytes.extend_from_slice(&buf[..count]).is_err() {
+            return Err(self.wants.refused());
+        }
         Ok(count)
     }
 }
@@ -191,12 +207,13 @@ pub struct MemoryLink {
     talk: Vec<TalkEvent>,
     chunk: usize,
     calls: Calls,
+    wants: Count,
     ghost within: { at ≤ length incoming.items },
     ghost moves: { 0 < chunk },
 }
 
 impl MemoryLink {
-    ghost use Rattle.sip_ports.specs.Memory.{link_incoming, link_talk, link_chunk, link_fails, link_calls};
+    ghost use Rattle.sip_ports.specs.Memory.{link_incoming, link_talk, link_chunk, link_fails, link_calls, link_wants};
 
     /// A link that gives these bytes and then has ended. Nothing has happened on it.
     pub fn new(alloc: Global, incoming: Vec<u8>, chunk: usize, fails: Vec<u64>) -> Self
@@ -206,6 +223,7 @@ impl MemoryLink {
         ensures chunk { link_chunk result ≡ chunk }
         ensures fails { link_fails result ≡ fails.items }
         ensures calls { link_calls result ≡ 0 }
+        ensures wants { link_wants result ≡ 0 }
     {
         MemoryLink {
             alloc,
@@ -214,6 +232,7 @@ impl MemoryLink {
             talk: Vec::new(alloc),
             chunk,
             calls: Calls::new(fails),
+            wants: Count::none(),
         }
     }
 
@@ -223,19 +242,42 @@ impl MemoryLink {
     {
         &self.talk
     }
+
+    // Keeps the events of a call, all of them or none.
+    fn keep(&mut self, events: Result<Vec<TalkEvent>, AllocError>) -> Result<(), PortStop>
+        ensures talk { MatchResult result
+            (λ _. IfOk events (λ some. self.new.talk.items ≡ self.old.talk.items ++ some.items))
+            (λ e. (e ≡ PortStop.OutOfMemory) × (self.new.talk.items ≡ self.old.talk.items)) }
+        ensures kept { OnOk result (IsOk events) }
+        ensures wants { CountsWants (link_wants self.old) (link_wants self.new) result }
+        ensures calls { self.new.calls ≡ self.old.calls }
+        ensures chunk { self.new.chunk ≡ self.old.chunk }
+        ensures incoming { (self.new.incoming ≡ self.old.incoming) × (self.new.at ≡ self.old.at) }
+    {
+        if let Ok(events) = events
+            && self.talk.extend_from_slice(&events).is_ok()
+        {
+            return Ok(());
+        }
+        Err(self.wants.refused())
+    }
 }
 
 impl Sink for MemoryLink {
-    ghost use Rattle.sip_ports.specs.Memory.{link_incoming, link_talk, link_chunk, link_fails, link_calls, link_next_fails, link_faults, link_is_sure};
+    ghost use Rattle.sip_ports.specs.Memory.{link_incoming, link_talk, link_chunk, link_fails, link_calls, link_next_fails, link_faults, link_wants, link_is_sure};
 
     ghost talk = { λ link. Some (link_talk link) };
 
     ghost faults = { link_faults };
 
+    ghost wants = { link_wants };
+
     ghost is_sure = { link_is_sure };
 
     ghost faults_fit = { λ link. failed_of-fits (link_fails link) (link_calls link)
         link.calls.counted };
+
+    ghost wants_fit = { λ link. link.wants.fits };
 
     ghost sure_counts = { λ link sure. failed_of-sure (link_fails link) (link_calls link) sure };
 
@@ -248,19 +290,20 @@ impl Sink for MemoryLink {
         ensures count { IfOk result (λ n. n ≡ min (length buf.now) (link_chunk self.old)) }
         ensures incoming { link_incoming self.new ≡ link_incoming self.old }
         ensures call { MakesCall link_fails link_calls link_chunk self.old self.new }
+        ensures wants { CountsWants (link_wants self.old) (link_wants self.new) result }
     {
         if self.calls.next_fails() {
             return Err(PortStop::Failed);
         }
         let count = buf.len().min(self.chunk);
-        let events = sent_events(self.alloc, &buf[..count])?;
-        self.talk.extend_from_slice(&events)?;
+        let events = sent_events(self.alloc, &buf[..count]);
+        self.keep(events)?;
         Ok(count)
     }
 }
 
 impl Link for MemoryLink {
-    ghost use Rattle.sip_ports.specs.Memory.{link_incoming, link_talk, link_chunk, link_fails, link_calls, link_next_fails, link_faults};
+    ghost use Rattle.sip_ports.specs.Memory.{link_incoming, link_talk, link_chunk, link_fails, link_calls, link_next_fails, link_faults, link_wants};
 
     fn recv(&mut self, buf: &mut [u8]) -> Result<usize, PortStop>
         ensures bound { ReadsAtMost result buf.new }
@@ -274,19 +317,20 @@ impl Link for MemoryLink {
             (λ n. link_incoming self.old ≡ take n buf.new ++ link_incoming self.new)
             (λ _. link_incoming self.new ≡ link_incoming self.old) }
         ensures call { MakesCall link_fails link_calls link_chunk self.old self.new }
+        ensures wants { CountsWants (link_wants self.old) (link_wants self.new) result }
     {
         if self.calls.next_fails() {
             return Err(PortStop::Failed);
         }
         let count = buf.len().min(self.chunk).min(self.incoming.len() - self.at);
         if count == 0 {
-            if !buf.is_empty() {
-                self.talk.push(TalkEvent::Ended)?;
+            if !buf.is_empty() && self.talk.push(TalkEvent::Ended).is_err() {
+                return Err(self.wants.refused());
             }
             return Ok(0);
         }
-        let events = received_events(self.alloc, &self.incoming[self.at..self.at + count])?;
-        self.talk.extend_from_slice(&events)?;
+        let events = received_events(self.alloc, &self.incoming[self.at..self.at + count]);
+        self.keep(events)?;
         give(&self.incoming, self.at, count, buf);
         self.at += count;
         Ok(count)

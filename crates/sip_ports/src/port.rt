@@ -3,35 +3,17 @@ ghost use Rattle.std.specs.Prelude.{◌≡◌, ◌≤◌, ◌<◌, ◌^◌, ◌-
 ghost use Rattle.std.specs.declared.option.Option.{Option};
 ghost use Rattle.std.specs.Io.{ReadsAtMost, WritesAtMost, StartsWith};
 ghost use Rattle.std.specs.Io.KnownBytes.{Consumes, ReadConsumes};
-ghost use Rattle.sip_ports.specs.declared.port.PortStop.TheVariants.{OutOfMemory};
 ghost use Rattle.sip_ports.specs.declared.port.TalkEvent.{TalkEvent};
-ghost use Rattle.sip_ports.specs.Ports.{HasCause, Sends, Hears};
-
-use std::alloc::{AllocError, AllocFailed};
+ghost use Rattle.sip_ports.specs.Ports.{HasCause, StandsStill, Sends, Hears};
 
 /// Why a call of a port stopped. It moved no byte, as far as the port tells its bytes.
 #[derive(Clone, Copy, Debug, PartialEq, Eq)]
 pub enum PortStop {
     /// The port failed. It is answered only where the port's count of faults rose in this call.
     Failed,
-    /// Memory was refused to a port that keeps what passes through it. No fault is counted.
+    /// Memory was refused to a port that keeps what passes through it. It is answered only where the port's
+    /// count of such refusals rose in this call. No fault is counted.
     OutOfMemory,
-}
-
-impl From<AllocError> for PortStop {
-    ghost from_gives = { λ _ e. e ≡ OutOfMemory };
-
-    fn from(_: AllocError) -> Self {
-        PortStop::OutOfMemory
-    }
-}
-
-impl<T: Drop> From<AllocFailed<T>> for PortStop {
-    ghost from_gives = { λ _ e. e ≡ OutOfMemory };
-
-    fn from(_: AllocFailed<T>) -> Self {
-        PortStop::OutOfMemory
-    }
 }
 
 /// One thing that happened on a sink or a link, in the order in which it happened.
@@ -56,6 +38,10 @@ pub trait Source {
     /// How often it has failed. The count never falls, and stands still at 2^64 - 1.
     ghost faults: { Self → ℕ };
 
+    /// How often memory was refused to it. The count never falls, and stands still at 2^64 - 1. It is 0 at a port
+    /// that takes no memory, which then never answers want of it.
+    ghost wants: { Self → ℕ };
+
     /// It never fails.
     ghost is_sure: { Self → Type 0 };
 
@@ -64,8 +50,8 @@ pub trait Source {
     fn read(&mut self, buf: &mut [u8]) -> Result<usize, PortStop>
         ensures bound { ReadsAtMost result buf.new }
         ensures bytes { ReadConsumes (left self.old) (left self.new) result buf.new }
-        ensures empty { length buf.old ≡ 0 → OnOk result (faults self.new ≡ faults self.old) }
-        ensures cause { HasCause faults is_sure self.old self.new result };
+        ensures empty { length buf.old ≡ 0 → OnOk result (StandsStill faults wants self.old self.new) }
+        ensures cause { HasCause faults wants is_sure self.old self.new result };
 
     /// The bytes that it holds, to be read where they lie: a front of those to come, where they are told. A source
     /// that holds none answers an empty slice, which says nothing about the end.
@@ -77,10 +63,12 @@ pub trait Source {
     fn skip(&mut self, count: usize)
         requires held { count ≤ length (ahead self.old) }
         ensures bytes { Consumes (left self.old) (left self.new) (take count (ahead self.old)) }
-        ensures faults { faults self.new ≡ faults self.old }
+        ensures counts { StandsStill faults wants self.old self.new }
         ensures sure { is_sure self.old → is_sure self.new };
 
     ghost faults_fit: { (source : Self) → faults source < 2 ^ 64 };
+
+    ghost wants_fit: { (source : Self) → wants source < 2 ^ 64 };
 
     ghost sure_counts: { (source : Self) → is_sure source → faults source ≡ 0 };
 }
@@ -93,6 +81,10 @@ pub trait Sink {
     /// How often it has failed. The count never falls, and stands still at 2^64 - 1.
     ghost faults: { Self → ℕ };
 
+    /// How often memory was refused to it. The count never falls, and stands still at 2^64 - 1. It is 0 at a port
+    /// that takes no memory, which then never answers want of it.
+    ghost wants: { Self → ℕ };
+
     /// It never fails.
     ghost is_sure: { Self → Type 0 };
 
@@ -102,15 +94,18 @@ pub trait Sink {
         ensures bound { WritesAtMost result buf.now }
         ensures takes { 0 < length buf.now → IfOk result (λ n. 0 < n) }
         ensures talk { Sends (talk self.old) (talk self.new) result buf.now }
-        ensures empty { length buf.now ≡ 0 → OnOk result (faults self.new ≡ faults self.old) }
-        ensures cause { HasCause faults is_sure self.old self.new result };
+        ensures empty { length buf.now ≡ 0 → OnOk result (StandsStill faults wants self.old self.new) }
+        ensures cause { HasCause faults wants is_sure self.old self.new result };
 
     ghost faults_fit: { (sink : Self) → faults sink < 2 ^ 64 };
+
+    ghost wants_fit: { (sink : Self) → wants sink < 2 ^ 64 };
 
     ghost sure_counts: { (sink : Self) → is_sure sink → faults sink ≡ 0 };
 }
 
-/// A sink whose other end can be heard. What is received joins the talk, and faults join the sink's count.
+/// A sink whose other end can be heard. What is received joins the talk, and faults and wants of memory join
+/// the sink's counts.
 pub trait Link: Sink {
     /// Receives some bytes into the front of the buffer, and answers how many. It answers 0 where the other
     /// end has closed, or where the buffer is empty. A call that stops receives nothing, where the talk is
@@ -118,7 +113,7 @@ pub trait Link: Sink {
     fn recv(&mut self, buf: &mut [u8]) -> Result<usize, PortStop>
         ensures bound { ReadsAtMost result buf.new }
         ensures talk { Hears (Self.talk self.old) (Self.talk self.new) result buf.new }
-        ensures empty { length buf.old ≡ 0 → OnOk result (Self.faults self.new
-            ≡ Self.faults self.old) }
-        ensures cause { HasCause Self.faults Self.is_sure self.old self.new result };
+        ensures empty { length buf.old ≡ 0
+            → OnOk result (StandsStill Self.faults Self.wants self.old self.new) }
+        ensures cause { HasCause Self.faults Self.wants Self.is_sure self.old self.new result };
 }

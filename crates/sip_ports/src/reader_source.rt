@@ -5,8 +5,9 @@ ghost use Rattle.std.specs.Io.{ReadsAtMost, StartsWith};
 ghost use Rattle.std.specs.Io.KnownBytes.{Consumes, ReadConsumes};
 ghost use Rattle.sip_ports.specs.Ports.{Counts};
 ghost use Rattle.sip_ports.specs.ReadAhead.{GivesHeld};
+ghost use Rattle.std.proofs.Common.{rules};
 
-use crate::faults::Faults;
+use crate::count::Count;
 use crate::read_ahead::ReadAhead;
 use crate::{PortStop, Source};
 use std::io::Read;
@@ -17,7 +18,7 @@ use std::io::Read;
 pub struct ReaderSource<R: Read + Drop> {
     reader: Option<R>,
     ahead: ReadAhead,
-    faults: Faults,
+    faults: Count,
 }
 
 impl<R: Read + Drop> ReaderSource<R> {
@@ -31,7 +32,7 @@ impl<R: Read + Drop> ReaderSource<R> {
         ReaderSource {
             reader,
             ahead: ReadAhead::new(),
-            faults: Faults::none(),
+            faults: Count::none(),
         }
     }
 }
@@ -45,9 +46,13 @@ impl<R: Read + Drop> Source for ReaderSource<R> {
 
     ghost faults = { source_faults };
 
+    ghost wants = { λ _. 0 };
+
     ghost is_sure = { λ _. ⊥ };
 
     ghost faults_fit = { λ source. source.faults.fits };
+
+    ghost wants_fit = { λ _. Prim.search rules };
 
     ghost sure_counts = { λ _ sure. absurd sure };
 

@@ -3,6 +3,7 @@ ghost use Rattle.std.specs.Prelude.{◌≡◌, ◌<◌, length, IfOk, Some, IsNo
 ghost use Rattle.std.specs.Io.{WritesAtMost};
 ghost use Rattle.std.specs.Io.KnownBytes.{WriteAppends};
 ghost use Rattle.sip_ports.specs.Ports.{Counts};
+ghost use Rattle.std.proofs.Common.{rules};
 
 use crate::writer_sink::WriterSink;
 use crate::{PortStop, Sink};
@@ -41,9 +42,13 @@ impl<W: Write + Drop> Sink for StreamSink<W> {
 
     ghost faults = { λ stream. sink_faults (stream_sink stream) };
 
+    ghost wants = { λ _. 0 };
+
     ghost is_sure = { λ _. ⊥ };
 
     ghost faults_fit = { λ stream. stream.sink.faults.fits };
+
+    ghost wants_fit = { λ _. Prim.search rules };
 
     ghost sure_counts = { λ _ sure. absurd sure };
 

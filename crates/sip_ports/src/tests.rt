@@ -32,12 +32,13 @@ fn link(alloc: Global, incoming: &[u8], chunk: usize, fails: &[u64]) -> Result<M
 }
 
 // Three callers of the loops, which see that over memory each promise has its full content: what is moved is
-// exactly the front, and a port of which no call is to fail doesn't fail.
+// exactly the front, a port of which no call is to fail doesn't fail, and one that takes no memory has no want of it.
 fn read_front(source: &mut MemorySource, buf: &mut [u8]) -> Result<usize, PortStop>
     ensures count { IfOk result (λ n. n ≡ min (length buf.new) (length (memory_left source.old))) }
     ensures front { IfOk result (λ n. take n buf.new ≡ take n (memory_left source.old)) }
     ensures rest { IfOk result (λ n. memory_left source.new ≡ drop n (memory_left source.old)) }
     ensures sure { source_is_sure source.old → ¬ IsErrOf result PortStop.Failed }
+    ensures memory { ¬ IsErrOf result PortStop.OutOfMemory }
 {
     read_exact_into(source, buf)
 }
@@ -388,9 +389,13 @@ impl Source for HoldsAll {
 
     ghost faults = { λ _. 0 };
 
+    ghost wants = { λ _. 0 };
+
     ghost is_sure = { λ _. Unit {0} };
 
     ghost faults_fit = { λ _. Prim.search rules };
+
+    ghost wants_fit = { λ _. Prim.search rules };
 
     ghost sure_counts = { λ _ _. refl };
 

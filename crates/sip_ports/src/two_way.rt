@@ -4,6 +4,7 @@ ghost use Rattle.std.specs.Io.{ReadsAtMost, WritesAtMost};
 ghost use Rattle.std.specs.Io.KnownBytes.{ReadConsumes, WriteAppends};
 ghost use Rattle.sip_ports.specs.Ports.{Counts};
 ghost use Rattle.sip_ports.specs.ReadAhead.{GivesHeld};
+ghost use Rattle.std.proofs.Common.{rules};
 
 use crate::reader_source::ReaderSource;
 use crate::writer_sink::WriterSink;
@@ -43,9 +44,13 @@ impl<R: Read + Drop, W: Write + Drop> Sink for TwoWayLink<R, W> {
 
     ghost faults = { link_faults };
 
+    ghost wants = { λ _. 0 };
+
     ghost is_sure = { λ _. ⊥ };
 
     ghost faults_fit = { link_faults-fit };
+
+    ghost wants_fit = { λ _. Prim.search rules };
 
     ghost sure_counts = { λ _ sure. absurd sure };
 

@@ -8,7 +8,7 @@ use crate::{Link, PortStop, Sink, Source};
 /// the end.
 pub fn read_exact_into<S: Source>(source: &mut S, buf: &mut [u8]) -> Result<usize, PortStop>
     ensures bytes { ReadsWhole (S.left source.old) (S.left source.new) result buf.new }
-    ensures cause { HasCause S.faults S.is_sure source.old source.new result }
+    ensures cause { HasCause S.faults S.wants S.is_sure source.old source.new result }
 {
     let mut filled = 0;
     while filled < buf.len() {
@@ -25,7 +25,7 @@ pub fn read_exact_into<S: Source>(source: &mut S, buf: &mut [u8]) -> Result<usiz
 /// piece that the sink takes.
 pub fn write_whole<K: Sink>(sink: &mut K, buf: &[u8]) -> Result<(), PortStop>
     ensures talk { SendsWhole (K.talk sink.old) (K.talk sink.new) result buf.now }
-    ensures cause { HasCause K.faults K.is_sure sink.old sink.new result }
+    ensures cause { HasCause K.faults K.wants K.is_sure sink.old sink.new result }
 {
     let mut sent = 0;
     while sent < buf.len() {
@@ -39,7 +39,7 @@ pub fn write_whole<K: Sink>(sink: &mut K, buf: &[u8]) -> Result<(), PortStop>
 /// comes, and one more to see the end.
 pub fn recv_whole<L: Link>(link: &mut L, buf: &mut [u8]) -> Result<usize, PortStop>
     ensures talk { HearsWhole (L.talk link.old) (L.talk link.new) result buf.new }
-    ensures cause { HasCause L.faults L.is_sure link.old link.new result }
+    ensures cause { HasCause L.faults L.wants L.is_sure link.old link.new result }
 {
     let mut filled = 0;
     while filled < buf.len() {

@@ -3,8 +3,9 @@ ghost use Rattle.std.specs.Prelude.{◌≡◌, ◌↔◌, ◌<◌, length, IfOk,
 ghost use Rattle.std.specs.Io.{WritesAtMost};
 ghost use Rattle.std.specs.Io.KnownBytes.{WriteAppends};
 ghost use Rattle.sip_ports.specs.Ports.{Counts, Sends};
+ghost use Rattle.std.proofs.Common.{rules};
 
-use crate::faults::Faults;
+use crate::count::Count;
 use crate::uninterrupted::write_uninterrupted;
 use crate::{PortStop, Sink};
 use std::io::Write;
@@ -13,7 +14,7 @@ use std::io::Write;
 #[derive(Drop)]
 pub struct WriterSink<W: Write + Drop> {
     writer: Option<W>,
-    faults: Faults,
+    faults: Count,
 }
 
 impl<W: Write + Drop> WriterSink<W> {
@@ -25,7 +26,7 @@ impl<W: Write + Drop> WriterSink<W> {
     {
         WriterSink {
             writer,
-            faults: Faults::none(),
+            faults: Count::none(),
         }
     }
 }
@@ -37,9 +38,13 @@ impl<W: Write + Drop> Sink for WriterSink<W> {
 
     ghost faults = { sink_faults };
 
+    ghost wants = { λ _. 0 };
+
     ghost is_sure = { λ _. ⊥ };
 
     ghost faults_fit = { λ sink. sink.faults.fits };
+
+    ghost wants_fit = { λ _. Prim.search rules };
 
     ghost sure_counts = { λ _ sure. absurd sure };
 

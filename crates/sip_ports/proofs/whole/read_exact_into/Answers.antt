@@ -13,5 +13,6 @@ loop-filled-preserved g c =
       within = search rules;
       came = subst (Consumes _ _) joined (Consumes-trans _ _ _ _ _ kept.came c.in_ok-came.ensures.bytes.0);
       later = omega (arith, c.read.ensures.cause.later);
+      wants_later = omega (arith, c.read.ensures.cause.wants_later);
       sure = λ sure. c.read.ensures.cause.sure (kept.sure sure);
     }

@@ -16,5 +16,6 @@ loop-filled-preserved g c =
       within = search rules;
       came = subst (GoesOn _ _) joined (GoesOn-trans _ _ _ _ _ kept.came heard);
       later = omega (arith, c.recv.ensures.cause.later);
+      wants_later = omega (arith, c.recv.ensures.cause.wants_later);
       sure = λ sure. c.recv.ensures.cause.sure (kept.sure sure);
     }

@@ -1,4 +1,4 @@
--- What stands in the front of the buffer is what came, and the count of faults has not fallen.
+-- What stands in the front of the buffer is what came, and neither count has fallen.
 use Rattle.std.proofs.Common.{◌-◌, ◌≤◌, length, take}
 use Rattle.sip_ports.specs.Ports.{GoesOn, ins}
 use Rattle.sip_ports.proofs.whole.recv_whole.Given as goal
@@ -8,6 +8,7 @@ invariant-loop-filled g l = record {
   within : l.filled ≤ length l.buf;
   came : GoesOn (g.L.Sink.talk l.initial.link) (g.L.Sink.talk l.link) (ins (take l.filled l.buf));
   later : g.L.Sink.faults l.initial.link ≤ g.L.Sink.faults l.link;
+  wants_later : g.L.Sink.wants l.initial.link ≤ g.L.Sink.wants l.link;
   sure : g.L.Sink.is_sure l.initial.link → g.L.Sink.is_sure l.link;
 }
 

@@ -17,5 +17,6 @@ loop-sent-preserved g c =
       within = search rules;
       went = subst (GoesOn _ _) (take_steps Out sent n buf) (GoesOn-trans _ _ _ _ _ kept.went went);
       later = omega (arith, c.write.ensures.cause.later);
+      wants_later = omega (arith, c.write.ensures.cause.wants_later);
       sure = λ sure. c.write.ensures.cause.sure (kept.sure sure);
     }
