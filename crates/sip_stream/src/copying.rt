@@ -1,6 +1,6 @@
 //! A stream, copied record by record from one form to another.
 
-ghost use Rattle.std.specs.Prelude.{◌≡◌, ◌<◌, ◌≤◌, ◌+◌, ◌^◌, ◌++◌, [], ℕ, List, Some, None, IsSome, MatchResult, OnOk, Err, Ok, take};
+ghost use Rattle.std.specs.Prelude.{◌≡◌, ◌⊎◌, ◌<◌, ◌≤◌, ◌+◌, ◌^◌, ◌++◌, [], ℕ, List, Some, None, IsSome, MatchResult, OnOk, Err, Ok, take};
 ghost use Rattle.arrayvec.specs.ArrayVec.{array_vec_len};
 ghost use Rattle.sip_ports.specs.Ports.{GoesOn, HasCause, Lasts, Rose, outs};
 ghost use Rattle.sip_stream.specs.declared.fault.StreamFault.TheVariants as faults;
@@ -71,7 +71,7 @@ fn make_room<K: Sink>(sink: &mut K, gathered: &mut ArrayVec<u8, BLOCK>) -> Resul
         (λ _. (n : ℕ) × (n < array_vec_len gathered.old)
         × GoesOn (K.talk sink.old) (K.talk sink.new) (outs (take n gathered.old.items))) }
     ensures room { OnOk result (array_vec_len gathered.new + SPELLING_ROOM ≤ BLOCK) }
-    ensures cause { HasCause K.faults K.is_sure sink.old sink.new result }
+    ensures cause { HasCause K.faults K.wants K.is_sure sink.old sink.new result }
 {
     if gathered.remaining_capacity() >= SPELLING_ROOM {
         return Ok(());
@@ -98,8 +98,10 @@ fn copy_on<A: Source, K: Sink>(
     ensures told { IsSome (A.left source.old) → IsSome (A.left source.new) }
     ensures read { result ≡ Ok (Some StreamFault.ReadFault)
         → Rose (A.faults source.old) (A.faults source.new) }
-    ensures source { Lasts A.faults A.is_sure source.old source.new }
-    ensures cause { HasCause K.faults K.is_sure sink.old sink.new result }
+    ensures memory { result ≡ Ok (Some StreamFault.OutOfMemory)
+        → Rose (A.wants source.old) (A.wants source.new) }
+    ensures source { Lasts A.faults A.wants A.is_sure source.old source.new }
+    ensures cause { HasCause K.faults K.wants K.is_sure sink.old sink.new result }
 {
     let mut reader = Reader::new(depth, from);
     loop {
@@ -119,7 +121,8 @@ fn copy_on<A: Source, K: Sink>(
 /// # Errors
 ///
 /// `Bad` exactly where a record is not legal: those before it are written then. `ReadFault` and `WriteFault` only where the
-/// count of faults of the source, of the sink, rose; a front of the records is written then.
+/// count of faults of the source, of the sink, rose; `OutOfMemory` only where the count of wants of one of them rose. A front
+/// of the records is written then.
 pub fn copy<A: Source, K: Sink>(
     depth: Depth,
     from: Form,
@@ -136,8 +139,11 @@ pub fn copy<A: Source, K: Sink>(
         → Rose (A.faults source.old) (A.faults source.new) }
     ensures write { result ≡ Err CopyStop.WriteFault
         → Rose (K.faults sink.old) (K.faults sink.new) }
-    ensures source { Lasts A.faults A.is_sure source.old source.new }
-    ensures sink { Lasts K.faults K.is_sure sink.old sink.new }
+    ensures memory { result ≡ Err CopyStop.OutOfMemory
+        → Rose (A.wants source.old) (A.wants source.new)
+        ⊎ Rose (K.wants sink.old) (K.wants sink.new) }
+    ensures source { Lasts A.faults A.wants A.is_sure source.old source.new }
+    ensures sink { Lasts K.faults K.wants K.is_sure sink.old sink.new }
 {
     let mut gathered = ArrayVec::new();
     let stopped = copy_on(depth, from, to, source, sink, &mut gathered)?;

@@ -40,7 +40,7 @@ pub fn put_line<K: Sink>(update: &Update, sink: &mut K) -> Result<(), PortStop>
     requires item { update.now.item < 2 ^ most_depth }
     requires delta { update.now.delta ≢ pos 0 }
     ensures talk { SendsWhole (K.talk sink.old) (K.talk sink.new) result (line_bytes update.now) }
-    ensures cause { HasCause K.faults K.is_sure sink.old sink.new result }
+    ensures cause { HasCause K.faults K.wants K.is_sure sink.old sink.new result }
 {
     write_whole(sink, line_of(update).as_slice())
 }

@@ -31,7 +31,7 @@ fn next_byte<S: Source>(source: &mut S) -> Result<Option<u8>, PortStop>
     ensures reads { (bytes : List ℕ) → S.left source.old ≡ Some bytes
         → ReadsByte bytes (S.left source.new) result }
     ensures told { IsSome (S.left source.old) → IsSome (S.left source.new) }
-    ensures cause { HasCause S.faults S.is_sure source.old source.new result }
+    ensures cause { HasCause S.faults S.wants S.is_sure source.old source.new result }
 {
     let mut byte = [0];
     let came = read_exact_into(source, &mut byte)?;
@@ -53,7 +53,7 @@ fn take_line<S: Source>(
     ensures fits { length line.new.items ≤ 40 }
     ensures short { result ≡ Ok LineEnd.Feed → length line.new.items < 40 }
     ensures told { IsSome (S.left source.old) → IsSome (S.left source.new) }
-    ensures cause { HasCause S.faults S.is_sure source.old source.new result }
+    ensures cause { HasCause S.faults S.wants S.is_sure source.old source.new result }
 {
     while let Some(byte) = next_byte(source)? {
         if line.is_full() {
@@ -94,7 +94,7 @@ fn read_line<S: Source>(source: &mut S) -> Result<Option<Result<Update, Why>>, P
     ensures reads { (bytes : List ℕ) → S.left source.old ≡ Some bytes
         → ReadsPiece of_line bytes (S.left source.new) result }
     ensures told { IsSome (S.left source.old) → IsSome (S.left source.new) }
-    ensures cause { HasCause S.faults S.is_sure source.old source.new result }
+    ensures cause { HasCause S.faults S.wants S.is_sure source.old source.new result }
 {
     let mut line = ArrayVec::new();
     match take_line(source, &mut line)? {
@@ -111,7 +111,7 @@ pub(crate) fn next_line<S: Source>(source: &mut S) -> Result<Option<Result<Updat
     ensures reads { (bytes : List ℕ) → S.left source.old ≡ Some bytes
         → ReadsPiece of_line bytes (S.left source.new) result }
     ensures told { IsSome (S.left source.old) → IsSome (S.left source.new) }
-    ensures cause { HasCause S.faults S.is_sure source.old source.new result }
+    ensures cause { HasCause S.faults S.wants S.is_sure source.old source.new result }
 {
     let held = source.held();
     let near = &held[..held.len().min(MOST_LINE)];

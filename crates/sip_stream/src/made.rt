@@ -98,9 +98,13 @@ impl Source for MadeSource {
 
     ghost faults = { λ _. 0 };
 
+    ghost wants = { λ _. 0 };
+
     ghost is_sure = { λ _. Unit {0} };
 
     ghost faults_fit = { λ _. Prim.search rules };
+
+    ghost wants_fit = { λ _. Prim.search rules };
 
     ghost sure_counts = { λ _ _. refl };
 

@@ -138,8 +138,8 @@ impl Reader {
     /// # Errors
     ///
     /// `Bad` exactly where the next record is not legal after those before, with its number and the first test that
-    /// it fails; `ReadFault` only where the source's count of faults rose; `OutOfMemory` only where the source answered
-    /// that. After an error the reader is spent.
+    /// it fails; `ReadFault` only where the source's count of faults rose; `OutOfMemory` only where its count of wants
+    /// did. After an error the reader is spent.
     pub fn next<S: Source>(&mut self, source: &mut S) -> Result<Option<Update>, StreamFault>
         requires { self.old.is_spent ≡ false }
         ensures reads { (before : List Update) (bytes : List ℕ) → IsAfter self.old before
@@ -157,7 +157,9 @@ impl Reader {
         ensures told { IsSome (S.left source.old) → IsSome (S.left source.new) }
         ensures cause { result ≡ Err StreamFault.ReadFault
             → Rose (S.faults source.old) (S.faults source.new) }
-        ensures source { Lasts S.faults S.is_sure source.old source.new }
+        ensures memory { result ≡ Err StreamFault.OutOfMemory
+            → Rose (S.wants source.old) (S.wants source.new) }
+        ensures source { Lasts S.faults S.wants S.is_sure source.old source.new }
     {
         let said = match next_piece(self.form, source) {
             Ok(Some(said)) => said,
@@ -193,7 +195,7 @@ fn next_piece<S: Source>(
     ensures reads { (bytes : List ℕ) → S.left source.old ≡ Some bytes
         → ReadsPiece (layout_of form) bytes (S.left source.new) result }
     ensures told { IsSome (S.left source.old) → IsSome (S.left source.new) }
-    ensures cause { HasCause S.faults S.is_sure source.old source.new result }
+    ensures cause { HasCause S.faults S.wants S.is_sure source.old source.new result }
 {
     match form {
         Form::Binary => next_record::<NARROW, S>(source),

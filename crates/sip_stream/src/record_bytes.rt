@@ -64,7 +64,7 @@ pub fn put_record<K: Sink>(update: &Update, sink: &mut K) -> Result<(), PortStop
     requires delta { update.now.delta ≢ pos 0 }
     ensures talk { SendsWhole (K.talk sink.old) (K.talk sink.new) result
         (record_bytes 4 update.now) }
-    ensures cause { HasCause K.faults K.is_sure sink.old sink.new result }
+    ensures cause { HasCause K.faults K.wants K.is_sure sink.old sink.new result }
 {
     write_whole(sink, record_of::<NARROW>(update).as_slice())
 }
@@ -79,7 +79,7 @@ pub fn put_wide<K: Sink>(update: &Update, sink: &mut K) -> Result<(), PortStop>
     requires delta { update.now.delta ≢ pos 0 }
     ensures talk { SendsWhole (K.talk sink.old) (K.talk sink.new) result
         (record_bytes 8 update.now) }
-    ensures cause { HasCause K.faults K.is_sure sink.old sink.new result }
+    ensures cause { HasCause K.faults K.wants K.is_sure sink.old sink.new result }
 {
     write_whole(sink, record_of::<WIDE>(update).as_slice())
 }

@@ -60,7 +60,7 @@ fn read_record<const WIDTH: usize, S: Source>(
     ensures reads { (bytes : List ℕ) → S.left source.old ≡ Some bytes
         → ReadsPiece (of_bytes WIDTH) bytes (S.left source.new) result }
     ensures told { IsSome (S.left source.old) → IsSome (S.left source.new) }
-    ensures cause { HasCause S.faults S.is_sure source.old source.new result }
+    ensures cause { HasCause S.faults S.wants S.is_sure source.old source.new result }
 {
     let mut buffer = [0; MOST_RECORD];
     let bytes = &mut buffer[..size_of(WIDTH)];
@@ -84,7 +84,7 @@ pub(crate) fn next_record<const WIDTH: usize, S: Source>(
     ensures reads { (bytes : List ℕ) → S.left source.old ≡ Some bytes
         → ReadsPiece (of_bytes WIDTH) bytes (S.left source.new) result }
     ensures told { IsSome (S.left source.old) → IsSome (S.left source.new) }
-    ensures cause { HasCause S.faults S.is_sure source.old source.new result }
+    ensures cause { HasCause S.faults S.wants S.is_sure source.old source.new result }
 {
     let size = size_of(WIDTH);
     let held = source.held();

@@ -14,8 +14,8 @@ invariant-loop-update g l = record {
   form : l.reader.form ≡ l.fn.from;
   ready : l.reader.is_spent ≡ false;
   told : IsSome (g.A.Source.left l.fn.source) → IsSome (g.A.Source.left l.source);
-  source : Lasts g.A.Source.faults g.A.Source.is_sure l.fn.source l.source;
-  sink : Lasts g.K.Sink.faults g.K.Sink.is_sure l.fn.sink l.sink;
+  source : Lasts g.A.Source.faults g.A.Source.wants g.A.Source.is_sure l.fn.source l.source;
+  sink : Lasts g.K.Sink.faults g.K.Sink.wants g.K.Sink.is_sure l.fn.sink l.sink;
 }
 
 -- each legal record adds to the weights, which stay below their limits

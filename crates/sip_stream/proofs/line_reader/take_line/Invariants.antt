@@ -10,7 +10,7 @@ invariant-loop-byte g l = record {
   begun : (bytes : List ℕ) → g.S.Source.left l.fn.source ≡ Some bytes → (rest : List ℕ) × (g.S.Source.left l.source ≡ Some rest) × IsBegun bytes l.line.items rest;
   fits : length l.line.items ≤ 40;
   told : IsSome (g.S.Source.left l.fn.source) → IsSome (g.S.Source.left l.source);
-  lasts : Lasts g.S.Source.faults g.S.Source.is_sure l.fn.source l.source;
+  lasts : Lasts g.S.Source.faults g.S.Source.wants g.S.Source.is_sure l.fn.source l.source;
 }
 
 abbrev pub decreases-loop-byte : goal.decreases-loop-byte
