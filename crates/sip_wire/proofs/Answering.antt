@@ -19,6 +19,7 @@ use Rattle.sip_wire.specs.Spelling.{kind_of, mark_of, numbers, fits, spelling, l
 use Rattle.sip_wire.specs.Values.{InRange}
 use Rattle.sip_wire.specs.Reading.{read_frame}
 use Rattle.sip_wire.specs.Decoding.{IsBytes, Head, Fails, Decodes}
+use Rattle.sip_wire.specs.Filling.{filled}
 use Rattle.sip_wire.proofs.Whole.{whole_fault, of_body, spelled_back, same_head, asked_whole}
 use Rattle.sip_wire.proofs.ReadingLaws.{asked-least, asked-append, read_frame-closed, read_frame-fault, read_frame-short, read_frame-spelling, same_answer}
 
@@ -173,3 +174,12 @@ came_all version place old mid new before now none head got kind len r empty cam
 -- the body is as long as its kind has it
 pub body_length : (version : Version) (place : Place) (mid new : Option (List TalkEvent)) (head got : List ℕ) (kind : Kind) (len : ℕ) → Head version place head kind len → Receives mid new head got (3 + len) (Ok tt) → IsTrue ((shape version kind).has_length (length got - 3))
 body_length version place mid new head got kind len is then = let same : length got - 3 ≡ len = omega (arith, then.whole) in rw same is.has_length
+
+-- a fault of bytes is no want of memory
+pub no_want : (f : WireFault) → IsOfBytes f → f ≡ faults.OutOfMemory → ⊥
+no_want f is e = subst IsOfBytes e is
+
+-- and so is none that reading a body answers
+pub no_want_of_body : (version : Version) (kind : Kind) (body : List ℕ) (m : Message) (r : Result Unit WireFault) → ReadsBody version kind body (filled m r) → r ≡ Err faults.OutOfMemory → ⊥
+no_want_of_body version kind body m r read e =
+    of_body (shape version kind) body faults.OutOfMemory (subst (λ (x : Result Unit WireFault). ReadsBody version kind body (filled m x)) e read)

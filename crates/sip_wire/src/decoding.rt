@@ -1,7 +1,7 @@
 //! One frame off a link.
 
-ghost use Rattle.std.specs.Prelude.{◌≤◌, ◌-◌, IsTrue, drop, length};
-ghost use Rattle.sip_ports.specs.Ports.{Lasts};
+ghost use Rattle.std.specs.Prelude.{◌≡◌, ◌≤◌, Err, ◌-◌, IsTrue, drop, length};
+ghost use Rattle.sip_ports.specs.Ports.{Lasts, Rose};
 ghost use Rattle.sip_wire.specs.Frames.{frame_bytes};
 ghost use Rattle.sip_wire.specs.Spelling.{ReadsBody};
 ghost use Rattle.sip_wire.specs.Table.{shape};
@@ -64,7 +64,9 @@ pub fn decode_into<L: Link>(
 ) -> Result<(), WireFault>
     ensures did { Decodes version place (L.talk link.old) (L.talk link.new) (L.faults link.old)
         (L.faults link.new) (frame_bytes frame.new) (filled message.new result) }
-    ensures lasts { Lasts L.faults L.is_sure link.old link.new }
+    ensures memory { result ≡ Err WireFault.OutOfMemory
+        → Rose (L.wants link.old) (L.wants link.new) }
+    ensures lasts { Lasts L.faults L.wants L.is_sure link.old link.new }
 {
     frame.clear();
     frame.receive(link, HEAD)?;
@@ -77,9 +79,9 @@ pub fn decode_into<L: Link>(
 ///
 /// It receives three bytes, and then a body of the stated length if the place allows the kind and the kind has the length. The
 /// faults of the bytes are tested in the order of [`WireFault`], the count before the numbers. `Closed` comes exactly where the
-/// link ended inside the frame, and `PeerFault` only where the count of its faults rose; there and at `OutOfMemory`, which is the
-/// link's, the frame was not received whole. Whatever the answer, `frame` shows what was received, and what follows is still on
-/// the link. No memory is taken.
+/// link ended inside the frame, `PeerFault` only where the count of its faults rose, and `OutOfMemory` only where the count of its
+/// wants did; at these two the frame was not received whole. Whatever the answer, `frame` shows what was received, and what
+/// follows is still on the link. No memory is taken.
 pub fn decode<L: Link>(
     link: &mut L,
     place: Place,
@@ -88,7 +90,9 @@ pub fn decode<L: Link>(
 ) -> Result<Message, WireFault>
     ensures did { Decodes version place (L.talk link.old) (L.talk link.new) (L.faults link.old)
         (L.faults link.new) (frame_bytes frame.new) result }
-    ensures lasts { Lasts L.faults L.is_sure link.old link.new }
+    ensures memory { result ≡ Err WireFault.OutOfMemory
+        → Rose (L.wants link.old) (L.wants link.new) }
+    ensures lasts { Lasts L.faults L.wants L.is_sure link.old link.new }
 {
     let mut message = Message::Bye;
     match decode_into(link, place, version, frame, &mut message) {

@@ -49,7 +49,7 @@ pub fn encode_updates<K: Sink>(
     requires few { length updates.now ≤ most_rows }
     ensures talk { SendsWhole (K.talk sink.old) (K.talk sink.new) result
         (spelling version (messages.Updates (record { items = updates.now }))) }
-    ensures cause { HasCause K.faults K.is_sure sink.old sink.new result }
+    ensures cause { HasCause K.faults K.wants K.is_sure sink.old sink.new result }
 {
     let mut out = ArrayVec::new();
     put_updates(version, updates, &mut out);
@@ -62,7 +62,7 @@ pub fn encode<K: Sink>(message: &Message, version: Version, sink: &mut K) -> Res
     requires { IsTrue (fits version message.now) }
     ensures talk { SendsWhole (K.talk sink.old) (K.talk sink.new) result
         (spelling version message.now) }
-    ensures cause { HasCause K.faults K.is_sure sink.old sink.new result }
+    ensures cause { HasCause K.faults K.wants K.is_sure sink.old sink.new result }
 {
     let mut out = ArrayVec::new();
     put_frame(version, message, &mut out);

@@ -52,7 +52,8 @@ impl Frame {
         self.taken = 0;
     }
 
-    /// Receives until so many bytes are there. `Closed` where the link ended before, `PeerFault` where it failed.
+    /// Receives until so many bytes are there. `Closed` where the link ended before, `PeerFault` where it failed, and
+    /// `OutOfMemory` where memory was refused to it.
     pub(crate) fn receive<L: Link>(&mut self, link: &mut L, upto: usize) -> Result<(), WireFault>
         requires order { length (frame_bytes self.old) ≤ upto }
         requires room { upto ≤ longest_frame }
@@ -60,7 +61,9 @@ impl Frame {
             (frame_bytes self.new) upto result }
         ensures failed { IsErrOf result WireFault.PeerFault
             → Rose (L.faults link.old) (L.faults link.new) }
-        ensures lasts { Lasts L.faults L.is_sure link.old link.new }
+        ensures memory { IsErrOf result WireFault.OutOfMemory
+            → Rose (L.wants link.old) (L.wants link.new) }
+        ensures lasts { Lasts L.faults L.wants L.is_sure link.old link.new }
     {
         while self.taken < upto {
             let came = link.recv(&mut self.buffer[self.taken..upto])?;

@@ -29,7 +29,7 @@ pub fn put_head<K: Sink>(
     requires shallow { depth ≤ deepest version }
     ensures talk { SendsWhole (K.talk sink.old)
         (K.talk sink.new) result (head_bytes version depth queries) }
-    ensures cause { HasCause K.faults K.is_sure sink.old sink.new result }
+    ensures cause { HasCause K.faults K.wants K.is_sure sink.old sink.new result }
 {
     let head = [
         b'S',
@@ -54,7 +54,7 @@ pub fn put_ask<K: Sink>(
     requires speaks { Speaks version (length seat.now) query.now }
     ensures talk { SendsWhole (K.talk sink.old)
         (K.talk sink.new) result (ask_bytes version query.now seat.now) }
-    ensures cause { HasCause K.faults K.is_sure sink.old sink.new result }
+    ensures cause { HasCause K.faults K.wants K.is_sure sink.old sink.new result }
 {
     let depth = seat.depth();
     let mut out = ArrayVec::new();

@@ -1,5 +1,5 @@
 use Rattle.std.proofs.lemmas.Result.{err_from_is_err_and}
-use Rattle.sip_wire.proofs.Answering.{stopped_in_head, bad_head, stopped_in_body, body_length, came_all}
+use Rattle.sip_wire.proofs.Answering.{stopped_in_head, bad_head, stopped_in_body, body_length, came_all, no_want, no_want_of_body}
 use Rattle.sip_wire.proofs.decoding.decode_into.Goals as goal
 
 pub returns-in_err-receive-clause-did : goal.returns-in_err-receive-clause-did
@@ -29,3 +29,15 @@ returns-clause-did g c =
     let is = rw c.bytes.ensures at c.in_ok-kind.ensures in
     let read = rw c.bytes-2.ensures at c.read_message.ensures in
     came_all c.args.version c.args.place _ _ _ _ _ _ _ _ _ _ _ c.clear.ensures c.in_ok-receive.ensures.heard is c.in_ok-receive-2.ensures.heard read.fits read.read
+
+pub returns-in_err-kind-clause-memory : goal.returns-in_err-kind-clause-memory
+returns-in_err-kind-clause-memory g c =
+    let p = err_from_is_err_and c.from_residual-in_err-kind.result c.from_residual-in_err-kind.ensures.1 in
+    let from = p.1 in
+    let same = p.2 in
+    λ is. absurd (no_want _ c.in_err-kind.ensures.1 cc)
+
+pub returns-clause-memory : goal.returns-clause-memory
+returns-clause-memory g c =
+    let read = rw c.bytes-2.ensures at c.read_message.ensures in
+    λ is. absurd (no_want_of_body c.args.version _ _ _ _ read.read is)

@@ -21,6 +21,7 @@ loop-self-preserved g c =
       came = (kept.came.0 ++ part, taken ∙ ap (λ (b : List ℕ). b ++ part) kept.came.1 ∙ append_assoc _ kept.came.0 part, came_more _ _ _ kept.came.0 part kept.came.2 heard);
       lasts = record {
         later = omega (arith, kept.lasts.later, c.recv.ensures.cause.later);
+        wants_later = omega (arith, kept.lasts.wants_later, c.recv.ensures.cause.wants_later);
         sure = λ sure. c.recv.ensures.cause.sure (kept.lasts.sure sure);
       };
     }

@@ -1,4 +1,4 @@
--- What came stands behind what was there, and the count of faults has not fallen.
+-- What came stands behind what was there, and neither count has fallen.
 use Rattle.std.proofs.Common.{◌≡◌, ◌-◌, ◌≤◌, ℕ, List, ◌++◌}
 use Rattle.sip_ports.specs.Ports.{GoesOn, Lasts, ins}
 use Rattle.sip_wire.specs.Frames.{frame_bytes}
@@ -8,7 +8,7 @@ abbrev pub invariant-loop-self : goal.invariant-loop-self
 invariant-loop-self g l = record {
   within : l.self.taken ≤ l.upto;
   came : (more : List ℕ) × (frame_bytes l.self ≡ frame_bytes l.initial.self ++ more) × GoesOn (g.L.Sink.talk l.initial.link) (g.L.Sink.talk l.link) (ins more);
-  lasts : Lasts g.L.Sink.faults g.L.Sink.is_sure l.initial.link l.link;
+  lasts : Lasts g.L.Sink.faults g.L.Sink.wants g.L.Sink.is_sure l.initial.link l.link;
 }
 
 abbrev pub decreases-loop-self : goal.decreases-loop-self
