@@ -1,5 +1,5 @@
 //! One query, asked of the helper and checked.
-ghost use Rattle.std.specs.Prelude.{◌≡◌, ◌≢◌, length, Ok, Err, IsTrue, MatchResult};
+ghost use Rattle.std.specs.Prelude.{◌≡◌, length, Ok, Err, IsTrue, MatchResult};
 ghost use Rattle.sip_ports.specs.Ports.{Lasts, Rose};
 ghost use Rattle.sip_wire.specs.Spelling.{fits};
 ghost use Rattle.sip_wire.specs.declared.message.Message.TheVariants as messages;
@@ -52,7 +52,9 @@ fn in_round(round: u8, taken: Result<(), ReplyStop>) -> Result<(), AskStop>
         × (stop ≡ stop_in_round round of_reply)) }
     ensures peer { result ≡ Err AskStop.PeerFault → taken ≡ Err reply_stops.PeerFault }
     ensures keeper { result ≡ Err AskStop.KeepFault → taken ≡ Err reply_stops.KeepFault }
-    ensures free { result ≡ Err AskStop.KeepOutOfMemory → taken ≡ Err reply_stops.KeepOutOfMemory }
+    ensures memory { result ≡ Err AskStop.OutOfMemory → taken ≡ Err reply_stops.OutOfMemory }
+    ensures keeper_memory { result ≡ Err AskStop.KeepOutOfMemory
+        → taken ≡ Err reply_stops.KeepOutOfMemory }
 {
     match taken {
         Ok(reply) => Ok(reply),
@@ -74,7 +76,8 @@ fn in_round(round: u8, taken: Result<(), ReplyStop>) -> Result<(), AskStop>
 ///
 /// # Errors
 ///
-/// [`AskStop::Rejected`] with the first fault of the replies; the others are those of the ports.
+/// [`AskStop::Rejected`] with the first fault of the replies; the others are those of the ports, each only where
+/// that port's own count of them rose.
 pub fn ask<C: Check, L: Link, K: Keeper>(
     check: &mut C,
     version: Version,
@@ -93,11 +96,13 @@ pub fn ask<C: Check, L: Link, K: Keeper>(
         → Answers (C.protocol asked) query (C.phase check.old).block
         (L.talk link.old) (L.talk link.new) (K.talk keep.old) (K.talk keep.new) places.new result }
     ensures places { length places.new ≡ length places.old }
-    ensures link { Lasts L.faults L.is_sure link.old link.new }
-    ensures keep { Lasts K.faults K.is_sure keep.old keep.new }
+    ensures link { Lasts L.faults L.wants L.is_sure link.old link.new }
+    ensures keep { Lasts K.faults K.wants K.is_sure keep.old keep.new }
     ensures peer { result ≡ Err AskStop.PeerFault → Rose (L.faults link.old) (L.faults link.new) }
     ensures keeper { result ≡ Err AskStop.KeepFault → Rose (K.faults keep.old) (K.faults keep.new) }
-    ensures free { K.is_free → result ≢ Err AskStop.KeepOutOfMemory }
+    ensures memory { result ≡ Err AskStop.OutOfMemory → Rose (L.wants link.old) (L.wants link.new) }
+    ensures keeper_memory { result ≡ Err AskStop.KeepOutOfMemory
+        → Rose (K.wants keep.old) (K.wants keep.new) }
 {
     if let Some(said) = check.unasked() {
         return Ok(said);

@@ -1,5 +1,5 @@
 // One reply, taken off a link frame by frame, with all that comes kept.
-ghost use Rattle.std.specs.Prelude.{◌≡◌, ◌≢◌, ℕ, List, length, Ok, Err, IfOk, MatchResult};
+ghost use Rattle.std.specs.Prelude.{◌≡◌, ℕ, List, length, Ok, Err, IfOk, MatchResult};
 ghost use Rattle.sip_ports.specs.Ports.{Lasts, Rose};
 ghost use Rattle.sip_replies.specs.Protocols.{Awaits, after};
 ghost use Rattle.sip_replies.specs.Replies.{read_one, read_reply};
@@ -83,12 +83,15 @@ pub(crate) fn receive<L: Link, K: Keeper>(
 ) -> Result<Message, ReplyStop>
     ensures took { Takes (read_one version place) (L.talk link.old) (L.talk link.new)
         (K.talk keep.old) (K.talk keep.new) (Shows version) result }
-    ensures link { Lasts L.faults L.is_sure link.old link.new }
-    ensures keep { Lasts K.faults K.is_sure keep.old keep.new }
+    ensures link { Lasts L.faults L.wants L.is_sure link.old link.new }
+    ensures keep { Lasts K.faults K.wants K.is_sure keep.old keep.new }
     ensures peer { result ≡ Err ReplyStop.PeerFault → Rose (L.faults link.old) (L.faults link.new) }
     ensures keeper { result ≡ Err ReplyStop.KeepFault
         → Rose (K.faults keep.old) (K.faults keep.new) }
-    ensures free { K.is_free → result ≢ Err ReplyStop.KeepOutOfMemory }
+    ensures memory { result ≡ Err ReplyStop.OutOfMemory
+        → Rose (L.wants link.old) (L.wants link.new) }
+    ensures keeper_memory { result ≡ Err ReplyStop.KeepOutOfMemory
+        → Rose (K.wants keep.old) (K.wants keep.new) }
 {
     match decode(link, place, version, frame) {
         Err(WireFault::PeerFault) => Err(ReplyStop::PeerFault),
@@ -120,12 +123,15 @@ pub(crate) fn take_reply<C: Check, L: Link, K: Keeper>(
         → IfOk result (λ _. (t : C.State) × C.stands asked t check.new places.new) }
     ensures phase { IfOk result (λ _. C.phase check.new ≡ after Complete (C.phase check.old)) }
     ensures places { length places.new ≡ length places.old }
-    ensures link { Lasts L.faults L.is_sure link.old link.new }
-    ensures keep { Lasts K.faults K.is_sure keep.old keep.new }
+    ensures link { Lasts L.faults L.wants L.is_sure link.old link.new }
+    ensures keep { Lasts K.faults K.wants K.is_sure keep.old keep.new }
     ensures peer { result ≡ Err ReplyStop.PeerFault → Rose (L.faults link.old) (L.faults link.new) }
     ensures keeper { result ≡ Err ReplyStop.KeepFault
         → Rose (K.faults keep.old) (K.faults keep.new) }
-    ensures free { K.is_free → result ≢ Err ReplyStop.KeepOutOfMemory }
+    ensures memory { result ≡ Err ReplyStop.OutOfMemory
+        → Rose (L.wants link.old) (L.wants link.new) }
+    ensures keeper_memory { result ≡ Err ReplyStop.KeepOutOfMemory
+        → Rose (K.wants keep.old) (K.wants keep.new) }
 {
     loop {
         let message = receive(version, check.place(), frame, link, keep)?;

@@ -51,6 +51,7 @@ loop-round-init g c =
     let phase = subst (λ r. IfOk r (λ _. g.C.Check.phase c.take_reply.new.check ≡ after mores.Complete (g.C.Check.phase c.args.check.now))) c.in_ok-in_round.ensures.same c.take_reply.ensures.phase in
     let some = c.requires.begins.some in
     let faults = g.L.Sink.faults in
+    let wants = g.L.Sink.wants in
     let is_sure = g.L.Sink.is_sure in
     record {
       going = λ asked same stands.
@@ -67,7 +68,7 @@ loop-round-init g c =
       revealed = ap (λ (p : Phase). p.revealed + 1) phase ∙ ap (λ (k : ℕ). k + 1) c.requires.begins.same ∙ omega arith;
       within = omega (arith, some);
       places = c.take_reply.ensures.places;
-      link = Lasts-trans faults is_sure c.args.link.now c.encode.new.sink c.take_reply.new.link (Lasts-of_HasCause faults is_sure c.args.link.now c.encode.new.sink c.encode.result c.encode.ensures.cause) c.take_reply.ensures.link;
+      link = Lasts-trans faults wants is_sure c.args.link.now c.encode.new.sink c.take_reply.new.link (Lasts-of_HasCause faults wants is_sure c.args.link.now c.encode.new.sink c.encode.result c.encode.ensures.cause) c.take_reply.ensures.link;
       keep = c.take_reply.ensures.keep;
     }
 
@@ -163,6 +164,7 @@ loop-round-preserved g c =
     let phase = subst (λ r. IfOk r (λ _. g.C.Check.phase c.take_reply-in-loop-round.new.check ≡ after mores.Complete (g.C.Check.phase c.reveal-challenge.new.self))) c.in_ok-in_round-2.ensures.same c.take_reply-in-loop-round.ensures.phase
     ∙ ap (λ (p : Phase). after mores.Complete p) c.reveal-challenge.ensures.phase in
     let faults = g.L.Sink.faults in
+    let wants = g.L.Sink.wants in
     let is_sure = g.L.Sink.is_sure in
     record {
       going = λ asked same stands.
@@ -183,11 +185,11 @@ loop-round-preserved g c =
       revealed = ap (λ (p : Phase). p.revealed + 1) phase ∙ ap (λ (k : ℕ). k + 1) c.loop-round.invariant.revealed;
       within = omega (arith, c.loop-round-test.true, c.depth-depth.ensures.exact);
       places = c.take_reply-in-loop-round.ensures.places ∙ c.loop-round.invariant.places;
-      link = Lasts-trans faults is_sure c.args.link.now c.encode-in-loop-round.new.sink c.take_reply-in-loop-round.new.link
-          (Lasts-trans faults is_sure c.args.link.now c.loop-round.link c.encode-in-loop-round.new.sink c.loop-round.invariant.link
-          (Lasts-of_HasCause faults is_sure c.loop-round.link c.encode-in-loop-round.new.sink c.encode-in-loop-round.result c.encode-in-loop-round.ensures.cause))
+      link = Lasts-trans faults wants is_sure c.args.link.now c.encode-in-loop-round.new.sink c.take_reply-in-loop-round.new.link
+          (Lasts-trans faults wants is_sure c.args.link.now c.loop-round.link c.encode-in-loop-round.new.sink c.loop-round.invariant.link
+          (Lasts-of_HasCause faults wants is_sure c.loop-round.link c.encode-in-loop-round.new.sink c.encode-in-loop-round.result c.encode-in-loop-round.ensures.cause))
           c.take_reply-in-loop-round.ensures.link;
-      keep = Lasts-trans g.K.Sink.faults g.K.Sink.is_sure c.args.keep.now c.loop-round.keep c.take_reply-in-loop-round.new.keep c.loop-round.invariant.keep c.take_reply-in-loop-round.ensures.keep;
+      keep = Lasts-trans g.K.Sink.faults g.K.Sink.wants g.K.Sink.is_sure c.args.keep.now c.loop-round.keep c.take_reply-in-loop-round.new.keep c.loop-round.invariant.keep c.take_reply-in-loop-round.ensures.keep;
     }
 
 pub finish-requires-clause-stood : goal.finish-requires-clause-stood

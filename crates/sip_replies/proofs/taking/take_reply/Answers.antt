@@ -16,8 +16,8 @@ loop-message-init g c = record {
   stood = λ asked s stands. (s, stands);
   phase = refl;
   places = refl;
-  link = Lasts-refl g.L.Sink.faults g.L.Sink.is_sure c.args.link.now;
-  keep = Lasts-refl g.K.Sink.faults g.K.Sink.is_sure c.args.keep.now;
+  link = Lasts-refl g.L.Sink.faults g.L.Sink.wants g.L.Sink.is_sure c.args.link.now;
+  keep = Lasts-refl g.K.Sink.faults g.K.Sink.wants g.K.Sink.is_sure c.args.keep.now;
 }
 
 pub returns-in_err-message-clause-took : goal.returns-in_err-message-clause-took
@@ -55,8 +55,8 @@ loop-message-preserved g c = record {
       stepped ((g.C.Check.protocol asked).rules.step before.0 c.in_ok-message.message) (λ t. g.C.Check.stands asked t c.take.new.self c.take.new.places) _ (c.in_ok-take.ensures.took asked before.0 before.1);
   phase = subst (λ (m : More). g.C.Check.phase c.take.new.self ≡ after m (g.C.Check.phase c.loop-message.check)) c.in-Due.is c.in_ok-take.ensures.phase ∙ c.loop-message.invariant.phase;
   places = c.take.ensures.places ∙ c.loop-message.invariant.places;
-  link = Lasts-trans g.L.Sink.faults g.L.Sink.is_sure c.args.link.now c.loop-message.link c.receive.new.link c.loop-message.invariant.link c.receive.ensures.link;
-  keep = Lasts-trans g.K.Sink.faults g.K.Sink.is_sure c.args.keep.now c.loop-message.keep c.receive.new.keep c.loop-message.invariant.keep c.receive.ensures.keep;
+  link = Lasts-trans g.L.Sink.faults g.L.Sink.wants g.L.Sink.is_sure c.args.link.now c.loop-message.link c.receive.new.link c.loop-message.invariant.link c.receive.ensures.link;
+  keep = Lasts-trans g.K.Sink.faults g.K.Sink.wants g.K.Sink.is_sure c.args.keep.now c.loop-message.keep c.receive.new.keep c.loop-message.invariant.keep c.receive.ensures.keep;
 }
 
 pub returns-in-Complete-clause-took : goal.returns-in-Complete-clause-took

@@ -10,8 +10,8 @@ invariant-loop-message g l = record {
   stood : (asked : g.C.Check.Asked) (s : g.C.Check.State) → g.C.Check.stands asked s l.initial.check l.initial.places → (t : g.C.Check.State) × g.C.Check.stands asked t l.check l.places;
   phase : g.C.Check.phase l.check ≡ g.C.Check.phase l.initial.check;
   places : length l.places ≡ length l.initial.places;
-  link : Lasts g.L.Sink.faults g.L.Sink.is_sure l.initial.link l.link;
-  keep : Lasts g.K.Sink.faults g.K.Sink.is_sure l.initial.keep l.keep;
+  link : Lasts g.L.Sink.faults g.L.Sink.wants g.L.Sink.is_sure l.initial.link l.link;
+  keep : Lasts g.K.Sink.faults g.K.Sink.wants g.K.Sink.is_sure l.initial.keep l.keep;
 }
 
 abbrev pub decreases-loop-message : goal.decreases-loop-message
