@@ -32,9 +32,11 @@ pub(crate) fn ask_seat<L: Link>(
         (L.talk link.old) (L.talk link.new)
         (take (found_in (length entries.new) result) entries.new) (verdict_of result) }
     ensures places { length entries.new ≡ length entries.old }
-    ensures lasts { Lasts L.faults L.is_sure link.old link.new }
+    ensures lasts { Lasts L.faults L.wants L.is_sure link.old link.new }
     ensures cause { result ≡ Err AskStop.PeerFault → Rose (L.faults link.old) (L.faults link.new) }
+    ensures memory { result ≡ Err AskStop.OutOfMemory → Rose (L.wants link.old) (L.wants link.new) }
     ensures no_keep { result ≢ Err AskStop.KeepFault }
+    ensures no_keep_memory { result ≢ Err AskStop.KeepOutOfMemory }
 {
     let levels = seat.block().depth();
     prove!(levels <= CAP);

@@ -43,8 +43,8 @@ fn check_query<L: Link, K: Sink, C: Sink>(
     ensures fault { (first firsts second seconds : ℕ) → Stops stops_asking
         (counts first second (L.faults peer.old) (K.faults report.old))
         (counts firsts seconds (L.faults peer.new) (K.faults report.new)) result }
-    ensures peer { Lasts L.faults L.is_sure peer.old peer.new }
-    ensures report { Lasts K.faults K.is_sure report.old report.new }
+    ensures peer { Lasts L.faults L.wants L.is_sure peer.old peer.new }
+    ensures report { Lasts K.faults K.wants K.is_sure report.old report.new }
     ensures kept { keep.new ≡ keep.old }
 {
     match session.ask(peer, keep) {
@@ -82,8 +82,8 @@ fn check_all<L: Link, K: Sink, C: Sink>(
     ensures fault { (first firsts second seconds : ℕ) → Stops stops_asking
         (counts first second (L.faults peer.old) (K.faults report.old))
         (counts firsts seconds (L.faults peer.new) (K.faults report.new)) result }
-    ensures peer { Lasts L.faults L.is_sure peer.old peer.new }
-    ensures report { Lasts K.faults K.is_sure report.old report.new }
+    ensures peer { Lasts L.faults L.wants L.is_sure peer.old peer.new }
+    ensures report { Lasts K.faults K.wants K.is_sure report.old report.new }
     ensures kept { keep.new ≡ keep.old }
 {
     let mut number = 0;
@@ -111,11 +111,11 @@ fn steps<A: Source, B: Source, L: Link, K: Sink, C: Sink>(
         (moment (A.left first.new) (A.faults first.new) (B.left second.new) (B.faults second.new)
         (L.talk peer.new) (L.faults peer.new) (K.talk report.new) (K.faults report.new))
         (status_of result) }
-    ensures first { Lasts A.faults A.is_sure first.old first.new }
+    ensures first { Lasts A.faults A.wants A.is_sure first.old first.new }
     ensures seed { TakesAtMost 32 (B.left second.old) (B.left second.new) }
-    ensures second { Lasts B.faults B.is_sure second.old second.new }
-    ensures peer { Lasts L.faults L.is_sure peer.old peer.new }
-    ensures report { Lasts K.faults K.is_sure report.old report.new }
+    ensures second { Lasts B.faults B.wants B.is_sure second.old second.new }
+    ensures peer { Lasts L.faults L.wants L.is_sure peer.old peer.new }
+    ensures report { Lasts K.faults K.wants K.is_sure report.old report.new }
     ensures kept { keep.new ≡ keep.old }
 {
     let levels = task.depth.get();
@@ -153,11 +153,11 @@ pub fn check_stream<A: Source, B: Source, L: Link, K: Sink, C: Sink>(
         (moment (A.left first.new) (A.faults first.new) (B.left second.new) (B.faults second.new)
         (L.talk peer.new) (L.faults peer.new) (K.talk report.new) (K.faults report.new))
         result }
-    ensures first { Lasts A.faults A.is_sure first.old first.new }
+    ensures first { Lasts A.faults A.wants A.is_sure first.old first.new }
     ensures seed { TakesAtMost 32 (B.left second.old) (B.left second.new) }
-    ensures second { Lasts B.faults B.is_sure second.old second.new }
-    ensures peer { Lasts L.faults L.is_sure peer.old peer.new }
-    ensures report { Lasts K.faults K.is_sure report.old report.new }
+    ensures second { Lasts B.faults B.wants B.is_sure second.old second.new }
+    ensures peer { Lasts L.faults L.wants L.is_sure peer.old peer.new }
+    ensures report { Lasts K.faults K.wants K.is_sure report.old report.new }
     ensures kept { keep.new ≡ keep.old }
 {
     match steps(alloc, task, first, second, peer, report, keep) {

@@ -68,7 +68,7 @@ impl Feed {
         ensures version { self.new.version ≡ self.old.version }
         ensures waiting { self.new.waiting ≡ self.old.waiting }
         ensures spent { self.new.is_spent ≡ is_err result }
-        ensures cause { HasCause L.faults L.is_sure link.old link.new result }
+        ensures cause { HasCause L.faults L.wants L.is_sure link.old link.new result }
     {
         let opening = Message::Open {
             version: self.version.number(),
@@ -120,7 +120,7 @@ impl Feed {
         ensures version { self.new.version ≡ self.old.version }
         ensures waiting { OnOk result (self.new.waiting ≡ []) }
         ensures spent { self.new.is_spent ≡ is_err result }
-        ensures cause { HasCause L.faults L.is_sure link.old link.new result }
+        ensures cause { HasCause L.faults L.wants L.is_sure link.old link.new result }
     {
         let sent = encode_updates(&self.waiting, self.version, link);
         self.waiting.clear();
@@ -146,7 +146,7 @@ impl Feed {
             ≡ waiting_with self.old.waiting update.now) }
         ensures room { OnOk result (length self.new.waiting < most_rows) }
         ensures spent { self.new.is_spent ≡ is_err result }
-        ensures cause { HasCause L.faults L.is_sure link.old link.new result }
+        ensures cause { HasCause L.faults L.wants L.is_sure link.old link.new result }
     {
         self.push(update);
         if !self.is_full() {
@@ -168,7 +168,7 @@ impl Feed {
         ensures version { self.new.version ≡ self.old.version }
         ensures waiting { OnOk result (self.new.waiting ≡ []) }
         ensures spent { self.new.is_spent ≡ is_err result }
-        ensures cause { HasCause L.faults L.is_sure link.old link.new result }
+        ensures cause { HasCause L.faults L.wants L.is_sure link.old link.new result }
     {
         let sent = self.send_rest(link);
         self.is_spent = sent.is_err();
@@ -184,7 +184,7 @@ impl Feed {
             (L.talk link.new) result (due_at_end self.old.version self.old.waiting) }
         ensures version { self.new.version ≡ self.old.version }
         ensures waiting { OnOk result (self.new.waiting ≡ []) }
-        ensures cause { HasCause L.faults L.is_sure link.old link.new result }
+        ensures cause { HasCause L.faults L.wants L.is_sure link.old link.new result }
     {
         if !self.waiting.is_empty() {
             self.send(link)?;

@@ -1,7 +1,7 @@
 //! All that a verifier does until the stream has ended.
 
-ghost use Rattle.std.specs.Prelude.{◌≡◌, ◌≢◌, ◌<◌, ◌^◌, ◌++◌, map, ℕ, List, length, All, Some, Ok, Err, IsSome, IfOk, OnOk, MatchResult, false, pos};
-ghost use Rattle.sip_ports.specs.Ports.{HasCause, Lasts, SendsWhole};
+ghost use Rattle.std.specs.Prelude.{◌≡◌, ◌≢◌, ◌⊎◌, ◌<◌, ◌^◌, ◌++◌, map, ℕ, List, length, All, Some, Ok, Err, IsSome, IfOk, OnOk, MatchResult, false, pos};
+ghost use Rattle.sip_ports.specs.Ports.{HasCause, Lasts, Rose, SendsWhole};
 ghost use Rattle.sip_wire.specs.Table.{most_rows};
 ghost use Rattle.sip_wire.specs.Versions.{index_width};
 ghost use Rattle.sip_vector.specs.declared.query.Query.{Query as AnyQuery};
@@ -50,9 +50,11 @@ fn draw<B: Source>(task: &Task, second: &mut B) -> Result<Seats, Status>
     ensures fault { (first firsts peer peers report reports : ℕ) → Stops stops_gathering
         (counts first (B.faults second.old) peer report)
         (counts firsts (B.faults second.new) peers reports) result }
+    ensures memory { result ≡ Err Status.OutOfMemory
+        → Rose (B.wants second.old) (B.wants second.new) }
     ensures told { IsSome (B.left second.old) → IsSome (B.left second.new) }
     ensures seed { TakesAtMost 32 (B.left second.old) (B.left second.new) }
-    ensures second { Lasts B.faults B.is_sure second.old second.new }
+    ensures second { Lasts B.faults B.wants B.is_sure second.old second.new }
 {
     let mut seed = [0; 32];
     let came = match read_exact_into(second, &mut seed) {
@@ -97,7 +99,7 @@ fn pass_on<L: Link>(
         → AreSeats depth queries blocks stream seats.old
         → AreSeats depth queries blocks
         (stream ++ taken_with feed.old.waiting update.now) seats.new }
-    ensures cause { HasCause L.faults L.is_sure peer.old peer.new result }
+    ensures cause { HasCause L.faults L.wants L.is_sure peer.old peer.new result }
 {
     feed.push(update);
     if !feed.is_full() {
@@ -123,9 +125,12 @@ fn follow<A: Source, L: Link>(
     ensures fault { (second seconds report reports : ℕ) → Stops stops_gathering
         (counts (A.faults first.old) second (L.faults peer.old) report)
         (counts (A.faults first.new) seconds (L.faults peer.new) reports) result }
+    ensures memory { result ≡ Err Status.OutOfMemory
+        → Rose (A.wants first.old) (A.wants first.new)
+        ⊎ Rose (L.wants peer.old) (L.wants peer.new) }
     ensures told { IsSome (A.left first.old) → IsSome (A.left first.new) }
-    ensures first { Lasts A.faults A.is_sure first.old first.new }
-    ensures peer { Lasts L.faults L.is_sure peer.old peer.new }
+    ensures first { Lasts A.faults A.wants A.is_sure first.old first.new }
+    ensures peer { Lasts L.faults L.wants L.is_sure peer.old peer.new }
 {
     let mut feed = Feed::new(task.version());
     on_link(feed.begin(peer, task.depth))?;
@@ -151,7 +156,8 @@ fn follow<A: Source, L: Link>(
 /// # Errors
 ///
 /// The first in this order: `ReadFault` of `second`, `BadSeed`, `SeedSpent`; then `PeerFault` of the opening; then what comes first while the
-/// stream is read and sent: `BadStream`, `ReadFault` of `first`, `PeerFault`. `OutOfMemory` is a port's. The end of the stream was then not sent whole.
+/// stream is read and sent: `BadStream`, `ReadFault` of `first`, `PeerFault`. `OutOfMemory` comes only where a port's
+/// count of wants rose. The end of the stream was then not sent whole.
 pub fn gather<A: Source, B: Source, L: Link, C: Sink>(
     task: &Task,
     first: &mut A,
@@ -167,14 +173,18 @@ pub fn gather<A: Source, B: Source, L: Link, C: Sink>(
     ensures fault { (report reports : ℕ) → Stops stops_gathering
         (counts (A.faults first.old) (B.faults second.old) (L.faults peer.old) report)
         (counts (A.faults first.new) (B.faults second.new) (L.faults peer.new) reports) result }
+    ensures memory { result ≡ Err Status.OutOfMemory
+        → Rose (A.wants first.old) (A.wants first.new)
+        ⊎ Rose (B.wants second.old) (B.wants second.new)
+        ⊎ Rose (L.wants peer.old) (L.wants peer.new) }
     ensures seated { IfOk result (λ seats. (seats.depth ≡ task.now.depth)
         × (map (λ s. s.query) seats.seats ≡ task.now.queries.items)) }
     ensures told { IsSome (A.left first.old) → IsSome (A.left first.new) }
     ensures also_told { IsSome (B.left second.old) → IsSome (B.left second.new) }
     ensures seed { TakesAtMost 32 (B.left second.old) (B.left second.new) }
-    ensures first { Lasts A.faults A.is_sure first.old first.new }
-    ensures second { Lasts B.faults B.is_sure second.old second.new }
-    ensures peer { Lasts L.faults L.is_sure peer.old peer.new }
+    ensures first { Lasts A.faults A.wants A.is_sure first.old first.new }
+    ensures second { Lasts B.faults B.wants B.is_sure second.old second.new }
+    ensures peer { Lasts L.faults L.wants L.is_sure peer.old peer.new }
     ensures kept { keep.new ≡ keep.old }
 {
     let seats = draw(task, second)?;

@@ -101,7 +101,7 @@ fn make_room<K: Sink>(sink: &mut K, gathered: &mut ArrayVec<u8, ROOM>) -> Result
         (λ _. (n : ℕ) × (n < array_vec_len gathered.old)
         × GoesOn (K.talk sink.old) (K.talk sink.new) (outs (take n gathered.old.items))) }
     ensures room { OnOk result (array_vec_len gathered.new + MOST_PAIR < ROOM) }
-    ensures cause { HasCause K.faults K.is_sure sink.old sink.new result }
+    ensures cause { HasCause K.faults K.wants K.is_sure sink.old sink.new result }
 {
     if gathered.remaining_capacity() > MOST_PAIR {
         return Ok(());
@@ -119,7 +119,7 @@ fn make_room<K: Sink>(sink: &mut K, gathered: &mut ArrayVec<u8, ROOM>) -> Result
 pub(crate) fn write_number<K: Sink>(sink: &mut K, query: &Query, value: i64) -> Result<(), PortStop>
     ensures talk { SendsWhole (K.talk sink.old)
         (K.talk sink.new) result (line query.now (number value)) }
-    ensures cause { HasCause K.faults K.is_sure sink.old sink.new result }
+    ensures cause { HasCause K.faults K.wants K.is_sure sink.old sink.new result }
 {
     let mut digits = Buffer::new();
     let mut gathered = begin(query);
@@ -142,7 +142,7 @@ pub(crate) fn write_pairs<K: Sink>(
 ) -> Result<(), PortStop>
     ensures talk { SendsWhole (K.talk sink.old)
         (K.talk sink.new) result (line query.now (pairs entries.now)) }
-    ensures cause { HasCause K.faults K.is_sure sink.old sink.new result }
+    ensures cause { HasCause K.faults K.wants K.is_sure sink.old sink.new result }
 {
     let mut gathered = begin(query);
     if entries.is_empty() {
@@ -214,7 +214,7 @@ pub(crate) fn write_rejection<K: Sink>(
 ) -> Result<(), PortStop>
     ensures talk { SendsWhole (K.talk sink.old)
         (K.talk sink.new) result (rejection query round reason) }
-    ensures cause { HasCause K.faults K.is_sure sink.old sink.new result }
+    ensures cause { HasCause K.faults K.wants K.is_sure sink.old sink.new result }
 {
     write_whole(sink, rejection_line(query, round, reason).as_slice())
 }

@@ -176,7 +176,7 @@ impl Seats {
             → AreSeats depth queries blocks stream self.now
             → SendsWhole (K.talk sink.old) (K.talk sink.new) result
             (head_of (needed depth queries) depth queries blocks) }
-        ensures cause { HasCause K.faults K.is_sure sink.old sink.new result }
+        ensures cause { HasCause K.faults K.wants K.is_sure sink.old sink.new result }
     {
         put_head(self.version, self.depth, self.seats.len() as u8, sink)?;
         for seat in self.seats.iter() {

@@ -181,8 +181,10 @@ impl Session {
         ensures cleared { is_over result ≡ true → self.new.entries ≡ [] }
         ensures cause { result ≡ Err SessionFault.PeerFault
             → Rose (L.faults link.old) (L.faults link.new) }
+        ensures memory { result ≡ Err SessionFault.OutOfMemory
+            → Rose (L.wants link.old) (L.wants link.new) }
         ensures no_keep { result ≢ Err SessionFault.KeepFault }
-        ensures link { Lasts L.faults L.is_sure link.old link.new }
+        ensures link { Lasts L.faults L.wants L.is_sure link.old link.new }
     {
         let seats = self.seats.all();
         let seat = &seats[self.asked];
@@ -202,8 +204,8 @@ impl Session {
     ///
     /// # Errors
     ///
-    /// Those of the link. A reply is then missing or not whole, and those before it have no fault. After an error or a rejection
-    /// the session is spent.
+    /// Those of the link, each only where its own count of them rose. A reply is then missing or not whole, and those before it
+    /// have no fault. After an error or a rejection the session is spent.
     pub fn ask<L: Link, C: Sink>(
         &mut self,
         link: &mut L,
@@ -227,8 +229,10 @@ impl Session {
         ensures cleared { is_over result ≡ true → self.new.entries ≡ [] }
         ensures cause { result ≡ Err SessionFault.PeerFault
             → Rose (L.faults link.old) (L.faults link.new) }
+        ensures memory { result ≡ Err SessionFault.OutOfMemory
+            → Rose (L.wants link.old) (L.wants link.new) }
         ensures no_keep { result ≢ Err SessionFault.KeepFault }
-        ensures link { Lasts L.faults L.is_sure link.old link.new }
+        ensures link { Lasts L.faults L.wants L.is_sure link.old link.new }
         ensures kept { keep.new ≡ keep.old }
     {
         self.judge(link)

@@ -30,9 +30,12 @@ returns-clause-asks g c = λ depth stream stands.
     let kept : c.ask.result ≢ Err stops.KeepFault = λ is.
     (let rose : min (0 + 1) (2 ^ 64 - 1) ≤ 0 = c.ask.ensures.keeper is in omega (arith, rose))
     in
+    let free : c.ask.result ≢ Err stops.KeepOutOfMemory = λ is.
+    (let rose : min (0 + 1) (2 ^ 64 - 1) ≤ 0 = c.ask.ensures.keeper_memory is in omega (arith, rose))
+    in
     sub_asks c.args.version depth stream c.args.seat.now c.seat.inside.running c.in-Sub-Root.lo c.in-Sub-Root.hi
     _ _ _ _ _ _ _ c.ask.new.places c.ask.result is
     (sym (ap (λ (s : Seated). s.block) c.seat.view_is))
     (sym (ap (λ (s : Seated). s.running) c.seat.view_is))
     (search rules) c.start-check.ensures.block stands
-    (rw asked at (c.ask.ensures.answers _ refl stood)) kept (c.ask.ensures.free tt)
+    (rw asked at (c.ask.ensures.answers _ refl stood)) kept free

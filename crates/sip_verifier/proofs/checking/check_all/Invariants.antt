@@ -16,7 +16,7 @@ invariant-loop-query g l = record {
   live : l.session.spent ≡ false;
   passed : (stream : List Update) → map (λ seat. seat.query) l.fn.session.left ≡ l.fn.queries → All (StandsFor l.fn.session.depth stream) l.fn.session.left
       → PassedBy l.fn.session.version l.fn.session.depth stream l.fn.queries (map (λ (s : Seated). s.block) l.fn.session.left) (g.L.Sink.talk l.fn.peer) (g.L.Sink.talk l.peer) (g.K.Sink.talk l.fn.report) (g.K.Sink.talk l.report) l.query-index;
-  peer : Lasts g.L.Sink.faults g.L.Sink.is_sure l.fn.peer l.peer;
-  report : Lasts g.K.Sink.faults g.K.Sink.is_sure l.fn.report l.report;
+  peer : Lasts g.L.Sink.faults g.L.Sink.wants g.L.Sink.is_sure l.fn.peer l.peer;
+  report : Lasts g.K.Sink.faults g.K.Sink.wants g.K.Sink.is_sure l.fn.report l.report;
   keep : l.keep ≡ l.fn.keep;
 }

@@ -25,8 +25,8 @@ invariant-loop-update g l = record {
   ready : l.reader.is_spent ≡ false;
   unspent : l.feed.is_spent ≡ false;
   told : IsSome (g.A.Source.left l.fn.first) → IsSome (g.A.Source.left l.first);
-  first : Lasts g.A.Source.faults g.A.Source.is_sure l.fn.first l.first;
-  peer : Lasts g.L.Sink.faults g.L.Sink.is_sure l.fn.peer l.peer;
+  first : Lasts g.A.Source.faults g.A.Source.wants g.A.Source.is_sure l.fn.first l.first;
+  peer : Lasts g.L.Sink.faults g.L.Sink.wants g.L.Sink.is_sure l.fn.peer l.peer;
 }
 
 -- each legal record adds to the weights, which stay below their limits

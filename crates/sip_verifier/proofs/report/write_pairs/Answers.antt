@@ -26,7 +26,7 @@ begun g c = elim c.if-is_empty.branch [
 pub loop-entry-init : goal.loop-entry-init
 loop-entry-init g c =
     let (items, few) = begun g c in
-    (([], append-nil _ ∙ sym items, GoesOn-refl _), few, omega arith, λ sure. sure)
+    (([], append-nil _ ∙ sym items, GoesOn-refl _), few, omega arith, omega arith, λ sure. sure)
 
 pub returns-in_err-make_room-clause-talk : goal.returns-in_err-make_room-clause-talk
 returns-in_err-make_room-clause-talk g c =
@@ -44,7 +44,8 @@ loop-entry-preserved g c =
       (sent ++ part, split, sent_more _ _ _ sent part went more),
       omega (arith, c.put_pair.ensures.len, c.in_ok-make_room.ensures.room),
       omega (arith, c.in_ok-make_room.ensures.cause.later),
-      λ sure. c.in_ok-make_room.ensures.cause.sure (c.loop-entry.invariant.3 sure),
+      omega (arith, c.in_ok-make_room.ensures.cause.wants_later),
+      λ sure. c.in_ok-make_room.ensures.cause.sure (c.loop-entry.invariant.4 sure),
     )
 
 pub returns-clause-talk : goal.returns-clause-talk

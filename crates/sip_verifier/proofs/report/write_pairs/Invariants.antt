@@ -9,4 +9,5 @@ invariant-loop-entry g l =
     ((sent : List ℕ) × (so_far l.query l.entries l.entry-index ≡ sent ++ l.gathered.items) × GoesOn (g.K.Sink.talk l.fn.sink) (g.K.Sink.talk l.sink) (outs sent))
     × (length l.gathered.items < 1024)
     × (g.K.Sink.faults l.fn.sink ≤ g.K.Sink.faults l.sink)
+    × (g.K.Sink.wants l.fn.sink ≤ g.K.Sink.wants l.sink)
     × (g.K.Sink.is_sure l.fn.sink → g.K.Sink.is_sure l.sink)
