@@ -115,7 +115,7 @@ impl Asked {
         ensures talk { SendsWhole (K.talk out.old)
             (K.talk out.new) result
             (flat_map (spelling version) (reply_to vectors.now (open_of self.now))) }
-        ensures cause { HasCause K.faults K.is_sure out.old out.new result }
+        ensures cause { HasCause K.faults K.wants K.is_sure out.old out.new result }
     {
         match &self.answerer {
             Answerer::NoMemory(_) => put_refusal(version, WANT_OF_MEMORY, out),

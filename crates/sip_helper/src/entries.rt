@@ -49,7 +49,7 @@ pub(crate) fn put_entries<K: Sink>(
     ensures talk { SendsWhole (K.talk out.old)
         (K.talk out.new) result (flat_map (spelling version) (entry_frames
         (nonzero_within lo hi vector.now.numbers))) }
-    ensures cause { HasCause K.faults K.is_sure out.old out.new result }
+    ensures cause { HasCause K.faults K.wants K.is_sure out.old out.new result }
 {
     // No entry is heavier than all that was added, so each has a spelling.
     let weight = vector.weight();

@@ -236,7 +236,7 @@ impl HelperCore {
         ensures talk { SendsWhole (K.talk out.old) (K.talk out.new) result (owed self.old) }
         ensures ok { OnOk result (self.new ≡ after_answer self.old) }
         ensures err { OnErr result (self.new ≡ record self.old { spent = true }) }
-        ensures cause { HasCause K.faults K.is_sure out.old out.new result }
+        ensures cause { HasCause K.faults K.wants K.is_sure out.old out.new result }
     {
         let Some(asked) = &self.asked else {
             return Ok(());

@@ -66,5 +66,5 @@ pub(crate) trait Prover {
         ensures talk { SendsWhole (K.talk out.old) (K.talk out.new) result
             (flat_map (spelling version)
             ((help_row (query self.now)).honest vectors.now revealed.now)) }
-        ensures cause { HasCause K.faults K.is_sure out.old out.new result };
+        ensures cause { HasCause K.faults K.wants K.is_sure out.old out.new result };
 }

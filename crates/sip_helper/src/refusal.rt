@@ -24,7 +24,7 @@ pub(crate) fn put_refusal<K: Sink>(version: Version, code: u8, out: &mut K) -> R
     requires most { code ≤ most_refusal }
     ensures talk { SendsWhole (K.talk out.old)
         (K.talk out.new) result (spelling version (messages.Refuse code)) }
-    ensures cause { HasCause K.faults K.is_sure out.old out.new result }
+    ensures cause { HasCause K.faults K.wants K.is_sure out.old out.new result }
 {
     encode(&Message::Refuse { code }, version, out)
 }

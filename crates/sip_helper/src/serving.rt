@@ -1,6 +1,6 @@
 //! A whole talk, on a link.
 
-ghost use Rattle.std.specs.Prelude.{◌≡◌, ◌≢◌, false, true, Err};
+ghost use Rattle.std.specs.Prelude.{◌≡◌, ◌≢◌, ◌⊎◌, false, true, Err};
 ghost use Rattle.sip_ports.specs.Ports.{Lasts, Rose};
 ghost use Rattle.sip_wire.specs.Frames.{frame_bytes};
 ghost use Rattle.sip_helper.specs.inside.OneTurn.{TakesTurn};
@@ -28,7 +28,9 @@ fn take_turn<L: Link>(
         (L.talk link.new) core.old core.new offset (frame_bytes frame.new) result }
     ensures cause { result ≡ Err HelpStatus.PeerFault
         → Rose (L.faults link.old) (L.faults link.new) }
-    ensures lasts { Lasts L.faults L.is_sure link.old link.new }
+    ensures memory { result ≡ Err HelpStatus.OutOfMemory
+        → Rose (L.wants link.old) (L.wants link.new) }
+    ensures lasts { Lasts L.faults L.wants L.is_sure link.old link.new }
 {
     // A frame is read, and refused, in the version of the talk up to it.
     let version = core.version();
@@ -58,11 +60,16 @@ fn take_turn<L: Link>(
 /// stands. Memory is taken for one frame, for the two vectors, and for what the replies to a query are made from. The loop ends,
 /// since each update weighs something and a side's weight is bounded, and since there are at most 16 queries with fewer than 48
 /// challenges each.
+///
+/// The memory for the frame is taken first. Where that is refused the link is left alone; from then on `OutOfMemory` comes only
+/// where the link's count of wants rose, since want of memory for a query or for the vectors is an answer to the verifier.
 pub fn serve<L: Link>(alloc: Global, link: &mut L) -> HelpStatus
     ensures serves { Serves (L.talk link.old) (L.talk link.new) result }
     ensures cause { result ≡ HelpStatus.PeerFault
         → Rose (L.faults link.old) (L.faults link.new) }
-    ensures lasts { Lasts L.faults L.is_sure link.old link.new }
+    ensures memory { result ≡ HelpStatus.OutOfMemory
+        → (link.new ≡ link.old) ⊎ Rose (L.wants link.old) (L.wants link.new) }
+    ensures lasts { Lasts L.faults L.wants L.is_sure link.old link.new }
 {
     let Ok(mut frame) = Frame::new(alloc) else {
         return HelpStatus::OutOfMemory;

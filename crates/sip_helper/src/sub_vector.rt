@@ -108,7 +108,7 @@ fn put_honest<K: Sink>(
     ensures talk { SendsWhole (K.talk out.old)
         (K.talk out.new) result
         (honest_reply version m61_modulus vector.now.numbers lo hi revealed.now) }
-    ensures cause { HasCause K.faults K.is_sure out.old out.new result }
+    ensures cause { HasCause K.faults K.wants K.is_sure out.old out.new result }
 {
     if revealed.is_empty() {
         put_entries(version, vector, lo, hi, out)?;

@@ -36,8 +36,9 @@ loop-version-preserved g c =
     let some : 0 < length rows = search rules in
     let most : length rows ≤ 512 = search rules in
     let faults = g.K.Sink.faults in
+    let wants = g.K.Sink.wants in
     let is_sure = g.K.Sink.is_sure in
     record {
       partly = goes_on _ _ _ _ _ _ _ _ c.loop-version.invariant.partly c.next_rows-rows.ensures.split some most c.next_rows-rows.ensures.last c.in_ok-encode.ensures.talk;
-      lasts = Lasts-trans faults is_sure c.args.out.now c.loop-version.out c.encode.new.sink c.loop-version.invariant.lasts (Lasts-of_HasCause faults is_sure c.loop-version.out c.encode.new.sink c.encode.result c.encode.ensures.cause);
+      lasts = Lasts-trans faults wants is_sure c.args.out.now c.loop-version.out c.encode.new.sink c.loop-version.invariant.lasts (Lasts-of_HasCause faults wants is_sure c.loop-version.out c.encode.new.sink c.encode.result c.encode.ensures.cause);
     }

@@ -16,5 +16,5 @@ loop-status-smaller g c =
 pub loop-status-preserved : goal.loop-status-preserved
 loop-status-preserved g c = record {
   under_way = goes_on _ _ _ _ _ c.loop-status.invariant.under_way c.take_turn.new.core (frame_bytes c.take_turn.new.frame) (length c.bytes.result.now) (ap length c.bytes.ensures) c.in_default-take_turn.ensures.turn;
-  lasts = Lasts-trans g.L.Sink.faults g.L.Sink.is_sure c.args.link.now c.loop-status.link c.take_turn.new.link c.loop-status.invariant.lasts c.take_turn.ensures.lasts;
+  lasts = Lasts-trans g.L.Sink.faults g.L.Sink.wants g.L.Sink.is_sure c.args.link.now c.loop-status.link c.take_turn.new.link c.loop-status.invariant.lasts c.take_turn.ensures.lasts;
 }
