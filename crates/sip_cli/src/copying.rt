@@ -1,7 +1,7 @@
 //! The commands that copy a stream.
 
-ghost use Rattle.std.specs.Prelude.{◌≡◌, ◌≤◌, ℕ, List, Some, IsSome};
-ghost use Rattle.sip_ports.specs.Ports.{GoesOn, Lasts, outs};
+ghost use Rattle.std.specs.Prelude.{◌≡◌, ◌⊎◌, ◌≤◌, ℕ, List, Some, IsSome};
+ghost use Rattle.sip_ports.specs.Ports.{GoesOn, Lasts, Rose, outs};
 ghost use Rattle.sip_vector.specs.Limits.{most_narrow_depth};
 ghost use Rattle.sip_verifier.specs.Moments.{counts};
 ghost use Rattle.sip_verifier.specs.Statuses.{FaultClause};
@@ -31,9 +31,12 @@ pub(crate) fn copy_stream<A: Source, K: Sink>(
     ensures fault { (second seconds peer peers : ℕ)
         → FaultClause (counts (A.faults first.old) second peer (K.faults report.old))
         (counts (A.faults first.new) seconds peers (K.faults report.new)) result }
+    ensures memory { result ≡ Status.OutOfMemory
+        → Rose (A.wants first.old) (A.wants first.new)
+        ⊎ Rose (K.wants report.old) (K.wants report.new) }
     ensures listed { EndsCopy result }
-    ensures first { Lasts A.faults A.is_sure first.old first.new }
-    ensures report { Lasts K.faults K.is_sure report.old report.new }
+    ensures first { Lasts A.faults A.wants A.is_sure first.old first.new }
+    ensures report { Lasts K.faults K.wants K.is_sure report.old report.new }
 {
     match copy(depth, from, to, first, report) {
         Ok(()) => Status::Wrote,

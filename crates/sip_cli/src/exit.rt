@@ -59,7 +59,7 @@ pub fn finish<K: Sink>(status: &Status, errors: &mut K) -> Ending
     ensures code { result.code ≡ code_of status.now }
     ensures line { SendsWhole (K.talk errors.old)
         (K.talk errors.new) result.line (line_of_status status.now) }
-    ensures cause { HasCause K.faults K.is_sure errors.old errors.new result.line }
+    ensures cause { HasCause K.faults K.wants K.is_sure errors.old errors.new result.line }
 {
     Ending {
         code: exit_code(status),

@@ -21,7 +21,7 @@ pub(crate) fn help<L: Link>(alloc: Global, peer: &mut L) -> Status
         → FaultClause (counts first second (L.faults peer.old) report)
         (counts firsts seconds (L.faults peer.new) reports) result }
     ensures listed { EndsHelp result }
-    ensures peer { Lasts L.faults L.is_sure peer.old peer.new }
+    ensures peer { Lasts L.faults L.wants L.is_sure peer.old peer.new }
 {
     match serve(alloc, peer) {
         HelpStatus::Served => Status::Served,

@@ -115,7 +115,9 @@ pub fn write_page<K: Sink>(text: &str, report: &mut K) -> Status
     ensures page { PageClause (K.talk report.old) (K.talk report.new) text.now result }
     ensures fault { result ≡ Status.WriteFault Port.Report
         → Rose (K.faults report.old) (K.faults report.new) }
-    ensures report { Lasts K.faults K.is_sure report.old report.new }
+    ensures memory { result ≡ Status.OutOfMemory
+        → Rose (K.wants report.old) (K.wants report.new) }
+    ensures report { Lasts K.faults K.wants K.is_sure report.old report.new }
 {
     match write_whole(report, text.as_bytes()) {
         Ok(()) => Status::Accepted,

@@ -130,7 +130,7 @@ fn line_of(status: &Status) -> ArrayVec<u8, ROOM>
 pub fn status_line<K: Sink>(status: &Status, sink: &mut K) -> Result<(), PortStop>
     ensures talk { SendsWhole (K.talk sink.old)
         (K.talk sink.new) result (line_of_status status.now) }
-    ensures cause { HasCause K.faults K.is_sure sink.old sink.new result }
+    ensures cause { HasCause K.faults K.wants K.is_sure sink.old sink.new result }
 {
     write_whole(sink, line_of(status).as_slice())
 }

@@ -39,11 +39,11 @@ fn obey<A: Source, B: Source, L: Link, K: Sink, C: Sink>(
     ensures copies_apart { IsCopy command.now → (second.new ≡ second.old) × (peer.new ≡ peer.old) }
     ensures helps_apart { command.now ≡ Command.Help → (first.new ≡ first.old)
         × (second.new ≡ second.old) × (report.new ≡ report.old) }
-    ensures first { Lasts A.faults A.is_sure first.old first.new }
+    ensures first { Lasts A.faults A.wants A.is_sure first.old first.new }
     ensures seed { TakesAtMost 32 (B.left second.old) (B.left second.new) }
-    ensures second { Lasts B.faults B.is_sure second.old second.new }
-    ensures peer { Lasts L.faults L.is_sure peer.old peer.new }
-    ensures report { Lasts K.faults K.is_sure report.old report.new }
+    ensures second { Lasts B.faults B.wants B.is_sure second.old second.new }
+    ensures peer { Lasts L.faults L.wants L.is_sure peer.old peer.new }
+    ensures report { Lasts K.faults K.wants K.is_sure report.old report.new }
     ensures kept { keep.new ≡ keep.old }
 {
     match command {
@@ -103,12 +103,13 @@ pub fn run<A: Source, B: Source, L: Link, K: Sink, C: Sink>(
         × (report.new ≡ report.old) }
     ensures kept { keep.new ≡ keep.old }
 
-    // Counts of faults never fall, and no more than 32 bytes of the seed are taken.
-    ensures first { Lasts A.faults A.is_sure first.old first.new }
+    // Counts of faults and of wants of memory never fall, and no more than 32 bytes of the seed are
+    // taken.
+    ensures first { Lasts A.faults A.wants A.is_sure first.old first.new }
     ensures seed { TakesAtMost 32 (B.left second.old) (B.left second.new) }
-    ensures second { Lasts B.faults B.is_sure second.old second.new }
-    ensures peer { Lasts L.faults L.is_sure peer.old peer.new }
-    ensures report { Lasts K.faults K.is_sure report.old report.new }
+    ensures second { Lasts B.faults B.wants B.is_sure second.old second.new }
+    ensures peer { Lasts L.faults L.wants L.is_sure peer.old peer.new }
+    ensures report { Lasts K.faults K.wants K.is_sure report.old report.new }
 {
     match read_words(words) {
         Ok(command) => obey(alloc, &command, first, second, peer, report, keep),
