@@ -50,7 +50,8 @@ pub trait Source {
     fn read(&mut self, buf: &mut [u8]) -> Result<usize, PortStop>
         ensures bound { ReadsAtMost result buf.new }
         ensures bytes { ReadConsumes (left self.old) (left self.new) result buf.new }
-        ensures empty { length buf.old ≡ 0 → OnOk result (StandsStill faults wants self.old self.new) }
+        ensures empty { length buf.old ≡ 0
+            → OnOk result (StandsStill faults wants self.old self.new) }
         ensures cause { HasCause faults wants is_sure self.old self.new result };
 
     /// The bytes that it holds, to be read where they lie: a front of those to come, where they are told. A source
@@ -94,7 +95,8 @@ pub trait Sink {
         ensures bound { WritesAtMost result buf.now }
         ensures takes { 0 < length buf.now → IfOk result (λ n. 0 < n) }
         ensures talk { Sends (talk self.old) (talk self.new) result buf.now }
-        ensures empty { length buf.now ≡ 0 → OnOk result (StandsStill faults wants self.old self.new) }
+        ensures empty { length buf.now ≡ 0
+            → OnOk result (StandsStill faults wants self.old self.new) }
         ensures cause { HasCause faults wants is_sure self.old self.new result };
 
     ghost faults_fit: { (sink : Self) → faults sink < 2 ^ 64 };
