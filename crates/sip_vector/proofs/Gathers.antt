@@ -112,7 +112,7 @@ unfolding dense zeros
 gathered-nil depth = refl
 
 -- the numbers are no heavier than what was added
-sum_by-raised : (n : ℕ) (xs : List ℤ) (es : List Entry) → length xs ≡ n → All (λ e. e.index < n) es → sum_by nat_abs (raised xs es) ≤ sum_by nat_abs xs + abs_sum es
+pub sum_by-raised : (n : ℕ) (xs : List ℤ) (es : List Entry) → length xs ≡ n → All (λ e. e.index < n) es → sum_by nat_abs (raised xs es) ≤ sum_by nat_abs xs + abs_sum es
 sum_by-raised n xs [] len within = omega arith
 sum_by-raised n xs (e ∷ es) len within =
     let old = get_or xs e.index (pos 0) in

@@ -1,6 +1,6 @@
 //! How many items a vector has.
 
-ghost use Rattle.std.specs.Prelude.{◌≡◌, ◌≤◌, ◌↔◌, IsSome, IfSome};
+ghost use Rattle.std.specs.Prelude.{◌≡◌, ◌^◌, ◌≤◌, ◌↔◌, IsSome, IfSome};
 ghost use Rattle.sip_vector.specs.Limits.{most_depth};
 
 use std::marker::Model;
@@ -53,6 +53,13 @@ impl Depth {
         ensures most { result ≤ most_depth }
     {
         self.levels
+    }
+
+    // The number of items.
+    pub(crate) fn items(self) -> u64
+        ensures { result ≡ 2 ^ self }
+    {
+        1 << self.levels
     }
 }
 

@@ -1,6 +1,6 @@
 -- Entries as they are gathered: what a list of them adds up to, and how two rising lists are
 -- merged.
-use Rattle.std.specs.Prelude.{◌≡◌, ◌≢◌, ℕ, suc, ◌+◌, ◌^◌, ◌<◌, ◌≤◌, ◌==◌, ℤ, pos, ◌+ℤ◌, nat_abs, List, [], ◌∷◌, ◌++◌, length, map, All, Option, Some, None, slice_set, if◌then◌else◌}
+use Rattle.std.specs.Prelude.{◌≡◌, ◌≢◌, ℕ, suc, ◌+◌, ◌^◌, ◌<◌, ◌≤◌, ◌==◌, ℤ, pos, ◌+ℤ◌, nat_abs, List, [], ◌∷◌, ◌++◌, length, map, All, Option, Some, None, slice_set, sum_by, take, if◌then◌else◌}
 use Rattle.sip_vector.specs.declared.update.Entry.{Entry}
 use Rattle.sip_vector.specs.Answers.{is_zero}
 use Rattle.sip_vector.specs.Sparse.{IsSparse}
@@ -55,6 +55,12 @@ pub record IsTaken (list added : List Entry) (e : Entry)
 pub record IsMerged (n : ℕ) (list added merged : List Entry) : Type 0 where
   pub sparse : IsSparse (pos 0) 0 n (map as_pair merged)
   pub sums : (k : ℕ) → sum_at merged k ≡ sum_at list k +ℤ sum_at added k
+
+-- the numbers at the first indices, without those that are 0, as entries
+pub record IsCollected (numbers : List ℤ) (count : ℕ) (es : List Entry) : Type 0 where
+  pub sparse : IsSparse (pos 0) 0 count (map as_pair es)
+  pub sums : (k : ℕ) → k < count → sum_at es k ≡ number_at numbers k
+  pub light : abs_sum es ≡ sum_by nat_abs (take count numbers)
 
 -- the numbers of a vector with this list and these pending entries
 abbrev pub gathered : ℕ → List Entry → List Entry → List ℤ

@@ -1,26 +1,35 @@
-use Rattle.std.proofs.Common.{◌^◌, refl}
-use Rattle.sip_vector.proofs.Gathers.{IsGathered-moved, IsGathered-merged, gathered-moved, gathered-merged}
+use Rattle.std.proofs.Common.{refl}
 use Rattle.std.proofs.lemmas.Nat.{pow_pos}
+use Rattle.sip_vector.proofs.Gathers.{IsGathered-moved, IsGathered-merged, gathered-moved, gathered-merged, both-light}
 use Rattle.sip_vector.proofs.Kept.{same_parts}
 use Rattle.sip_vector.proofs.vector.Vector.settle.Goals as goal
 
+pub settled_below-requires : goal.settled_below-requires
+settled_below-requires c =
+    rw (c.deref.ensures.value, c.items-items.ensures) (record {
+      light = both-light _ _ _ _ _ c.self.invariant;
+      some = pow_pos c.self.inside.depth;
+      sparse = c.self.invariant.sparse;
+      within = c.self.invariant.within;
+    })
+
 pub invariant_of-self : goal.invariant_of-self
-invariant_of-self c = IsGathered-moved _ _ _ _ _ c.self.invariant _ c.settled.ensures.permutation
+invariant_of-self c = IsGathered-moved _ _ _ _ _ c.self.invariant _ c.settled_below.ensures.permutation
 
 pub returns-in_err-self-inside : goal.returns-in_err-self-inside
 returns-in_err-self-inside c =
-    rw (← c.self.view_is) (same_parts c.self.inside.depth _ _ _ _ (gathered-moved _ _ _ _ _ c.self.invariant _ c.settled.ensures.permutation) refl)
+    rw (← c.self.view_is) (same_parts c.self.inside.depth _ _ _ _ (gathered-moved _ _ _ _ _ c.self.invariant _ c.settled_below.ensures.permutation) refl)
 
 pub invariant_of-self-2 : goal.invariant_of-self-2
 invariant_of-self-2 c =
     let inside = c.self.inside in
-    let done = (rw c.deref.ensures.value at c.in_ok-self-inside.ensures.merged) (2 ^ inside.depth) (pow_pos inside.depth) c.self.invariant.sparse c.self.invariant.within in
+    let done = rw (c.deref.ensures.value, c.items-items.ensures) at c.in_ok-self-inside.ensures.merged in
     let light = rw c.deref.ensures.value at c.in_ok-self-inside.ensures.light in
     rw c.new.ensures.items (IsGathered-merged inside.depth inside.list.items inside.pending.items inside.total inside.weight c.self.invariant c.in_ok-self-inside.field-0.items done light)
 
 pub returns : goal.returns
 returns c =
     let inside = c.self.inside in
-    let done = (rw c.deref.ensures.value at c.in_ok-self-inside.ensures.merged) (2 ^ inside.depth) (pow_pos inside.depth) c.self.invariant.sparse c.self.invariant.within in
+    let done = rw (c.deref.ensures.value, c.items-items.ensures) at c.in_ok-self-inside.ensures.merged in
     let light = rw c.deref.ensures.value at c.in_ok-self-inside.ensures.light in
     rw (← c.self.view_is) (same_parts inside.depth _ _ _ _ (rw c.new.ensures.items (gathered-merged inside.depth inside.list.items inside.pending.items inside.total inside.weight c.self.invariant c.in_ok-self-inside.field-0.items done light)) refl)
