@@ -1,15 +1,19 @@
 -- Numbers that a weight bounds, and the test whether a number is 0.
-use Rattle.std.proofs.Common.{◌≡◌, ◌≢◌, ◌⊎◌, ℕ, zero, suc, true, false, not, inl, inr, negsuc, FitsSigned, w64, to_z, of_z, ◌≤◌, List, ℤ, pos, nat_abs, refl, arith}
+use Rattle.std.proofs.Common.{◌≡◌, Bool, ◌≢◌, ◌⊎◌, ℕ, zero, suc, true, false, not, inl, inr, negsuc, FitsSigned, w64, to_z, of_z, ◌≤◌, List, ℤ, pos, nat_abs, refl, arith}
 use Rattle.std.proofs.lemmas.Int.{fits_signed_from_abs, to_z-of_z}
 use Rattle.std.proofs.lemmas.Bool.Decides.{eqb_tells}
 use Rattle.sip_vector.specs.Answers.{is_zero}
 use Rattle.sip_vector.specs.Streams.{most_weight}
-use Rattle.sip_vector.specs.Vectors.{SideVector}
+use Rattle.sip_vector.specs.Vectors.{SideVector, StoredVector}
 
 -- equal parts make equal vectors
 pub same_parts : (depth : ℕ) (xs ys : List ℤ) (v w : ℕ) → xs ≡ ys → v ≡ w
     → (let a : SideVector = record { depth = depth; numbers = xs; weight = v } in a) ≡ record { depth = depth; numbers = ys; weight = w }
 same_parts depth xs ys v w e f = cc
+
+pub same_stored : (depth : ℕ) (xs ys : List ℤ) (v w : ℕ) (s t : Bool) → xs ≡ ys → v ≡ w → s ≡ t
+    → (let a : StoredVector = record { depth = depth; numbers = xs; weight = v; is_settled = s } in a) ≡ record { depth = depth; numbers = ys; weight = w; is_settled = t }
+same_stored depth xs ys v w s t e f g = cc
 
 -- what is bounded by a weight fits an i64
 pub fits : (z : ℤ) → nat_abs z ≤ most_weight → FitsSigned w64 z

@@ -13,6 +13,17 @@ pub record SideVector : Type 0 where
   pub numbers : List ℤ
   pub weight : ℕ
 
+-- what is seen of a vector: the same, and whether nothing that was added waits to be merged
+pub record StoredVector : Type 0 where
+  pub depth : ℕ
+  pub numbers : List ℤ
+  pub weight : ℕ
+  pub is_settled : Bool
+
+-- what it is, whether settled or not
+abbrev pub contents : StoredVector → SideVector
+contents v = record { depth = v.depth; numbers = v.numbers; weight = v.weight }
+
 -- the entry at an index
 abbrev pub number_at : List ℤ → ℕ → ℤ
 number_at numbers index = slice_index_or numbers index (pos 0)

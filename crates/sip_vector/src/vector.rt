@@ -1,8 +1,8 @@
 //! One side's vector, kept by its entries that are not 0.
 
-ghost use Rattle.std.specs.Prelude.{ℕ, ◌≡◌, ◌+◌, ◌^◌, ◌<◌, ◌≤◌, ◌↔◌, pos, ◌≤ℤ◌, nat_abs, length, sum_by, All, slice_get, IfOk, IfSome, OnOk, OnErr, IsTrue};
+ghost use Rattle.std.specs.Prelude.{ℕ, ◌≡◌, ◌+◌, ◌^◌, ◌<◌, ◌≤◌, ◌↔◌, pos, ◌≤ℤ◌, nat_abs, length, sum_by, All, slice_get, IfOk, IfSome, IsSome, OnOk, OnErr, IsTrue, true, false};
 ghost use Rattle.sip_vector.specs.Streams.{int_sum, most_weight};
-ghost use Rattle.sip_vector.specs.Vectors.{number_at, zero_vector, with_added, nonzero, nonzero_within};
+ghost use Rattle.sip_vector.specs.Vectors.{contents, number_at, zero_vector, with_added, nonzero, nonzero_within};
 ghost use Rattle.sip_vector.specs.inside.Gathered.{IsListOf, IsFirstOf};
 
 use crate::finding::{
@@ -37,15 +37,17 @@ pub struct Vector {
 }
 
 impl Model for Vector {
-    ghost use Rattle.sip_vector.specs.Vectors.{SideVector};
+    ghost use Rattle.std.specs.Prelude.{◌==◌, length};
+    ghost use Rattle.sip_vector.specs.Vectors.{StoredVector};
     ghost use Rattle.sip_vector.specs.inside.Gathered.{gathered, IsGathered};
 
-    ghost Value = { SideVector };
+    ghost Value = { StoredVector };
 
     ghost view = { λ v. record {
       depth = v.depth;
       numbers = gathered v.depth v.list.items v.pending.items;
       weight = v.weight;
+      is_settled = length v.pending.items == 0;
     } };
 
     ghost invariant = { λ v. IsGathered v.depth v.list.items v.pending.items v.total v.weight };
@@ -54,7 +56,8 @@ impl Model for Vector {
 impl Vector {
     /// Nothing but zeros. It takes no memory before the first `add`.
     pub fn new(alloc: Global, depth: Depth) -> Result<Vector, OutOfMemory>
-        ensures { IfOk result (λ vector. vector ≡ zero_vector depth) }
+        ensures zeros { IfOk result (λ vector. contents vector ≡ zero_vector depth) }
+        ensures settled { IfOk result (λ vector. vector.is_settled ≡ true) }
     {
         Ok(Vector {
             depth,
@@ -70,8 +73,9 @@ impl Vector {
     pub fn add(&mut self, index: u64, delta: i64) -> Result<(), OutOfMemory>
         requires within { index < 2 ^ self.old.depth }
         requires light { self.old.weight + nat_abs delta ≤ most_weight }
-        ensures ok { OnOk result (self.new ≡ with_added self.old index delta) }
-        ensures err { OnErr result (self.new ≡ self.old) }
+        ensures ok { OnOk result (contents self.new ≡ with_added (contents self.old) index delta) }
+        ensures pending { OnOk result (self.new.is_settled ≡ false) }
+        ensures err { OnErr result (contents self.new ≡ contents self.old) }
     {
         if self.pending.len() >= MOST_PENDING && self.pending.len() >= self.list.len() {
             self.settle()?;
@@ -83,7 +87,8 @@ impl Vector {
     fn put(&mut self, index: u64, delta: i64) -> Result<(), OutOfMemory>
         requires within { index < 2 ^ self.old.depth }
         requires light { self.old.weight + nat_abs delta ≤ most_weight }
-        ensures ok { OnOk result (self.new ≡ with_added self.old index delta) }
+        ensures ok { OnOk result (contents self.new ≡ with_added (contents self.old) index delta) }
+        ensures pending { OnOk result (self.new.is_settled ≡ false) }
         ensures err { OnErr result (self.new ≡ self.old) }
     {
         let entry = Entry {
@@ -100,7 +105,8 @@ impl Vector {
     /// was pending still is. O(m + p log p), and memory for m + p entries; O(2^depth) and a number of four bytes for each item
     /// besides where there are at most four items for each entry of these. To be called at the end of a stream.
     pub fn settle(&mut self) -> Result<(), OutOfMemory>
-        ensures { self.new ≡ self.old }
+        ensures ok { OnOk result (self.new ≡ record self.old { is_settled = true }) }
+        ensures err { OnErr result (self.new ≡ self.old) }
     {
         if self.pending.is_empty() {
             return Ok(());
@@ -112,19 +118,27 @@ impl Vector {
         Ok(())
     }
 
-    /// The entries that are not 0, in the order of their indices; `None` where additions are pending, as is never so after
-    /// a `settle` that gave `Ok`.
+    /// Whether no addition is pending, as is so after a `settle` that gave `Ok` until the next `add`.
+    pub fn is_settled(&self) -> bool
+        ensures { result ≡ self.now.is_settled }
+    {
+        self.pending.is_empty()
+    }
+
+    /// The entries that are not 0, in the order of their indices; `None` exactly where additions are pending.
     pub fn entries(&self) -> Option<&[Entry]>
-        ensures { IfSome result (λ entries. entries.now ≡ nonzero self.now.numbers) }
+        ensures exact { IfSome result (λ entries. entries.now ≡ nonzero self.now.numbers) }
+        ensures settled { IsSome result ↔ (self.now.is_settled ≡ true) }
     {
         self.settled_list()
     }
 
     // The list, where nothing is pending.
     pub(crate) fn settled_list(&self) -> Option<&[Entry]>
-        ensures { IfSome result (λ list. IsListOf self.now list.now) }
+        ensures list { IfSome result (λ list. IsListOf (contents self.now) list.now) }
+        ensures settled { IsSome result ↔ (self.now.is_settled ≡ true) }
     {
-        if self.pending.is_empty() {
+        if self.is_settled() {
             Some(&self.list)
         } else {
             None
@@ -133,7 +147,7 @@ impl Vector {
 
     // The list that `settle` would make.
     pub(crate) fn merged_list(&self, alloc: Global) -> Result<Vec<Entry>, OutOfMemory>
-        ensures { IfOk result (λ list. IsListOf self.now list.items) }
+        ensures { IfOk result (λ list. IsListOf (contents self.now) list.items) }
     {
         let mut pending = Vec::new(alloc);
         pending.extend_from_slice(&self.pending)?;

@@ -1,6 +1,6 @@
 use Rattle.std.proofs.Common.{◌≡◌, pos, to_z, of_z, w64, sym, ap, ◌∙◌, inl, inr, arith}
 use Rattle.std.proofs.lemmas.Bool.{cases_lt}
-use Rattle.sip_vector.specs.Vectors.{SideVector, number_at}
+use Rattle.sip_vector.specs.Vectors.{StoredVector, number_at}
 use Rattle.sip_vector.proofs.Kept.{same_z}
 use Rattle.sip_vector.proofs.vector.Vector.first_nonzero.Goals as goal
 
@@ -9,7 +9,7 @@ loop-at-init c = record { from = omega arith; zeros = λ k above below. absurd (
 
 pub returns-then-value-ne0 : goal.returns-then-value-ne0
 returns-then-value-ne0 c =
-    let weight : c.self.inside.weight ≡ c.args.self.now.weight = ap (λ (v : SideVector). v.weight) c.self.view_is in
+    let weight : c.self.inside.weight ≡ c.args.self.now.weight = ap (λ (v : StoredVector). v.weight) c.self.view_is in
     let same = same_z c.get-value.result (omega (arith, c.get-value.ensures.light, weight, c.self.invariant.most)) in (
       omega (arith, c.next_index-index.ensures.from, c.loop-at.invariant.from),
       c.next_index-index.ensures.end,
@@ -20,7 +20,7 @@ returns-then-value-ne0 c =
 
 pub returns-then-index-hi : goal.returns-then-index-hi
 returns-then-index-hi c k above below =
-    let weight : c.self.inside.weight ≡ c.args.self.now.weight = ap (λ (v : SideVector). v.weight) c.self.view_is in
+    let weight : c.self.inside.weight ≡ c.args.self.now.weight = ap (λ (v : StoredVector). v.weight) c.self.view_is in
     let same = same_z c.get-value.result (omega (arith, c.get-value.ensures.light, weight, c.self.invariant.most)) in
     let none : c.get-value.result ≡ pos 0 = sym same ∙ ap (to_z w64) c.if-value-ne0.false in
     elim (cases_lt k c.loop-at.at) [
@@ -33,7 +33,7 @@ returns-then-index-hi c k above below =
 
 pub loop-at-preserved : goal.loop-at-preserved
 loop-at-preserved c =
-    let weight : c.self.inside.weight ≡ c.args.self.now.weight = ap (λ (v : SideVector). v.weight) c.self.view_is in
+    let weight : c.self.inside.weight ≡ c.args.self.now.weight = ap (λ (v : StoredVector). v.weight) c.self.view_is in
     let same = same_z c.get-value.result (omega (arith, c.get-value.ensures.light, weight, c.self.invariant.most)) in
     let none : c.get-value.result ≡ pos 0 = sym same ∙ ap (to_z w64) c.if-value-ne0.false in
     record {

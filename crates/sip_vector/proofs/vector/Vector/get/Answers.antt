@@ -1,5 +1,5 @@
 use Rattle.std.proofs.Common.{◌≡◌, ◌^◌, ◌<◌, ◌+ℤ◌, sym, subst, arith}
-use Rattle.sip_vector.specs.Vectors.{SideVector}
+use Rattle.sip_vector.specs.Vectors.{StoredVector}
 use Rattle.sip_vector.specs.inside.Gathered.{sum_at}
 use Rattle.sip_vector.proofs.Gathers.{get_or-gathered, sums-light, number-light}
 use Rattle.sip_vector.proofs.Kept.{fits, same_z}
@@ -17,7 +17,7 @@ overflow_add-result c =
 
 pub returns-clause-same : goal.returns-clause-same
 returns-clause-same c =
-    let below : c.args.index < 2 ^ c.self.inside.depth = subst (λ (v : SideVector). c.args.index < 2 ^ v.depth) (sym c.self.view_is) c.requires in
+    let below : c.args.index < 2 ^ c.self.inside.depth = subst (λ (v : StoredVector). c.args.index < 2 ^ v.depth) (sym c.self.view_is) c.requires in
     let list : c.value_in.result ≡ sum_at c.self.inside.list.items c.args.index = (rw c.deref.ensures.value at c.value_in.ensures) (2 ^ c.self.inside.depth) c.self.invariant.sparse in
     let pending : c.sum_of.result ≡ sum_at c.self.inside.pending.items c.args.index = rw c.deref-2.ensures.value at c.sum_of.ensures in
     let light = sums-light _ _ _ _ _ c.self.invariant c.args.index in

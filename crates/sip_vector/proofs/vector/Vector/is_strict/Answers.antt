@@ -2,6 +2,7 @@ use Rattle.std.proofs.Common.{◌≡◌, ◌*◌, ◌%◌, ◌^◌, ◌<◌, ◌
 use Rattle.std.proofs.Math.Nat.{mod-eq_of_lt, pow-le-pow_right}
 use Rattle.std.proofs.lemmas.List.Elements.{All-get_or, All-from_get_or}
 use Rattle.std.proofs.lemmas.Nat.{pow_pos}
+use Rattle.sip_vector.specs.Vectors.{contents}
 use Rattle.sip_vector.proofs.vector.Vector.is_strict.Goals as goal
 
 abbrev NotNegative : ℤ → Type 0
@@ -18,3 +19,6 @@ returns c =
       λ t. All-from_get_or NotNegative numbers (pos 0) (λ k below. c.is_strict_to.ensures.0 t k (omega (arith, whole, below, len))),
       λ all. c.is_strict_to.ensures.1 (λ k below. All-get_or NotNegative numbers k (pos 0) (omega (arith, whole, below, len, some)) all),
     )
+
+pub returns-in-Some : goal.returns-in-Some
+returns-in-Some c = c.has_no_negative.ensures (contents c.args.self.now) c.in-Some.ensures.list

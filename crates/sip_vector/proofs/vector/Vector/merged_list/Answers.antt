@@ -2,7 +2,7 @@ use Rattle.std.proofs.Common.{◌≡◌, ◌^◌, ◌++◌, subst, ◌∙◌, ap
 use Rattle.std.proofs.lemmas.Nat.{pow_pos}
 use Rattle.std.proofs.lemmas.Result.{IfOk-weaker}
 use Rattle.sip_vector.specs.inside.Gathered.{IsListOf}
-use Rattle.sip_vector.specs.Vectors.{SideVector}
+use Rattle.sip_vector.specs.Vectors.{StoredVector, contents}
 use Rattle.sip_vector.proofs.Gathers.{IsListOf-merged, IfOk_both}
 use Rattle.sip_vector.proofs.vector.Vector.merged_list.Goals as goal
 
@@ -13,6 +13,6 @@ returns c =
     c.in_ok-extend_from_slice.ensures.items ∙ ap (λ es. es ++ c.deref.result.now) c.new-pending.ensures.items ∙ c.deref.ensures.value in
     let merged = rw (c.deref-2.ensures.value, same) at c.settled.ensures.merged in
     let light = rw (c.deref-2.ensures.value, same) at c.settled.ensures.light in
-    IfOk-weaker c.settled.result _ _ (λ out h. subst (λ (v : SideVector). IsListOf v out.items) c.self.view_is
+    IfOk-weaker c.settled.result _ _ (λ out h. subst (λ (v : StoredVector). IsListOf (contents v) out.items) c.self.view_is
     (IsListOf-merged inside.depth inside.list.items inside.pending.items inside.total inside.weight c.self.invariant out.items (h.0 (2 ^ inside.depth) (pow_pos inside.depth) c.self.invariant.sparse c.self.invariant.within) h.1))
     (IfOk_both _ _ c.settled.result merged light)

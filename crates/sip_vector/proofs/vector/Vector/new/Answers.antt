@@ -7,4 +7,7 @@ pub invariant_of-result : goal.invariant_of-result
 invariant_of-result c = rw (c.new.ensures.items, c.new-2.ensures.items) (IsGathered-nil c.args.depth)
 
 pub returns : goal.returns
-returns c = same_parts c.args.depth _ _ 0 0 (rw (c.new.ensures.items, c.new-2.ensures.items) (gathered-nil c.args.depth)) refl
+returns c = record {
+  zeros = same_parts c.args.depth _ _ 0 0 (rw (c.new.ensures.items, c.new-2.ensures.items) (gathered-nil c.args.depth)) refl;
+  settled = rw c.new-2.ensures.items refl;
+}

@@ -1,5 +1,5 @@
 use Rattle.std.proofs.Common.{◌^◌, ◌+◌, ◌<◌, ◌≤◌, ◌+ℤ◌, nat_abs, refl, sym, subst, arith}
-use Rattle.sip_vector.specs.Vectors.{SideVector}
+use Rattle.sip_vector.specs.Vectors.{StoredVector}
 use Rattle.sip_vector.specs.Streams.{most_weight}
 use Rattle.sip_vector.proofs.Gathers.{IsGathered-push, gathered-push, total-light}
 use Rattle.sip_vector.proofs.Kept.{fits, same_z, same_parts}
@@ -8,15 +8,15 @@ use Rattle.sip_vector.proofs.vector.Vector.put.Goals as goal
 
 pub overflow_add-self : goal.overflow_add-self
 overflow_add-self c =
-    let room : c.self.inside.weight + nat_abs c.args.delta ≤ most_weight = subst (λ (v : SideVector). v.weight + nat_abs c.args.delta ≤ most_weight) (sym c.self.view_is) c.requires.light in
+    let room : c.self.inside.weight + nat_abs c.args.delta ≤ most_weight = subst (λ (v : StoredVector). v.weight + nat_abs c.args.delta ≤ most_weight) (sym c.self.view_is) c.requires.light in
     let light : nat_abs c.self.inside.total ≤ c.self.inside.weight = total-light _ _ _ _ _ c.self.invariant in
     rw (same_z c.self.inside.total (omega (arith, light, room)), same_z c.args.delta (omega (arith, room)))
     (fits _ (omega (arith, nat_abs-add-le c.self.inside.total c.args.delta, light, room)))
 
 pub invariant_of-self-2 : goal.invariant_of-self-2
 invariant_of-self-2 c =
-    let below : c.args.index < 2 ^ c.self.inside.depth = subst (λ (v : SideVector). c.args.index < 2 ^ v.depth) (sym c.self.view_is) c.requires.within in
-    let room : c.self.inside.weight + nat_abs c.args.delta ≤ most_weight = subst (λ (v : SideVector). v.weight + nat_abs c.args.delta ≤ most_weight) (sym c.self.view_is) c.requires.light in
+    let below : c.args.index < 2 ^ c.self.inside.depth = subst (λ (v : StoredVector). c.args.index < 2 ^ v.depth) (sym c.self.view_is) c.requires.within in
+    let room : c.self.inside.weight + nat_abs c.args.delta ≤ most_weight = subst (λ (v : StoredVector). v.weight + nat_abs c.args.delta ≤ most_weight) (sym c.self.view_is) c.requires.light in
     let light : nat_abs c.self.inside.total ≤ c.self.inside.weight = total-light _ _ _ _ _ c.self.invariant in
     rw (
       c.in_ok-push.ensures.items,
@@ -29,8 +29,8 @@ invariant_of-self-2 c =
 
 pub returns-clause-ok : goal.returns-clause-ok
 returns-clause-ok c =
-    let below : c.args.index < 2 ^ c.self.inside.depth = subst (λ (v : SideVector). c.args.index < 2 ^ v.depth) (sym c.self.view_is) c.requires.within in
-    let room : c.self.inside.weight + nat_abs c.args.delta ≤ most_weight = subst (λ (v : SideVector). v.weight + nat_abs c.args.delta ≤ most_weight) (sym c.self.view_is) c.requires.light in
+    let below : c.args.index < 2 ^ c.self.inside.depth = subst (λ (v : StoredVector). c.args.index < 2 ^ v.depth) (sym c.self.view_is) c.requires.within in
+    let room : c.self.inside.weight + nat_abs c.args.delta ≤ most_weight = subst (λ (v : StoredVector). v.weight + nat_abs c.args.delta ≤ most_weight) (sym c.self.view_is) c.requires.light in
     rw (← c.self.view_is) (same_parts c.self.inside.depth _ _ _ _
     (rw (c.in_ok-push.ensures.items, same_z c.args.delta (omega (arith, room))) (gathered-push _ _ _ _ _ c.self.invariant c.args.index c.args.delta below room))
     (rw (c.unsigned_abs.ensures.value, same_z c.args.delta (omega (arith, room))) refl))
