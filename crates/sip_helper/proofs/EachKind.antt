@@ -11,7 +11,7 @@ use Rattle.sip_wire.specs.declared.message.Message.TheVariants as messages
 use Rattle.sip_wire.specs.declared.version.Version.{Version}
 use Rattle.sip_wire.specs.declared.version.Version.TheVariants.{One, Two}
 use Rattle.sip_wire.specs.Spelling.{fits, has_room, all_hold}
-use Rattle.sip_helper.specs.declared.vectors.Vectors.{Vectors}
+use Rattle.sip_helper.specs.Vectors.{Vectors}
 use Rattle.sip_helper.specs.Kinds.{is_below, help_row}
 use Rattle.sip_helper.specs.KindRows.{out_of_turn, too_many, want_of_memory}
 use Rattle.sip_helper.specs.SubVectors.{is_too_long}

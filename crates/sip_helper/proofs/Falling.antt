@@ -24,7 +24,7 @@ use Rattle.sip_wire.specs.Versions.{deepest}
 use Rattle.sip_wire.specs.Spelling.{fits, fits_shape, has_room, all_hold, side_number, update_numbers}
 use Rattle.sip_helper.specs.declared.heard.Heard.{Heard}
 use Rattle.sip_helper.specs.declared.heard.Heard.TheVariants.{Nothing, Part, Whole}
-use Rattle.sip_helper.specs.declared.vectors.Vectors.{Vectors}
+use Rattle.sip_helper.specs.Vectors.{Vectors}
 use Rattle.sip_helper.specs.Kinds.{is_below}
 use Rattle.sip_helper.specs.inside.Measures.{stream_left, challenges_left, turns_left}
 use Rattle.sip_helper.specs.Serving.{IsTurn, Turn, after_turn}

@@ -24,7 +24,7 @@ use Rattle.sip_wire.specs.Table.{most_queries, shape}
 use Rattle.sip_wire.specs.Versions.{deepest, index_width, version_at}
 use Rattle.sip_helper.specs.declared.asked.Asked.{Asked}
 use Rattle.sip_helper.specs.declared.heard.Heard.{Heard}
-use Rattle.sip_helper.specs.declared.vectors.Vectors.{Vectors}
+use Rattle.sip_helper.specs.Vectors.{Vectors}
 use Rattle.sip_helper.specs.declared.vectors.Weights.{Weights}
 use Rattle.sip_helper.specs.inside.Answering.{CanReply}
 use Rattle.sip_helper.specs.inside.Keeping.{IsCoherent}

@@ -10,7 +10,7 @@ use Rattle.sip_vector.specs.Streams.{same_side, weight, most_weight}
 use Rattle.sip_vector.specs.Vectors.{SideVector, with_added, with_update}
 use Rattle.std.proofs.lemmas.Bool.{cases_Bool}
 use Rattle.sip_vector.proofs.Sides.{weight-append, weight-one, weight-one_other_side}
-use Rattle.sip_helper.specs.declared.vectors.Vectors.{Vectors}
+use Rattle.sip_helper.specs.Vectors.{Vectors}
 use Rattle.sip_helper.specs.declared.vectors.Weights.{Weights}
 use Rattle.sip_helper.specs.Turns.{with_updates, weights_after, is_light, stays_legal}
 use Rattle.sip_helper.specs.inside.Legal.{HaveWeights, weights_of, legal_weights}

@@ -9,3 +9,4 @@ pub mod Standing
 pub mod SubVectors
 pub mod Talks
 pub mod Turning
+pub mod Seen

@@ -5,7 +5,7 @@ use Rattle.sip_vector.specs.declared.query.Query.{Query}
 use Rattle.sip_helper.specs.declared.asked.Answerer.TheVariants.{Honest}
 use Rattle.sip_helper.specs.declared.asked.Asked.{Asked}
 use Rattle.sip_helper.specs.declared.kinds.KindProver.{KindProver}
-use Rattle.sip_helper.specs.declared.vectors.Vectors.{Vectors}
+use Rattle.sip_helper.specs.Vectors.{Vectors}
 use Rattle.sip_helper.specs.inside.Answering.{IsReady, CanReply}
 use Rattle.sip_helper.specs.Kinds.{HasLearnt, query_proved, help_row}
 

@@ -16,7 +16,7 @@ use Rattle.sip_subvec.specs.Honest.{Proving, proving, learnt, its_siblings, sibl
 use Rattle.sip_wire.proofs.SiblingElements.{HasElement}
 use Rattle.sip_subvec.proofs.HonestStates.{proving-push}
 use Rattle.sip_helper.specs.declared.sub_vector.SubVectorProver.{SubVectorProver}
-use Rattle.sip_helper.specs.declared.vectors.Vectors.{Vectors}
+use Rattle.sip_helper.specs.Vectors.{Vectors}
 use Rattle.sip_helper.specs.SubVectors.{HasLevel}
 use Rattle.sip_helper.proofs.Rows.{framed}
 

@@ -4,7 +4,7 @@ use Rattle.sip_vector.specs.declared.query.Query.{Query}
 use Rattle.sip_vector.specs.declared.query.Query.TheVariants.{Sub, Range, F2, Inner, Heavy, Share}
 use Rattle.sip_helper.specs.declared.kinds.KindProver.{KindProver}
 use Rattle.sip_helper.specs.declared.kinds.KindProver.TheVariants as provers
-use Rattle.sip_helper.specs.declared.vectors.Vectors.{Vectors}
+use Rattle.sip_helper.specs.Vectors.{Vectors}
 use Rattle.sip_helper.specs.KindRows.{HelpRow, unbuilt}
 use Rattle.sip_helper.specs.SubVectors.{HasLevel, sub_query, sub_row}
 

@@ -7,7 +7,7 @@ use Rattle.sip_vector.specs.Vectors.{nonzero_within}
 use Rattle.sip_subvec.specs.Honest.{honest_messages, proving}
 use Rattle.sip_subvec.specs.Replies.{most_entries}
 use Rattle.sip_helper.specs.declared.sub_vector.SubVectorProver.{SubVectorProver}
-use Rattle.sip_helper.specs.declared.vectors.Vectors.{Vectors}
+use Rattle.sip_helper.specs.Vectors.{Vectors}
 use Rattle.sip_helper.specs.KindRows.{HelpRow, too_many}
 
 -- more of the first side's entries are not 0 than an answer may have

@@ -22,7 +22,7 @@ use Rattle.sip_wire.specs.Table.{most_queries}
 use Rattle.sip_wire.specs.Versions.{version_at}
 use Rattle.sip_helper.specs.declared.heard.Heard.{Heard}
 use Rattle.sip_helper.specs.declared.heard.Heard.TheVariants.{Nothing, Part, Whole}
-use Rattle.sip_helper.specs.declared.vectors.Vectors.{Vectors}
+use Rattle.sip_helper.specs.Vectors.{Vectors}
 use Rattle.sip_helper.specs.declared.vectors.Weights.{Weights}
 use Rattle.sip_helper.specs.Kinds.{is_below, help_row}
 use Rattle.sip_helper.specs.KindRows.{refusal, reply_by, want_of_memory}

@@ -9,7 +9,7 @@ ghost use Rattle.sip_vector.specs.Answers.{Fits};
 ghost use Rattle.sip_vector.specs.Limits.{most_depth};
 ghost use Rattle.sip_wire.specs.Spelling.{spelling};
 ghost use Rattle.sip_wire.specs.Versions.{deepest};
-ghost use Rattle.sip_helper.specs.declared.vectors.Vectors.{Vectors as AnyVectors};
+ghost use Rattle.sip_helper.specs.Vectors.{Vectors as AnyVectors};
 ghost use Rattle.sip_helper.specs.Turns.{after_reply, is_known, may_reveal, reply_to, with_challenge};
 ghost use Rattle.sip_helper.specs.inside.Answering.{query_of, open_of, IsReady, CanReply};
 ghost use Rattle.sip_helper.specs.inside.Legal.{HaveDepth};

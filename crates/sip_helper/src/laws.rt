@@ -5,7 +5,7 @@ ghost use Rattle.sip_vector.specs.Built.{is_built};
 ghost use Rattle.sip_vector.specs.declared.query.Query.{Query as AnyQuery};
 ghost use Rattle.sip_helper.specs.Kinds.{help_row};
 ghost use Rattle.sip_helper.specs.KindRows.{out_of_turn, want_of_memory};
-ghost use Rattle.sip_helper.specs.declared.vectors.Vectors.{Vectors as AnyVectors};
+ghost use Rattle.sip_helper.specs.Vectors.{Vectors as AnyVectors};
 
 /// The row of a kind that is built refuses neither as out of turn nor for want of memory. The row of
 /// another kind always refuses as out of turn.

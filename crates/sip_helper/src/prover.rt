@@ -8,7 +8,7 @@ ghost use Rattle.sip_vector.specs.declared.query.Query.{Query as AnyQuery};
 ghost use Rattle.sip_wire.specs.Spelling.{spelling};
 ghost use Rattle.sip_wire.specs.Versions.{deepest};
 ghost use Rattle.sip_helper.specs.declared.prover.NotStarted.TheVariants.{NoMemory};
-ghost use Rattle.sip_helper.specs.declared.vectors.Vectors.{Vectors as AnyVectors};
+ghost use Rattle.sip_helper.specs.Vectors.{Vectors as AnyVectors};
 ghost use Rattle.sip_helper.specs.Kinds.{help_row};
 ghost use Rattle.sip_helper.specs.inside.Legal.{HaveDepth};
 

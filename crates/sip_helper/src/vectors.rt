@@ -8,6 +8,7 @@ ghost use Rattle.sip_helper.specs.inside.Legal.{weights_of, legal_weights};
 use sip_field::OutOfMemory;
 use sip_vector::{Depth, Side, Update, Vector};
 use std::alloc::Global;
+use std::marker::Model;
 
 /// The greatest weight of a side.
 const MOST_WEIGHT: u64 = (1 << 30) - 1;
@@ -58,6 +59,15 @@ impl Weights {
 pub(crate) struct Vectors {
     pub(crate) first: Vector,
     pub(crate) second: Vector,
+}
+
+impl Model for Vectors {
+    ghost use Rattle.sip_vector.specs.Vectors.{contents};
+    ghost use Rattle.sip_helper.specs.Vectors.{Vectors as SeenVectors};
+
+    ghost Value = { SeenVectors };
+
+    ghost view = { λ v. record { first = contents v.first; second = contents v.second } };
 }
 
 impl Vectors {

@@ -4,7 +4,7 @@ use Rattle.sip_vector.specs.declared.query.Query.{Query}
 use Rattle.sip_helper.specs.declared.asked.Asked.{Asked}
 use Rattle.sip_helper.specs.declared.asked.Answerer.{Answerer}
 use Rattle.sip_helper.specs.declared.asked.Answerer.TheVariants.{NoMemory, Refused, Honest}
-use Rattle.sip_helper.specs.declared.vectors.Vectors.{Vectors}
+use Rattle.sip_helper.specs.Vectors.{Vectors}
 use Rattle.sip_helper.specs.Kinds.{HasLearnt, query_proved, help_row}
 use Rattle.sip_helper.specs.Turns.{OpenQuery}
 

@@ -3,7 +3,7 @@ use Rattle.std.specs.Prelude.{◌≡◌, ◌≤◌, ℕ, IsTrue, IfSome, Option}
 use Rattle.sip_helper.specs.declared.asked.Asked.{Asked}
 use Rattle.sip_helper.specs.declared.heard.Heard.{Heard}
 use Rattle.sip_helper.specs.declared.heard.Heard.TheVariants.{Nothing, Whole}
-use Rattle.sip_helper.specs.declared.vectors.Vectors.{Vectors}
+use Rattle.sip_helper.specs.Vectors.{Vectors}
 use Rattle.sip_helper.specs.declared.vectors.Weights.{Weights}
 use Rattle.sip_helper.specs.inside.Answering.{CanReply}
 use Rattle.sip_helper.specs.inside.Legal.{HaveWeights}

@@ -1,7 +1,7 @@
 -- What updates do to the weights, and which vectors have which weights.
 use Rattle.std.specs.Prelude.{ℕ, ◌≡◌, List, Option, Some, None, if◌then◌else◌}
 use Rattle.sip_vector.specs.declared.update.Update.{Update}
-use Rattle.sip_helper.specs.declared.vectors.Vectors.{Vectors}
+use Rattle.sip_helper.specs.Vectors.{Vectors}
 use Rattle.sip_helper.specs.declared.vectors.Weights.{Weights}
 use Rattle.sip_helper.specs.Turns.{weights_after, stays_legal}
 

@@ -3,7 +3,7 @@ use Rattle.std.specs.Prelude.{ℕ, ◌≡◌, List, [], Some, None, Result, Ok, 
 use Rattle.sip_vector.specs.declared.query.Query.{Query}
 use Rattle.sip_helper.specs.declared.prover.NotStarted.{NotStarted}
 use Rattle.sip_helper.specs.declared.prover.NotStarted.TheVariants.{NoMemory, Refused}
-use Rattle.sip_helper.specs.declared.vectors.Vectors.{Vectors}
+use Rattle.sip_helper.specs.Vectors.{Vectors}
 use Rattle.sip_helper.specs.Kinds.{help_row}
 use Rattle.sip_helper.specs.inside.Legal.{HaveDepth}
 
