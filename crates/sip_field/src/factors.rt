@@ -90,3 +90,39 @@ pub fn by_tables<F: Field>(start: F, tables: &[[u64; 128]], index: u64) -> F
     }
     product
 }
+
+/// A number with the residue of what [`by_tables`] answers, where there are N tables: the loop over them has a length that the
+/// compiler knows, and only its end is left to reduce. It is below (N + 1) * 2^61.
+///
+/// One `loose_times` for each table.
+pub fn loosely_by_tables<F: Field, const N: usize>(
+    start: F,
+    tables: &[[u64; 128]],
+    index: u64,
+) -> u64
+    requires exact { length tables.now ≡ N }
+    requires few { N ≤ 7 }
+    requires below { All (All (λ x. x < F.MODULUS)) tables.now }
+    ensures { (zero : ℕ → ℕ) (challenges : List ℕ) → AreTables F.MODULUS zero challenges tables.now
+        → length challenges ≤ 7 * length tables.now → index < 2 ^ length challenges
+        → result % F.MODULUS
+        ≡ (F.number start * bits_product F.MODULUS zero index challenges) % F.MODULUS }
+{
+    let mut product = start.number();
+    let mut path = index;
+    for group in 0..N {
+        product = F::loose_times(product, tables[group][(path % 128) as usize]);
+        path /= 128;
+    }
+    product
+}
+
+/// The residue of a number of 128 bits. Two `times`.
+pub fn of_wide<F: Field>(x: u128) -> F
+    ensures { F.number result ≡ x % F.MODULUS }
+{
+    let high = F::of((x >> 64) as u64);
+    let low = F::of((x % (1 << 64)) as u64);
+    let shift = F::of(u64::MAX).plus(F::of(1));
+    high.times(shift).plus(low)
+}

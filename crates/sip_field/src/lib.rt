@@ -72,7 +72,7 @@ mod small;
 
 pub use arithmetic::{Field, PrimeField};
 pub use drawing::{SeedSpent, draw_challenges, draw_one};
-pub use factors::{Factors, by_tables, fill_tables};
+pub use factors::{Factors, by_tables, fill_tables, loosely_by_tables, of_wide};
 pub use memory::OutOfMemory;
 pub use mersenne::M61;
 pub use polynomial::horner;

@@ -88,6 +88,13 @@ impl Field for M61 {
         reduced_once(low + high)
     }
 
+    fn loose_times(x: u64, y: u64) -> u64 {
+        let product = u128::from(x) * u128::from(y);
+        let low = (product & u128::from(P)) as u64;
+        let high = (product >> 61) as u64;
+        low + high
+    }
+
     ghost odd = { refl };
 
     ghost at_least = { lit≤ tt };

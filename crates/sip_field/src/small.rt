@@ -72,6 +72,10 @@ impl Field for F31 {
         F31::of(self.value * other.value)
     }
 
+    fn loose_times(x: u64, y: u64) -> u64 {
+        (x % P) * y
+    }
+
     ghost odd = { refl };
 
     ghost at_least = { lit≤ tt };
