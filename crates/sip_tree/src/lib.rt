@@ -36,6 +36,7 @@
 //! | `up` | n / 2 | n / 2 `plus` |
 #![tactic(auto)]
 
+mod adding;
 mod augmented;
 mod fold;
 pub mod laws;

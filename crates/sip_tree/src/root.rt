@@ -6,8 +6,9 @@ ghost use Rattle.sip_tree.specs.StandsFor.{RootStandsFor};
 ghost use Rattle.sip_vector.specs.Limits.{most_depth};
 ghost use Rattle.sip_vector.specs.Weights.{raised_numbers, numbers_after, node_weight, weight_above};
 
+use crate::adding::added_by_tables;
 use crate::weight::weighted;
-use sip_field::{Factors, Field, Seat, by_tables, fill_tables};
+use sip_field::{Factors, Field, Seat, fill_tables};
 use sip_vector::Update;
 
 /// The shortest block for which tables are made: below it they cost more than they save.
@@ -71,14 +72,10 @@ impl<F: Field, const CAP: usize> Root<F, CAP> {
                 self.update(update.item, update.delta);
             }
         } else {
-            let mut tables = [[1; 128]; 7];
+            let mut tables = [[0; 128]; 7];
             let count = fill_tables(&mut tables, &self.seat, Factors::Tree);
-            let mut sum = F::of_number(self.value);
-            for update in updates {
-                let delta = F::of_signed(update.delta);
-                sum = sum.plus(by_tables(delta, &tables[..count], update.item));
-            }
-            self.value = sum.number();
+            let root = F::of_number(self.value);
+            self.value = added_by_tables(root, &tables[..count], updates).number();
         }
     }
 
