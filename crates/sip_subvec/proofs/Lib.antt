@@ -12,6 +12,7 @@ pub mod HonestFronts
 pub mod WeightedFolds
 pub mod StatedSums
 pub mod SummedNodes
+pub mod NearEntries
 pub mod TakingSteps
 pub mod Stretches
 pub mod WrongLevels

@@ -1,7 +1,7 @@
 //! Nodes of a level as weighted sums over the entries below them.
 
-ghost use Rattle.std.specs.Prelude.{◌≡◌, ℕ, List, ◌-◌, ◌*◌, ◌%◌, ◌^◌, ◌<◌, ◌≤◌, All, length, map, take, filter, IfOk};
-ghost use Rattle.sip_field.specs.Products.{zero_factor, AreTables};
+ghost use Rattle.std.specs.Prelude.{◌≡◌, ℕ, List, [], ◌+◌, ◌-◌, ◌*◌, ◌%◌, ◌^◌, ◌<◌, ◌≤◌, All, length, map, take, filter, IfOk};
+ghost use Rattle.sip_field.specs.Products.{zero_factor, bits_product, AreTables};
 ghost use Rattle.sip_field.specs.declared.factors.Factors.TheVariants.{Tree};
 ghost use Rattle.sip_subvec.specs.Checking.{entries_sum};
 ghost use Rattle.sip_subvec.specs.Summing.{Rises, entries_below};
@@ -90,6 +90,8 @@ fn stretch(entries: &[Entry], first: u64, last: u64) -> &[Entry]
 
 // The sum of these entries, each times the product of the challenges at the bits of its index that are 1. There are as many
 // challenges as `size` has bits 0, and the higher bits of an index count nothing.
+//
+// Entries near each other have all but their lowest seven bits in common, and these bits' product is looked up once for them.
 fn weighed<F: Field>(entries: &[Entry], tables: &[[u64; 128]], size: u64) -> F
     requires some { 0 < size }
     requires below { All (All (λ x. x < F.MODULUS)) tables.now }
@@ -98,9 +100,62 @@ fn weighed<F: Field>(entries: &[Entry], tables: &[[u64; 128]], size: u64) -> F
         → length challenges ≤ 7 * length tables.now
         → F.number result ≡ entries_sum F.MODULUS challenges entries.now % F.MODULUS }
 {
+    let Some((low, high)) = tables.split_first() else {
+        return valued(entries);
+    };
+    let mut sums = Near {
+        sum: F::of(0),
+        near: F::of(0),
+        path: 0,
+    };
+    for entry in entries {
+        let place = entry.index % size;
+        sums = moved_to(sums, high, place / 128);
+        let product = F::of_number(low[(place % 128) as usize]);
+        let term = F::of_signed(entry.value).times(product);
+        sums.near = sums.near.plus(term);
+    }
+    sums.sum.plus(by_tables(sums.near, high, sums.path))
+}
+
+// A sum, and beside it the sum of the entries that have a path in common above the lowest seven bits of their indices: that one
+// counts as often as the product of the path.
+#[derive(Clone, Copy)]
+struct Near<F: Field> {
+    sum: F,
+    near: F,
+    path: u64,
+}
+
+// The same sum, with another path.
+fn moved_to<F: Field>(sums: Near<F>, high: &[[u64; 128]], path: u64) -> Near<F>
+    requires below { All (All (λ x. x < F.MODULUS)) high.now }
+    ensures path { result.path ≡ path }
+    ensures sum { (challenges : List ℕ)
+        → AreTables F.MODULUS (zero_factor F.MODULUS Tree) challenges high.now
+        → length challenges ≤ 7 * length high.now → sums.path < 2 ^ length challenges
+        → (F.number result.sum + F.number result.near
+        * bits_product F.MODULUS (zero_factor F.MODULUS Tree) path challenges) % F.MODULUS
+        ≡ (F.number sums.sum + F.number sums.near
+        * bits_product F.MODULUS (zero_factor F.MODULUS Tree) sums.path challenges) % F.MODULUS }
+{
+    if sums.path == path {
+        return sums;
+    }
+    Near {
+        sum: sums.sum.plus(by_tables(sums.near, high, sums.path)),
+        near: F::of(0),
+        path,
+    }
+}
+
+// The sum of these entries' values.
+fn valued<F: Field>(entries: &[Entry]) -> F
+    ensures { F.number result ≡ entries_sum F.MODULUS [] entries.now % F.MODULUS }
+{
     let mut sum = F::of(0);
     for entry in entries {
-        sum = sum.plus(by_tables(F::of_signed(entry.value), tables, entry.index % size));
+        sum = sum.plus(F::of_signed(entry.value));
     }
     sum
 }
