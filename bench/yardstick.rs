@@ -1,44 +1,35 @@
-//! The parts of `crates/sip_bench` in plain Rust: the same arithmetic in the same order, with nothing proved and nothing
-//! tested, and the containers of Rust's own library. It prints the same lines.
+//! The parts of `crates/sip_bench` in plain Rust, with nothing proved, by two designs (`plain/mod.rs`). It prints the same lines.
+//!
+//!     yardstick plain|limit PART-DEPTH..
 
-use std::collections::BTreeMap;
+mod plain;
+
+use plain::blocks::Seat;
+use plain::field::{of, plus};
+use plain::lines::Writer;
+use plain::siblings::Tables;
+use plain::streams::{Made, NARROW, Reader, Update, WIDE};
+use plain::vector::Gathering;
+use plain::{Design, Limit, Plain};
 use std::env;
+use std::io::{Cursor, Result};
 use std::process::ExitCode;
 use std::time::{Duration, Instant};
 
 const STREAM_SEED: u64 = 1;
 const SEAT_SEED: u64 = 2;
-const RUNNING_UPDATES: u64 = 4_000_000;
-const VECTOR_UPDATES: u64 = 1_000_000;
+const MADE_SEED: u64 = 7;
 
-/// The modulus of the field.
-const P: u64 = (1 << 61) - 1;
+/// How many updates or records are timed at once, how many blocks a running number gets, and how many are read of a stream.
+const BLOCK: usize = 512;
+const BLOCKS: usize = 1000;
+const READ: usize = 200;
+/// How many updates a vector gets, how many queries it is asked, and the last item of each, which begins at item 0.
+const UPDATES: u64 = 1_000_000;
+const QUERIES: usize = 5;
+const LAST: u64 = 999;
 
-fn reduced_once(x: u64) -> u64 {
-    if x >= P { x - P } else { x }
-}
-
-fn of(x: u64) -> u64 {
-    reduced_once((x & P) + (x >> 61))
-}
-
-fn of_signed(x: i64) -> u64 {
-    x.rem_euclid(P as i64) as u64
-}
-
-fn plus(a: u64, b: u64) -> u64 {
-    reduced_once(a + b)
-}
-
-fn minus(a: u64, b: u64) -> u64 {
-    reduced_once(a + (P - b))
-}
-
-fn times(a: u64, b: u64) -> u64 {
-    let product = u128::from(a) * u128::from(b);
-    reduced_once((product as u64 & P) + (product >> 61) as u64)
-}
-
+/// The linear congruential generator modulo 2^64 of Knuth's MMIX.
 struct Generator(u64);
 
 impl Generator {
@@ -47,13 +38,13 @@ impl Generator {
         self.0
     }
 
-    fn update(&mut self, depth: u32) -> (u64, i64) {
+    fn update(&mut self, depth: u32) -> Update {
         let word = self.next();
-        ((word >> 15) % (1 << depth), (1 + (word >> 12) % 8) as i64)
+        Update { side: 0, item: (word >> 15) % (1 << depth), delta: (1 + (word >> 12) % 8) as i64 }
     }
 }
 
-fn challenges(depth: u32) -> Vec<u64> {
+fn seat(depth: u32) -> Seat {
     let mut generator = Generator(SEAT_SEED);
     (0..depth).map(|_| of(generator.next())).collect()
 }
@@ -62,108 +53,169 @@ fn line(name: &str, depth: u32, count: u64, time: Duration, checksum: u64) {
     println!("{name} {depth} {count} {} {checksum}", time.as_nanos());
 }
 
-/// Times updates of one running number, where `term` is what an update adds.
-fn running(name: &str, depth: u32, term: impl Fn(&[u64], u64, i64) -> u64) {
-    let challenges = challenges(depth);
+/// The least time of turns, so many, and what the last one gave.
+fn least<T>(turns: usize, mut turn: impl FnMut() -> T) -> (Duration, T) {
+    let mut timed = || {
+        let start = Instant::now();
+        let given = turn();
+        (start.elapsed(), given)
+    };
+    let (mut time, mut last) = timed();
+    for _ in 1..turns {
+        let (other, given) = timed();
+        time = time.min(other);
+        last = given;
+    }
+    (time, last)
+}
+
+/// The blocks alone, which are no number's: what they cost in the parts below.
+fn updates(depth: u32) {
     let mut generator = Generator(STREAM_SEED);
+    let mut block = [Update::default(); BLOCK];
+    let mut checksum = 0u64;
+    for _ in 0..BLOCKS {
+        block.fill_with(|| generator.update(depth));
+        checksum = block.iter().fold(checksum, |sum, update| sum.wrapping_add(update.item));
+    }
+    line("updates", depth, BLOCK as u64, Duration::ZERO, checksum);
+}
+
+/// Blocks of updates of a running number. The least time of a block is taken.
+fn running(name: &str, depth: u32, update_all: impl Fn(&Seat, u64, &[Update]) -> u64) {
+    let seat = seat(depth);
+    let mut generator = Generator(STREAM_SEED);
+    let mut block = [Update::default(); BLOCK];
     let mut value = 0;
-    let start = Instant::now();
-    for _ in 0..RUNNING_UPDATES {
-        let (item, delta) = generator.update(depth);
-        value = plus(value, term(&challenges, item, delta));
+    let mut time = Duration::MAX;
+    for _ in 0..BLOCKS {
+        block.fill_with(|| generator.update(depth));
+        let (spent, sum) = least(1, || update_all(&seat, value, &block));
+        value = sum;
+        time = time.min(spent);
     }
-    line(name, depth, RUNNING_UPDATES, start.elapsed(), value);
+    line(name, depth, BLOCK as u64, time, value);
 }
 
-fn root_term(challenges: &[u64], item: u64, delta: i64) -> u64 {
-    let mut product = of_signed(delta);
-    let mut path = item;
-    for &r in challenges {
-        if path % 2 == 1 {
-            product = times(product, r);
-        }
-        path /= 2;
+/// The bytes of a made stream, in the form that `put` writes.
+fn made(depth: u32, mut put: impl FnMut(&mut Writer<&mut Vec<u8>>, &Update) -> Result<()>) -> Vec<u8> {
+    let mut bytes = Vec::new();
+    let mut writer = Writer::new(&mut bytes);
+    let mut made = Made::new(MADE_SEED, depth);
+    for _ in 0..BLOCK * READ {
+        put(&mut writer, &made.next_update()).unwrap();
     }
-    product
+    writer.flush().unwrap();
+    bytes
 }
 
-fn point_term(challenges: &[u64], item: u64, delta: i64) -> u64 {
-    let mut product = of_signed(delta);
-    let mut path = item;
-    for &r in challenges {
-        let factor = if path % 2 == 1 { r } else { minus(1, r) };
-        product = times(product, factor);
-        path /= 2;
-    }
-    product
+fn made_records<const SIZE: usize>(depth: u32) -> Vec<u8> {
+    made(depth, |writer, update| writer.record::<SIZE>(update))
 }
 
-fn augroot_term(challenges: &[u64], item: u64, delta: i64) -> u64 {
-    let mut weight = 1;
-    let mut path = item;
-    for &r in challenges {
-        let sum = plus(weight, r);
-        weight = if path % 2 == 1 { times(sum, times(r, r)) } else { sum };
-        path /= 2;
-    }
-    times(of_signed(delta), weight)
+fn made_lines(depth: u32) -> Vec<u8> {
+    made(depth, |writer, update| writer.line(update))
 }
 
-/// Folds a level of rising spots in place.
-fn fold(spots: &mut Vec<(u64, u64)>, r: u64) {
-    let mut written = 0;
-    let mut read = 0;
-    while read < spots.len() {
-        let (first, value) = spots[read];
-        let (count, left, right) = match spots.get(read + 1) {
-            Some(&(second, right)) if second / 2 == first / 2 => (2, value, right),
-            _ if first % 2 == 0 => (1, value, 0),
-            _ => (1, 0, value),
-        };
-        read += count;
-        let above = plus(left, times(r, right));
-        if above != 0 {
-            spots[written] = (first / 2, above);
-            written += 1;
-        }
-    }
-    spots.truncate(written);
+/// The bytes alone, which nothing reads: what they cost in a part that reads them.
+fn bytes(name: &str, depth: u32, bytes: Vec<u8>) {
+    line(name, depth, BLOCK as u64, Duration::ZERO, bytes.len() as u64);
 }
 
-fn vector(depth: u32) {
-    let mut entries: BTreeMap<u64, i64> = BTreeMap::new();
+fn checksum_with(checksum: u64, update: &Update) -> u64 {
+    checksum.wrapping_mul(3).wrapping_add(update.item + u64::from(update.side)).wrapping_add(update.delta as u64)
+}
+
+fn records<const SIZE: usize>(depth: u32) {
+    let mut reader = Reader::new(Cursor::new(made_records::<SIZE>(depth)), depth);
+    let mut checksum = 0;
+    let (time, ()) = least(READ, || {
+        let records = reader.records::<SIZE>(BLOCK, |update| checksum = checksum_with(checksum, &update)).unwrap();
+        assert_eq!(records.len(), SIZE * BLOCK);
+    });
+    line("records", depth, BLOCK as u64, time, checksum);
+}
+
+fn text<D: Design>(depth: u32) {
+    let mut reader = Reader::new(Cursor::new(made_lines(depth)), depth);
+    let mut checksum = 0;
+    let (time, ()) = least(READ, || {
+        let count = D::lines(&mut reader, BLOCK, |update| checksum = checksum_with(checksum, &update)).unwrap();
+        assert_eq!(count, BLOCK);
+    });
+    line("text", depth, BLOCK as u64, time, checksum);
+}
+
+/// A vector of updates, settled, and the time that they took.
+fn gathered<D: Design>(depth: u32) -> (Duration, D::Vector) {
+    let mut vector = D::Vector::new(depth);
     let mut generator = Generator(STREAM_SEED);
     let start = Instant::now();
-    for _ in 0..VECTOR_UPDATES {
-        let (item, delta) = generator.update(depth);
-        let value = entries.get(&item).copied().unwrap_or(0) + delta;
-        if value == 0 {
-            entries.remove(&item);
-        } else {
-            entries.insert(item, value);
+    for _ in 0..UPDATES {
+        let update = generator.update(depth);
+        vector.add(update.item, update.delta);
+    }
+    vector.settle();
+    (start.elapsed(), vector)
+}
+
+fn vector<D: Design>(depth: u32) {
+    let (time, vector) = gathered::<D>(depth);
+    line("vector", depth, UPDATES, time, vector.list().iter().map(|entry| entry.value).sum::<i64>().unsigned_abs());
+}
+
+/// The sum of all siblings of one query, level by level. It begins at item 0, so that none is a left one.
+fn all_siblings<D: Design>(seat: &Seat, vector: &D::Vector) -> u64 {
+    let mut tables = Tables::default();
+    let mut sum = 0;
+    for (level, &r) in seat.iter().enumerate() {
+        let hi = LAST >> level;
+        if hi % 2 == 0 {
+            sum = plus(sum, D::weighed(&tables, tables.stretch(vector.list(), hi + 1)));
         }
+        tables.learn(r);
     }
-    line("vector", depth, VECTOR_UPDATES, start.elapsed(), entries.values().sum::<i64>().unsigned_abs());
-    let challenges = challenges(depth);
-    let mut spots: Vec<(u64, u64)> = entries.iter().map(|(index, value)| (*index, of_signed(*value))).collect();
-    let start = Instant::now();
-    for &r in &challenges {
-        fold(&mut spots, r);
+    sum
+}
+
+/// Queries about a vector, one like the other. The least time of one is taken.
+fn siblings<D: Design>(depth: u32) {
+    let (_, vector) = gathered::<D>(depth);
+    let seat = seat(depth);
+    let (time, sum) = least(QUERIES, || all_siblings::<D>(&seat, &vector));
+    line("siblings", depth, vector.list().len() as u64, time, sum);
+}
+
+fn part<D: Design>(name: &str, depth: u32) {
+    match name {
+        "updates" => updates(depth),
+        "recordbytes" if depth > 32 => bytes(name, depth, made_records::<WIDE>(depth)),
+        "recordbytes" => bytes(name, depth, made_records::<NARROW>(depth)),
+        "textbytes" => bytes(name, depth, made_lines(depth)),
+        "root" => running(name, depth, D::root),
+        "point" => running(name, depth, D::point),
+        "augroot" => running(name, depth, D::augroot),
+        "records" if depth > 32 => records::<WIDE>(depth),
+        "records" => records::<NARROW>(depth),
+        "text" => text::<D>(depth),
+        "vector" => vector::<D>(depth),
+        "siblings" => siblings::<D>(depth),
+        _ => eprintln!("yardstick: no such part: {name}"),
     }
-    let time = start.elapsed();
-    line("fold", depth, entries.len() as u64, time, spots.first().map_or(0, |spot| spot.1));
 }
 
 fn main() -> ExitCode {
-    for word in env::args().skip(1) {
-        match word.as_str() {
-            "root-20" => running("root", 20, root_term),
-            "root-32" => running("root", 32, root_term),
-            "point-20" => running("point", 20, point_term),
-            "point-32" => running("point", 32, point_term),
-            "augroot-20" => running("augroot", 20, augroot_term),
-            "augroot-32" => running("augroot", 32, augroot_term),
-            "vector-20" => vector(20),
+    let words: Vec<String> = env::args().skip(1).collect();
+    let Some((design, parts)) = words.split_first() else {
+        return ExitCode::FAILURE;
+    };
+    for word in parts {
+        let Some((name, depth)) = word.split_once('-').and_then(|(name, depth)| Some((name, depth.parse().ok()?))) else {
+            return ExitCode::FAILURE;
+        };
+        match design.as_str() {
+            "plain" => part::<Plain>(name, depth),
+            "limit" => part::<Limit>(name, depth),
             _ => return ExitCode::FAILURE,
         }
     }

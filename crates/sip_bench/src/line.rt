@@ -4,30 +4,34 @@ use sip_vector::Depth;
 use std::fmt::{self, Display, Formatter, Write};
 use std::time::Duration;
 
-/// What is timed.
+/// What is timed, or stands beside it.
 #[derive(Clone, Copy)]
 pub(crate) enum Part {
+    Updates,
     Root,
-    Roots,
     Point,
-    Points,
     AugRoot,
-    AugRoots,
+    RecordBytes,
+    Records,
+    TextBytes,
+    Text,
     Vector,
-    Fold,
+    Siblings,
 }
 
 impl Part {
     fn name(self) -> &'static str {
         match self {
+            Part::Updates => "updates",
             Part::Root => "root",
-            Part::Roots => "roots",
             Part::Point => "point",
-            Part::Points => "points",
             Part::AugRoot => "augroot",
-            Part::AugRoots => "augroots",
+            Part::RecordBytes => "recordbytes",
+            Part::Records => "records",
+            Part::TextBytes => "textbytes",
+            Part::Text => "text",
             Part::Vector => "vector",
-            Part::Fold => "fold",
+            Part::Siblings => "siblings",
         }
     }
 }
@@ -37,10 +41,20 @@ impl Part {
 pub(crate) struct Line {
     pub(crate) part: Part,
     pub(crate) depth: Depth,
-    /// The number of updates, or of entries that are folded.
+    /// How many updates or records were taken in that time, or how many entries a vector has that are not 0.
     pub(crate) count: u64,
+    /// The least time of all turns.
     pub(crate) time: Duration,
     pub(crate) checksum: u64,
+}
+
+/// The lesser of two times.
+pub(crate) fn lesser(one: Duration, other: Duration) -> Duration {
+    if other.as_nanos() < one.as_nanos() {
+        other
+    } else {
+        one
+    }
 }
 
 /// `NAME DEPTH COUNT NANOSECONDS CHECKSUM`.

@@ -1,41 +1,49 @@
-//! Times the verifier's running numbers and the helper's vector.
+//! Times the verifier's running numbers, its reader, and the helper's vector and siblings.
 //!
-//! Each word names a part, as `root-20`: a root over 2^20 items, or `roots-20`: the same, fed by blocks of 500 updates.
-//! Without words it does nothing. A part prints a line
-//! `NAME DEPTH COUNT NANOSECONDS CHECKSUM`, the vector's two, which `bench/yardstick.rs`, the same in plain Rust, prints
-//! too. `docs/BENCH.md` tells how the two are compared.
+//! Each word names a part and a depth, as `root-20`: a root over 2^20 items, fed by blocks of 512 updates. Without words it
+//! does nothing. A part prints a line `NAME DEPTH COUNT NANOSECONDS CHECKSUM`, which `bench/yardstick.rs`, the same in plain
+//! Rust, prints too. `docs/BENCH.md` tells how the two are compared.
 #![tactic(auto)]
 
+mod blocks;
+mod held;
 mod line;
-mod parts;
 mod stream;
+mod streams;
+mod vectors;
 
+use line::{Line, Part};
+use sip_stream::Form;
+use std::alloc::Global;
+use std::time::Clock;
 use std::{env, io};
 
+/// What the part of a word reports. Its name and its depth stand on the two sides of a hyphen.
+fn line_of(clock: &impl Clock, alloc: Global, word: &str) -> io::Result<Line> {
+    let Some((name, depth)) = word.split_once('-') else {
+        return Err(io::ErrorKind::InvalidInput.into());
+    };
+    let Some(depth) = stream::depth_of(depth) else {
+        return Err(io::ErrorKind::InvalidInput.into());
+    };
+    match name {
+        "updates" => Ok(blocks::updates(depth)),
+        "root" => blocks::root(clock, depth),
+        "point" => blocks::point(clock, depth),
+        "augroot" => blocks::augroot(clock, depth),
+        "recordbytes" => streams::bytes(alloc, Part::RecordBytes, depth, Form::made(depth)),
+        "records" => streams::read(clock, alloc, Part::Records, depth, Form::made(depth)),
+        "textbytes" => streams::bytes(alloc, Part::TextBytes, depth, Form::Text),
+        "text" => streams::read(clock, alloc, Part::Text, depth, Form::Text),
+        "vector" => Ok(vectors::vector(clock, alloc, depth)?.1),
+        "siblings" => vectors::siblings(clock, alloc, depth),
+        _ => Err(io::ErrorKind::InvalidInput.into()),
+    }
+}
+
 fn main(rt: HostRuntime) -> io::Result<()> {
-    let small = stream::depth_20();
-    let large = stream::depth_32();
     for word in env::args(&rt)?.skip(1) {
-        match word.as_str() {
-            "root-20" => println!(rt; "{}", parts::root(&rt, small)?)?,
-            "root-32" => println!(rt; "{}", parts::root(&rt, large)?)?,
-            "roots-20" => println!(rt; "{}", parts::root_blocks(&rt, small)?)?,
-            "roots-32" => println!(rt; "{}", parts::root_blocks(&rt, large)?)?,
-            "point-20" => println!(rt; "{}", parts::point(&rt, small)?)?,
-            "point-32" => println!(rt; "{}", parts::point(&rt, large)?)?,
-            "points-20" => println!(rt; "{}", parts::point_blocks(&rt, small)?)?,
-            "points-32" => println!(rt; "{}", parts::point_blocks(&rt, large)?)?,
-            "augroot-20" => println!(rt; "{}", parts::augroot(&rt, small)?)?,
-            "augroot-32" => println!(rt; "{}", parts::augroot(&rt, large)?)?,
-            "augroots-20" => println!(rt; "{}", parts::augroot_blocks(&rt, small)?)?,
-            "augroots-32" => println!(rt; "{}", parts::augroot_blocks(&rt, large)?)?,
-            "vector-20" => {
-                let (vector, line) = parts::vector(&rt, rt.alloc(), small)?;
-                println!(rt; "{line}")?;
-                println!(rt; "{}", parts::fold(&rt, rt.alloc(), &vector)?)?;
-            }
-            _ => return Err(io::ErrorKind::InvalidInput.into()),
-        }
+        println!(rt; "{}", line_of(&rt, rt.alloc(), word.as_str())?)?;
     }
     Ok(())
 }

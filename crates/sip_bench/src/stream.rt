@@ -51,16 +51,12 @@ pub(crate) fn seat(depth: Depth) -> Seat<M61, CAP>
     Seat::of(&challenges[..usize::from(depth.get())]).unwrap()
 }
 
-/// A million items.
-pub(crate) fn depth_20() -> Depth
-    ensures { result ≡ 20 }
-{
-    Depth::new(20).unwrap()
-}
-
-/// 2^32 items.
-pub(crate) fn depth_32() -> Depth
-    ensures { result ≡ 32 }
-{
-    Depth::new(32).unwrap()
+/// The depths at which parts are timed.
+pub(crate) fn depth_of(word: &str) -> Option<Depth> {
+    match word {
+        "20" => Depth::new(20),
+        "32" => Depth::new(32),
+        "48" => Depth::new(48),
+        _ => None,
+    }
 }

@@ -1,5 +1,5 @@
 use Rattle.std.proofs.Common.{◌≡◌, ◌*◌, ◌≤◌}
-use Rattle.sip_bench.proofs.parts.vector.Given as goal
+use Rattle.sip_bench.proofs.vectors.vector.Given as goal
 
 -- no delta is above 8
 abbrev pub invariant-loop : goal.invariant-loop

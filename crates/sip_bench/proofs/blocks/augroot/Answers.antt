@@ -7,13 +7,13 @@ use Rattle.sip_tree.specs.Blocks.{total_after}
 use Rattle.std.proofs.lemmas.Nat.{pow_pos}
 use Rattle.sip_vector.specs.Limits.{most_depth}
 use Rattle.sip_vector.specs.declared.update.Update.{Update}
-use Rattle.sip_bench.proofs.parts.augroot_blocks.Goals as goal
+use Rattle.sip_bench.proofs.blocks.augroot.Goals as goal
 
 pub loop-init : goal.loop-init
 loop-init g c =
     let inside : Update → Type 0 = λ u. u.item < 2 ^ c.args.depth in
     let small : Update → Type 0 = λ u. nat_abs u.delta ≤ 8 in
-    record { seat = search rules; long = refl; items = All-replicate inside 500 _ (pow_pos _); deltas = All-replicate small 500 _ (omega arith); total = search rules }
+    record { seat = search rules; long = refl; items = All-replicate inside 512 _ (pow_pos _); deltas = All-replicate small 512 _ (omega arith); total = search rules }
 
 bounded : (t : ℤ) (us : List Update) → All (λ u. nat_abs u.delta ≤ 8) us → nat_abs (total_after t us) ≤ nat_abs t + 8 * length us
 bounded t [] h = omega arith
@@ -29,7 +29,7 @@ update_all-requires g c =
     let block : List Update = c.loop-at.block in
     let small : Update → Type 0 = λ v. nat_abs v.delta ≤ 8 in
     let deep : length c.loop.root.seat ≤ most_depth = search rules in
-    let few : c.loop.counter < 8000 = c.loop-test.true in (
+    let few : c.loop.counter < 1000 = c.loop-test.true in (
       omega arith,
       (
         deep,

@@ -1,0 +1,77 @@
+"""The parts of crates/sip_bench, beside those of yardstick.rs."""
+
+import os
+
+from harness.children import Child, wait
+from harness.counts import count
+from harness.programs import valgrind
+from harness.tables import Table
+
+# What is in a part beside that which is measured, for the counts of instructions.
+BESIDE = {
+    "root": "updates",
+    "point": "updates",
+    "augroot": "updates",
+    "records": "recordbytes",
+    "text": "textbytes",
+    "vector": None,
+    "siblings": "vector",
+}
+
+# How many updates or records a part has in all, where its line tells those of one block; and how many queries.
+ALL = {"root": 512_000, "point": 512_000, "augroot": 512_000, "records": 102_400, "text": 102_400, "vector": 1_000_000}
+QUERIES = 5
+
+
+class Line:
+    """What a part says of itself."""
+
+    def __init__(self, program, part, depth, work):
+        out = os.path.join(work, "line")
+        child = Child([*program, f"{part}-{depth}"], out)
+        wait([child])
+        name, depth, count, time, self.checksum = open(out).read().split()
+        self.count = int(count)
+        self.nanoseconds = int(time)
+        if name == "vector":
+            # The least of many short turns can't be taken of one that is long. Its CPU time is that of the whole program.
+            self.nanoseconds = child.cpu * 1e9
+
+
+def measure(programs, settings, work):
+    programs = programs.parts()
+    records = Table("parts", "ns a record, and callgrind's instructions/mispredictions", programs)
+    queries = Table("siblings of one query, a million updates", "ms, and millions of instructions/mispredictions", programs)
+    checksums = {}
+    for _ in range(settings.rounds):
+        for part in BESIDE:
+            for depth in settings.depths:
+                for program, words in programs.items():
+                    line = Line(words, part, depth, work)
+                    checksum = checksums.setdefault((part, depth), line.checksum)
+                    if line.checksum != checksum:
+                        raise SystemExit(f"{program} computes {line.checksum} in {part}-{depth}, and not {checksum}")
+                    if part == "siblings":
+                        queries.saw(f"depth {depth}", program, line.nanoseconds / 1e6)
+                    else:
+                        records.saw(f"{part} {depth}", program, line.nanoseconds / line.count)
+    if valgrind():
+        for part in BESIDE:
+            for depth in settings.depths:
+                for program, words in programs.items():
+                    counts = counts_of(words, part, depth, work)
+                    if part == "siblings":
+                        queries.note(f"depth {depth}", program, counts.by(1e6))
+                    else:
+                        records.note(f"{part} {depth}", program, counts)
+    records.show()
+    queries.show()
+    return records.above + queries.above
+
+
+def counts_of(words, part, depth, work):
+    """What a record of a part takes, or a query, without what is beside it."""
+    whole = count([*words, f"{part}-{depth}"], work)
+    beside = BESIDE[part]
+    without = count([*words, f"{beside}-{depth}"] if beside else words, work)
+    return whole.less(without).by(ALL.get(part, QUERIES))

@@ -1,0 +1,49 @@
+"""The programs that are compared, built where they are not given."""
+
+import os
+import shutil
+import subprocess
+
+TOP = os.path.dirname(os.path.dirname(os.path.dirname(os.path.abspath(__file__))))
+
+
+def proved(crate, words):
+    """A proved program, which `rt run` proves and builds where that is still to do."""
+    given = os.environ.get(crate.upper())
+    if given:
+        return os.path.abspath(given)
+    folder = os.path.join(TOP, "crates", crate)
+    built = subprocess.run(["rt", "run", "--", *words], cwd=folder, capture_output=True, text=True)
+    if built.returncode != 0:
+        raise SystemExit(f"{crate} is not built:\n{built.stdout}{built.stderr}")
+    return os.path.join(folder, "out", crate)
+
+
+def plain(name, work):
+    """A program in plain Rust."""
+    path = os.path.join(work, name)
+    subprocess.run(["rustc", "--edition", "2024", "-O", "-o", path, os.path.join(TOP, "bench", name + ".rs")], check=True)
+    return path
+
+
+class Programs:
+    """A program is the words that it begins with."""
+
+    def __init__(self, work):
+        self.work = work
+
+    def talks(self):
+        """Those that have both ends of a talk, by name. `old` is there only where its path is given."""
+        talk = plain("talk", self.work)
+        programs = {"sip": [proved("sip", ["--version"])], "plain": [talk, "plain"], "limit": [talk, "limit"]}
+        if os.environ.get("OLD"):
+            programs["old"] = [os.path.abspath(os.environ["OLD"])]
+        return programs
+
+    def parts(self):
+        yardstick = plain("yardstick", self.work)
+        return {"sip": [proved("sip_bench", [])], "plain": [yardstick, "plain"], "limit": [yardstick, "limit"]}
+
+
+def valgrind():
+    return shutil.which("valgrind")

@@ -1,0 +1,30 @@
+"""The stack that either end uses at most."""
+
+from harness.children import run
+from harness.talks import Talks
+
+MOST = 64 * 1024
+RECORDS = 100_000
+
+
+def measure(programs, settings, work):
+    programs = programs.talks()
+    print(f"\nstack, {RECORDS} records: bytes of the main thread's that were touched, by pages")
+    print(f"{'':26}" + "".join(f"{name:>9}" for name in programs))
+    starts = [run([*program, "--version"], traced=True).stack if name == "sip" else None for name, program in programs.items()]
+    print(f"{'--version':26}" + "".join(f"{'-' if stack is None else stack:>9}" for stack in starts))
+    above = []
+    for depth in settings.depths:
+        for queries in settings.queries:
+            talks = Talks(programs["sip"], RECORDS, depth, work)
+            stacks = {}
+            for name, program in programs.items():
+                if name != "old" or depth <= 32:
+                    stacks[name] = [child.stack for child in talks.talk(name, program, queries, traced=True)]
+            for which, end in enumerate(("help", "verify")):
+                line = f"{end:6} {depth} {queries:2}"
+                cells = [str(stacks[name][which]) if name in stacks else "-" for name in programs]
+                print(line.ljust(26) + "".join(f"{cell:>9}" for cell in cells), flush=True)
+                if stacks["sip"][which] > MOST:
+                    above.append(f"stack: {line} uses {stacks['sip'][which]} bytes, and {MOST} are allowed")
+    return above

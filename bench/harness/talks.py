@@ -1,0 +1,131 @@
+"""Whole talks of both ends over two FIFOs."""
+
+import filecmp
+import os
+
+from harness.children import Child, run, wait
+from harness.counts import counted, counting
+from harness.programs import valgrind
+from harness.settings import stream_word
+from harness.tables import Table
+
+# Each query is for so many items; query K, from 0, for those from K * 65,536 on.
+ITEMS = 1000
+APART = 65_536
+
+
+class Talks:
+    """Talks about one stream."""
+
+    def __init__(self, sip, records, depth, work):
+        self.depth = depth
+        self.work = work
+        self.stream, self.seed = self.path("stream"), self.path("seed")
+        self.fifos = [self.path("to.helper"), self.path("from.helper")]
+        run([*sip, "gen", 7, records, depth], self.stream)
+        with open(self.seed, "wb") as seed:
+            seed.write(os.urandom(32))
+        for fifo in self.fifos:
+            if not os.path.exists(fifo):
+                os.mkfifo(fifo)
+
+    def path(self, name):
+        return os.path.join(self.work, name)
+
+    def ends(self, program, queries):
+        """The words of the two ends."""
+        to_helper, from_helper = self.fifos
+        helper = [*program, "help", to_helper, from_helper]
+        verifier = [*program, "verify", stream_word(self.stream, self.depth), self.seed, from_helper, to_helper, "-", self.depth]
+        return helper, verifier + [f"sub:{k * APART}:{k * APART + ITEMS - 1}" for k in range(queries)]
+
+    def talk(self, name, program, queries, traced=False):
+        """Runs both ends, and compares the report with that of sip, which is run first."""
+        report = self.path(f"report.{name}")
+        helper, verifier = self.ends(program, queries)
+        ends = [Child(helper, traced=traced), Child(verifier, report, traced=traced)]
+        wait(ends)
+        if not filecmp.cmp(report, self.path("report.sip"), shallow=False):
+            raise SystemExit(f"the report of {name} differs at depth {self.depth}, {queries} queries")
+        return ends
+
+    def count(self, program, queries, which):
+        """What one end executes, 0 the helper and 1 the verifier."""
+        out = self.path("callgrind.out")
+        ends = list(self.ends(program, queries))
+        ends[which] = counting(ends[which], out)
+        wait([Child(words) for words in ends])
+        return counted(out)
+
+
+def measure(programs, settings, work):
+    programs = programs.talks()
+    table = Table("talks", "ms of CPU of an end, and the most memory that it has, in KiB", programs)
+    memory = {}
+    for records in settings.records:
+        for depth in settings.depths:
+            talks = Talks(programs["sip"], records, depth, work)
+            for queries in settings.queries:
+                for _ in range(settings.rounds):
+                    for name, program in reachable(programs, depth):
+                        see(table, talks.talk(name, program, queries), name, (records, depth, queries))
+                for name, program in reachable(programs, depth):
+                    ends = talks.talk(name, program, queries, traced=True)
+                    for end, child in zip(("help", "verify"), ends):
+                        memory[end, records, depth, queries, name] = child.peak
+                        table.note(line_name(end, records, depth, queries), f"{name} KiB", child.peak)
+    table.show()
+    return table.above + grown(memory, settings)
+
+
+def line_name(end, records, depth, queries):
+    return f"{end:6} {depth} {queries:2} {records:9}"
+
+
+def see(table, ends, name, line):
+    for end, child in zip(("help", "verify"), ends):
+        table.saw(line_name(end, *line), name, child.cpu * 1e3)
+
+
+def reachable(programs, depth):
+    """An old program may have no depth above 32."""
+    return [(name, program) for name, program in programs.items() if name != "old" or depth <= 32]
+
+
+def grown(memory, settings):
+    """A verifier's memory must not grow with its stream."""
+    above = []
+    few, most = min(settings.records), max(settings.records)
+    for depth in settings.depths:
+        for queries in settings.queries:
+            small, large = (memory["verify", records, depth, queries, "sip"] for records in (few, most))
+            if large > small + 64:
+                above.append(f"memory: verify holds {large - small} KiB more for {most} records at depth {depth}")
+    return above
+
+
+# How many records make the difference whose instructions are counted.
+COUNTED = 100_000
+
+
+def count_ends(programs, settings, work):
+    """Counts what a record takes of each end: the difference of two talks about streams of different lengths."""
+    if not valgrind():
+        return []
+    programs = programs.talks()
+    print(f"\nends, by the difference of talks about {COUNTED} and {2 * COUNTED} records: instructions/mispredictions a record")
+    print(f"{'':26}" + "".join(f"{name:>15}" for name in programs))
+    for depth in settings.depths:
+        for queries in settings.queries:
+            for which, end in enumerate(("help", "verify")):
+                cells = []
+                for name, program in programs.items():
+                    if (name, program) not in reachable(programs, depth):
+                        cells.append("-")
+                        continue
+                    counts = []
+                    for records in (COUNTED, 2 * COUNTED):
+                        counts.append(Talks(programs["sip"], records, depth, work).count(program, queries, which))
+                    cells.append(str(counts[1].less(counts[0]).by(COUNTED)))
+                print(f"{end:6} {depth} {queries:2}".ljust(26) + "".join(f"{cell:>15}" for cell in cells), flush=True)
+    return []

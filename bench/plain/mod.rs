@@ -1,0 +1,95 @@
+//! The work of a verifier and a helper in plain Rust, with nothing proved, twice: by the designs that suit it best, made of the
+//! field's own `times` and `plus` (`Plain`), and by the further forms that are the limit (`Limit`): sums of lazy products in 128
+//! bits, radix sorts of packed words, digits eight at a time.
+
+// Each of the two programs uses a part.
+#![allow(dead_code)]
+
+pub mod blocks;
+pub mod field;
+pub mod frames;
+pub mod helper;
+pub mod lines;
+pub mod siblings;
+pub mod streams;
+pub mod vector;
+pub mod verifier;
+
+use blocks::Seat;
+use siblings::Tables;
+use std::io::Result;
+use streams::{Reader, Update};
+use vector::{Entry, Gathering, PackedVector, SortedVector};
+
+/// How the work is done.
+pub trait Design {
+    /// One side's vector.
+    type Vector: Gathering;
+
+    /// The root after a block of updates.
+    fn root(seat: &Seat, value: u64, block: &[Update]) -> u64;
+
+    /// The multilinear extension after a block of updates.
+    fn point(seat: &Seat, value: u64, block: &[Update]) -> u64;
+
+    /// The hash of the augmented root after a block of updates.
+    fn augroot(seat: &Seat, value: u64, block: &[Update]) -> u64;
+
+    /// The sum of entries, each times the product of the challenges at the bits of its index that are 1, up to a level.
+    fn weighed(tables: &Tables, entries: &[Entry]) -> u64;
+
+    /// Gives the update of each of the next lines, so many or as many as there are, and answers how many there were.
+    fn lines(reader: &mut Reader, most: usize, each: impl FnMut(Update)) -> Result<usize>;
+}
+
+pub struct Plain;
+
+impl Design for Plain {
+    type Vector = SortedVector;
+
+    fn root(seat: &Seat, value: u64, block: &[Update]) -> u64 {
+        blocks::root(seat, value, block)
+    }
+
+    fn point(seat: &Seat, value: u64, block: &[Update]) -> u64 {
+        blocks::point(seat, value, block)
+    }
+
+    fn augroot(seat: &Seat, value: u64, block: &[Update]) -> u64 {
+        blocks::augroot(seat, value, block)
+    }
+
+    fn weighed(tables: &Tables, entries: &[Entry]) -> u64 {
+        tables.weighed(entries)
+    }
+
+    fn lines(reader: &mut Reader, most: usize, each: impl FnMut(Update)) -> Result<usize> {
+        reader.lines(most, lines::parsed, each)
+    }
+}
+
+pub struct Limit;
+
+impl Design for Limit {
+    type Vector = PackedVector;
+
+    fn root(seat: &Seat, value: u64, block: &[Update]) -> u64 {
+        blocks::lazy_root(seat, value, block)
+    }
+
+    fn point(seat: &Seat, value: u64, block: &[Update]) -> u64 {
+        blocks::lazy_point(seat, value, block)
+    }
+
+    fn augroot(seat: &Seat, value: u64, block: &[Update]) -> u64 {
+        blocks::lazy_augroot(seat, value, block)
+    }
+
+    fn weighed(tables: &Tables, entries: &[Entry]) -> u64 {
+        tables.lazy_weighed(entries)
+    }
+
+    fn lines(reader: &mut Reader, most: usize, each: impl FnMut(Update)) -> Result<usize> {
+        reader.lines(most, lines::parsed_by_eight, each)
+    }
+}

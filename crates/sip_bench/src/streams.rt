@@ -1,0 +1,93 @@
+//! Reads of a stream that lies in memory.
+
+ghost use Rattle.std.specs.Prelude.{◌≤◌};
+ghost use Rattle.sip_stream.specs.Layouts.{deepest_in};
+
+use crate::held::HeldSource;
+use crate::line::{Line, Part, lesser};
+use sip_ports::MemorySink;
+use sip_stream::{Form, MadeSource, Reader, copy};
+use sip_vector::{Depth, Side, Update};
+use std::alloc::Global;
+use std::io;
+use std::time::{Clock, Duration, Instant};
+
+/// How many records are timed at once, and how often.
+const BLOCK: u64 = 512;
+
+const BLOCKS: u64 = 200;
+
+fn side_number(side: Side) -> u64 {
+    match side {
+        Side::First => 0,
+        Side::Second => 1,
+    }
+}
+
+fn checksum_with(checksum: u64, update: &Update) -> u64 {
+    checksum
+        .wrapping_mul(3)
+        .wrapping_add(update.item)
+        .wrapping_add(side_number(update.side))
+        .wrapping_add(update.delta.cast_unsigned())
+}
+
+/// The bytes of a made stream in this form.
+fn made(alloc: Global, depth: Depth, form: Form) -> io::Result<MemorySink>
+    requires { depth ≤ deepest_in form }
+{
+    let mut source = MadeSource::new(7, BLOCK * BLOCKS, depth);
+    let mut sink = MemorySink::new(alloc, usize::MAX, Vec::new(alloc));
+    match copy(depth, Form::made(depth), form, &mut source, &mut sink) {
+        Ok(()) => Ok(sink),
+        Err(_) => Err(io::ErrorKind::OutOfMemory.into()),
+    }
+}
+
+/// The bytes alone, which nothing reads: what they cost in a part that reads them.
+pub(crate) fn bytes(alloc: Global, part: Part, depth: Depth, form: Form) -> io::Result<Line>
+    requires { depth ≤ deepest_in form }
+{
+    let sink = made(alloc, depth, form)?;
+    Ok(Line {
+        part,
+        depth,
+        count: BLOCK,
+        time: Duration::ZERO,
+        checksum: sink.bytes().len() as u64,
+    })
+}
+
+/// Reads of the records of a made stream, which lies in memory in this form. The least time of a block is taken.
+pub(crate) fn read(
+    clock: &impl Clock,
+    alloc: Global,
+    part: Part,
+    depth: Depth,
+    form: Form,
+) -> io::Result<Line>
+    requires { depth ≤ deepest_in form }
+{
+    let sink = made(alloc, depth, form)?;
+    let mut source = HeldSource::new(sink.bytes());
+    let mut reader = Reader::new(depth, form);
+    let mut checksum = 0;
+    let mut time = Duration::MAX;
+    for _ in 0..BLOCKS {
+        let start = Instant::now(clock)?;
+        for _ in 0..BLOCK {
+            match reader.next(&mut source) {
+                Ok(Some(update)) => checksum = checksum_with(checksum, &update),
+                _ => return Err(io::ErrorKind::InvalidData.into()),
+            }
+        }
+        time = lesser(time, start.elapsed(clock)?);
+    }
+    Ok(Line {
+        part,
+        depth,
+        count: BLOCK,
+        time,
+        checksum,
+    })
+}
