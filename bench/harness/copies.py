@@ -4,7 +4,7 @@ import filecmp
 import os
 
 from harness.children import run
-from harness.settings import stream_word
+from harness.settings import reachable, stream_word
 from harness.tables import Table
 
 
@@ -22,10 +22,10 @@ def measure(programs, settings, work):
             "lines text:": (["lines", f"text:{text}", depth], text),
         }
         for name, (words, wanted) in copies.items():
-            for program, begins in programs.items():
+            for program, begins in reachable(programs, depth):
                 compare(program, [*begins, *words], wanted, work)
             for _ in range(settings.rounds):
-                for program, begins in programs.items():
+                for program, begins in reachable(programs, depth):
                     table.saw(f"{name} {depth}", program, run([*begins, *words]).cpu * 1e9 / records)
     table.show()
     return table.above

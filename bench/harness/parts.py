@@ -61,9 +61,9 @@ def measure(programs, settings, work):
                 for program, words in programs.items():
                     counts = counts_of(words, part, depth, work)
                     if part == "siblings":
-                        queries.note(f"depth {depth}", program, counts.by(1e6))
+                        queries.note(f"depth {depth}", f"{program} count", counts.by(1e6))
                     else:
-                        records.note(f"{part} {depth}", program, counts)
+                        records.note(f"{part} {depth}", f"{program} count", counts)
     records.show()
     queries.show()
     return records.above + queries.above

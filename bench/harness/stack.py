@@ -1,6 +1,7 @@
 """The stack that either end uses at most."""
 
 from harness.children import run
+from harness.settings import reachable
 from harness.talks import Talks
 
 MOST = 64 * 1024
@@ -11,16 +12,16 @@ def measure(programs, settings, work):
     programs = programs.talks()
     print(f"\nstack, {RECORDS} records: bytes of the main thread's that were touched, by pages")
     print(f"{'':26}" + "".join(f"{name:>9}" for name in programs))
-    starts = [run([*program, "--version"], traced=True).stack if name == "sip" else None for name, program in programs.items()]
-    print(f"{'--version':26}" + "".join(f"{'-' if stack is None else stack:>9}" for stack in starts))
+    # What the start of a program takes, the loader among it.
+    starts = [run([*program, "gen", 7, 1, 20], traced=True).stack for program in programs.values()]
+    print(f"{'gen of one record':26}" + "".join(f"{stack:>9}" for stack in starts))
     above = []
     for depth in settings.depths:
         for queries in settings.queries:
             talks = Talks(programs["sip"], RECORDS, depth, work)
             stacks = {}
-            for name, program in programs.items():
-                if name != "old" or depth <= 32:
-                    stacks[name] = [child.stack for child in talks.talk(name, program, queries, traced=True)]
+            for name, program in reachable(programs, depth):
+                stacks[name] = [child.stack for child in talks.talk(name, program, queries, traced=True)]
             for which, end in enumerate(("help", "verify")):
                 line = f"{end:6} {depth} {queries:2}"
                 cells = [str(stacks[name][which]) if name in stacks else "-" for name in programs]

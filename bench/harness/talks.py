@@ -6,7 +6,7 @@ import os
 from harness.children import Child, run, wait
 from harness.counts import counted, counting
 from harness.programs import valgrind
-from harness.settings import stream_word
+from harness.settings import reachable, stream_word
 from harness.tables import Table
 
 # Each query is for so many items; query K, from 0, for those from K * 65,536 on.
@@ -87,11 +87,6 @@ def see(table, ends, name, line):
         table.saw(line_name(end, *line), name, child.cpu * 1e3)
 
 
-def reachable(programs, depth):
-    """An old program may have no depth above 32."""
-    return [(name, program) for name, program in programs.items() if name != "old" or depth <= 32]
-
-
 def grown(memory, settings):
     """A verifier's memory must not grow with its stream."""
     above = []
@@ -117,15 +112,16 @@ def count_ends(programs, settings, work):
     print(f"{'':26}" + "".join(f"{name:>15}" for name in programs))
     for depth in settings.depths:
         for queries in settings.queries:
+            cells = {}
+            for records in (COUNTED, 2 * COUNTED):
+                talks = Talks(programs["sip"], records, depth, work)
+                for name, program in reachable(programs, depth):
+                    for which in (0, 1):
+                        cells.setdefault((name, which), []).append(talks.count(program, queries, which))
             for which, end in enumerate(("help", "verify")):
-                cells = []
-                for name, program in programs.items():
-                    if (name, program) not in reachable(programs, depth):
-                        cells.append("-")
-                        continue
-                    counts = []
-                    for records in (COUNTED, 2 * COUNTED):
-                        counts.append(Talks(programs["sip"], records, depth, work).count(program, queries, which))
-                    cells.append(str(counts[1].less(counts[0]).by(COUNTED)))
-                print(f"{end:6} {depth} {queries:2}".ljust(26) + "".join(f"{cell:>15}" for cell in cells), flush=True)
+                print(f"{end:6} {depth} {queries:2}".ljust(26), end="")
+                for name in programs:
+                    few, more = cells.get((name, which), (None, None))
+                    print(f"{str(more.less(few).by(COUNTED)) if few else '-':>15}", end="")
+                print(flush=True)
     return []

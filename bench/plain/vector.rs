@@ -107,8 +107,9 @@ impl Gathering for SortedVector {
     }
 }
 
-/// How many bits of an index one pass of a sort looks at, at most.
+/// How many bits of an index one pass of a sort looks at, and how many all passes do, at most.
 const DIGIT: u32 = 11;
+const SORTED: u32 = 2 * DIGIT;
 
 /// What is pending is kept as words of an index and a delta, and sorted by their digits. A delta that has no room there waits as an
 /// entry.
@@ -128,29 +129,38 @@ impl PackedVector {
         1 << (63 - self.depth)
     }
 
-    /// Sorts the words by their indices, by passes over digits of as equal a width as can be.
+    /// Sorts the words by their indices: by passes over digits of the highest bits, and the few that are left together each for
+    /// themselves.
     fn sort(&mut self) {
-        let passes = self.depth.div_ceil(DIGIT);
-        let width = self.depth.div_ceil(passes);
-        let mask = (1usize << width) - 1;
+        let bits = self.depth.min(SORTED);
+        let passes = bits.div_ceil(DIGIT);
+        let width = bits.div_ceil(passes);
         self.sorted.resize(self.pending.len(), 0);
         for pass in 0..passes {
-            let shift = 64 - self.depth + pass * width;
-            let mut places = [0u32; 1 << DIGIT];
-            for word in &self.pending {
-                places[(word >> shift) as usize & mask] += 1;
-            }
-            let mut place = 0;
-            for count in &mut places {
-                (*count, place) = (place, place + *count);
-            }
-            for &word in &self.pending {
-                let at = &mut places[(word >> shift) as usize & mask];
-                self.sorted[*at as usize] = word;
-                *at += 1;
-            }
-            swap(&mut self.pending, &mut self.sorted);
+            self.sort_by_digit(64 - bits + pass * width, width);
         }
+        if bits < self.depth {
+            let runs = self.pending.chunk_by_mut(|word, next| word >> (64 - bits) == next >> (64 - bits));
+            runs.filter(|run| run.len() > 1).for_each(<[u64]>::sort_unstable);
+        }
+    }
+
+    fn sort_by_digit(&mut self, shift: u32, width: u32) {
+        let mask = (1usize << width) - 1;
+        let mut places = [0u32; 1 << DIGIT];
+        for word in &self.pending {
+            places[(word >> shift) as usize & mask] += 1;
+        }
+        let mut place = 0;
+        for count in &mut places {
+            (*count, place) = (place, place + *count);
+        }
+        for &word in &self.pending {
+            let at = &mut places[(word >> shift) as usize & mask];
+            self.sorted[*at as usize] = word;
+            *at += 1;
+        }
+        swap(&mut self.pending, &mut self.sorted);
     }
 
     /// Makes the sums of the words of each index, once they are sorted.
