@@ -26,6 +26,9 @@ pub trait Design {
     /// One side's vector.
     type Vector: Gathering;
 
+    /// How many frames of a stream a verifier gathers before it adds their updates to its roots.
+    const FRAMES: usize;
+
     /// The root after a block of updates.
     fn root(seat: &Seat, value: u64, block: &[Update]) -> u64;
 
@@ -46,6 +49,8 @@ pub struct Plain;
 
 impl Design for Plain {
     type Vector = SortedVector;
+
+    const FRAMES: usize = 1;
 
     fn root(seat: &Seat, value: u64, block: &[Update]) -> u64 {
         blocks::root(seat, value, block)
@@ -72,6 +77,8 @@ pub struct Limit;
 
 impl Design for Limit {
     type Vector = PackedVector;
+
+    const FRAMES: usize = 8;
 
     fn root(seat: &Seat, value: u64, block: &[Update]) -> u64 {
         blocks::lazy_root(seat, value, block)

@@ -36,22 +36,26 @@ fn weighted(value: u64, above: &[u64], index: u64) -> u64 {
 /// Reads the stream, adds its records of side 0 to the roots, and sends all of them as they are.
 fn feed<D: Design, const SIZE: usize>(stream: &mut Reader, queries: &mut [Query], link: &mut Link) -> Result<()> {
     let mut frame = Frame::default();
-    let mut first = vec![Update::default(); MOST_ROWS + 1];
+    let mut first = vec![Update::default(); D::FRAMES * MOST_ROWS + 1];
+    let mut count = 0;
     loop {
-        let mut count = 0;
         // Which side an update is of is as good as random, so there is no branch on it.
         let records = stream.records::<SIZE>(MOST_ROWS, |update| {
             first[count] = update;
             count += usize::from(update.side == 0);
         })?;
-        for query in &mut *queries {
-            query.root = D::root(&query.seat, query.root, &first[..count]);
-        }
         let rows = (records.len() / SIZE) as u16;
+        let is_last = usize::from(rows) < MOST_ROWS;
         if rows > 0 {
             link.send(&mut frame, UPDATES, &[&rows.to_be_bytes(), records])?;
         }
-        if usize::from(rows) < MOST_ROWS {
+        if is_last || count > (D::FRAMES - 1) * MOST_ROWS {
+            for query in &mut *queries {
+                query.root = D::root(&query.seat, query.root, &first[..count]);
+            }
+            count = 0;
+        }
+        if is_last {
             return link.send(&mut frame, END_STREAM, &[]);
         }
     }
