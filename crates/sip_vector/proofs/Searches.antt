@@ -88,6 +88,17 @@ module _ {F : Type 0} (number : F → ℕ) where
       ∙ filter-partitioned spots bound at parts)
       ∙ first-drop spots at)
 
+  not_below_0 : (i : ℕ) → ltb i 0 ≡ false
+  not_below_0 i = grind (arith, nat_tests)
+
+  -- from 0 on they are all spots
+  pub nonzero_from-all : (n : ℕ) (spots : List (Spot F)) → IsSparse 0 0 n (pairs spots) → nonzero_from 0 (dense 0 n (pairs spots)) ≡ pairs spots
+  nonzero_from-all n spots h =
+      let all = enumerate_from 0 (dense 0 n (pairs spots)) in
+      filter-both (λ (e : ℕ × ℕ). leb 0 e.0) (λ (e : ℕ × ℕ). not (eqb e.1 0)) all
+      ∙ ap (filter (λ (e : ℕ × ℕ). leb 0 e.0)) (passing-dense 0 (λ x. not (eqb x 0)) refl (λ x some. ap not (ne_eqb x 0 some)) 0 n (pairs spots) h)
+      ∙ filter-partitioned spots 0 0 (λ k d le lt. absurd (omega arith), λ k d le lt. not_below_0 (get_or spots k d).index)
+
 -- ---- the first node that is not 0, and the nodes before it
 
 -- s is the first of xs, numbered from `start` on, that is not 0 at `least` or after it

@@ -6,7 +6,7 @@ ghost use Rattle.sip_field.specs.Residue.{residue};
 ghost use Rattle.sip_vector.specs.Trees.{up};
 ghost use Rattle.sip_vector.specs.Extensions.{line};
 ghost use Rattle.sip_vector.specs.Limits.{most_depth};
-ghost use Rattle.sip_vector.specs.Sparse.{IsSparse};
+ghost use Rattle.sip_vector.specs.Sparse.{IsSparse, dense};
 ghost use Rattle.sip_vector.specs.Streams.{most_weight};
 ghost use Rattle.sip_vector.specs.Vectors.{numbers_of};
 ghost use Rattle.sip_vector.specs.inside.Gathered.{as_pair, abs_sum};
@@ -159,6 +159,17 @@ impl<F: Field> Level<F> {
             Some(spot) if spot.index == index => spot.value,
             _ => F::of(0),
         }
+    }
+
+    /// The nodes that are not 0, in the order of their indices: the list that is kept. O(1).
+    pub fn nonzero(&self) -> &[Spot<F>]
+        ensures all { map (index_and_residue F.number) result.now ≡ nonzero_from 0 self.now }
+        ensures sparse { IsSparse 0 0 (length self.now)
+            (map (index_and_residue F.number) result.now) }
+        ensures level { dense 0 (length self.now)
+            (map (index_and_residue F.number) result.now) ≡ self.now }
+    {
+        &self.spots
     }
 
     /// The first node that is not 0, at `from` or after it. `None` where there is none. O(log m), without memory.

@@ -33,6 +33,7 @@
 //! | `Vector::add` | O(log p) over many calls | one entry; once in a while as `settle` |
 //! | `Vector::settle` | O(m + p log p), or O(2^depth) where that is at most 4 (m + p) | as many entries as m + p |
 //! | `Vector::get` | O(log m + p) | none |
+//! | `Vector::entries_with_pending` | O(m + p log p) | as many entries as m + p |
 //! | `Vector::next_entry`, `Vector::count_in` | O(log m); with p above 0 O(log m + p) for each index tried | none |
 //! | `Vector::is_strict` | O(m); with p above 0 O(log m + p) for each index tried | none |
 //! | `Level::of` | O(m), and O(p log p) | one spot for each entry; with p above 0 the list of entries too |

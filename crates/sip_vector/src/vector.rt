@@ -133,6 +133,14 @@ impl Vector {
         self.settled_list()
     }
 
+    /// A copy of the entries that are not 0, in the order of their indices, also where additions are pending.
+    /// O(m + p log p), and memory for m + p entries.
+    pub fn entries_with_pending(&self, alloc: Global) -> Result<Vec<Entry>, OutOfMemory>
+        ensures { IfOk result (λ list. list.items ≡ nonzero self.now.numbers) }
+    {
+        self.merged_list(alloc)
+    }
+
     // The list, where nothing is pending.
     pub(crate) fn settled_list(&self) -> Option<&[Entry]>
         ensures list { IfSome result (λ list. IsListOf (contents self.now) list.now) }
