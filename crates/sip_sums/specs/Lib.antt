@@ -1,0 +1,14 @@
+pub mod AcceptsSum
+pub mod Polynomials
+pub mod Questions
+pub mod Checking
+pub mod Protocol
+pub mod Asking
+pub mod Honest
+pub mod Stating
+pub mod Counting
+pub mod Examples
+pub mod LawProofs
+pub mod Pairs
+pub mod Claims
+pub mod Factor
