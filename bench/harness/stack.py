@@ -2,7 +2,7 @@
 
 from harness.children import run
 from harness.settings import reachable
-from harness.talks import Talks
+from harness.talks import Talks, parts
 
 MOST = 64 * 1024
 RECORDS = 100_000
@@ -21,7 +21,7 @@ def measure(programs, settings, work):
             talks = Talks(programs["sip"], RECORDS, depth, work)
             stacks = {}
             for name, program in reachable(programs, depth):
-                stacks[name] = [child.stack for child in talks.talk(name, program, queries, traced=True)]
+                stacks[name] = [child.stack for child in talks.talk(name, program, parts(queries), traced=True)]
             for which, end in enumerate(("help", "verify")):
                 line = f"{end:6} {depth} {queries:2}"
                 cells = [str(stacks[name][which]) if name in stacks else "-" for name in programs]

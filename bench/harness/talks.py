@@ -14,6 +14,11 @@ ITEMS = 1000
 APART = 65_536
 
 
+def parts(count):
+    """The words of so many queries for sub-vectors."""
+    return [f"sub:{k * APART}:{k * APART + ITEMS - 1}" for k in range(count)]
+
+
 class Talks:
     """Talks about one stream."""
 
@@ -33,11 +38,11 @@ class Talks:
         return os.path.join(self.work, name)
 
     def ends(self, program, queries):
-        """The words of the two ends."""
+        """The words of the two ends, of the words of the queries."""
         to_helper, from_helper = self.fifos
         helper = [*program, "help", to_helper, from_helper]
         verifier = [*program, "verify", stream_word(self.stream, self.depth), self.seed, from_helper, to_helper, "-", self.depth]
-        return helper, verifier + [f"sub:{k * APART}:{k * APART + ITEMS - 1}" for k in range(queries)]
+        return helper, verifier + queries
 
     def talk(self, name, program, queries, traced=False):
         """Runs both ends, and compares the report with that of sip, which is run first."""
@@ -46,7 +51,7 @@ class Talks:
         ends = [Child(helper, traced=traced), Child(verifier, report, traced=traced)]
         wait(ends)
         if not filecmp.cmp(report, self.path("report.sip"), shallow=False):
-            raise SystemExit(f"the report of {name} differs at depth {self.depth}, {queries} queries")
+            raise SystemExit(f"the report of {name} differs at depth {self.depth}: {' '.join(queries)}")
         return ends
 
     def count(self, program, queries, which):
@@ -68,9 +73,9 @@ def measure(programs, settings, work):
             for queries in settings.queries:
                 for _ in range(settings.rounds):
                     for name, program in reachable(programs, depth):
-                        see(table, talks.talk(name, program, queries), name, (records, depth, queries))
+                        see(table, talks.talk(name, program, parts(queries)), name, (records, depth, queries))
                 for name, program in reachable(programs, depth):
-                    ends = talks.talk(name, program, queries, traced=True)
+                    ends = talks.talk(name, program, parts(queries), traced=True)
                     for end, child in zip(("help", "verify"), ends):
                         memory[end, records, depth, queries, name] = child.peak
                         table.note(line_name(end, records, depth, queries), f"{name} KiB", child.peak)
@@ -117,7 +122,7 @@ def count_ends(programs, settings, work):
                 talks = Talks(programs["sip"], records, depth, work)
                 for name, program in reachable(programs, depth):
                     for which in (0, 1):
-                        cells.setdefault((name, which), []).append(talks.count(program, queries, which))
+                        cells.setdefault((name, which), []).append(talks.count(program, parts(queries), which))
             for which, end in enumerate(("help", "verify")):
                 print(f"{end:6} {depth} {queries:2}".ljust(26), end="")
                 for name in programs:

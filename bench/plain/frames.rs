@@ -11,11 +11,14 @@ pub const END_STREAM: u8 = 0x03;
 pub const QUERY: u8 = 0x04;
 pub const REVEAL: u8 = 0x05;
 pub const BYE: u8 = 0x06;
+pub const CLAIM: u8 = 0x11;
+pub const POLY: u8 = 0x12;
 pub const ENTRIES: u8 = 0x13;
 pub const SIBLINGS: u8 = 0x14;
 pub const REFUSE: u8 = 0x18;
 
-/// How many rows a frame has at most, how many entries an answer, and the greatest absolute value of an entry.
+/// How many rows a frame has at most, how many entries an answer, and the greatest absolute value of an entry or a
+/// claim.
 pub const MOST_ROWS: usize = 512;
 pub const MOST_ENTRIES: usize = 65_536;
 pub const MOST_VALUE: u64 = (1 << 60) - 1;

@@ -2,8 +2,10 @@
 
 use super::Design;
 use super::frames::*;
+use super::questions::Question;
 use super::siblings::Tables;
 use super::streams::{Legality, NARROW, WIDE, bad, record_of};
+use super::sums::Prover;
 use super::vector::Gathering;
 use std::io::Result;
 
@@ -32,26 +34,17 @@ impl<V: Gathering> Sides<V> {
     }
 }
 
-/// The query that is open.
-struct Asked {
+/// A query for a sub-vector that is open.
+struct Part {
     lo: u64,
     hi: u64,
     level: u32,
     tables: Tables,
 }
 
-impl Asked {
-    /// The query of a frame.
-    fn of(body: &[u8], depth: u32) -> Result<Asked> {
-        let width = item_width(depth);
-        if body.len() != 1 + 2 * width || body[0] != 1 {
-            return Err(bad("BadCount"));
-        }
-        let (lo, hi) = (number(&body[1..1 + width]), number(&body[1 + width..]));
-        if lo > hi || hi >= 1 << depth {
-            return Err(bad("BadNumber"));
-        }
-        Ok(Asked { lo, hi, level: 0, tables: Tables::default() })
+impl Part {
+    fn new(lo: u64, hi: u64) -> Part {
+        Part { lo, hi, level: 0, tables: Tables::default() }
     }
 
     fn send_entries<V: Gathering>(&self, vector: &V, depth: u32, frame: &mut Frame, link: &mut Link) -> Result<()> {
@@ -91,6 +84,73 @@ impl Asked {
     }
 }
 
+/// The query that is open.
+enum Asked<'a> {
+    Part(Part),
+    Sum(Prover<'a>),
+}
+
+fn send_poly(prover: &Prover, frame: &mut Frame, link: &mut Link) -> Result<()> {
+    let [c0, c1, c2] = prover.poly().map(u64::to_be_bytes);
+    link.send(frame, POLY, &[&c0, &c1, &c2])
+}
+
+/// The two vectors and the link of a talk whose stream has ended.
+struct Answering<'a, D: Design> {
+    sides: &'a Sides<D::Vector>,
+    frame: Frame,
+    link: Link,
+}
+
+impl<'a, D: Design> Answering<'a, D> {
+    /// Begins a query, and sends what only its first reply has.
+    fn begin(&mut self, question: Question) -> Result<Asked<'a>> {
+        let (depth, [first, second]) = (self.sides.depth, &self.sides.vectors);
+        let list = |side: usize| self.sides.vectors[side].list();
+        let (claim, prover) = match question {
+            Question::Sub { lo, hi } => {
+                let part = Part::new(lo, hi);
+                part.send_entries(first, depth, &mut self.frame, &mut self.link)?;
+                return Ok(Asked::Part(part));
+            }
+            Question::Range { side, lo, hi } => Prover::range(depth, list(side), lo, hi),
+            Question::F2 { side } => Prover::squares(depth, list(side)),
+            Question::Inner => Prover::products(depth, first.list(), second.list()),
+        };
+        self.link.send(&mut self.frame, CLAIM, &[&claim.to_be_bytes()])?;
+        Ok(Asked::Sum(prover))
+    }
+
+    /// Sends what all replies have.
+    fn reply(&mut self, asked: &Asked) -> Result<()> {
+        match asked {
+            Asked::Part(part) => part.send_siblings::<D>(&self.sides.vectors[0], &mut self.frame, &mut self.link),
+            Asked::Sum(prover) => send_poly(prover, &mut self.frame, &mut self.link),
+        }
+    }
+
+    /// Answers a query to its end.
+    fn answer(&mut self, question: Question) -> Result<()> {
+        let mut asked = self.begin(question)?;
+        self.reply(&asked)?;
+        for _ in 1..self.sides.depth {
+            let r = match self.link.receive()? {
+                (REVEAL, body) if body.len() == 8 => element(body)?,
+                _ => return Err(bad("a frame is out of turn")),
+            };
+            match &mut asked {
+                Asked::Part(part) => {
+                    part.tables.learn(r);
+                    part.level += 1;
+                }
+                Asked::Sum(prover) => prover.learn::<D::Products>(r),
+            }
+            self.reply(&asked)?;
+        }
+        Ok(())
+    }
+}
+
 /// The two vectors of the stream that is sent first.
 fn gather<D: Design>(link: &mut Link) -> Result<Sides<D::Vector>> {
     let depth = match link.receive()? {
@@ -112,28 +172,16 @@ fn gather<D: Design>(link: &mut Link) -> Result<Sides<D::Vector>> {
 
 pub fn help<D: Design>(from: &str, to: &str) -> Result<()> {
     let mut link = Link::open(from, to, false)?;
-    let Sides { depth, vectors: [first, _second], .. } = gather::<D>(&mut link)?;
-    let mut frame = Frame::default();
-    let mut asked: Option<Asked> = None;
+    let sides = gather::<D>(&mut link)?;
+    let mut answering = Answering::<D> { sides: &sides, frame: Frame::default(), link };
     loop {
-        match link.receive()? {
-            (QUERY, body) if asked.is_none() => {
-                let query = asked.insert(Asked::of(body, depth)?);
-                query.send_entries(&first, depth, &mut frame, &mut link)?;
-            }
-            (REVEAL, body) if body.len() == 8 => {
-                let query = asked.as_mut().ok_or_else(|| bad("a frame is out of turn"))?;
-                query.tables.learn(element(body)?);
-                query.level += 1;
+        match answering.link.receive()? {
+            (QUERY, body) => {
+                let question = Question::of_body(body, sides.depth)?;
+                answering.answer(question)?;
             }
             (BYE, []) => return Ok(()),
             _ => return Err(bad("a frame is out of turn")),
-        }
-        if let Some(query) = &asked {
-            query.send_siblings::<D>(&first, &mut frame, &mut link)?;
-            if query.level + 1 == depth {
-                asked = None;
-            }
         }
     }
 }

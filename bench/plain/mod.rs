@@ -9,13 +9,18 @@ pub mod blocks;
 pub mod field;
 pub mod frames;
 pub mod helper;
+pub mod interval;
 pub mod lines;
+pub mod products;
+pub mod questions;
 pub mod siblings;
 pub mod streams;
+pub mod sums;
 pub mod vector;
 pub mod verifier;
 
 use blocks::Seat;
+use products::{Lazy, Products, Reduced};
 use siblings::Tables;
 use std::io::Result;
 use streams::{Reader, Update};
@@ -25,6 +30,9 @@ use vector::{Entry, Gathering, PackedVector, SortedVector};
 pub trait Design {
     /// One side's vector.
     type Vector: Gathering;
+
+    /// The sums of products of a round polynomial.
+    type Products: Products;
 
     /// How many frames of a stream a verifier gathers before it adds their updates to its roots.
     const FRAMES: usize;
@@ -49,6 +57,7 @@ pub struct Plain;
 
 impl Design for Plain {
     type Vector = SortedVector;
+    type Products = Reduced;
 
     const FRAMES: usize = 1;
 
@@ -77,6 +86,7 @@ pub struct Limit;
 
 impl Design for Limit {
     type Vector = PackedVector;
+    type Products = Lazy;
 
     const FRAMES: usize = 8;
 

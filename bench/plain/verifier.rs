@@ -4,27 +4,40 @@ use super::Design;
 use super::blocks::{self, Seat};
 use super::field::{of, of_signed, plus, times};
 use super::frames::*;
+use super::interval::Interval;
 use super::lines::Writer;
+use super::questions::Question;
 use super::streams::{NARROW, Reader, Update, WIDE, bad};
+use super::sums::{sum_of_ends, value_at};
 use std::fs::File;
-use std::io::{Read, Result, stdout};
+use std::io::{Read, Result, Write, stdout};
 
 /// The shortest block for which tables are made.
 const BLOCK: usize = 32;
 
 struct Query {
-    lo: u64,
-    hi: u64,
+    question: Question,
     seat: Seat,
-    root: u64,
+    /// The numbers of the two sides: of side 0 the root for a sub-vector, and for a sum the extensions of those that it is about.
+    numbers: [u64; 2],
 }
 
-/// The query of a word `sub:LO:HI`, at these challenges.
-fn query_of(word: &str, seat: Seat) -> Result<Query> {
-    let numbers: Vec<u64> = word.split(':').skip(1).filter_map(|number| number.parse().ok()).collect();
-    match numbers[..] {
-        [lo, hi] if lo <= hi && hi < 1 << seat.len() => Ok(Query { lo, hi, seat, root: 0 }),
-        _ => Err(bad("a word is no query")),
+impl Query {
+    fn update<D: Design>(&mut self, side: usize, block: &[Update]) {
+        if self.question.is_about(side) {
+            let update_all = if matches!(self.question, Question::Sub { .. }) { D::root } else { D::point };
+            self.numbers[side] = update_all(&self.seat, self.numbers[side], block);
+        }
+    }
+
+    /// What the last value of a sum has to be.
+    fn product(&self) -> u64 {
+        match self.question {
+            Question::Sub { .. } => 0,
+            Question::Range { side, lo, hi } => times(self.numbers[side], Interval::extension(lo, hi, &self.seat)),
+            Question::F2 { side } => times(self.numbers[side], self.numbers[side]),
+            Question::Inner => times(self.numbers[0], self.numbers[1]),
+        }
     }
 }
 
@@ -33,27 +46,35 @@ fn weighted(value: u64, above: &[u64], index: u64) -> u64 {
     above.iter().enumerate().fold(value, |product, (bit, &r)| if index >> bit & 1 == 1 { times(product, r) } else { product })
 }
 
-/// Reads the stream, adds its records of side 0 to the roots, and sends all of them as they are.
-fn feed<D: Design, const SIZE: usize>(stream: &mut Reader, queries: &mut [Query], link: &mut Link) -> Result<()> {
+/// Reads the stream, adds its records to the numbers, those of side 1 only where they are asked about, and sends all of them as
+/// they are.
+fn feed<D: Design, const SIZE: usize, const BOTH: bool>(stream: &mut Reader, queries: &mut [Query], link: &mut Link) -> Result<()> {
     let mut frame = Frame::default();
-    let mut first = vec![Update::default(); D::FRAMES * MOST_ROWS + 1];
-    let mut count = 0;
+    let room = || vec![Update::default(); D::FRAMES * MOST_ROWS + 1];
+    let (mut first, mut second) = (room(), if BOTH { room() } else { Vec::new() });
+    let mut counts = [0, 0];
     loop {
         // Which side an update is of is as good as random, so there is no branch on it.
+        let [mut zeros, mut ones] = counts;
         let records = stream.records::<SIZE>(MOST_ROWS, |update| {
-            first[count] = update;
-            count += usize::from(update.side == 0);
+            first[zeros] = update;
+            zeros += usize::from(update.side == 0);
+            if BOTH {
+                second[ones] = update;
+                ones += usize::from(update.side == 1);
+            }
         })?;
+        counts = [zeros, ones];
         let rows = (records.len() / SIZE) as u16;
         let is_last = usize::from(rows) < MOST_ROWS;
         if rows > 0 {
             link.send(&mut frame, UPDATES, &[&rows.to_be_bytes(), records])?;
         }
-        if is_last || count > (D::FRAMES - 1) * MOST_ROWS {
-            for query in &mut *queries {
-                query.root = D::root(&query.seat, query.root, &first[..count]);
+        for (side, updates) in [&first, &second].into_iter().enumerate() {
+            if is_last || counts[side] > (D::FRAMES - 1) * MOST_ROWS {
+                queries.iter_mut().for_each(|query| query.update::<D>(side, &updates[..counts[side]]));
+                counts[side] = 0;
             }
-            count = 0;
         }
         if is_last {
             return link.send(&mut frame, END_STREAM, &[]);
@@ -61,9 +82,11 @@ fn feed<D: Design, const SIZE: usize>(stream: &mut Reader, queries: &mut [Query]
     }
 }
 
-/// What a query's replies have said so far.
+/// What the replies to a query for a sub-vector have said so far.
 struct Check<'a> {
-    query: &'a Query,
+    lo: u64,
+    hi: u64,
+    seat: &'a Seat,
     entries: Vec<Update>,
     sum: u64,
 }
@@ -76,8 +99,8 @@ impl Check<'_> {
             if entry.delta == 0 || entry.delta.unsigned_abs() > MOST_VALUE {
                 return Err(bad("BadNumber"));
             }
-            let lowest = self.entries.last().map_or(self.query.lo, |last| last.item + 1);
-            if entry.item < lowest || entry.item > self.query.hi {
+            let lowest = self.entries.last().map_or(self.lo, |last| last.item + 1);
+            if entry.item < lowest || entry.item > self.hi {
                 return Err(bad("BadOrder"));
             }
             if self.entries.len() == MOST_ENTRIES {
@@ -87,17 +110,17 @@ impl Check<'_> {
         }
         let block = &self.entries[from..];
         if block.len() >= BLOCK {
-            self.sum = blocks::root(&self.query.seat, self.sum, block);
+            self.sum = blocks::root(self.seat, self.sum, block);
         } else {
             for entry in block {
-                self.sum = plus(self.sum, weighted(of_signed(entry.delta), &self.query.seat, entry.item));
+                self.sum = plus(self.sum, weighted(of_signed(entry.delta), self.seat, entry.item));
             }
         }
         Ok(())
     }
 
     fn hear_siblings(&mut self, body: &[u8], level: usize) -> Result<()> {
-        let (lo, hi) = (self.query.lo >> level, self.query.hi >> level);
+        let (lo, hi) = (self.lo >> level, self.hi >> level);
         let (left, right) = (lo % 2 == 1, hi % 2 == 0);
         if body.len() != 1 + 8 * (usize::from(left) + usize::from(right)) || body[0] != u8::from(left) + 2 * u8::from(right) {
             return Err(bad("BadFlags"));
@@ -105,7 +128,7 @@ impl Check<'_> {
         let mut elements = body[1..].chunks_exact(8);
         let mut add = |index: u64| {
             let sibling = element(elements.next().unwrap())?;
-            self.sum = plus(self.sum, weighted(sibling, &self.query.seat[level..], index));
+            self.sum = plus(self.sum, weighted(sibling, &self.seat[level..], index));
             Ok(())
         };
         if left {
@@ -115,17 +138,20 @@ impl Check<'_> {
     }
 }
 
-/// Asks a query, and answers its entries.
-fn ask(query: &Query, link: &mut Link) -> Result<Vec<Update>> {
+/// Reveals the challenge of the level below, unless this is the first.
+fn reveal(query: &Query, level: usize, frame: &mut Frame, link: &mut Link) -> Result<()> {
+    if level == 0 {
+        return Ok(());
+    }
+    link.send(frame, REVEAL, &[&query.seat[level - 1].to_be_bytes()])
+}
+
+/// Hears the replies to a query for a sub-vector, and answers its entries.
+fn hear_part(query: &Query, (lo, hi): (u64, u64), frame: &mut Frame, link: &mut Link) -> Result<Vec<Update>> {
     let width = item_width(query.seat.len() as u32);
-    let item = |item: u64| item.to_be_bytes()[8 - width..].to_vec();
-    let mut frame = Frame::default();
-    link.send(&mut frame, QUERY, &[&[1], &item(query.lo), &item(query.hi)])?;
-    let mut check = Check { query, entries: Vec::new(), sum: 0 };
+    let mut check = Check { lo, hi, seat: &query.seat, entries: Vec::new(), sum: 0 };
     for level in 0..query.seat.len() {
-        if level > 0 {
-            link.send(&mut frame, REVEAL, &[&query.seat[level - 1].to_be_bytes()])?;
-        }
+        reveal(query, level, frame, link)?;
         loop {
             match link.receive()? {
                 (ENTRIES, body) if level == 0 => check.hear_entries(rows(body, width + 8)?, width)?,
@@ -134,7 +160,46 @@ fn ask(query: &Query, link: &mut Link) -> Result<Vec<Update>> {
             }
         }
     }
-    if check.sum == query.root { Ok(check.entries) } else { Err(bad("Root")) }
+    if check.sum == query.numbers[0] { Ok(check.entries) } else { Err(bad("Root")) }
+}
+
+/// Hears the replies to a query for a sum, and answers the claim.
+fn hear_sum(query: &Query, frame: &mut Frame, link: &mut Link) -> Result<i64> {
+    let claim = match link.receive()? {
+        (CLAIM, body) if body.len() == 8 => number(body) as i64,
+        _ => return Err(bad("BadKind")),
+    };
+    if claim.unsigned_abs() > MOST_VALUE {
+        return Err(bad("BadNumber"));
+    }
+    let mut expected = of_signed(claim);
+    for (level, &r) in query.seat.iter().enumerate() {
+        reveal(query, level, frame, link)?;
+        let poly = match link.receive()? {
+            (POLY, body) if body.len() == 24 => [element(&body[..8])?, element(&body[8..16])?, element(&body[16..])?],
+            _ => return Err(bad("BadKind")),
+        };
+        if sum_of_ends(&poly) != expected {
+            return Err(bad("Sum"));
+        }
+        expected = value_at(&poly, r);
+    }
+    if expected == query.product() { Ok(claim) } else { Err(bad("Root")) }
+}
+
+/// Asks a query, and writes what follows its word in the report.
+fn ask<W: Write>(query: &Query, link: &mut Link, report: &mut Writer<W>) -> Result<()> {
+    let mut frame = Frame::default();
+    link.send(&mut frame, QUERY, &[&query.question.body(query.seat.len() as u32)])?;
+    let Question::Sub { lo, hi } = query.question else {
+        let claim = hear_sum(query, &mut frame, link)?;
+        return report.word(&format!(" {claim}"));
+    };
+    let entries = hear_part(query, (lo, hi), &mut frame, link)?;
+    if entries.is_empty() {
+        report.word(" none")?;
+    }
+    entries.iter().try_for_each(|entry| report.entry(entry.item, entry.delta))
 }
 
 /// The queries of these words, with challenges from a linear congruential generator.
@@ -146,7 +211,11 @@ fn queries_of(seed: &str, depth: u32, words: &[String]) -> Result<Vec<Query>> {
         state = state.wrapping_mul(6_364_136_223_846_793_005).wrapping_add(1_442_695_040_888_963_407);
         of(state)
     };
-    words.iter().map(|word| query_of(word, (0..depth).map(|_| next()).collect())).collect()
+    let query = |word: &String| {
+        let question = Question::of_word(word, depth)?;
+        Ok(Query { question, seat: (0..depth).map(|_| next()).collect(), numbers: [0; 2] })
+    };
+    words.iter().map(query).collect()
 }
 
 pub fn verify<D: Design>(stream: &str, seed: &str, from: &str, to: &str, depth: u32, words: &[String]) -> Result<()> {
@@ -158,21 +227,17 @@ pub fn verify<D: Design>(stream: &str, seed: &str, from: &str, to: &str, depth: 
     let mut link = Link::open(from, to, true)?;
     let mut frame = Frame::default();
     link.send(&mut frame, OPEN, &[&[1 + u8::from(is_wide), depth as u8]])?;
-    if is_wide {
-        feed::<D, WIDE>(&mut stream, &mut queries, &mut link)?;
-    } else {
-        feed::<D, NARROW>(&mut stream, &mut queries, &mut link)?;
+    let is_of_both = queries.iter().any(|query| query.question.is_about(1));
+    match (is_wide, is_of_both) {
+        (true, true) => feed::<D, WIDE, true>(&mut stream, &mut queries, &mut link)?,
+        (true, false) => feed::<D, WIDE, false>(&mut stream, &mut queries, &mut link)?,
+        (false, true) => feed::<D, NARROW, true>(&mut stream, &mut queries, &mut link)?,
+        (false, false) => feed::<D, NARROW, false>(&mut stream, &mut queries, &mut link)?,
     }
     let mut report = Writer::new(stdout().lock());
     for (query, word) in queries.iter().zip(words) {
-        let entries = ask(query, &mut link)?;
         report.word(word)?;
-        if entries.is_empty() {
-            report.word(" none")?;
-        }
-        for entry in entries {
-            report.entry(entry.item, entry.delta)?;
-        }
+        ask(query, &mut link, &mut report)?;
         report.word("\n")?;
         report.flush()?;
     }

@@ -1,18 +1,20 @@
 -- The word of a query: where its parts stand, and that no two queries share one.
-use Rattle.std.proofs.Common.{◌≡◌, ◌≢◌, ◌↔◌, Bool, true, false, IsTrue, ℕ, ◌^◌, ◌<◌, ◌≤◌, suc, List, [], ◌∷◌, ◌++◌, length, get_or, Option, Some, Bor, MatchOption, sym, refl, ◌∙◌, arith}
+use Rattle.std.proofs.Common.{◌≡◌, ◌≢◌, ◌↔◌, Bool, true, false, IsTrue, ℕ, ◌^◌, ◌<◌, ◌≤◌, suc, List, [], ◌∷◌, ◌++◌, length, get_or, Option, Some, None, Bor, MatchOption, drop, ap, sym, refl, ◌∙◌, arith}
 use Rattle.std.specs.Prelude.{codes, decimal}
 use Rattle.std.proofs.lemmas.Fmt.{decimal_injective, digits_decimal}
 use Rattle.std.proofs.Math.Pow.{pow_mono}
 use Rattle.std.specs.Bool.{then_some}
-use Rattle.std.specs.Str.Pattern.{StripsPrefix, FindsTextPrefix}
 use Rattle.std.proofs.lemmas.Str.Parse.{not_in_digits}
-use Rattle.std.proofs.lemmas.Str.Pattern.{IsSplitOnceResult, split_after, split_parts}
+use Rattle.sip_vector.specs.declared.update.Side.{Side}
+use Rattle.sip_vector.specs.declared.update.Side.TheVariants.{First, Second}
 use Rattle.sip_vector.specs.declared.query.Query.{Query}
 use Rattle.sip_vector.specs.declared.query.Query.TheVariants.{Sub, Range, F2, Inner, Heavy, Share}
 use Rattle.sip_vector.specs.Answers.{Fits}
+use Rattle.sip_vector.specs.Built.{is_built}
 use Rattle.sip_vector.specs.Limits.{most_depth}
-use Rattle.sip_verifier.specs.Reports.{query_word}
+use Rattle.sip_verifier.specs.Reports.{query_word, side_parameter}
 use Rattle.sip_cli.specs.Shapes.{Asks}
+use Rattle.sip_cli.specs.inside.QueryParts.{IsRead, bounds}
 use Rattle.sip_cli.proofs.Decimals.{digits}
 
 -- no element is c
@@ -34,61 +36,86 @@ same_parts c (x ∷ xs) (x' ∷ xs') ys ys' none none' same =
 pub decimal_lacks_colon : (n : ℕ) → n < 2 ^ 64 → HasNo 58 (decimal n)
 decimal_lacks_colon n small = not_in_digits digits (decimal n) 58 (digits_decimal digits n small) (λ within. omega arith)
 
--- what follows `sub:`
-abbrev pub bounds : ℕ → ℕ → List ℕ
-bounds lo hi = decimal lo ++ 58 ∷ decimal hi
-
--- the word of an interval
-pub query_word_sub : (lo hi : ℕ) → query_word (Sub lo hi) ≡ codes "sub:" ++ bounds lo hi
-query_word_sub lo hi = refl
-
--- two intervals with one word are one
-pub same_interval : (lo hi lo' hi' : ℕ) → lo < 2 ^ 64 → hi < 2 ^ 64 → lo' < 2 ^ 64 → hi' < 2 ^ 64 → query_word (Sub lo hi) ≡ query_word (Sub lo' hi') → (lo ≡ lo') × (hi ≡ hi')
-same_interval lo hi lo' hi' low high low' high' same =
-    let rest : bounds lo hi ≡ bounds lo' hi' = cc in
-    let parts = same_parts 58 (decimal lo) (decimal lo') (decimal hi) (decimal hi') (decimal_lacks_colon lo low) (decimal_lacks_colon lo' low') rest in
+-- two intervals with one spelling are one
+same_bounds : (lo hi lo' hi' : ℕ) → lo < 2 ^ 64 → hi < 2 ^ 64 → lo' < 2 ^ 64 → hi' < 2 ^ 64 → bounds lo hi ≡ bounds lo' hi' → (lo ≡ lo') × (hi ≡ hi')
+same_bounds lo hi lo' hi' low high low' high' same =
+    let parts = same_parts 58 (decimal lo) (decimal lo') (decimal hi) (decimal hi') (decimal_lacks_colon lo low) (decimal_lacks_colon lo' low') same in
     (decimal_injective lo lo' low low' parts.0, decimal_injective hi hi' high high' parts.1)
 
--- what `strip_prefix` leaves
-pub stripped : (word rest : List ℕ) → StripsPrefix (FindsTextPrefix (codes "sub:")) word rest → word ≡ codes "sub:" ++ rest
-stripped word rest (n, found, is, _) = rw is found.1
+-- a side is told by its digit
+same_sides : (side side' : Side) → side_parameter side ≡ side_parameter side' → side ≡ side'
+same_sides First First same = refl
+same_sides First Second same = let digit : 48 ≡ 49 = ap (λ w. get_or w 1 0) same in absurd (omega (arith, digit))
+same_sides Second First same = let digit : 49 ≡ 48 = ap (λ w. get_or w 1 0) same in absurd (omega (arith, digit))
+same_sides Second Second same = refl
 
--- the cut at the first colon gives the two numbers
-pub cut : (word rest : List ℕ) (r : Option (Bor (List ℕ) × Bor (List ℕ))) → word ≡ codes "sub:" ++ rest → IsSplitOnceResult 58 rest r → (lo hi : ℕ) → lo < 2 ^ 64 → word ≡ query_word (Sub lo hi) → MatchOption r ⊥ (λ x. (x.0.now ≡ decimal lo) × (x.1.now ≡ decimal hi))
-cut word rest r front split lo hi low same =
-    let behind : rest ≡ bounds lo hi = cc in
-    split_after 58 rest (decimal lo) (decimal hi) r split (omega arith) behind (decimal_lacks_colon lo low)
+-- two ranges with one word are one
+same_ranges : (side side' : Side) (lo hi lo' hi' : ℕ) → lo < 2 ^ 64 → hi < 2 ^ 64 → lo' < 2 ^ 64 → hi' < 2 ^ 64 → query_word (Range side lo hi) ≡ query_word (Range side' lo' hi') → (side ≡ side') × (lo ≡ lo') × (hi ≡ hi')
+same_ranges First First lo hi lo' hi' low high low' high' same = let one = same_bounds lo hi lo' hi' low high low' high' (ap (drop 8) same) in (refl, one.0, one.1)
+same_ranges First Second lo hi lo' hi' low high low' high' same = let digit : 48 ≡ 49 = ap (λ w. get_or w 6 0) same in absurd (omega (arith, digit))
+same_ranges Second First lo hi lo' hi' low high low' high' same = let digit : 49 ≡ 48 = ap (λ w. get_or w 6 0) same in absurd (omega (arith, digit))
+same_ranges Second Second lo hi lo' hi' low high low' high' same = let one = same_bounds lo hi lo' hi' low high low' high' (ap (drop 8) same) in (refl, one.0, one.1)
 
--- the two parts that the cut gave make the word
-pub joined : (word rest : List ℕ) (x : Bor (List ℕ) × Bor (List ℕ)) → word ≡ codes "sub:" ++ rest → IsSplitOnceResult 58 rest (Some x) → (lo hi : ℕ) → x.0.now ≡ decimal lo → x.1.now ≡ decimal hi → word ≡ query_word (Sub lo hi)
-joined word rest x front split lo hi first second =
-    let parts = split_parts 58 rest (Some x) split (omega arith) in
-    let behind = parts.0 in
-    cc
+-- the letter that a word begins with
+abbrev initial : List ℕ → ℕ
+initial word = get_or word 0 0
 
--- a query that a word asks is an interval
-pub asked_interval : (depth : ℕ) (query : Query) (word : List ℕ) → depth ≤ most_depth → Asks depth query word → (lo : ℕ) × (hi : ℕ) × (query ≡ Sub lo hi) × (lo ≤ hi) × (hi < 2 ^ depth) × (hi < 2 ^ 64) × (word ≡ query_word (Sub lo hi))
-asked_interval depth (Sub lo hi) word deep (_, fits, is) = let bound = pow_mono {i = depth} {j = most_depth} deep in (lo, hi, refl, fits.0, fits.1, omega (arith, fits.1), is)
-asked_interval depth (Range side lo hi) word deep (never, fits, is) = absurd cc
-asked_interval depth (F2 side) word deep (never, fits, is) = absurd cc
-asked_interval depth Inner word deep (never, fits, is) = absurd cc
-asked_interval depth (Heavy side at_least) word deep (never, fits, is) = absurd cc
-asked_interval depth (Share side num den) word deep (never, fits, is) = absurd cc
+-- words that begin with two letters are two
+unlike : (word other : List ℕ) → initial word ≢ initial other → word ≡ other → ⊥
+unlike word other apart same = apart (ap initial same)
+
+-- a word is that of one query
+pub query_word_once : (query other : Query) → IsRead query → IsRead other → query_word query ≡ query_word other → query ≡ other
+query_word_once (Sub lo hi) (Sub lo' hi') (low, high) (low', high') same =
+    let one = same_bounds lo hi lo' hi' low high low' high' (ap (drop 4) same) in
+    rw (one.0, one.1) refl
+query_word_once (Sub lo hi) (Range side' lo' hi') read also same = absurd (unlike _ _ (omega arith) same)
+query_word_once (Sub lo hi) (F2 side') read also same = absurd (unlike _ _ (omega arith) same)
+query_word_once (Sub lo hi) Inner read also same = absurd (unlike _ _ (omega arith) same)
+query_word_once (Sub lo hi) (Heavy s t) read also same = absurd also
+query_word_once (Sub lo hi) (Share s n k) read also same = absurd also
+query_word_once (Range side lo hi) (Sub lo' hi') read also same = absurd (unlike _ _ (omega arith) same)
+query_word_once (Range side lo hi) (Range side' lo' hi') (low, high) (low', high') same =
+    let one = same_ranges side side' lo hi lo' hi' low high low' high' same in
+    rw (one.0, one.1, one.2) refl
+query_word_once (Range side lo hi) (F2 side') read also same = absurd (unlike _ _ (omega arith) same)
+query_word_once (Range side lo hi) Inner read also same = absurd (unlike _ _ (omega arith) same)
+query_word_once (Range side lo hi) (Heavy s t) read also same = absurd also
+query_word_once (Range side lo hi) (Share s n k) read also same = absurd also
+query_word_once (F2 side) (Sub lo' hi') read also same = absurd (unlike _ _ (omega arith) same)
+query_word_once (F2 side) (Range side' lo' hi') read also same = absurd (unlike _ _ (omega arith) same)
+query_word_once (F2 side) (F2 side') read also same = rw (same_sides side side' (ap (drop 2) same)) refl
+query_word_once (F2 side) Inner read also same = absurd (unlike _ _ (omega arith) same)
+query_word_once (F2 side) (Heavy s t) read also same = absurd also
+query_word_once (F2 side) (Share s n k) read also same = absurd also
+query_word_once Inner (Sub lo' hi') read also same = absurd (unlike _ _ (omega arith) same)
+query_word_once Inner (Range side' lo' hi') read also same = absurd (unlike _ _ (omega arith) same)
+query_word_once Inner (F2 side') read also same = absurd (unlike _ _ (omega arith) same)
+query_word_once Inner Inner read also same = refl
+query_word_once Inner (Heavy s t) read also same = absurd also
+query_word_once Inner (Share s n k) read also same = absurd also
+query_word_once (Heavy s t) other read also same = absurd read
+query_word_once (Share s n k) other read also same = absurd read
+
+-- the word of a query that is built and fits is read
+pub is_read : (depth : ℕ) (query : Query) → depth ≤ most_depth → IsTrue (is_built query) → Fits depth query → IsRead query
+is_read depth (Sub lo hi) deep built fits = let bound = pow_mono {i = depth} {j = most_depth} deep in (omega (arith, fits.0, fits.1), omega (arith, fits.1))
+is_read depth (Range side lo hi) deep built fits = let bound = pow_mono {i = depth} {j = most_depth} deep in (omega (arith, fits.0, fits.1), omega (arith, fits.1))
+is_read depth (F2 side) deep built fits = cc
+is_read depth Inner deep built fits = cc
+is_read depth (Heavy side at_least) deep built fits = absurd cc
+is_read depth (Share side num den) deep built fits = absurd cc
 
 -- a word asks one query
 pub query_once : (depth : ℕ) (query other : Query) (word : List ℕ) → depth ≤ most_depth → Asks depth query word → Asks depth other word → query ≡ other
-query_once depth query other word deep asks also =
-    let q = asked_interval depth query word deep asks in
-    let r = asked_interval depth other word deep also in
-    let one = same_interval q.0 q.1 r.0 r.1 (omega (arith, q.3)) q.5 (omega (arith, r.3)) r.5 (sym q.6 ∙ r.6) in
-    q.2 ∙ (rw (one.0, one.1) (sym r.2))
+query_once depth query other word deep (built, fits, is) (also, suits, names) =
+    query_word_once query other (is_read depth query deep built fits) (is_read depth other deep also suits) (sym is ∙ names)
 
--- the query of the word, where it fits
-pub chosen : (depth a b : ℕ) (word : List ℕ) (fits : Bool) → depth ≤ most_depth → a < 2 ^ 64 → b < 2 ^ 64 → IsTrue fits ↔ Fits depth (Sub a b) → word ≡ query_word (Sub a b) → MatchOption (then_some fits (Sub a b)) ((query : Query) → Asks depth query word → ⊥) (λ query. Asks depth query word)
-chosen depth a b word true deep low high fits same = (refl, fits.0 refl, same)
-chosen depth a b word false deep low high fits same =
-    λ query asks.
-    let q = asked_interval depth query word deep asks in
-    let one = same_interval a b q.0 q.1 low high (omega (arith, q.3)) q.5 (sym same ∙ q.6) in
-    let never : false ≡ true = fits.1 (rw (one.0, one.1) (q.3, q.4)) in
+-- the query of the word, where it is built and fits
+pub chosen : (depth : ℕ) (query : Query) (word : List ℕ) (good : Bool) → depth ≤ most_depth → IsTrue good ↔ (IsTrue (is_built query) × Fits depth query) → IsRead query → word ≡ query_word query → MatchOption (then_some good query) ((other : Query) → Asks depth other word → ⊥) (λ q. Asks depth q word)
+chosen depth query word true deep good read same = let g = good.0 refl in (g.0, g.1, same)
+chosen depth query word false deep good read same =
+    λ other (built, fits, is).
+    let one = query_word_once query other read (is_read depth other deep built fits) (sym same ∙ is) in
+    let never : false ≡ true = good.1 (rw one (built, fits)) in
     cc

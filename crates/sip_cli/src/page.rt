@@ -28,9 +28,13 @@ USAGE
       TO      the file or FIFO that takes ours
       -       no record of the talk is kept
       DEPTH   from 1 to 48; items are the numbers below 2^DEPTH
-      QUERY   sub:LO:HI, the entries from LO to HI that are not 0, with LO up to HI, and HI below 2^DEPTH
+      QUERY   sub:LO:HI         the entries of side 0 from LO to HI that are not 0
+              range:SIDE:LO:HI  the sum of the entries of a side from LO to HI
+              f2:SIDE           the sum of the squares of the entries of a side
+              inner             the sum of the products of the entries of both sides
+              with LO up to HI, HI below 2^DEPTH, and SIDE 0 or 1
 
-      sip verify log.stream today.seed from.fifo to.fifo - 20 sub:100:199 sub:7:7
+      sip verify log.stream today.seed from.fifo to.fifo - 20 sub:100:199 range:0:0:1048575 f2:0 inner
 
   sip help FROM TO
 

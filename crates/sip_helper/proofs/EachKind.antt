@@ -36,17 +36,17 @@ built_row (Sub lo hi) v is = by_length (is_too_long lo hi v)
     by_length : (long : Bool) → IfSome (if long then Some too_many else None) (λ code. (want_of_memory < code) × (code < out_of_turn))
     by_length true = (omega arith, omega arith)
     by_length false = tt
-built_row (Range _ _ _) v is = absurd cc
-built_row (F2 _) v is = absurd cc
-built_row Inner v is = absurd cc
+built_row (Range _ _ _) v is = tt
+built_row (F2 _) v is = tt
+built_row Inner v is = tt
 built_row (Heavy _ _) v is = absurd cc
 built_row (Share _ _ _) v is = absurd cc
 
 -- a kind that is not built is out of turn
 pub other_row : (q : Query) (v : Vectors) → is_built q ≡ false → (help_row q).refused_by v ≡ Some out_of_turn
 other_row (Sub lo hi) v is = absurd cc
-other_row (Range _ _ _) v is = refl
-other_row (F2 _) v is = refl
-other_row Inner v is = refl
+other_row (Range _ _ _) v is = absurd cc
+other_row (F2 _) v is = absurd cc
+other_row Inner v is = absurd cc
 other_row (Heavy _ _) v is = refl
 other_row (Share _ _ _) v is = refl

@@ -7,6 +7,7 @@ pub mod Rows
 pub mod Sending
 pub mod Standing
 pub mod SubVectors
+pub mod SumReplies
 pub mod Talks
 pub mod Turning
 pub mod Seen

@@ -26,7 +26,7 @@ use Rattle.sip_helper.proofs.Rows.{framed}
 pub tall : (depth n : ℕ) (level : List ℕ) → length level ≡ 2 ^ (depth - n) → n < depth → 2 ≤ length level
 tall depth n level height less = omega (arith, folds_left-two (depth - n) (omega arith), height)
 
-half_of : (depth n size half : ℕ) → 2 * half ≡ size → size ≡ 2 ^ (depth - n) → n + 1 < depth → half ≡ 2 ^ (depth - (n + 1))
+pub half_of : (depth n size half : ℕ) → 2 * half ≡ size → size ≡ 2 ^ (depth - n) → n + 1 < depth → half ≡ 2 ^ (depth - (n + 1))
 half_of depth n size half twice is less =
     let k = depth - (n + 1) in
     let exponent : depth - n ≡ suc k = omega arith in

@@ -4,5 +4,6 @@ pub mod Serving
 pub mod Statuses
 pub mod Vectors
 pub mod SubVectors
+pub mod Sums
 pub mod Turns
 pub mod inside

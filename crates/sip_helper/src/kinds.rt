@@ -4,10 +4,12 @@ ghost use Rattle.std.specs.Prelude.{◌≡◌};
 ghost use Rattle.sip_vector.specs.Answers.{Fits};
 ghost use Rattle.sip_helper.specs.Kinds.{HasLearnt, query_proved};
 ghost use Rattle.sip_helper.specs.inside.Starting.{StartsProver};
+ghost use Rattle.sip_helper.specs.Sums.{asked_for};
 
 use crate::prover::{NotStarted, Prover};
 use crate::refusal::OUT_OF_TURN;
 use crate::sub_vector::SubVectorProver;
+use crate::sums::{SumQuery, SumsProver};
 use crate::vectors::Vectors;
 use sip_ports::{PortStop, Sink};
 use sip_vector::Query;
@@ -18,6 +20,7 @@ use std::alloc::Global;
 #[derive(Drop)]
 pub(crate) enum KindProver {
     Sub(SubVectorProver),
+    Sum(SumsProver),
 }
 
 impl KindProver {
@@ -37,12 +40,27 @@ impl KindProver {
                 let prover = SubVectorProver::start(alloc, vectors, lo, hi)?;
                 Ok(KindProver::Sub(prover))
             }
-            Query::Range { .. }
-            | Query::F2 { .. }
-            | Query::Inner
-            | Query::Heavy { .. }
-            | Query::Share { .. } => Err(NotStarted::Refused(OUT_OF_TURN)),
+            Query::Range { side, lo, hi } => {
+                KindProver::start_sum(alloc, vectors, SumQuery::Range { side, lo, hi })
+            }
+            Query::F2 { side } => KindProver::start_sum(alloc, vectors, SumQuery::F2 { side }),
+            Query::Inner => KindProver::start_sum(alloc, vectors, SumQuery::Inner),
+            Query::Heavy { .. } | Query::Share { .. } => Err(NotStarted::Refused(OUT_OF_TURN)),
         }
+    }
+
+    /// The prover of a query for a sum.
+    fn start_sum(
+        alloc: Global,
+        vectors: &Vectors,
+        query: SumQuery,
+    ) -> Result<KindProver, NotStarted>
+        requires depths { vectors.now.second.depth ≡ vectors.now.first.depth }
+        requires fits { Fits vectors.now.first.depth (asked_for query) }
+        ensures { StartsProver query_proved HasLearnt vectors.now (asked_for query) result }
+    {
+        let prover = SumsProver::start(alloc, vectors, query)?;
+        Ok(KindProver::Sum(prover))
     }
 }
 
@@ -54,6 +72,7 @@ impl Prover for KindProver {
     fn learn(&mut self, challenge: u64) {
         match self {
             KindProver::Sub(prover) => prover.learn(challenge),
+            KindProver::Sum(prover) => prover.learn(challenge),
         }
     }
 
@@ -66,6 +85,7 @@ impl Prover for KindProver {
     ) -> Result<(), PortStop> {
         match self {
             KindProver::Sub(prover) => prover.put_reply(version, vectors, revealed, out),
+            KindProver::Sum(prover) => prover.put_reply(version, vectors, revealed, out),
         }
     }
 }

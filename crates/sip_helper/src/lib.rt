@@ -43,6 +43,7 @@ mod refusal;
 mod serving;
 mod status;
 mod sub_vector;
+mod sums;
 mod turn;
 mod vectors;
 

@@ -161,12 +161,75 @@ fn a_talk_ends(rt: HostRuntime) -> Result<(), Fail> {
     Ok(())
 }
 
-/// A query of each kind that is not answered: a sum over an interval, F2, the inner product and heavy hitters.
-const NOT_ANSWERED: [&[u8]; 4] = [
-    &[4, 0, 10, 2, 0, 0, 0, 0, 0, 0, 0, 0, 1],
-    &[4, 0, 2, 3, 0],
-    &[4, 0, 1, 4],
+/// The opening of a talk over four items, the vectors (3, 0, 5, 1) and (2, 7, 1, 0), and their end.
+const TWO_SIDES: [u8; 91] = [
+    1, 0, 2, 1, 2, 2, 0, 80, 0, 6, 0, 0, 0, 0, 0, 0, 0, 0, 0, 0, 0, 0, 3, 0, 0, 0, 0, 2, 0, 0, 0,
+    0, 0, 0, 0, 5, 0, 0, 0, 0, 3, 0, 0, 0, 0, 0, 0, 0, 1, 1, 0, 0, 0, 0, 0, 0, 0, 0, 0, 0, 0, 2, 1,
+    0, 0, 0, 1, 0, 0, 0, 0, 0, 0, 0, 7, 1, 0, 0, 0, 2, 0, 0, 0, 0, 0, 0, 0, 1, 3, 0, 0,
+];
+
+/// The challenge 2.
+const REVEALED: [u8; 11] = [5, 0, 8, 0, 0, 0, 0, 0, 0, 0, 2];
+
+/// Queries for sums, and what is sent to each: the claim and the first polynomial, and the second one behind the challenge 2.
+const SUMS: [(&[u8], &[u8]); 3] = [
+    // The squares of side 0: 35, (34, -58, 25) and (9, 0, 0).
+    (
+        &[4, 0, 2, 3, 0],
+        &[
+            17, 0, 8, 0, 0, 0, 0, 0, 0, 0, 35, 18, 0, 24, 0, 0, 0, 0, 0, 0, 0, 34, 31, 0xff, 0xff,
+            0xff, 0xff, 0xff, 0xff, 0xc5, 0, 0, 0, 0, 0, 0, 0, 25, 18, 0, 24, 0, 0, 0, 0, 0, 0, 0,
+            9, 0, 0, 0, 0, 0, 0, 0, 0, 0, 0, 0, 0, 0, 0, 0, 0,
+        ],
+    ),
+    // The inner product: 11, (11, 0, -11) and (-36, 39, 0).
+    (
+        &[4, 0, 1, 4],
+        &[
+            17, 0, 8, 0, 0, 0, 0, 0, 0, 0, 11, 18, 0, 24, 0, 0, 0, 0, 0, 0, 0, 11, 0, 0, 0, 0, 0,
+            0, 0, 0, 31, 0xff, 0xff, 0xff, 0xff, 0xff, 0xff, 0xf4, 18, 0, 24, 31, 0xff, 0xff, 0xff,
+            0xff, 0xff, 0xff, 0xdb, 0, 0, 0, 0, 0, 0, 0, 39, 0, 0, 0, 0, 0, 0, 0, 0,
+        ],
+    ),
+    // The items 1 to 3 of side 0: 6, (5, -1, -3) and (-6, 3, 0).
+    (
+        &[4, 0, 10, 2, 0, 0, 0, 0, 1, 0, 0, 0, 3],
+        &[
+            17, 0, 8, 0, 0, 0, 0, 0, 0, 0, 6, 18, 0, 24, 0, 0, 0, 0, 0, 0, 0, 5, 31, 0xff, 0xff,
+            0xff, 0xff, 0xff, 0xff, 0xfe, 31, 0xff, 0xff, 0xff, 0xff, 0xff, 0xff, 0xfc, 18, 0, 24,
+            31, 0xff, 0xff, 0xff, 0xff, 0xff, 0xff, 0xf9, 0, 0, 0, 0, 0, 0, 0, 3, 0, 0, 0, 0, 0, 0,
+            0, 0,
+        ],
+    ),
+];
+
+// Each of them in a talk of its own, and then all in one.
+#[test]
+fn sums_are_answered(rt: HostRuntime) -> Result<(), Fail> {
+    let alloc = rt.alloc();
+    let mut all = Vec::from_slice(alloc, &TWO_SIDES)?;
+    let mut all_replies = Vec::new(alloc);
+    for (query, replies) in &SUMS {
+        let asked = joined(alloc, query, &REVEALED)?;
+        let mut talk = joined(alloc, &TWO_SIDES, &asked)?;
+        talk.extend_from_slice(&[6, 0, 0])?;
+        let (status, sent) = served(alloc, &talk, 10_000, &[])?;
+        assert_eq!(rt; status, HelpStatus::Served);
+        assert_eq!(rt; sent.as_slice(), *replies);
+        all.extend_from_slice(&asked)?;
+        all_replies.extend_from_slice(replies)?;
+    }
+    all.extend_from_slice(&[6, 0, 0])?;
+    let (status, sent) = served(alloc, &all, 1, &[])?;
+    assert_eq!(rt; status, HelpStatus::Served);
+    assert_eq!(rt; sent.as_slice(), all_replies.as_slice());
+    Ok(())
+}
+
+/// A query of each kind that is not answered: heavy hitters and a share, which these talks' version does not have either.
+const NOT_ANSWERED: [&[u8]; 2] = [
     &[4, 0, 10, 5, 0, 0, 0, 0, 0, 0, 0, 0, 3],
+    &[4, 0, 10, 6, 0, 0, 0, 0, 1, 0, 0, 0, 2],
 ];
 
 // Wherever such a query stands, it ends the talk as bytes without a spelling do: nothing is sent behind the replies before it.

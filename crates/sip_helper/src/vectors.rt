@@ -2,7 +2,9 @@
 
 ghost use Rattle.std.specs.Prelude.{◌≡◌, ◌∷◌, [], Bool, IfOk, IfSome, IsTrue, if◌then◌else◌};
 ghost use Rattle.std.specs.Option.{option_map};
+ghost use Rattle.sip_vector.specs.Vectors.{contents};
 ghost use Rattle.sip_helper.specs.Turns.{is_light, stays_legal, zero_vectors, with_updates};
+ghost use Rattle.sip_helper.specs.Vectors.{vector_of};
 ghost use Rattle.sip_helper.specs.inside.Legal.{weights_of, legal_weights};
 
 use sip_field::OutOfMemory;
@@ -95,6 +97,16 @@ impl Vectors {
             }
         }
         Ok(vectors)
+    }
+
+    /// The vector of a side.
+    pub(crate) fn of_side(&self, side: Side) -> &Vector
+        ensures { contents result.now ≡ vector_of self.now side }
+    {
+        match side {
+            Side::First => &self.first,
+            Side::Second => &self.second,
+        }
     }
 }
 

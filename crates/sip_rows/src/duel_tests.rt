@@ -1,29 +1,7 @@
 use crate::case::Case;
-use crate::duel::{duel, heard, sent};
+use crate::duel::{check_duel, heard, sent};
 use crate::ones::rows_of_ones;
-use crate::row::Shown;
-use sip_verifier::Status;
-use std::alloc::Global;
-use std::process::Abort;
 use std::test::Fail;
-
-// Runs it against our own helper: it is accepted, and these are its lines.
-fn check(
-    rt: &impl Abort,
-    alloc: Global,
-    words: &str,
-    stream: &[u8],
-    lines: &str,
-) -> Result<Shown, Fail> {
-    let shown = duel(alloc, words, stream)?;
-    let case = Case {
-        name: words,
-        number: 10_000,
-    };
-    case.ends(rt, shown.status, Status::Accepted);
-    case.writes(rt, shown.report.bytes(), lines.as_bytes());
-    Ok(shown)
-}
 
 // The number of bytes, and the sum of each of them times its place, from 1 on.
 fn weighed(bytes: &[u8]) -> (u64, u64) {
@@ -103,7 +81,7 @@ fn whole_talks(rt: HostRuntime) -> Result<(), Fail> {
             heard: (2_151, 15_964_289),
         },
     ] {
-        let shown = check(&rt, alloc, talk.words, talk.stream, talk.lines)?;
+        let shown = check_duel(&rt, alloc, talk.words, talk.stream, talk.lines)?;
         let events = shown.peer.talk();
         let case = Case {
             name: talk.words,
@@ -120,7 +98,7 @@ const EIGHT: &str = "0 0 3\n0 2 5\n1 1 9\n0 3 1\n0 5 4\n0 6 -2\n0 5 -4\n";
 
 #[test]
 fn sixteen_queries(rt: HostRuntime) -> Result<(), Fail> {
-    check(
+    check_duel(
         &rt,
         rt.alloc(),
         "verify text:s seed a b - 3 sub:0:0 sub:1:1 sub:1:2 sub:2:3 sub:0:3 sub:0:7 sub:4:7 \
@@ -139,7 +117,7 @@ fn sixteen_queries(rt: HostRuntime) -> Result<(), Fail> {
 fn a_stream_of_three_frames(rt: HostRuntime) -> Result<(), Fail> {
     let alloc = rt.alloc();
     let stream = rows_of_ones(alloc, 1100, &[], &[0])?;
-    check(
+    check_duel(
         &rt,
         alloc,
         "verify s seed a b - 11 sub:510:513 sub:1022:1025 sub:1099:2047",

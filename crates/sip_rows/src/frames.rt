@@ -86,13 +86,7 @@ pub const SUB_1_2_WIDE: [u8; 20] = [
     0x04, 0, 0x11, 1, 0, 0, 0, 0, 0, 0, 0, 1, 0, 0, 0, 0, 0, 0, 0, 2,
 ];
 
-// Queries of side 0 that are no sub-vectors: the sum of the entries 0 to 1, F2, the inner product, and the entries from 3 on.
-pub const RANGE_0_1: [u8; 13] = [0x04, 0, 10, 2, 0, 0, 0, 0, 0, 0, 0, 0, 1];
-
-pub const F2: [u8; 5] = [0x04, 0, 2, 3, 0];
-
-pub const INNER: [u8; 4] = [0x04, 0, 1, 4];
-
+// The entries of side 0 that are 3 or more, which nothing answers.
 pub const HEAVY_3: [u8; 13] = [0x04, 0, 10, 5, 0, 0, 0, 0, 0, 0, 0, 0, 3];
 
 // The entries of side 0 that are half of its total or more, which version 2 alone can ask for.

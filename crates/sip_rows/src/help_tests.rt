@@ -1,5 +1,6 @@
 use crate::frames::*;
 use crate::row::{Given, Row, Said};
+use crate::sum_frames::*;
 use sip_verifier::Status;
 use std::test::Fail;
 
@@ -172,31 +173,127 @@ fn talks_in_two_versions(rt: HostRuntime) -> Result<(), Fail> {
     Ok(())
 }
 
-// A query that is no sub-vector ends the talk as bytes without a spelling do, also before the stream has ended and while a query
-// is open: nothing is written then.
+// The sums of side 0, which is 3, 0, 5, 1, of its products with side 1, which is 2, 7, 1, 0, and of its entries 1 to 3. A query
+// that comes too early, or asks for an item that is none, is out of turn.
 #[test]
-fn queries_that_help_does_not_answer(rt: HostRuntime) -> Result<(), Fail> {
-    let queries: [&'static [u8]; 4] = [&RANGE_0_1, &F2, &INNER, &HEAVY_3];
-    for query in &queries {
+fn talks_about_sums(rt: HostRuntime) -> Result<(), Fail> {
+    let rows: [Row<'static>; 4] = [
         ended(
-            "after the opening",
-            &[&OPEN_2, query],
+            "three sums",
+            &[
+                &OPEN_2,
+                &UPDATES_OF_SIX,
+                &THREE_RECORDS,
+                &THREE_OF_SIDE_1,
+                &END_STREAM,
+                &F2,
+                &REVEAL_OF_2,
+                &INNER,
+                &REVEAL_OF_2,
+                &RANGE_1_3,
+                &REVEAL_OF_2,
+                &BYE,
+            ],
+            Status::Served,
+            0,
+            &[
+                Said::In(&OPEN_2),
+                Said::In(&UPDATES_OF_SIX),
+                Said::In(&THREE_RECORDS),
+                Said::In(&THREE_OF_SIDE_1),
+                Said::In(&END_STREAM),
+                Said::In(&F2),
+                Said::Out(&CLAIM_35),
+                Said::Out(&SQUARES_1),
+                Said::In(&REVEAL_OF_2),
+                Said::Out(&SQUARES_2),
+                Said::In(&INNER),
+                Said::Out(&CLAIM_11),
+                Said::Out(&PRODUCTS_1),
+                Said::In(&REVEAL_OF_2),
+                Said::Out(&PRODUCTS_2),
+                Said::In(&RANGE_1_3),
+                Said::Out(&CLAIM_6),
+                Said::Out(&ENTRIES_1),
+                Said::In(&REVEAL_OF_2),
+                Said::Out(&ENTRIES_2),
+                Said::In(&BYE),
+            ],
+        ),
+        ended(
+            "a sum in version 2",
+            &[
+                &OPEN_2_WIDE,
+                &UPDATES_OF_THREE_WIDE,
+                &THREE_WIDE_RECORDS,
+                &END_STREAM,
+                &RANGE_1_3_WIDE,
+                &REVEAL_OF_2,
+                &BYE,
+            ],
+            Status::Served,
+            0,
+            &[
+                Said::In(&OPEN_2_WIDE),
+                Said::In(&UPDATES_OF_THREE_WIDE),
+                Said::In(&THREE_WIDE_RECORDS),
+                Said::In(&END_STREAM),
+                Said::In(&RANGE_1_3_WIDE),
+                Said::Out(&CLAIM_6),
+                Said::Out(&ENTRIES_1),
+                Said::In(&REVEAL_OF_2),
+                Said::Out(&ENTRIES_2),
+                Said::In(&BYE),
+            ],
+        ),
+        ended(
+            "a sum before the stream has ended",
+            &[&OPEN_2, &F2],
             Status::BadFrame { offset: 5 },
             3,
-            &[Said::In(&OPEN_2), Said::In(query)],
-        )
-        .check(&rt, rt.alloc())?;
+            &[Said::In(&OPEN_2), Said::In(&F2), Said::Out(&REFUSE_4)],
+        ),
         ended(
-            "after the stream",
-            &[&OPEN_2, &END_STREAM, query],
+            "a sum up to item 4 of 4",
+            &[&OPEN_2, &END_STREAM, &RANGE_1_4],
             Status::BadFrame { offset: 8 },
             3,
-            &[Said::In(&OPEN_2), Said::In(&END_STREAM), Said::In(query)],
-        )
-        .check(&rt, rt.alloc())?;
+            &[
+                Said::In(&OPEN_2),
+                Said::In(&END_STREAM),
+                Said::In(&RANGE_1_4),
+                Said::Out(&REFUSE_4),
+            ],
+        ),
+    ];
+    for row in &rows {
+        row.check(&rt, rt.alloc())?;
+    }
+    Ok(())
+}
+
+// A query for heavy entries ends the talk as bytes without a spelling do, also before the stream has ended and while a query is
+// open: nothing is written then.
+#[test]
+fn heavy_entries_are_not_answered(rt: HostRuntime) -> Result<(), Fail> {
+    let rows: [Row<'static>; 3] = [
+        ended(
+            "after the opening",
+            &[&OPEN_2, &HEAVY_3],
+            Status::BadFrame { offset: 5 },
+            3,
+            &[Said::In(&OPEN_2), Said::In(&HEAVY_3)],
+        ),
+        ended(
+            "after the stream",
+            &[&OPEN_2, &END_STREAM, &HEAVY_3],
+            Status::BadFrame { offset: 8 },
+            3,
+            &[Said::In(&OPEN_2), Said::In(&END_STREAM), Said::In(&HEAVY_3)],
+        ),
         ended(
             "behind a reply",
-            &[&OPEN_2, &END_STREAM, &SUB_0_3, query],
+            &[&OPEN_2, &END_STREAM, &SUB_0_3, &HEAVY_3],
             Status::BadFrame { offset: 20 },
             3,
             &[
@@ -204,10 +301,12 @@ fn queries_that_help_does_not_answer(rt: HostRuntime) -> Result<(), Fail> {
                 Said::In(&END_STREAM),
                 Said::In(&SUB_0_3),
                 Said::Out(&NO_SIBLINGS),
-                Said::In(query),
+                Said::In(&HEAVY_3),
             ],
-        )
-        .check(&rt, rt.alloc())?;
+        ),
+    ];
+    for row in &rows {
+        row.check(&rt, rt.alloc())?;
     }
     Ok(())
 }

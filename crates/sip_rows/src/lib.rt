@@ -22,6 +22,8 @@ mod duel_tests;
 #[cfg(test)]
 mod failing_tests;
 #[cfg(test)]
+mod far_tests;
+#[cfg(test)]
 mod fault_tests;
 #[cfg(test)]
 mod faulty;
@@ -39,3 +41,11 @@ mod query_tests;
 mod row;
 #[cfg(test)]
 mod row_tests;
+#[cfg(test)]
+mod sum_duel_tests;
+#[cfg(test)]
+mod sum_fault_tests;
+#[cfg(test)]
+mod sum_frames;
+#[cfg(test)]
+mod sum_tests;

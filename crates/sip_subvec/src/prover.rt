@@ -90,8 +90,9 @@ impl<F: Field> SubProver<F> {
     /// The siblings of the interval: the node left of it where its first index is odd, and the one right of it where its last
     /// index is even.
     ///
-    /// O(log m), without memory: 127 `times` for each seven challenges so far, whose products are on the stack for this call,
-    /// and one for an entry below the siblings and seven challenges.
+    /// O(log m), without memory: 127 `times` for each seven challenges so far, whose products are on the stack for this call, one
+    /// for an entry below the siblings, and one for each seven challenges above the lowest and run of entries with the same
+    /// higher bits.
     pub fn siblings(&self) -> SiblingPair<F>
         requires { 2 ≤ length self.now.level }
         ensures left { option_map F.number result.left ≡ (its_siblings self.now).left }

@@ -6,8 +6,8 @@ use Rattle.sip_vector.specs.declared.query.Query.TheVariants.{Sub, Range, F2, In
 -- The queries that a verifier checks and a helper answers. To build a kind is to change its line.
 abbrev pub is_built : Query → Bool
 is_built (Sub _ _) = true
-is_built (Range _ _ _) = false
-is_built (F2 _) = false
-is_built Inner = false
+is_built (Range _ _ _) = true
+is_built (F2 _) = true
+is_built Inner = true
 is_built (Heavy _ _) = false
 is_built (Share _ _ _) = false

@@ -51,8 +51,7 @@ impl Query {
         ensures { result ≡ is_built self.now }
     {
         match self {
-            Query::Sub { .. } => true,
-            Query::Range { .. } | Query::F2 { .. } | Query::Inner => false,
+            Query::Sub { .. } | Query::Range { .. } | Query::F2 { .. } | Query::Inner => true,
             Query::Heavy { .. } | Query::Share { .. } => false,
         }
     }

@@ -1,5 +1,5 @@
 -- Answers that a query is given count for the replies that came.
-use Rattle.std.proofs.Common.{◌≡◌, ◌==◌, ℕ, zero, suc, IsTrue, List, [], ◌∷◌, length, drop, Option, Result, Ok, Err, subst}
+use Rattle.std.proofs.Common.{◌≡◌, ℕ, zero, suc, IsTrue, List, [], ◌∷◌, drop, Option, Result, Ok, Err, subst}
 use Rattle.std.specs.List.{list_all}
 use Rattle.std.proofs.lemmas.Bool.{and_parts}
 use Rattle.sip_wire.specs.declared.version.Version.{Version}
@@ -13,8 +13,9 @@ use Rattle.sip_verifier.specs.declared.session.SessionFault.{SessionFault}
 use Rattle.sip_verifier.specs.declared.session.Verdict.{Verdict}
 use Rattle.sip_verifier.specs.declared.session.Verdict.TheVariants as verdicts
 use Rattle.sip_verifier.specs.Asking.{AnswersCount, Asks, IsAnswered, IsCounted}
-use Rattle.sip_verifier.specs.QuerySeats.{Seated, can_be_asked, is_seat}
+use Rattle.sip_verifier.specs.QuerySeats.{Seated, is_seat}
 use Rattle.sip_verifier.proofs.CountedQuestions.{question_counts}
+use Rattle.sip_verifier.proofs.Seating.{seat_parts}
 use Rattle.sip_verifier.proofs.SeatsHead.{fits-asked}
 
 -- the query of the first seat that is left fits the depth
@@ -23,7 +24,7 @@ left_fits depth zero [] seat more all e = absurd cc
 left_fits depth zero (x ∷ seats) seat more all e =
     let same : x ≡ seat = cc in
     let is = subst (λ (s : Seated). IsTrue (is_seat depth s)) same (and_parts (is_seat depth x) (list_all (is_seat depth) seats) all).0 in
-    fits-asked depth seat.query (and_parts (can_be_asked depth seat.query) (length seat.block == depth) is).0
+    fits-asked depth seat.query (seat_parts depth seat is).0
 left_fits depth (suc n) [] seat more all e = absurd cc
 left_fits depth (suc n) (x ∷ seats) seat more all e = left_fits depth n seats seat more (and_parts (is_seat depth x) (list_all (is_seat depth) seats) all).1 e
 

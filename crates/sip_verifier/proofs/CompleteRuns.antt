@@ -26,7 +26,7 @@ use Rattle.sip_verifier.specs.Talks.{bye_sent, stream_sent}
 use Rattle.sip_replies.specs.Talks.{ending}
 use Rattle.sip_verifier.specs.Questions.{Question, said_for, updates, questions_of, AreQuestions, Reached}
 use Rattle.sip_verifier.specs.VerdictClause.{AllWritten, OneFaulty, VerdictClause}
-use Rattle.sip_verifier.proofs.Blocks.{none_drawn, block_sizes}
+use Rattle.sip_verifier.proofs.Blocks.{none_drawn, are_blocks}
 use Rattle.sip_verifier.proofs.HeardTalks.{IsHeard, replied, heard-talk, last_is}
 use Rattle.sip_verifier.proofs.HonestRuns.{faulty_heard, done_heard, CanBeAsked, AreFirst, all_honest, done_honest, none_faulty}
 use Rattle.sip_vector.specs.Limits.{most_depth}
@@ -38,7 +38,7 @@ module _ (task : Task) (x : Exchange) (some : 1 ≤ task.depth) (most : task.dep
   legal = records_legal task.depth task.form x.stream
 
   can : CanBeAsked (version_of task) task.depth (updates task x) task.queries.items (blocks task honest.challenges)
-  can = record { fits = fits; spoken = needed-speaks task.depth task.queries.items most; few = honest.few; sizes = block_sizes task x.seed honest.challenges some honest.drawn }
+  can = record { fits = fits; spoken = needed-speaks task.depth task.queries.items most; few = honest.few; at_blocks = are_blocks task x.seed honest.challenges some honest.drawn }
 
   same_challenges : (other : List ℕ) → drawn task x.seed ≡ Some other → other ≡ honest.challenges
   same_challenges other is = let own = honest.drawn in cc

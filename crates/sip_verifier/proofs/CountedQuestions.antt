@@ -1,18 +1,21 @@
 -- An answer that accepted replies state is counted.
-use Rattle.std.proofs.Common.{◌≡◌, ℕ, ◌*◌, ◌-◌, ◌^◌, ◌<◌, ◌≤◌, Bool, true, false, List, Some, Result, Ok, Err, ℤ, length, refl, ap, ◌∙◌, arith}
+use Rattle.std.proofs.Common.{◌≡◌, ◌==◌, ℕ, ◌*◌, ◌-◌, ◌^◌, ◌<◌, ◌≤◌, Bool, true, false, List, Option, Some, None, Result, Ok, Err, ℤ, length, refl, sym, ap, ◌∙◌, arith}
 use Rattle.sip_wire.specs.declared.version.Version.{Version}
 use Rattle.sip_field.specs.LawProofs.Primes.{m61_prime}
 use Rattle.sip_field.specs.Moduli.{m61_modulus}
 use Rattle.sip_vector.specs.declared.query.Query.{Query}
 use Rattle.sip_vector.specs.declared.query.Query.TheVariants.{Sub, Range, F2, Inner, Heavy, Share}
-use Rattle.sip_vector.specs.declared.update.Side.TheVariants.{First}
+use Rattle.sip_vector.specs.declared.update.Side.TheVariants.{First, Second}
+use Rattle.sip_vector.specs.declared.update.Entry.{Entry}
 use Rattle.sip_vector.specs.declared.update.Update.{Update}
-use Rattle.sip_vector.specs.Answers.{Answer, Fits, number, pairs}
+use Rattle.sip_vector.specs.Answers.{Answer, Fits, answer, number, pairs}
+use Rattle.sip_vector.specs.Extensions.{ones}
 use Rattle.sip_vector.specs.Steps.{◌>>=◌, needs}
 use Rattle.sip_wire.specs.declared.message.Reason.TheVariants as reasons
 use Rattle.sip_vector.specs.Streams.{vector, IsLegal}
 use Rattle.sip_vector.specs.Trees.{root}
 use Rattle.sip_vector.proofs.Sides.{length-vector}
+use Rattle.sip_counts.specs.Clauses.{FewAndCounted}
 use Rattle.sip_counts.specs.Strategies.{Strategy, IsOfBytes, fooled}
 use Rattle.sip_replies.specs.Replies as general
 use Rattle.sip_subvec.specs.Counting.{is_right}
@@ -21,8 +24,15 @@ use Rattle.sip_subvec.specs.AcceptsSub.{Stated, gives_root}
 use Rattle.sip_subvec.specs.Protocol.{SubAsked, sub_asked, sub_finish, sub_protocol, sub_rules}
 use Rattle.sip_subvec.proofs.FewFooled.{few_fooled_bytes}
 use Rattle.sip_subvec.proofs.WrittenAnswers.{vector-small, written_counts}
-use Rattle.sip_verifier.specs.CountClause.{accepts_in, FewFor, CountsFor}
-use Rattle.sip_verifier.specs.Kinds.{sub_kind}
+use Rattle.sip_sums.specs.AcceptsSum.{product_at, total}
+use Rattle.sip_sums.specs.Counting as sum_counting
+use Rattle.sip_sums.specs.Protocol.{SumAsked, SumState, claimed, sum_asked, sum_protocol, sum_rules}
+use Rattle.sip_sums.specs.Questions.{Lists, lists, lists_of}
+use Rattle.sip_sums.proofs.WrittenSums as sums
+use Rattle.sip_verifier.specs.CountClause.{accepts_in, bound_of, FewFor, CountsFor}
+use Rattle.sip_verifier.specs.Kinds.{sub_kind, sum_kind}
+use Rattle.sip_verifier.proofs.SumAnswers.{sums_answer}
+use Rattle.sip_verifier.proofs.SumLaws.{few_sums}
 use Rattle.sip_verifier.specs.Tasks.{CanBeAsked}
 use Rattle.sip_verifier.specs.Questions.{Accepts}
 
@@ -39,19 +49,6 @@ module _ (version : Version) (depth : ℕ) (stream : List Update) (lo hi : ℕ) 
       (length-vector depth stream First) order within (vector-small depth stream legal) bytes in
       let one : 1 * depth ≡ depth = omega arith in
       rw one few
-
--- ---- all kinds
-
--- no helper has a wrong answer to a query that can be asked accepted at more blocks than its count
-pub few_wrong : (version : Version) (depth : ℕ) (stream : List Update) (query : Query) → CanBeAsked depth query
-    → IsLegal depth stream → FewFor version depth stream query
-few_wrong version depth stream (Sub lo hi) can legal = λ strategy bytes. sub_few version depth stream lo hi strategy
-    bytes can.1.0 can.1.1 legal
-few_wrong version depth stream (Range side lo hi) can legal = absurd (let no = can.0 in cc)
-few_wrong version depth stream (F2 side) can legal = absurd (let no = can.0 in cc)
-few_wrong version depth stream Inner can legal = absurd (let no = can.0 in cc)
-few_wrong version depth stream (Heavy side at_least) can legal = absurd (let no = can.0 in cc)
-few_wrong version depth stream (Share side num den) can legal = absurd (let no = can.0 in cc)
 
 -- replies to a sub-vector query state pairs
 no_number : (asked : SubAsked) (k : ℕ) (z : ℤ) (r : Result Stated Fault)
@@ -86,16 +83,84 @@ sub_counts version depth lo hi stream block taken (pairs entries) order within l
       (λ right. wrong (same_answer other (pairs entries) same ∙ ap pairs right));
 }
 
+-- replies to a query for a sum state a number
+no_pairs : (asked : SumAsked) (k : ℕ) (entries : List Entry) (r : Result SumState Fault)
+    → (r >>= λ s. in_round k (claimed asked s s.claim)) ≡ Ok (pairs entries) → ⊥
+no_pairs asked k entries (Err fault) e = absurd cc
+no_pairs asked k entries (Ok s) e = by_claim s.claim e
+  where
+    by_test : (claim : ℤ) (passes : Bool)
+        → in_round k (needs passes reasons.Root >>= λ _. Ok (number claim)) ≡ Ok (pairs entries) → ⊥
+    by_test claim true is = absurd cc
+    by_test claim false is = absurd cc
+
+    by_claim : (claim : Option ℤ) → in_round k (claimed asked s claim) ≡ Ok (pairs entries) → ⊥
+    by_claim None is = absurd cc
+    by_claim (Some claim) is = by_test claim (s.expected == asked.product) is
+
+-- ---- a sum
+
+module _ (version : Version) (depth : ℕ) (stream : List Update) (query : Query) (l : Lists)
+    (is : lists_of depth stream query ≡ Some l) (legal : IsLegal depth stream) where
+  sum_few : (strategy : Strategy) → IsOfBytes strategy
+      → fooled m61_modulus depth (accepts_in (sum_kind version depth l.first l.second))
+      (sum_counting.is_right version m61_modulus (total l.first l.second)) strategy
+      ≤ 2 * depth * m61_modulus ^ (depth - 1)
+  sum_few strategy bytes = few_sums version depth stream query l strategy legal is bytes
+
+  -- a number that accepted replies state is counted
+  sum_counts : (block : List ℕ) (taken : List (List ℕ)) (written : Answer)
+      → general.IsAccepted (sum_protocol (sum_asked version m61_modulus (product_at m61_modulus l.first l.second block)))
+      block taken written
+      → FewAndCounted m61_modulus depth (bound_of depth (sum_kind version depth l.first l.second))
+      (accepts_in (sum_kind version depth l.first l.second))
+      (sum_counting.is_right version m61_modulus (total l.first l.second)) block taken
+      (Some written) (answer depth stream query)
+  sum_counts block taken (pairs entries) accepted = absurd
+      (no_pairs (sum_asked version m61_modulus (product_at m61_modulus l.first l.second block))
+      (length block) entries (general.run (sum_rules version m61_modulus) block taken) accepted.found)
+  sum_counts block taken (number claim) accepted =
+      let right = sums_answer depth stream query l is in
+      record {
+        few = sum_few;
+        counts = λ strategy other talk same wrong.
+            let stated = same_answer other (number claim) same in
+            sums.written_counts version m61_modulus l.first l.second strategy block taken claim accepted talk
+            (λ e. wrong (stated ∙ ap number e ∙ sym right));
+      }
+
+-- ---- all kinds
+
+-- no helper has a wrong answer to a query that can be asked accepted at more blocks than its count
+pub few_wrong : (version : Version) (depth : ℕ) (stream : List Update) (query : Query) → CanBeAsked depth query
+    → IsLegal depth stream → FewFor version depth stream query
+few_wrong version depth stream (Sub lo hi) can legal = λ strategy bytes. sub_few version depth stream lo hi strategy
+    bytes can.1.0 can.1.1 legal
+few_wrong version depth stream (Range side lo hi) can legal = sum_few version depth stream (Range side lo hi)
+    (lists (vector depth stream side) (ones depth lo hi)) refl legal
+few_wrong version depth stream (F2 side) can legal = sum_few version depth stream (F2 side)
+    (lists (vector depth stream side) (vector depth stream side)) refl legal
+few_wrong version depth stream Inner can legal = sum_few version depth stream Inner
+    (lists (vector depth stream First) (vector depth stream Second)) refl legal
+few_wrong version depth stream (Heavy side at_least) can legal = absurd (let no = can.0 in cc)
+few_wrong version depth stream (Share side num den) can legal = absurd (let no = can.0 in cc)
+
+-- an answer that accepted replies state is counted
 pub question_counts : (version : Version) (depth : ℕ) (stream : List Update) (query : Query) (block : List ℕ)
     (taken : List (List ℕ)) (written : Answer) → Fits depth query → IsLegal depth stream
     → Accepts version depth stream (record { query = query; block = block; replies = taken }) written
     → CountsFor version depth stream (record { query = query; block = block; replies = taken }) written
 question_counts version depth stream (Sub lo hi) block taken written fits legal accepted =
     sub_counts version depth lo hi stream block taken written fits.0 fits.1 legal accepted
-question_counts version depth stream (Range side lo hi) block taken written fits legal accepted = absurd
-    accepted
-question_counts version depth stream (F2 side) block taken written fits legal accepted = absurd accepted
-question_counts version depth stream Inner block taken written fits legal accepted = absurd accepted
+question_counts version depth stream (Range side lo hi) block taken written fits legal accepted =
+    sum_counts version depth stream (Range side lo hi) (lists (vector depth stream side) (ones depth lo hi)) refl
+    legal block taken written accepted
+question_counts version depth stream (F2 side) block taken written fits legal accepted =
+    sum_counts version depth stream (F2 side) (lists (vector depth stream side) (vector depth stream side)) refl
+    legal block taken written accepted
+question_counts version depth stream Inner block taken written fits legal accepted =
+    sum_counts version depth stream Inner (lists (vector depth stream First) (vector depth stream Second)) refl
+    legal block taken written accepted
 question_counts version depth stream (Heavy side at_least) block taken written fits legal accepted = absurd
     accepted
 question_counts version depth stream (Share side num den) block taken written fits legal accepted = absurd

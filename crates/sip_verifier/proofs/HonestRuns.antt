@@ -20,6 +20,7 @@ use Rattle.sip_verifier.specs.Reports.{line, report_of}
 use Rattle.sip_verifier.specs.Questions.{Question, Accepted, IsFaulty, said_by_kind}
 use Rattle.sip_wire.specs.Versions.{Speaks}
 use Rattle.sip_verifier.proofs.HeardTalks.{IsHeard, heard-asked, replied}
+use Rattle.sip_verifier.proofs.Blocks.{IsBlock}
 use Rattle.sip_verifier.proofs.HonestQuestions.{question_done, question_faulty}
 
 -- ---- what is heard for a question
@@ -80,14 +81,14 @@ module _ (version : Version) (depth : ℕ) (stream : List Update) where
     pub fits : All (Fits depth) queries
     pub spoken : All (Speaks version depth) queries
     pub few : All (HasFewEntries version depth stream) queries
-    pub sizes : All (λ (b : List ℕ). length b ≡ depth) blocks
+    pub at_blocks : All (IsBlock depth) blocks
 
   can_rest : (q : Query) (queries : List Query) (b : List ℕ) (blocks : List (List ℕ)) → CanBeAsked (q ∷ queries) (b ∷ blocks) → CanBeAsked queries blocks
   can_rest q queries b blocks can = record {
     fits = All-tail (Fits depth) q queries can.fits;
     spoken = All-tail (Speaks version depth) q queries can.spoken;
     few = All-tail (HasFewEntries version depth stream) q queries can.few;
-    sizes = All-tail (λ (c : List ℕ). length c ≡ depth) b blocks can.sizes;
+    at_blocks = All-tail (IsBlock depth) b blocks can.at_blocks;
   }
 
   abbrev queries_of : List Question → List Query
@@ -135,7 +136,7 @@ module _ (version : Version) (depth : ℕ) (stream : List Update) where
         → all_honest (a.question.query ∷ queries) (a.question.block ∷ blocks) ≡ (joined a.question.replies ++ later) ++ rest → (all_honest queries blocks ≡ later ++ rest) × (a.answer ≡ answer depth stream a.question.query)
     first_done a queries blocks later rest can heard =
         question_done version depth stream some legal a.question.query a.question.block a.question.replies a.answer (all_honest queries blocks) (later ++ rest)
-        (All-head (Fits depth) a.question.query queries can.fits) (All-head (Speaks version depth) a.question.query queries can.spoken) (All-head (HasFewEntries version depth stream) a.question.query queries can.few) (All-head (λ (c : List ℕ). length c ≡ depth) a.question.block blocks can.sizes)
+        (All-head (Fits depth) a.question.query queries can.fits) (All-head (Speaks version depth) a.question.query queries can.spoken) (All-head (HasFewEntries version depth stream) a.question.query queries can.few) (All-head (IsBlock depth) a.question.block blocks can.at_blocks)
         a.accepts (heard ∙ append_assoc (joined a.question.replies) later rest)
 
     -- accepted questions have the stream's answers
@@ -159,7 +160,7 @@ module _ (version : Version) (depth : ℕ) (stream : List Update) where
         let asked = subst (λ (x : List Query). CanBeAsked x (last.block ∷ b.others)) b.queries_are (subst (λ (x : List (List ℕ)). CanBeAsked queries x) b.blocks_are can) in
         let bytes : all_honest (last.query ∷ b.more) (last.block ∷ b.others) ≡ all_honest queries blocks = ap (λ (x : List Query). all_honest x (last.block ∷ b.others)) (sym b.queries_are) ∙ ap (all_honest queries) (sym b.blocks_are) in
         question_faulty version depth stream some legal last.query last.block last.replies fault (all_honest b.more b.others) rest
-        (All-head (Fits depth) last.query b.more asked.fits) (All-head (Speaks version depth) last.query b.more asked.spoken) (All-head (HasFewEntries version depth stream) last.query b.more asked.few) (All-head (λ (c : List ℕ). length c ≡ depth) last.block b.others asked.sizes)
+        (All-head (Fits depth) last.query b.more asked.fits) (All-head (Speaks version depth) last.query b.more asked.spoken) (All-head (HasFewEntries version depth stream) last.query b.more asked.few) (All-head (IsBlock depth) last.block b.others asked.at_blocks)
         faulty other (bytes ∙ heard ∙ ap (λ (l : List ℕ). l ++ rest) (append-nil (joined last.replies)))
     none_faulty (a ∷ done) last fault queries blocks rest can first faulty other heard =
         let b = begins a.question (their_questions done ++ last ∷ []) queries blocks first in

@@ -5,6 +5,7 @@ mod Sends
 mod DueFrames
 mod SeatsGiven
 mod SeatsDrawn
+mod Challenges
 mod SeatsHead
 pub mod Lines
 pub mod FramesCut
@@ -18,6 +19,8 @@ pub mod QueriesChecked
 pub mod RunTalks
 pub mod StreamPromises
 pub mod QueryPromises
+mod SumAnswers
+mod SumLaws
 pub mod CountedQuestions
 pub mod CountedReports
 pub mod Blocks

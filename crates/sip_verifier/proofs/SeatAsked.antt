@@ -1,14 +1,21 @@
 -- The general talk of a seat's query, kind by kind.
-use Rattle.std.proofs.Common.{◌≡◌, ◌≢◌, ℕ, ◌≤◌, Option, Result, Err, List, length, take, refl, sym, ap, subst, ◌∙◌}
+use Rattle.std.proofs.Common.{◌≡◌, ◌≢◌, ℕ, ◌*◌, ◌%◌, ◌≤◌, Option, Some, Result, Err, List, length, take, ◌^◌, refl, sym, subst, ◌∙◌, inl, inr, arith}
 use Rattle.std.specs.Prelude.{IsTrue}
-use Rattle.std.proofs.lemmas.Bool.{leb-true}
+use Rattle.std.proofs.lemmas.Bool.{cases_order, leb-true}
+use Rattle.std.proofs.lemmas.Nat.{pow_below}
 use Rattle.sip_wire.specs.declared.version.Version.{Version}
 use Rattle.sip_field.specs.Moduli.{m61_modulus}
 use Rattle.sip_ports.specs.declared.port.TalkEvent.{TalkEvent}
 use Rattle.sip_vector.specs.declared.query.Query.{Query}
 use Rattle.sip_vector.specs.declared.query.Query.TheVariants.{Sub, Range, F2, Inner, Heavy, Share}
 use Rattle.sip_vector.specs.declared.update.Entry.{Entry}
+use Rattle.sip_vector.specs.declared.update.Side.{Side}
+use Rattle.sip_vector.specs.declared.update.Side.TheVariants.{First, Second}
 use Rattle.sip_vector.specs.declared.update.Update.{Update}
+use Rattle.sip_vector.specs.Extensions.{ext, ones}
+use Rattle.sip_vector.specs.Streams.{vector}
+use Rattle.sip_vector.proofs.Sides.{length-vector}
+use Rattle.sip_mle.specs.StandsFor.{PointStandsFor}
 use Rattle.sip_wire.specs.declared.message.Message.TheVariants as messages
 use Rattle.sip_wire.specs.Spelling.{fits}
 use Rattle.sip_replies.specs.declared.asking.AskStop.{AskStop}
@@ -19,26 +26,25 @@ use Rattle.sip_replies.specs.Protocols.{Protocol}
 use Rattle.sip_subvec.specs.AcceptsSub.{Stated}
 use Rattle.sip_subvec.specs.Asking.{most_answer}
 use Rattle.sip_subvec.specs.Protocol.{sub_asked, sub_protocol}
+use Rattle.sip_sums.specs.AcceptsSum.{product_at}
+use Rattle.sip_sums.specs.Protocol.{SumState, sum_asked, sum_protocol}
+use Rattle.sip_sums.specs.Questions.{Lists, lists, lists_of}
 use Rattle.sip_verifier.specs.Asking.{Asks}
 use Rattle.sip_verifier.specs.inside.Judging as judging
 use Rattle.sip_verifier.specs.inside.Judging.{found_in, verdict_of}
-use Rattle.sip_verifier.specs.declared.seat.Running.{Running}
-use Rattle.sip_verifier.specs.declared.seat.Running.TheVariants.{Root}
-use Rattle.sip_verifier.specs.inside.Running.{block_of, numbers_of}
-use Rattle.sip_verifier.specs.QuerySeats.{RunningNumbers, Seated, root_is, RunsOn, StandsFor, is_seat}
+use Rattle.sip_verifier.specs.QuerySeats.{RunningNumbers, Seated, root_is, point_is, points_are, RunsOn, StandsFor, is_seat}
 use Rattle.sip_wire.specs.Versions.{Speaks}
 use Rattle.sip_wire.proofs.Asking.{query-fits}
 use Rattle.sip_verifier.proofs.QueryAsked.{IsProtocol, asks}
-use Rattle.sip_verifier.proofs.Seating.{Has}
 use Rattle.sip_verifier.proofs.SeatsHead.{seat-fits}
-
--- ---- a sub-vector
 
 -- the query of a seat has a spelling in each version in which it can be asked
 pub seat_has_spelling : (version : Version) (s : Seated) → IsTrue (is_seat (length s.block) s)
     → Speaks version (length s.block) s.query → IsTrue (fits version (messages.Query s.query))
 seat_has_spelling version s seat speaks =
     query-fits version (length s.block) s.query speaks (seat-fits (length s.block) s s.block seat refl)
+
+-- ---- a sub-vector
 
 -- its answer has room
 pub sub_has_room : (s : Seated) (lo hi room : ℕ) → s.query ≡ Sub lo hi
@@ -48,54 +54,143 @@ sub_has_room s lo hi room is has = leb-true (most_answer lo hi) room
 
 -- its protocol is that of the stream for which its root stands
 sub_is_protocol : (version : Version) (depth : ℕ) (stream : List Update) (query : Query) (block : List ℕ)
-    (running : RunningNumbers) (lo hi value : ℕ) → query ≡ Sub lo hi → running ≡ root_is value
-    → RunsOn depth stream query block running
+    (lo hi value : ℕ) → query ≡ Sub lo hi → RunsOn depth stream query block (root_is value)
     → IsProtocol version depth stream query block (sub_protocol (sub_asked version m61_modulus value lo hi block))
-sub_is_protocol version depth stream (Sub low high) block (root_is found) lo hi value is has stands =
+sub_is_protocol version depth stream (Sub low high) block lo hi value is stands =
     let same_lo : low ≡ lo = cc in
     let same_hi : high ≡ hi = cc in
-    let same_value : found ≡ value = cc in
     let same = stands.same in
-    rw (sym same_lo, sym same_hi, sym same_value, same)
+    rw (sym same_lo, sym same_hi, same)
     (record {
       said = λ replies. refl;
       accepts = λ replies answer a. a;
-      faulty = λ replies
-          fault f. f;
+      faulty = λ replies fault f. f;
       waits = λ replies w. w;
     })
-sub_is_protocol version depth stream (Range side low high) block running lo hi value is has stands = absurd
-    stands
-sub_is_protocol version depth stream (F2 side) block running lo hi value is has stands = absurd stands
-sub_is_protocol version depth stream Inner block running lo hi value is has stands = absurd stands
-sub_is_protocol version depth stream (Heavy side at_least) block running lo hi value is has stands = absurd
-    stands
-sub_is_protocol version depth stream (Share side num den) block running lo hi value is has stands = absurd
-    stands
+sub_is_protocol version depth stream (Range side low high) block lo hi value is stands = absurd stands
+sub_is_protocol version depth stream (F2 side) block lo hi value is stands = absurd stands
+sub_is_protocol version depth stream Inner block lo hi value is stands = absurd stands
+sub_is_protocol version depth stream (Heavy side at_least) block lo hi value is stands = absurd stands
+sub_is_protocol version depth stream (Share side num den) block lo hi value is stands = absurd stands
 
-of_root : (running : Running) (block : List ℕ) (value : ℕ) → Has running block value
-    → (block_of running ≡ block) × (numbers_of running ≡ root_is value)
-of_root (Root root) block value has = (has.0, ap root_is has.1)
-
-pub sub_asks : (version : Version) (depth : ℕ) (stream : List Update) (s : Seated) (running : Running) (lo hi value : ℕ)
+pub sub_asks : (version : Version) (depth : ℕ) (stream : List Update) (s : Seated) (lo hi value : ℕ)
     (block at : List ℕ) (old new before now : Option (List TalkEvent)) (places : List Entry)
     (result : Result Said AskStop)
-    → s.query ≡ Sub lo hi → s.block ≡ block_of running → s.running ≡ numbers_of running
-    → Has running block value → at ≡ block → StandsFor depth stream s
+    → s.query ≡ Sub lo hi → s.block ≡ block → s.running ≡ root_is value
+    → at ≡ block → StandsFor depth stream s
     → Answers (sub_protocol (sub_asked version m61_modulus value lo hi block)) s.query at old new before now
     places result → result ≢ Err stops.KeepFault
     → result ≢ Err stops.KeepOutOfMemory → Asks version depth stream s.query s.block old new
     (take (found_in (length places) result) places) (verdict_of result)
-sub_asks version depth stream s running lo hi value block at old new before now places result is seen keeps
-    has same stands answers kept free =
-    let root = of_root running block value has in
-    let own = seen ∙ root.0 in
+sub_asks version depth stream s lo hi value block at old new before now places result is own keeps
+    same stands answers kept free =
     let P : Protocol Stated = sub_protocol (sub_asked version m61_modulus value lo hi block) in
     let given = subst (λ (b : List ℕ). Answers P s.query b old new before now places result) same
     answers in
-    let runs = subst (λ (b : List ℕ). RunsOn depth stream s.query b s.running) own stands in
+    let runs = subst (λ (r : RunningNumbers). RunsOn depth stream s.query block r) keeps
+    (subst (λ (b : List ℕ). RunsOn depth stream s.query b s.running) own stands) in
     subst (λ (b : List ℕ). Asks version depth stream s.query b old new
     (take (found_in (length places) result) places) (verdict_of result)) (sym own)
     (asks version depth stream s.query block old new before now P
-    (sub_is_protocol version depth stream s.query block s.running lo hi value is (keeps ∙ root.1) runs)
+    (sub_is_protocol version depth stream s.query block lo hi value is runs)
     places result given kept free)
+
+-- ---- a sum
+
+-- its protocol is that of the product of the two extensions
+sum_is_protocol : (version : Version) (depth : ℕ) (stream : List Update) (query : Query) (block : List ℕ)
+    (l : Lists) (product : ℕ) → lists_of depth stream query ≡ Some l
+    → product ≡ product_at m61_modulus l.first l.second block
+    → IsProtocol version depth stream query block (sum_protocol (sum_asked version m61_modulus product))
+sum_is_protocol version depth stream (Sub low high) block l product is same = absurd cc
+sum_is_protocol version depth stream (Range side low high) block l product is same =
+    let own : l ≡ lists (vector depth stream side) (ones depth low high) = cc in
+    rw (same, own) (record {
+      said = λ replies. refl;
+      accepts = λ replies answer a. a;
+      faulty = λ replies fault f. f;
+      waits = λ replies w. w;
+    })
+sum_is_protocol version depth stream (F2 side) block l product is same =
+    let own : l ≡ lists (vector depth stream side) (vector depth stream side) = cc in
+    rw (same, own) (record {
+      said = λ replies. refl;
+      accepts = λ replies answer a. a;
+      faulty = λ replies fault f. f;
+      waits = λ replies w. w;
+    })
+sum_is_protocol version depth stream Inner block l product is same =
+    let own : l ≡ lists (vector depth stream First) (vector depth stream Second) = cc in
+    rw (same, own) (record {
+      said = λ replies. refl;
+      accepts = λ replies answer a. a;
+      faulty = λ replies fault f. f;
+      waits = λ replies w. w;
+    })
+sum_is_protocol version depth stream (Heavy side at_least) block l product is same = absurd cc
+sum_is_protocol version depth stream (Share side num den) block l product is same = absurd cc
+
+pub sum_asks : (version : Version) (depth : ℕ) (stream : List Update) (s : Seated) (l : Lists) (product : ℕ)
+    (at : List ℕ) (old new before now : Option (List TalkEvent)) (places : List Entry)
+    (result : Result Said AskStop)
+    → lists_of depth stream s.query ≡ Some l → product ≡ product_at m61_modulus l.first l.second s.block
+    → at ≡ s.block
+    → Answers (sum_protocol (sum_asked version m61_modulus product)) s.query at old new before now
+    places result → result ≢ Err stops.KeepFault
+    → result ≢ Err stops.KeepOutOfMemory → Asks version depth stream s.query s.block old new
+    (take (found_in (length places) result) places) (verdict_of result)
+sum_asks version depth stream s l product at old new before now places result is product_is same answers
+    kept free =
+    let P : Protocol SumState = sum_protocol (sum_asked version m61_modulus product) in
+    let given = subst (λ (b : List ℕ). Answers P s.query b old new before now places result) same
+    answers in
+    asks version depth stream s.query s.block old new before now P
+    (sum_is_protocol version depth stream s.query s.block l product is product_is)
+    places result given kept free
+
+-- ---- the product of a seat
+
+same_power : (one other : ℕ) → 2 ^ one ≡ 2 ^ other → one ≡ other
+same_power one other e = elim (cases_order one other) [
+  | inl same ↦ same
+  | inr (inl less) ↦ absurd (let below = pow_below one other less in omega (arith, below, e))
+  | inr (inr more) ↦ absurd (let below = pow_below other one more in omega (arith, below, e))
+]
+
+-- a point that stands for a side's vector has a challenge for each level
+levels_of : (depth : ℕ) (stream : List Update) (side : Side) (block : List ℕ) (value : ℕ)
+    → PointStandsFor m61_modulus block value (vector depth stream side) → length block ≡ depth
+levels_of depth stream side block value stands =
+    same_power (length block) depth (sym stands.whole ∙ length-vector depth stream side)
+
+-- a range sum's: the vector's extension and the interval's
+pub range_product : (depth : ℕ) (stream : List Update) (s : Seated) (side : Side) (lo hi value interval product : ℕ) (block : List ℕ)
+    → s.query ≡ Range side lo hi → s.running ≡ point_is value → s.block ≡ block
+    → interval ≡ ext m61_modulus (ones (length block) lo hi) block
+    → product ≡ (value * interval) % m61_modulus → StandsFor depth stream s
+    → (lists_of depth stream s.query ≡ Some (lists (vector depth stream side) (ones depth lo hi)))
+    × (product ≡ product_at m61_modulus (vector depth stream side) (ones depth lo hi) s.block)
+range_product depth stream s side lo hi value interval product block is keeps own interval_is product_is stands =
+    let runs : PointStandsFor m61_modulus block value (vector depth stream side) = rw (is, keeps, own) at stands in
+    let size = levels_of depth stream side block value runs in
+    (rw is refl, rw (product_is, interval_is, size, own, runs.same) refl)
+
+-- a second moment's: the vector's extension twice
+pub square_product : (depth : ℕ) (stream : List Update) (s : Seated) (side : Side) (value product : ℕ)
+    → s.query ≡ F2 side → s.running ≡ point_is value
+    → product ≡ (value * value) % m61_modulus → StandsFor depth stream s
+    → (lists_of depth stream s.query ≡ Some (lists (vector depth stream side) (vector depth stream side)))
+    × (product ≡ product_at m61_modulus (vector depth stream side) (vector depth stream side) s.block)
+square_product depth stream s side value product is keeps product_is stands =
+    let runs : PointStandsFor m61_modulus s.block value (vector depth stream side) = rw (is, keeps) at stands in
+    (rw is refl, rw (product_is, runs.same) refl)
+
+-- an inner product's: the extensions of both vectors
+pub inner_product : (depth : ℕ) (stream : List Update) (s : Seated) (first second product : ℕ)
+    → s.query ≡ Inner → s.running ≡ points_are first second
+    → product ≡ (first * second) % m61_modulus → StandsFor depth stream s
+    → (lists_of depth stream s.query ≡ Some (lists (vector depth stream First) (vector depth stream Second)))
+    × (product ≡ product_at m61_modulus (vector depth stream First) (vector depth stream Second) s.block)
+inner_product depth stream s first second product is keeps product_is stands =
+    let runs : PointStandsFor m61_modulus s.block first (vector depth stream First) × PointStandsFor m61_modulus s.block second (vector depth stream Second) = rw (is, keeps) at stands in
+    (rw is refl, rw (product_is, runs.0.same, runs.1.same) refl)

@@ -1,45 +1,176 @@
 -- A seat before and after more updates.
-use Rattle.std.proofs.Common.{◌≡◌, ℕ, ℤ, false, List, [], ◌∷◌, ◌++◌, sym, ap, ◌∙◌, subst}
+use Rattle.std.proofs.Common.{◌≡◌, ℕ, ℤ, true, false, ◌==◌, ◌&&◌, List, [], ◌∷◌, ◌++◌, length, All, refl, sym, ap, ◌∙◌, subst, inl, inr}
+use Rattle.std.specs.Prelude.{IsTrue}
+use Rattle.std.proofs.lemmas.Bool.{and_from, and_parts, cases_Bool, eq-eqb, eqb-true}
+use Rattle.std.proofs.lemmas.List.Elements.{All-nil, All-cons, All-head, All-tail}
 use Rattle.sip_field.specs.Moduli.{m61_modulus}
+use Rattle.sip_mle.specs.StandsFor.{PointStandsFor}
 use Rattle.sip_tree.specs.StandsFor.{RootStandsFor}
 use Rattle.sip_vector.specs.declared.query.Query.{Query}
 use Rattle.sip_vector.specs.declared.query.Query.TheVariants.{Sub, Range, F2, Inner, Heavy, Share}
-use Rattle.sip_vector.specs.declared.update.Side.TheVariants.{First}
+use Rattle.sip_vector.specs.declared.update.Side.{Side}
+use Rattle.sip_vector.specs.declared.update.Side.TheVariants.{First, Second}
 use Rattle.sip_vector.specs.declared.update.Update.{Update}
 use Rattle.sip_vector.specs.Streams.{same_side, of_side, vector}
 use Rattle.sip_vector.specs.Weights.{numbers_after}
-use Rattle.sip_vector.proofs.Sides.{vector-other_side}
 use Rattle.sip_vector.proofs.TreeStreams.{vector_goes_on}
-use Rattle.sip_verifier.specs.QuerySeats.{RunningNumbers, root_is, RunsOn}
-use Rattle.sip_verifier.specs.declared.seat.Running.{Running}
-use Rattle.sip_verifier.specs.declared.seat.Running.TheVariants.{Root}
-use Rattle.sip_verifier.specs.inside.Running.{RunsFor}
+use Rattle.sip_verifier.specs.QuerySeats.{RunningNumbers, Seated, root_is, point_is, points_are, RunsOn, can_be_asked, concerns, is_seat, keeps}
 
--- the challenges and the value of a running number
-abbrev pub Has : Running → List ℕ → ℕ → Type 0
-Has (Root root) block value = (root.seat ≡ block) × (root.value ≡ value)
+-- ---- what a seat is
 
--- the updates of the first side raise its vector
-pub runs_further : (depth : ℕ) (stream updates first : List Update) (query : Query) (old new : Running) (block block' : List ℕ) (value value' : ℕ) → of_side updates First ≡ first
-    → Has old block value → Has new block' value'
-    → ((numbers : List ℤ) → RootStandsFor m61_modulus block value numbers → RootStandsFor m61_modulus block' value' (numbers_after numbers first))
-    → RunsFor depth stream query old → RunsFor depth (stream ++ updates) query new
-runs_further depth stream updates first (Sub lo hi) (Root old) (Root new) block block' value value' these was is raised stands =
-    let before : RootStandsFor m61_modulus block value (vector depth stream First) = rw (sym was.0, sym was.1) stands.runs in
-    let after = raised _ before in
-    let longer : vector depth (stream ++ updates) First ≡ numbers_after (vector depth stream First) first = vector_goes_on depth stream updates First ∙ ap (numbers_after (vector depth stream First)) these in
-    record { runs = rw (is.0, is.1, longer) after }
-runs_further depth stream updates first (Range side lo hi) old new block block' value value' these was is raised stands = absurd stands.runs
-runs_further depth stream updates first (F2 side) old new block block' value value' these was is raised stands = absurd stands.runs
-runs_further depth stream updates first Inner old new block block' value value' these was is raised stands = absurd stands.runs
-runs_further depth stream updates first (Heavy side least) old new block block' value value' these was is raised stands = absurd stands.runs
-runs_further depth stream updates first (Share side num den) old new block block' value value' these was is raised stands = absurd stands.runs
+pub seat_parts : (depth : ℕ) (s : Seated) → IsTrue (is_seat depth s)
+    → IsTrue (can_be_asked depth s.query) × (length s.block ≡ depth) × IsTrue (keeps s.query s.running)
+seat_parts depth s is =
+    let both = and_parts (can_be_asked depth s.query) ((length s.block == depth) && keeps s.query s.running) is in
+    let rest = and_parts (length s.block == depth) (keeps s.query s.running) both.1 in
+    (both.0, eqb-true (length s.block) depth rest.0, rest.1)
 
--- an update of the other side changes nothing
-pub runs_on : (depth : ℕ) (stream : List Update) (u : Update) (query : Query) (block : List ℕ) (running : RunningNumbers) → same_side u.side First ≡ false → RunsOn depth stream query block running → RunsOn depth (stream ++ u ∷ []) query block running
-runs_on depth stream u (Sub lo hi) block (root_is value) other stands = subst (RootStandsFor m61_modulus block value) (sym (vector-other_side depth stream u First other)) stands
-runs_on depth stream u (Range side lo hi) block running other stands = absurd stands
-runs_on depth stream u (F2 side) block running other stands = absurd stands
-runs_on depth stream u Inner block running other stands = absurd stands
-runs_on depth stream u (Heavy side least) block running other stands = absurd stands
-runs_on depth stream u (Share side num den) block running other stands = absurd stands
+pub seat_from : (depth : ℕ) (s : Seated) → IsTrue (can_be_asked depth s.query) → length s.block ≡ depth
+    → IsTrue (keeps s.query s.running) → IsTrue (is_seat depth s)
+seat_from depth s can size kept = and_from _ _ can (and_from _ _ (eq-eqb (length s.block) depth size) kept)
+
+-- ---- updates of one side
+
+same_self : (side : Side) → same_side side side ≡ true
+same_self First = refl
+same_self Second = refl
+
+same_true : (one other : Side) → same_side one other ≡ true → one ≡ other
+same_true First First is = refl
+same_true First Second is = absurd cc
+same_true Second First is = absurd cc
+same_true Second Second is = refl
+
+-- those of a side are of that side
+pub all_own : (updates : List Update) (side : Side) → All (λ u. u.side ≡ side) (of_side updates side)
+all_own [] side = All-nil (λ (u : Update). u.side ≡ side)
+all_own (u ∷ updates) side = elim (cases_Bool (same_side u.side side)) [
+  | inl here ↦ rw here (All-cons (λ (v : Update). v.side ≡ side) u (of_side updates side) (same_true u.side side here) (all_own updates side))
+  | inr other ↦ rw other (all_own updates side)
+]
+
+-- where all are of a side, they are those of that side, and the other side has none
+pub of_own : (updates : List Update) (side : Side) → All (λ u. u.side ≡ side) updates → of_side updates side ≡ updates
+of_own [] side all = refl
+of_own (u ∷ updates) side all =
+    let Own : Update → Type 0 = λ v. v.side ≡ side in
+    let here : same_side u.side side ≡ true = ap (λ s. same_side s side) (All-head Own u updates all) ∙ same_self side in
+    rw here (ap (λ l. u ∷ l) (of_own updates side (All-tail Own u updates all)))
+
+pub of_other : (updates : List Update) (side own : Side) → All (λ u. u.side ≡ side) updates → same_side side own ≡ false → of_side updates own ≡ []
+of_other [] side own all other = refl
+of_other (u ∷ updates) side own all other =
+    let Own : Update → Type 0 = λ v. v.side ≡ side in
+    let here : same_side u.side own ≡ false = ap (λ s. same_side s own) (All-head Own u updates all) ∙ other in
+    rw here (of_other updates side own (All-tail Own u updates all) other)
+
+-- they raise their side's vector
+vector_own : (depth : ℕ) (stream updates : List Update) (side own : Side) → All (λ u. u.side ≡ side) updates → same_side side own ≡ true
+    → vector depth (stream ++ updates) own ≡ numbers_after (vector depth stream own) updates
+vector_own depth stream updates side own all is =
+    let these = subst (λ (s : Side). of_side updates s ≡ updates) (same_true side own is) (of_own updates side all) in
+    vector_goes_on depth stream updates own ∙ ap (numbers_after (vector depth stream own)) these
+
+-- and leave the other one
+vector_other : (depth : ℕ) (stream updates : List Update) (side own : Side) → All (λ u. u.side ≡ side) updates → same_side side own ≡ false
+    → vector depth (stream ++ updates) own ≡ vector depth stream own
+vector_other depth stream updates side own all other =
+    vector_goes_on depth stream updates own ∙ ap (numbers_after (vector depth stream own)) (of_other updates side own all other)
+
+-- the updates of one side and then those of the other are the updates, to each vector
+pub vector_split : (depth : ℕ) (stream updates : List Update) (side : Side)
+    → vector depth ((stream ++ of_side updates First) ++ of_side updates Second) side ≡ vector depth (stream ++ updates) side
+vector_split depth stream updates First =
+    vector_other depth (stream ++ of_side updates First) (of_side updates Second) Second First (all_own updates Second) refl
+    ∙ vector_own depth stream (of_side updates First) First First (all_own updates First) refl
+    ∙ sym (vector_goes_on depth stream updates First)
+vector_split depth stream updates Second =
+    vector_own depth (stream ++ of_side updates First) (of_side updates Second) Second Second (all_own updates Second) refl
+    ∙ ap (λ (l : List ℤ). numbers_after l (of_side updates Second))
+    (vector_other depth stream (of_side updates First) First Second (all_own updates First) refl)
+    ∙ sym (vector_goes_on depth stream updates Second)
+
+-- ---- running numbers
+
+module _ (depth : ℕ) (stream updates : List Update) (block : List ℕ) where
+  -- updates that concern the query raise its root
+  pub root_further : (side : Side) (query : Query) (block' : List ℕ) (value value' : ℕ)
+      → All (λ u. u.side ≡ side) updates → IsTrue (concerns query side)
+      → ((numbers : List ℤ) → RootStandsFor m61_modulus block value numbers → RootStandsFor m61_modulus block' value' (numbers_after numbers updates))
+      → RunsOn depth stream query block (root_is value) → RunsOn depth (stream ++ updates) query block' (root_is value')
+  root_further side (Sub lo hi) block' value value' all is raised stands =
+      subst (RootStandsFor m61_modulus block' value') (sym (vector_own depth stream updates side First all is)) (raised _ stands)
+  root_further side (Range own lo hi) block' value value' all is raised stands = absurd stands
+  root_further side (F2 own) block' value value' all is raised stands = absurd stands
+  root_further side Inner block' value value' all is raised stands = absurd stands
+  root_further side (Heavy own least) block' value value' all is raised stands = absurd stands
+  root_further side (Share own num den) block' value value' all is raised stands = absurd stands
+
+  -- or its extension
+  pub point_further : (side : Side) (query : Query) (block' : List ℕ) (value value' : ℕ)
+      → All (λ u. u.side ≡ side) updates → IsTrue (concerns query side)
+      → ((numbers : List ℤ) → PointStandsFor m61_modulus block value numbers → PointStandsFor m61_modulus block' value' (numbers_after numbers updates))
+      → RunsOn depth stream query block (point_is value) → RunsOn depth (stream ++ updates) query block' (point_is value')
+  point_further side (Sub lo hi) block' value value' all is raised stands = absurd stands
+  point_further side (Range own lo hi) block' value value' all is raised stands =
+      subst (PointStandsFor m61_modulus block' value') (sym (vector_own depth stream updates side own all is)) (raised _ stands)
+  point_further side (F2 own) block' value value' all is raised stands =
+      subst (PointStandsFor m61_modulus block' value') (sym (vector_own depth stream updates side own all is)) (raised _ stands)
+  point_further side Inner block' value value' all is raised stands = absurd stands
+  point_further side (Heavy own least) block' value value' all is raised stands = absurd stands
+  point_further side (Share own num den) block' value value' all is raised stands = absurd stands
+
+  -- or its two extensions, each by the updates of its side
+  pub points_further : (query : Query) (block' : List ℕ) (first second first' second' : ℕ)
+      → ((numbers : List ℤ) → PointStandsFor m61_modulus block first numbers → PointStandsFor m61_modulus block' first' (numbers_after numbers (of_side updates First)))
+      → ((numbers : List ℤ) → PointStandsFor m61_modulus block second numbers → PointStandsFor m61_modulus block' second' (numbers_after numbers (of_side updates Second)))
+      → RunsOn depth stream query block (points_are first second) → RunsOn depth (stream ++ updates) query block' (points_are first' second')
+  points_further (Sub lo hi) block' first second first' second' one other stands = absurd stands
+  points_further (Range own lo hi) block' first second first' second' one other stands = absurd stands
+  points_further (F2 own) block' first second first' second' one other stands = absurd stands
+  points_further Inner block' first second first' second' one other stands = (
+    subst (PointStandsFor m61_modulus block' first') (sym (vector_goes_on depth stream updates First)) (one _ stands.0),
+    subst (PointStandsFor m61_modulus block' second') (sym (vector_goes_on depth stream updates Second)) (other _ stands.1),
+  )
+  points_further (Heavy own least) block' first second first' second' one other stands = absurd stands
+  points_further (Share own num den) block' first second first' second' one other stands = absurd stands
+
+  -- updates that do not concern it change nothing
+  pub runs_on : (side : Side) (query : Query) (running : RunningNumbers)
+      → All (λ u. u.side ≡ side) updates → concerns query side ≡ false
+      → RunsOn depth stream query block running → RunsOn depth (stream ++ updates) query block running
+  runs_on side (Sub lo hi) (root_is value) all other stands =
+      subst (RootStandsFor m61_modulus block value) (sym (vector_other depth stream updates side First all other)) stands
+  runs_on side (Sub lo hi) (point_is value) all other stands = absurd stands
+  runs_on side (Sub lo hi) (points_are first second) all other stands = absurd stands
+  runs_on side (Range own lo hi) (root_is value) all other stands = absurd stands
+  runs_on side (Range own lo hi) (point_is value) all other stands =
+      subst (PointStandsFor m61_modulus block value) (sym (vector_other depth stream updates side own all other)) stands
+  runs_on side (Range own lo hi) (points_are first second) all other stands = absurd stands
+  runs_on side (F2 own) (root_is value) all other stands = absurd stands
+  runs_on side (F2 own) (point_is value) all other stands =
+      subst (PointStandsFor m61_modulus block value) (sym (vector_other depth stream updates side own all other)) stands
+  runs_on side (F2 own) (points_are first second) all other stands = absurd stands
+  runs_on side Inner running all other stands = absurd cc
+  runs_on side (Heavy own least) running all other stands = absurd stands
+  runs_on side (Share own num den) running all other stands = absurd stands
+
+-- streams with the same vectors have the same running numbers
+pub same_runs : (depth : ℕ) (one other : List Update) (block : List ℕ) (query : Query) (running : RunningNumbers)
+    → ((side : Side) → vector depth one side ≡ vector depth other side)
+    → RunsOn depth one query block running → RunsOn depth other query block running
+same_runs depth one other block (Sub lo hi) (root_is value) same stands = subst (RootStandsFor m61_modulus block value) (same First) stands
+same_runs depth one other block (Sub lo hi) (point_is value) same stands = absurd stands
+same_runs depth one other block (Sub lo hi) (points_are first second) same stands = absurd stands
+same_runs depth one other block (Range own lo hi) (root_is value) same stands = absurd stands
+same_runs depth one other block (Range own lo hi) (point_is value) same stands = subst (PointStandsFor m61_modulus block value) (same own) stands
+same_runs depth one other block (Range own lo hi) (points_are first second) same stands = absurd stands
+same_runs depth one other block (F2 own) (root_is value) same stands = absurd stands
+same_runs depth one other block (F2 own) (point_is value) same stands = subst (PointStandsFor m61_modulus block value) (same own) stands
+same_runs depth one other block (F2 own) (points_are first second) same stands = absurd stands
+same_runs depth one other block Inner (root_is value) same stands = absurd stands
+same_runs depth one other block Inner (point_is value) same stands = absurd stands
+same_runs depth one other block Inner (points_are first second) same stands =
+    (subst (PointStandsFor m61_modulus block first) (same First) stands.0, subst (PointStandsFor m61_modulus block second) (same Second) stands.1)
+same_runs depth one other block (Heavy own least) running same stands = absurd stands
+same_runs depth one other block (Share own num den) running same stands = absurd stands

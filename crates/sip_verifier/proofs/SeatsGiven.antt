@@ -3,35 +3,73 @@ use Rattle.std.proofs.Common.{◌≡◌, ℕ, zero, suc, ◌+◌, ◌-◌, ◌*�
 use Rattle.std.specs.Prelude.{IsTrue}
 use Rattle.std.specs.List.{list_all}
 use Rattle.std.proofs.Math.Nat.{suc-mul, mul_comm, mul-add-div, div-eq_of_lt, mul-le-mul_right}
-use Rattle.std.proofs.lemmas.Bool.{and_from, eq-eqb, le-leb, lt-ltb}
+use Rattle.std.proofs.lemmas.Bool.{and_from, le-leb, lt-ltb}
 use Rattle.std.proofs.lemmas.List.{map-append, length-map, take_more, drop-drop}
 use Rattle.std.proofs.lemmas.List.Elements.{All-push}
 use Rattle.std.proofs.lemmas.List.Folds.{list_all-append}
 use Rattle.sip_field.specs.Moduli.{m61_modulus}
+use Rattle.sip_mle.specs.StandsFor.{PointStandsFor}
 use Rattle.sip_tree.specs.StandsFor.{RootStandsFor}
 use Rattle.sip_vector.specs.declared.query.Query.{Query}
 use Rattle.sip_vector.specs.declared.query.Query.TheVariants.{Sub, Range, F2, Inner, Heavy, Share}
-use Rattle.sip_vector.specs.declared.update.Side.TheVariants.{First}
+use Rattle.sip_vector.specs.declared.update.Side.{Side}
+use Rattle.sip_vector.specs.declared.update.Side.TheVariants.{First, Second}
 use Rattle.sip_vector.specs.Pieces.{pieces, cut}
+use Rattle.sip_vector.specs.Streams.{vector}
 use Rattle.sip_vector.proofs.Sides.{vector-nil}
-use Rattle.sip_verifier.specs.QuerySeats.{Seated, root_is, RunsOn, StandsFor, is_seat}
+use Rattle.sip_verifier.specs.QuerySeats.{Seated, root_is, point_is, points_are, RunsOn, StandsFor, can_be_asked, is_seat, keeps}
 use Rattle.sip_verifier.specs.Tasks.{CanBeAsked}
 
 -- ---- one seat
 
--- a query with a root of zeros, one level for each challenge
-pub new-seat : (depth : ℕ) (query : Query) (block : List ℕ) (value : ℕ) → CanBeAsked depth query → length block ≡ depth
-    → RootStandsFor m61_modulus block value (replicate (2 ^ length block) (pos 0))
-    → IsTrue (is_seat depth (record { query = query; block = block; running = root_is value })) × RunsOn depth [] query block (root_is value)
-new-seat depth (Sub lo hi) block value can size stands =
-    let ends = and_from _ _ (le-leb lo hi can.1.0) (lt-ltb hi (2 ^ depth) can.1.1) in
-    let zeros = subst (λ n. RootStandsFor m61_modulus block value (replicate (2 ^ n) (pos 0))) size stands in
-    (and_from _ _ ends (eq-eqb (length block) depth size), rw (vector-nil depth First) zeros)
-new-seat depth (Range side lo hi) block value can size stands = absurd (let no = can.0 in cc)
-new-seat depth (F2 side) block value can size stands = absurd (let no = can.0 in cc)
-new-seat depth Inner block value can size stands = absurd (let no = can.0 in cc)
-new-seat depth (Heavy side least) block value can size stands = absurd (let no = can.0 in cc)
-new-seat depth (Share side num den) block value can size stands = absurd (let no = can.0 in cc)
+-- the running numbers of zeros stand for the stream of no update
+module _ (depth : ℕ) (block : List ℕ) (size : length block ≡ depth) where
+  root_of_none : (value : ℕ) (side : Side) → RootStandsFor m61_modulus block value (replicate (2 ^ length block) (pos 0))
+      → RootStandsFor m61_modulus block value (vector depth [] side)
+  root_of_none value side stands = rw (vector-nil depth side)
+      (subst (λ n. RootStandsFor m61_modulus block value (replicate (2 ^ n) (pos 0))) size stands)
+
+  point_of_none : (value : ℕ) (side : Side) → PointStandsFor m61_modulus block value (replicate (2 ^ length block) (pos 0))
+      → PointStandsFor m61_modulus block value (vector depth [] side)
+  point_of_none value side stands = rw (vector-nil depth side)
+      (subst (λ n. PointStandsFor m61_modulus block value (replicate (2 ^ n) (pos 0))) size stands)
+
+  pub new_root : (query : Query) (value : ℕ) → IsTrue (keeps query (root_is value))
+      → RootStandsFor m61_modulus block value (replicate (2 ^ length block) (pos 0)) → RunsOn depth [] query block (root_is value)
+  new_root (Sub lo hi) value kept stands = root_of_none value First stands
+  new_root (Range side lo hi) value kept stands = absurd cc
+  new_root (F2 side) value kept stands = absurd cc
+  new_root Inner value kept stands = absurd cc
+  new_root (Heavy side least) value kept stands = absurd cc
+  new_root (Share side num den) value kept stands = absurd cc
+
+  pub new_point : (query : Query) (value : ℕ) → IsTrue (keeps query (point_is value))
+      → PointStandsFor m61_modulus block value (replicate (2 ^ length block) (pos 0)) → RunsOn depth [] query block (point_is value)
+  new_point (Sub lo hi) value kept stands = absurd cc
+  new_point (Range side lo hi) value kept stands = point_of_none value side stands
+  new_point (F2 side) value kept stands = point_of_none value side stands
+  new_point Inner value kept stands = absurd cc
+  new_point (Heavy side least) value kept stands = absurd cc
+  new_point (Share side num den) value kept stands = absurd cc
+
+  pub new_points : (query : Query) (first second : ℕ) → IsTrue (keeps query (points_are first second))
+      → PointStandsFor m61_modulus block first (replicate (2 ^ length block) (pos 0))
+      → PointStandsFor m61_modulus block second (replicate (2 ^ length block) (pos 0)) → RunsOn depth [] query block (points_are first second)
+  new_points (Sub lo hi) first second kept one other = absurd cc
+  new_points (Range side lo hi) first second kept one other = absurd cc
+  new_points (F2 side) first second kept one other = absurd cc
+  new_points Inner first second kept one other = (point_of_none first First one, point_of_none second Second other)
+  new_points (Heavy side least) first second kept one other = absurd cc
+  new_points (Share side num den) first second kept one other = absurd cc
+
+-- a query that can be asked can be that of a seat
+pub asked-can : (depth : ℕ) (query : Query) → CanBeAsked depth query → IsTrue (can_be_asked depth query)
+asked-can depth (Sub lo hi) can = and_from _ _ (le-leb lo hi can.1.0) (lt-ltb hi (2 ^ depth) can.1.1)
+asked-can depth (Range side lo hi) can = and_from _ _ (le-leb lo hi can.1.0) (lt-ltb hi (2 ^ depth) can.1.1)
+asked-can depth (F2 side) can = refl
+asked-can depth Inner can = refl
+asked-can depth (Heavy side least) can = absurd (let no = can.0 in cc)
+asked-can depth (Share side num den) can = absurd (let no = can.0 in cc)
 
 -- ---- blocks
 

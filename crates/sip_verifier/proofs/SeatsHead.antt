@@ -1,8 +1,8 @@
 -- The head of a transcript, seat by seat.
 use Rattle.std.proofs.Common.{◌≡◌, ℕ, zero, suc, ◌+◌, ◌^◌, ◌<◌, ◌≤◌, List, [], ◌∷◌, ◌++◌, length, map, get_or, take, drop, refl, sym, ap, ◌∙◌, subst, arith, append_assoc, append-nil, take_all}
-use Rattle.std.specs.Prelude.{◌==◌, nat_le, nat_lt, IsTrue, All}
+use Rattle.std.specs.Prelude.{nat_le, nat_lt, IsTrue, All}
 use Rattle.std.specs.List.{list_all, flat_map, zip}
-use Rattle.std.proofs.lemmas.Bool.{and_from, and_parts, eqb-true, leb-true, ltb-true}
+use Rattle.std.proofs.lemmas.Bool.{and_from, and_parts, leb-true, ltb-true}
 use Rattle.std.proofs.lemmas.List.{get_or-map, length-map, take_more, take-append-drop}
 use Rattle.std.proofs.lemmas.List.Elements.{All-head, All-tail}
 use Rattle.std.proofs.lemmas.List.Concat.{flat_map-append}
@@ -18,6 +18,7 @@ use Rattle.sip_wire.proofs.Asking.{needed-speaks}
 use Rattle.sip_verifier.specs.QuerySeats.{Seated, is_seat, can_be_asked}
 use Rattle.sip_verifier.specs.Seats.{AreSeats, Seating}
 use Rattle.sip_verifier.specs.Transcripts.{head_of}
+use Rattle.sip_verifier.proofs.Seating.{seat_parts}
 
 -- a seat's query and its challenges
 abbrev pub ask : (version : Version) → Seated → List ℕ
@@ -43,21 +44,21 @@ seat-at depth (suc k) (x ∷ seats) d all lt = seat-at depth k seats d (and_part
 
 pub fits-asked : (depth : ℕ) (query : Query) → IsTrue (can_be_asked depth query) → Fits depth query
 fits-asked depth (Sub lo hi) can = let both = and_parts (nat_le lo hi) (nat_lt hi (2 ^ depth)) can in (leb-true lo hi both.0, ltb-true hi (2 ^ depth) both.1)
-fits-asked depth (Range side lo hi) can = absurd (let no = can in cc)
-fits-asked depth (F2 side) can = absurd (let no = can in cc)
-fits-asked depth Inner can = absurd (let no = can in cc)
+fits-asked depth (Range side lo hi) can = let both = and_parts (nat_le lo hi) (nat_lt hi (2 ^ depth)) can in (leb-true lo hi both.0, ltb-true hi (2 ^ depth) both.1)
+fits-asked depth (F2 side) can = tt
+fits-asked depth Inner can = tt
 fits-asked depth (Heavy side least) can = absurd (let no = can in cc)
 fits-asked depth (Share side num den) can = absurd (let no = can in cc)
 
 pub seat-fits : (depth : ℕ) (s : Seated) (block : List ℕ) → IsTrue (is_seat depth s) → block ≡ s.block → Fits (length block) s.query
 seat-fits depth s block is same =
-    let both = and_parts (can_be_asked depth s.query) (length s.block == depth) is in
-    let levels : length block ≡ depth = ap length same ∙ eqb-true (length s.block) depth both.1 in
-    subst (λ n. Fits n s.query) (sym levels) (fits-asked depth s.query both.0)
+    let parts = seat_parts depth s is in
+    let levels : length block ≡ depth = ap length same ∙ parts.1 in
+    subst (λ n. Fits n s.query) (sym levels) (fits-asked depth s.query parts.0)
 
 -- a seat has a challenge for each level
 pub seat-long : (depth : ℕ) (s : Seated) → IsTrue (is_seat depth s) → length s.block ≡ depth
-seat-long depth s is = eqb-true (length s.block) depth ((and_parts (can_be_asked depth s.query) (length s.block == depth) is).1)
+seat-long depth s is = (seat_parts depth s is).1
 
 -- no seat's depth is beyond the version that all need
 pub seats-shallow : (depth : ℕ) (seats : List Seated) → depth ≤ most_depth → 0 < length seats → depth ≤ deepest (needed depth (map (λ (s : Seated). s.query) seats))

@@ -2,10 +2,11 @@
 --
 -- However a helper replies to a query, by what was revealed to it, it has a wrong answer accepted
 -- at no more than c·d·p^(d - 1) of the p^d blocks of challenges, d being the depth, p the modulus,
--- and c what the kind of the query has: 1 for a sub-vector. The report is a front of the lines of
--- answers to the run's first queries in order, and perhaps of the line of a rejection behind them.
--- Where an answer in these lines is not the one that the stream's own vector gives, the run's block
--- for that query is among those few, for every helper that replies to this block as the talk shows.
+-- and c what the kind of the query has: 1 for a sub-vector, and 2 for a range sum, a second moment
+-- and an inner product. The report is a front of the lines of answers to the run's first queries in
+-- order, and perhaps of the line of a rejection behind them. Where an answer in these lines is not
+-- the one that the stream's own vectors give, the run's block for that query is among those few,
+-- for every helper that replies to this block as the talk shows.
 use Rattle.std.specs.Prelude.{◌≡◌, ◌⊎◌, ℕ, ◌*◌, ◌-◌, ◌^◌, ◌≤◌, Bool, List, [], ◌++◌, map, flat_map, option_to_list, Option, Some, All}
 use Rattle.sip_field.specs.Moduli.{m61_modulus}
 use Rattle.sip_ports.specs.declared.port.TalkEvent.{TalkEvent}

@@ -1,11 +1,12 @@
 -- The kinds of query: how the replies to one are read, when a helper that lies can win, and what an
 -- honest one replies.
-use Rattle.std.specs.Prelude.{◌≤◌, ℕ, ℤ, Bool, List, length}
+use Rattle.std.specs.Prelude.{◌≤◌, ℕ, ℤ, Bool, ⊤, List, length}
 use Rattle.sip_field.specs.Moduli.{m61_modulus}
 use Rattle.sip_vector.specs.declared.query.Query.{Query}
 use Rattle.sip_vector.specs.declared.query.Query.TheVariants.{Sub, Range, F2, Inner, Heavy, Share}
-use Rattle.sip_vector.specs.declared.update.Side.TheVariants.{First}
+use Rattle.sip_vector.specs.declared.update.Side.TheVariants.{First, Second}
 use Rattle.sip_vector.specs.declared.update.Update.{Update}
+use Rattle.sip_vector.specs.Extensions.{ones}
 use Rattle.sip_vector.specs.Streams.{vector}
 use Rattle.sip_vector.specs.Trees.{root}
 use Rattle.sip_vector.specs.Vectors.{nonzero_within}
@@ -16,6 +17,10 @@ use Rattle.sip_subvec.specs.Counting.{is_right}
 use Rattle.sip_subvec.specs.Honest.{honest_replies}
 use Rattle.sip_subvec.specs.Protocol.{sub_asked, sub_protocol}
 use Rattle.sip_subvec.specs.Replies.{most_entries}
+use Rattle.sip_sums.specs.AcceptsSum.{product_at, total}
+use Rattle.sip_sums.specs.Counting as sums
+use Rattle.sip_sums.specs.Honest as honest_sums
+use Rattle.sip_sums.specs.Protocol.{SumState, sum_asked, sum_protocol}
 
 -- what is known of a query, by its kind
 pub record Kind : Type 1 where
@@ -44,6 +49,18 @@ sub_kind version numbers lo hi = record {
   honest = honest_replies version m61_modulus numbers lo hi;
 }
 
+-- the sum of the products of these lists' entries
+abbrev pub sum_kind : Version → ℕ → List ℤ → List ℤ → Kind
+sum_kind version depth first second = record {
+  State = SumState;
+  protocol = λ block. sum_protocol (sum_asked version m61_modulus
+      (product_at m61_modulus first second block));
+  chances = 2;
+  is_right = sums.is_right version m61_modulus (total first second);
+  HasFew = ⊤;
+  honest = honest_sums.honest_replies version m61_modulus depth first second;
+}
+
 -- whether a query's check stands here
 pub data KindRow : Type 1 where
   built : Kind → KindRow
@@ -53,9 +70,12 @@ pub data KindRow : Type 1 where
 abbrev pub kind_row : Version → ℕ → List Update → Query → KindRow
 kind_row version depth stream (Sub lo hi) =
     built (sub_kind version (vector depth stream First) lo hi)
-kind_row version depth stream (Range side lo hi) = missing
-kind_row version depth stream (F2 side) = missing
-kind_row version depth stream Inner = missing
+kind_row version depth stream (Range side lo hi) =
+    built (sum_kind version depth (vector depth stream side) (ones depth lo hi))
+kind_row version depth stream (F2 side) =
+    built (sum_kind version depth (vector depth stream side) (vector depth stream side))
+kind_row version depth stream Inner =
+    built (sum_kind version depth (vector depth stream First) (vector depth stream Second))
 kind_row version depth stream (Heavy side at_least) = missing
 kind_row version depth stream (Share side num den) = missing
 

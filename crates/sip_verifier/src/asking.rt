@@ -1,8 +1,12 @@
 //! The query of a seat, asked of the helper by the check of its kind.
 
-ghost use Rattle.std.specs.Prelude.{◌≡◌, ◌≢◌, ◌≤◌, ℕ, List, length, take, IsTrue};
+ghost use Rattle.std.specs.Prelude.{◌≡◌, ◌≢◌, ◌≤◌, ℕ, List, Some, length, take, IsTrue};
+ghost use Rattle.sip_field.specs.Elements.{m61_number};
+ghost use Rattle.sip_field.specs.Moduli.{m61_modulus};
 ghost use Rattle.sip_ports.specs.Ports.{Lasts, Rose};
 ghost use Rattle.sip_vector.specs.declared.update.Update.{Update as AnyUpdate};
+ghost use Rattle.sip_sums.specs.AcceptsSum.{product_at};
+ghost use Rattle.sip_sums.specs.Questions.{Lists, lists_of};
 ghost use Rattle.sip_wire.specs.Versions.{Speaks};
 ghost use Rattle.sip_verifier.specs.Asking.{Asks};
 ghost use Rattle.sip_verifier.specs.inside.Judging.{found_in, has_places, verdict_of};
@@ -10,9 +14,12 @@ ghost use Rattle.sip_verifier.specs.QuerySeats.{StandsFor, is_seat};
 
 use crate::seat::{QuerySeat, Running};
 use crate::session::{SessionFault, Verdict};
+use sip_field::{Field, M61};
+use sip_mle::interval_at;
 use sip_ports::{Link, NullSink};
 use sip_replies::{AskStop, Said, ask};
 use sip_subvec::SubAsking;
+use sip_sums::SumAsking;
 use sip_vector::{CAP, Entry, Query};
 use sip_wire::{Frame, Version};
 
@@ -38,19 +45,64 @@ pub(crate) fn ask_seat<L: Link>(
     ensures no_keep { result ≢ Err AskStop.KeepFault }
     ensures no_keep_memory { result ≢ Err AskStop.KeepOutOfMemory }
 {
-    let levels = seat.block().depth();
-    prove!(levels <= CAP);
-    // No talk is kept yet.
-    let mut keep = NullSink::new();
     match (&seat.query, &seat.running) {
         (Query::Sub { lo, hi }, Running::Root(root)) => {
+            let levels = root.seat.depth();
+            prove!(levels <= CAP);
             let mut check = SubAsking::start(root, *lo, *hi);
+            // No talk is kept yet.
+            let mut keep = NullSink::new();
             ask(
                 &mut check, version, seat.query, entries, frame, link, &mut keep,
             )
         }
+        (Query::Range { lo, hi, .. }, Running::Point(point)) => {
+            let interval = interval_at(&point.seat, *lo, *hi);
+            let product = point.value().times(interval);
+            ask_sum(version, seat, product, entries, frame, link)
+        }
+        (Query::F2 { .. }, Running::Point(point)) => {
+            let product = point.value().times(point.value());
+            ask_sum(version, seat, product, entries, frame, link)
+        }
+        (Query::Inner, Running::Points(points)) => {
+            let product = points.first.value().times(points.second);
+            ask_sum(version, seat, product, entries, frame, link)
+        }
         _ => unreachable!(),
     }
+}
+
+// Asks the query of a seat for a sum, where the extensions of the lists that it is over have this product.
+fn ask_sum<L: Link>(
+    version: Version,
+    seat: &QuerySeat,
+    product: M61,
+    entries: &mut [Entry],
+    frame: &mut Frame,
+    link: &mut L,
+) -> Result<Said, AskStop>
+    requires seat { IsTrue (is_seat (length seat.now.block) seat.now) }
+    requires speaks { Speaks version (length seat.now.block) seat.now.query }
+    ensures asks { (depth : ℕ) (stream : List AnyUpdate) (l : Lists)
+        → lists_of depth stream seat.now.query ≡ Some l
+        → m61_number product ≡ product_at m61_modulus l.first l.second seat.now.block
+        → Asks version depth stream seat.now.query seat.now.block
+        (L.talk link.old) (L.talk link.new)
+        (take (found_in (length entries.new) result) entries.new) (verdict_of result) }
+    ensures places { length entries.new ≡ length entries.old }
+    ensures lasts { Lasts L.faults L.wants L.is_sure link.old link.new }
+    ensures cause { result ≡ Err AskStop.PeerFault → Rose (L.faults link.old) (L.faults link.new) }
+    ensures memory { result ≡ Err AskStop.OutOfMemory → Rose (L.wants link.old) (L.wants link.new) }
+    ensures no_keep { result ≢ Err AskStop.KeepFault }
+    ensures no_keep_memory { result ≢ Err AskStop.KeepOutOfMemory }
+{
+    let mut check = SumAsking::start(seat.block(), product);
+    // No talk is kept yet.
+    let mut keep = NullSink::new();
+    ask(
+        &mut check, version, seat.query, entries, frame, link, &mut keep,
+    )
 }
 
 /// How many of so many places have pairs of the answer.

@@ -37,6 +37,7 @@ mod ending;
 mod feed;
 mod gathering;
 pub mod laws;
+mod points;
 mod report;
 mod seat;
 mod seats;

@@ -1,41 +1,65 @@
 //! The seat of one query.
 
 ghost use Rattle.std.specs.Prelude.{◌≡◌, ◌<◌, ◌≤◌, ◌^◌, ℕ, List, [], ◌++◌, length, All, IsTrue};
-ghost use Rattle.sip_vector.specs.declared.update.Side.TheVariants as sides;
 ghost use Rattle.sip_vector.specs.declared.update.Update.{Update as AnyUpdate};
 ghost use Rattle.sip_vector.specs.declared.query.Query.{Query as AnyQuery};
-ghost use Rattle.sip_verifier.specs.QuerySeats.{StandsFor, is_seat};
-ghost use Rattle.sip_verifier.specs.inside.Running.{RunsFor, block_of};
+ghost use Rattle.sip_verifier.specs.QuerySeats.{StandsFor, concerns, is_seat, keeps};
+ghost use Rattle.sip_verifier.specs.inside.Running.{RunsFor, block_of, numbers_of};
 ghost use Rattle.sip_vector.specs.Built.{is_built};
 ghost use Rattle.sip_vector.specs.Limits.{most_depth};
-ghost use Rattle.sip_vector.specs.Streams.{of_side};
 ghost use Rattle.sip_verifier.specs.Tasks.{CanBeAsked};
 
+use crate::points::Points;
 use sip_field::{M61, Seat};
+use sip_mle::Point;
 use sip_tree::Root;
-use sip_vector::{CAP, Query, Update};
+use sip_vector::{CAP, Query, Side, Update};
 use std::marker::Model;
 
-/// The running number of one query, with its challenges.
+/// The running numbers of one query, with its challenges.
 #[derive(Drop)]
 pub(crate) enum Running {
     /// Of a sub-vector: the root of the tree over side 0.
     Root(Root<M61, CAP>),
+    /// Of a range sum or a second moment: the extension of the side's vector.
+    Point(Point<M61, CAP>),
+    /// Of an inner product: the extensions of both sides' vectors.
+    Points(Points),
 }
 
 impl Running {
-    // Adds updates, of which these are those of the first side.
-    fn update_all(&mut self, first: &[Update])
+    // Those of a query before any update.
+    fn begin(query: &Query, block: Seat<M61, CAP>) -> Running
+        requires built { IsTrue (is_built query.now) }
+        ensures block { block_of result ≡ block }
+        ensures keeps { IsTrue (keeps query.now (numbers_of result)) }
+        ensures runs { (depth : ℕ) → length block ≡ depth → RunsFor depth [] query.now result }
+    {
+        match query {
+            Query::Sub { .. } => Running::Root(Root::new(block)),
+            Query::Range { .. } | Query::F2 { .. } => Running::Point(Point::new(block)),
+            Query::Inner => Running::Points(Points::new(block)),
+            Query::Heavy { .. } | Query::Share { .. } => unreachable!(),
+        }
+    }
+
+    // Adds updates of one side, which concern the query.
+    fn update_all(&mut self, side: Side, updates: &[Update])
         requires shallow { length (block_of self.old) ≤ most_depth }
-        requires items { All (λ u. u.item < 2 ^ length (block_of self.old)) first.now }
+        requires items { All (λ u. u.item < 2 ^ length (block_of self.old)) updates.now }
+        requires sides { All (λ u. u.side ≡ side) updates.now }
         ensures block { block_of self.new ≡ block_of self.old }
-        ensures runs { (depth : ℕ) (stream updates : List AnyUpdate) (query : AnyQuery)
-            → of_side updates sides.First ≡ first.now
+        ensures keeps { (query : AnyQuery) → keeps query (numbers_of self.new)
+            ≡ keeps query (numbers_of self.old) }
+        ensures runs { (depth : ℕ) (stream : List AnyUpdate) (query : AnyQuery)
+            → IsTrue (concerns query side)
             → RunsFor depth stream query self.old
-            → RunsFor depth (stream ++ updates) query self.new }
+            → RunsFor depth (stream ++ updates.now) query self.new }
     {
         match self {
-            Running::Root(root) => root.update_all(first),
+            Running::Root(root) => root.update_all(updates),
+            Running::Point(point) => point.update_all(updates),
+            Running::Points(points) => points.update_all(side, updates),
         }
     }
 }
@@ -46,7 +70,19 @@ impl Default for Running {
     }
 }
 
-/// A query with its running number.
+// Whether updates of this side change the running numbers of a query.
+fn concerns(query: &Query, side: Side) -> bool
+    ensures { result ≡ concerns query.now side }
+{
+    match query {
+        Query::Sub { .. } => side == Side::First,
+        Query::Range { side: own, .. } | Query::F2 { side: own } => side == *own,
+        Query::Heavy { side: own, .. } | Query::Share { side: own, .. } => side == *own,
+        Query::Inner => true,
+    }
+}
+
+/// A query with its running numbers.
 #[derive(Drop)]
 pub(crate) struct QuerySeat {
     pub(crate) query: Query,
@@ -85,10 +121,7 @@ impl QuerySeat {
         ensures stands { (depth : ℕ) → CanBeAsked depth query → length block ≡ depth
             → IsTrue (is_seat depth result) × StandsFor depth [] result }
     {
-        let running = match query {
-            Query::Sub { .. } => Running::Root(Root::new(block)),
-            _ => unreachable!(),
-        };
+        let running = Running::begin(&query, block);
         QuerySeat { query, running }
     }
 
@@ -98,20 +131,26 @@ impl QuerySeat {
     {
         match &self.running {
             Running::Root(root) => &root.seat,
+            Running::Point(point) => &point.seat,
+            Running::Points(points) => &points.first.seat,
         }
     }
 
-    /// Adds updates to the running number, of which these are those of the first side, in order.
-    pub(crate) fn update_all(&mut self, first: &[Update])
+    /// Adds updates of one side to the running numbers, in order.
+    pub(crate) fn update_all(&mut self, side: Side, updates: &[Update])
         requires shallow { length self.old.block ≤ most_depth }
-        requires items { All (λ u. u.item < 2 ^ length self.old.block) first.now }
+        requires items { All (λ u. u.item < 2 ^ length self.old.block) updates.now }
+        requires sides { All (λ u. u.side ≡ side) updates.now }
         ensures query { self.new.query ≡ self.old.query }
         ensures block { self.new.block ≡ self.old.block }
-        ensures stands { (depth : ℕ) (stream updates : List AnyUpdate)
-            → of_side updates sides.First ≡ first.now
+        ensures keeps { keeps self.old.query self.new.running
+            ≡ keeps self.old.query self.old.running }
+        ensures stands { (depth : ℕ) (stream : List AnyUpdate)
             → StandsFor depth stream self.old
-            → StandsFor depth (stream ++ updates) self.new }
+            → StandsFor depth (stream ++ updates.now) self.new }
     {
-        self.running.update_all(first);
+        if concerns(&self.query, side) {
+            self.running.update_all(side, updates);
+        }
     }
 }

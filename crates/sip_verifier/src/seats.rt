@@ -1,12 +1,11 @@
-//! What a verifier keeps of a stream: for each query its challenges and a running number.
+//! What a verifier keeps of a stream: for each query its challenges and one running number or two.
 
-ghost use Rattle.std.specs.Prelude.{◌≡◌, ℕ, ◌*◌, ◌<◌, ◌≤◌, ◌^◌, IsTrue, List, [], ◌∷◌, ◌++◌, length, map, All};
+ghost use Rattle.std.specs.Prelude.{◌≡◌, ℕ, ◌*◌, ◌<◌, ◌≤◌, ◌^◌, IsTrue, List, [], ◌∷◌, ◌++◌, length, map, take, All};
 ghost use Rattle.std.specs.List.{list_all};
 ghost use Rattle.arrayvec.specs.ArrayVec.{array_vec_len};
 ghost use Rattle.sip_field.specs.Elements.{m61_number};
 ghost use Rattle.sip_ports.specs.Ports.{HasCause, SendsWhole};
 ghost use Rattle.sip_vector.specs.declared.query.Query.{Query as AnyQuery};
-ghost use Rattle.sip_vector.specs.declared.update.Side.TheVariants as sides;
 ghost use Rattle.sip_vector.specs.declared.update.Update.{Update as AnyUpdate};
 ghost use Rattle.sip_vector.specs.Limits.{most_depth};
 ghost use Rattle.sip_vector.specs.Pieces.{cut};
@@ -27,8 +26,8 @@ use std::marker::Model;
 /// How many challenges a run has at most: 16 queries at depth 48.
 const MOST_CHALLENGES: usize = MOST_QUERIES * CAP;
 
-/// The seats of a run: one for each query, in the order of the queries. Each has its own challenges and a running number,
-/// which stands for the stream so far. Beside these nothing of a stream is kept, and no call takes memory.
+/// The seats of a run: one for each query, in the order of the queries. Each has its own challenges and one running number or
+/// two, which stand for the stream so far. Beside these nothing of a stream is kept, and no call takes memory.
 #[derive(Drop)]
 pub struct Seats {
     depth: Depth,
@@ -48,17 +47,19 @@ impl Model for Seats {
     ghost view = { λ s. record { depth = s.depth; seats = s.seats.items } };
 }
 
-/// Puts the updates of the first side into `first`, which holds none, in order.
-fn take_first_side(updates: &[Update], first: &mut ArrayVec<Update, MOST_ROWS>)
-    requires most { length updates.now ≤ most_rows }
-    requires empty { first.old.items ≡ [] }
-    ensures { first.new.items ≡ of_side updates.now sides.First }
+/// Writes the updates of one side to the front of `taken`, in order, and says how many they are.
+fn take_side(updates: &[Update], side: Side, taken: &mut [Update; MOST_ROWS]) -> usize
+    requires { length updates.now ≤ most_rows }
+    ensures most { result ≤ most_rows }
+    ensures taken { take result taken.new ≡ of_side updates.now side }
 {
+    // Each is written, and one of the other side is written over: a branch would be guessed wrongly for every other record.
+    let mut count = 0;
     for update in updates {
-        if update.side == Side::First {
-            first.push(*update);
-        }
+        taken[count] = *update;
+        count += usize::from(update.side == side);
     }
+    count
 }
 
 impl Seats {
@@ -126,16 +127,13 @@ impl Seats {
             → AreSeats depth queries blocks stream self.old
             → AreSeats depth queries blocks (stream ++ update.now ∷ []) self.new }
     {
-        match update.side {
-            Side::First => self.raise(&[*update]),
-            Side::Second => {}
-        }
+        self.raise(update.side, &[*update]);
     }
 
     /// Adds a block of updates to each running number, those that concern it.
     ///
-    /// The block is split by side once. Then an update takes, for each query, one look-up and one multiplication for each seven
-    /// levels; their tables are made once for a block and query, on the stack. No memory.
+    /// The block is split by side once. Then an update takes, for each query that it concerns, one look-up and one multiplication
+    /// for each seven levels; their tables are made once for a block, a side and a query, on the stack. No memory.
     pub fn update_all(&mut self, updates: &[Update])
         requires most { length updates.now ≤ most_rows }
         requires items { All (λ u. u.item < 2 ^ self.old.depth) updates.now }
@@ -145,23 +143,42 @@ impl Seats {
             → AreSeats depth queries blocks stream self.old
             → AreSeats depth queries blocks (stream ++ updates.now) self.new }
     {
-        let mut first = ArrayVec::new();
-        take_first_side(updates, &mut first);
-        self.raise(&first);
+        // One buffer for both sides: it has room for a whole frame.
+        let mut taken = [Update::default(); MOST_ROWS];
+        self.raise_side(Side::First, updates, &mut taken);
+        self.raise_side(Side::Second, updates, &mut taken);
     }
 
-    // Adds updates to each running number, of which these are those of the first side.
-    fn raise(&mut self, first: &[Update])
-        requires { All (λ u. u.item < 2 ^ self.old.depth) first.now }
+    // Adds the updates of one side to each running number, those that concern it. They are gathered in
+    // `taken`.
+    fn raise_side(&mut self, side: Side, updates: &[Update], taken: &mut [Update; MOST_ROWS])
+        requires most { length updates.now ≤ most_rows }
+        requires items { All (λ u. u.item < 2 ^ self.old.depth) updates.now }
         ensures depth { self.new.depth ≡ self.old.depth }
         ensures stands { (depth : ℕ) (queries : List AnyQuery) (blocks : List (List ℕ))
-            (stream updates : List AnyUpdate)
-            → of_side updates sides.First ≡ first.now
+            (stream : List AnyUpdate)
             → AreSeats depth queries blocks stream self.old
-            → AreSeats depth queries blocks (stream ++ updates) self.new }
+            → AreSeats depth queries blocks (stream ++ of_side updates.now side) self.new }
     {
+        let count = take_side(updates, side, taken);
+        self.raise(side, &taken[..count]);
+    }
+
+    // Adds updates of one side to each running number, those that concern it.
+    fn raise(&mut self, side: Side, updates: &[Update])
+        requires items { All (λ u. u.item < 2 ^ self.old.depth) updates.now }
+        requires sides { All (λ u. u.side ≡ side) updates.now }
+        ensures depth { self.new.depth ≡ self.old.depth }
+        ensures stands { (depth : ℕ) (queries : List AnyQuery) (blocks : List (List ℕ))
+            (stream : List AnyUpdate)
+            → AreSeats depth queries blocks stream self.old
+            → AreSeats depth queries blocks (stream ++ updates.now) self.new }
+    {
+        if updates.is_empty() {
+            return;
+        }
         for seat in self.seats.iter_mut() {
-            seat.update_all(first);
+            seat.update_all(side, updates);
         }
     }
 

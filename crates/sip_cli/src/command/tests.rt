@@ -1,7 +1,7 @@
 use super::{Command, read_words};
 use crate::{Opening, Usage, Words, ports};
 use sip_stream::Form;
-use sip_vector::Query;
+use sip_vector::{Query, Side};
 use std::alloc::Global;
 use std::test::Fail;
 
@@ -23,7 +23,7 @@ fn refused_at(words: &Words) -> Option<u32> {
 
 // Words, and the number of the first of them that no command has behind the words before it, found by hand; none where
 // they are a command.
-const REFUSALS: [(&str, Option<u32>); 145] = [
+const REFUSALS: [(&str, Option<u32>); 159] = [
     ("", Some(0)),
     ("audit|s|t", Some(0)),
     ("show|t", Some(0)),
@@ -77,11 +77,21 @@ const REFUSALS: [(&str, Option<u32>); 145] = [
     ("verify|s|k|f|t|-|3|sub:1", Some(7)),
     ("verify|s|k|f|t|-|3|sub::2", Some(7)),
     ("verify|s|k|f|t|-|3|Sub:1:2", Some(7)),
-    ("verify|s|k|f|t|-|3|f2:0", Some(7)),
+    ("verify|s|k|f|t|-|3|f2", Some(7)),
+    ("verify|s|k|f|t|-|3|f2:", Some(7)),
     ("verify|s|k|f|t|-|3|f2:2", Some(7)),
-    ("verify|s|k|f|t|-|3|inner", Some(7)),
+    ("verify|s|k|f|t|-|3|f2:00", Some(7)),
+    ("verify|s|k|f|t|-|3|f2:0:1", Some(7)),
+    ("verify|s|k|f|t|-|3|inner:", Some(7)),
+    ("verify|s|k|f|t|-|3|Inner", Some(7)),
+    ("verify|s|k|f|t|-|3|range:1:2", Some(7)),
+    ("verify|s|k|f|t|-|3|range:2:1:2", Some(7)),
+    ("verify|s|k|f|t|-|3|range:0:2:1", Some(7)),
+    ("verify|s|k|f|t|-|3|range:1:0:8", Some(7)),
+    ("verify|s|k|f|t|-|3|range:0:1:02", Some(7)),
+    ("verify|s|k|f|t|-|3|range:00:1:2", Some(7)),
+    ("verify|s|k|f|t|-|3|range:0:1:2:3", Some(7)),
     ("verify|s|k|f|t|-|3|heavy:0:4", Some(7)),
-    ("verify|s|k|f|t|-|3|range:0:1:2", Some(7)),
     ("verify|s|k|f|t|-|3|share:0:1:2", Some(7)),
     ("verify|s|k|f|t|-|48|share:0:1:2", Some(7)),
     ("verify|s|k|f|t|-|20|sub:0:1048576", Some(7)),
@@ -92,11 +102,15 @@ const REFUSALS: [(&str, Option<u32>); 145] = [
     ("verify|s|k|f|t|-|2|f2:2", Some(7)),
     ("verify|s|k|f|t|-|2|sub:01:2", Some(7)),
     ("verify|s|k|f|t|-|3|sub:1:2|", Some(8)),
-    ("verify|s|k|f|t|-|3|sub:1:2|f2:0", Some(8)),
+    ("verify|s|k|f|t|-|3|sub:1:2|heavy:0:4", Some(8)),
     ("verify|s|k|f|t|-|3|sub:1:2|share:1:1:1", Some(8)),
     ("verify|s|k|f|t|-|3|sub:1:2|sub:0:8|sub:2:1", Some(8)),
     ("verify|s|k|f|t|-|3|sub:1:2|sub:0:7|sub:0:8", Some(9)),
     ("verify|s|k|f|t|-|3|sub:1:2", None),
+    ("verify|s|k|f|t|-|3|f2:0|f2:1|inner", None),
+    ("verify|s|k|f|t|-|3|range:0:1:2|sub:1:2|range:1:0:7", None),
+    ("verify|s|k|f|t|-|1|inner", None),
+    ("verify|s|k|f|t|-|48|range:1:0:281474976710655", None),
     ("verify|s|k|f|t|-|3|sub:1:2|sub:1:2", None),
     ("verify|s|k|f|t|-|3|sub:0:7|sub:7:7|sub:0:0", None),
     ("verify|s|k|f|t|-|21|sub:1:2", None),
@@ -210,18 +224,38 @@ fn reads_16_queries(rt: HostRuntime) -> Result<(), Fail> {
 
 #[test]
 fn reads_the_task(rt: HostRuntime) -> Result<(), Fail> {
-    let words = words(rt.alloc(), "verify|text:s|k|f|t|-|12|sub:10:4095|sub:0:0")?;
+    let words = words(
+        rt.alloc(),
+        "verify|text:s|k|f|t|-|12|sub:10:4095|range:0:1:4094|range:1:7:7|f2:0|f2:1|inner|sub:0:0",
+    )?;
     match read_words(&words) {
         Ok(Command::Verify(task)) => {
             assert_eq!(rt; task.depth.get(), 12);
             assert_eq!(rt; task.form, Form::Text);
-            let asked = [Query::Sub { lo: 10, hi: 4095 }, Query::Sub { lo: 0, hi: 0 }];
+            let (first, second) = (Side::First, Side::Second);
+            let asked = [
+                Query::Sub { lo: 10, hi: 4095 },
+                Query::Range {
+                    side: first,
+                    lo: 1,
+                    hi: 4094,
+                },
+                Query::Range {
+                    side: second,
+                    lo: 7,
+                    hi: 7,
+                },
+                Query::F2 { side: first },
+                Query::F2 { side: second },
+                Query::Inner,
+                Query::Sub { lo: 0, hi: 0 },
+            ];
             assert_eq!(rt; task.queries.as_slice(), asked.as_slice());
         }
         _ => assert!(rt; false),
     }
     assert_eq!(rt; words.get(3), Some("f"));
-    assert_eq!(rt; words.get(9), None);
+    assert_eq!(rt; words.get(14), None);
     Ok(())
 }
 

@@ -39,7 +39,7 @@ fn one_word_asks_for_a_page(rt: HostRuntime) -> Result<(), Fail> {
 fn the_page_has_an_example_of_each_command(rt: HostRuntime) -> Result<(), Fail> {
     let alloc = rt.alloc();
     for example in [
-        "verify log.stream today.seed from.fifo to.fifo - 20 sub:100:199 sub:7:7",
+        "verify log.stream today.seed from.fifo to.fifo - 20 sub:100:199 range:0:0:1048575 f2:0 inner",
         "help to.fifo from.fifo",
         "gen 7 100000 20",
         "lines log.stream 20",

@@ -1,20 +1,25 @@
--- What is seen of the running number of a seat.
+-- What is seen of the running numbers of a seat.
 use Rattle.std.specs.Prelude.{ℕ, List}
+use Rattle.sip_field.specs.Elements.{m61_number}
 use Rattle.sip_vector.specs.declared.query.Query.{Query}
 use Rattle.sip_vector.specs.declared.update.Update.{Update}
 use Rattle.sip_verifier.specs.declared.seat.Running.{Running}
-use Rattle.sip_verifier.specs.declared.seat.Running.TheVariants.{Root}
-use Rattle.sip_verifier.specs.QuerySeats.{RunningNumbers, RunsOn, root_is}
+use Rattle.sip_verifier.specs.declared.seat.Running.TheVariants.{Root, Point, Points}
+use Rattle.sip_verifier.specs.QuerySeats.{RunningNumbers, RunsOn, root_is, point_is, points_are}
 
--- its challenges
+-- their challenges
 abbrev pub block_of : Running → List ℕ
 block_of (Root root) = root.seat
+block_of (Point point) = point.seat
+block_of (Points points) = points.first.seat
 
--- its value
+-- their values
 abbrev pub numbers_of : Running → RunningNumbers
 numbers_of (Root root) = root_is root.value
+numbers_of (Point point) = point_is point.value
+numbers_of (Points points) = points_are points.first.value (m61_number points.second)
 
--- it is that of the stream for this query
+-- they are those of the stream for this query
 pub record RunsFor (depth : ℕ) (stream : List Update) (query : Query)
     (running : Running) : Type 0 where
   pub runs : RunsOn depth stream query (block_of running) (numbers_of running)

@@ -22,6 +22,20 @@ fn root_of(seats: &Seats, index: usize) -> Option<u64> {
     let seat = seats.seats.get(index)?;
     match &seat.running {
         Running::Root(root) => Some(root.value().number()),
+        _ => None,
+    }
+}
+
+// The extensions of a seat: one, or those of both sides.
+fn extensions_of(seats: &Seats, index: usize) -> Option<(u64, Option<u64>)> {
+    let seat = seats.seats.get(index)?;
+    match &seat.running {
+        Running::Root(_) => None,
+        Running::Point(point) => Some((point.value().number(), None)),
+        Running::Points(points) => {
+            let first = points.first.value().number();
+            Some((first, Some(points.second.number())))
+        }
     }
 }
 
@@ -35,6 +49,16 @@ fn first(item: u64, delta: i64) -> Update
     }
 }
 
+fn second(item: u64, delta: i64) -> Update
+    ensures { result.item ≡ item }
+{
+    Update {
+        side: Side::Second,
+        item,
+        delta,
+    }
+}
+
 #[test]
 fn each_seat_has_the_root_of_the_first_side_at_its_own_challenges(
     rt: HostRuntime,
@@ -42,20 +66,52 @@ fn each_seat_has_the_root_of_the_first_side_at_its_own_challenges(
     let mut seats = two_seats()?;
     assert_eq!(rt; root_of(&seats, 0), Some(0));
     assert_eq!(rt; root_of(&seats, 1), Some(0));
-    let second = Update {
-        side: Side::Second,
-        item: 1,
-        delta: 9,
-    };
     seats.update(&first(0, 3));
-    seats.update_all(&[second, first(2, 5), first(3, 1)]);
+    seats.update_all(&[second(1, 9), first(2, 5), first(3, 1)]);
     // 3 + 5 * 10 + 1 * 2 * 10, and 3 + 5 * 5 + 1 * 3 * 5
     assert_eq!(rt; root_of(&seats, 0), Some(73));
     assert_eq!(rt; root_of(&seats, 1), Some(43));
-    seats.update(&second);
+    seats.update(&second(1, 9));
     assert_eq!(rt; root_of(&seats, 0), Some(73));
     assert_eq!(rt; root_of(&seats, 1), Some(43));
     assert_eq!(rt; root_of(&seats, 2), None);
+    Ok(())
+}
+
+// (3, 0, 5, 1) on side 0 and (2, 7, 1, 0) on side 1, at the challenges (2, 10) for each query.
+#[test]
+fn a_seat_for_a_sum_has_the_extensions_that_it_is_over(rt: HostRuntime) -> Result<(), Fail> {
+    let depth = Depth::new(2).ok_or("a depth")?;
+    let range = Query::Range {
+        side: Side::First,
+        lo: 1,
+        hi: 3,
+    };
+    let squares = Query::F2 { side: Side::Second };
+    let queries = [range, squares, Query::Inner];
+    let challenges = [
+        M61::of(2),
+        M61::of(10),
+        M61::of(2),
+        M61::of(10),
+        M61::of(2),
+        M61::of(10),
+    ];
+    let mut seats = Seats::given(depth, &queries, &challenges);
+    for index in 0..2 {
+        assert_eq!(rt; extensions_of(&seats, index), Some((0, None)));
+    }
+    assert_eq!(rt; extensions_of(&seats, 2), Some((0, Some(0))));
+    seats.update(&second(1, 7));
+    seats.update_all(&[first(0, 3), second(0, 2), first(2, 5), second(2, 1)]);
+    seats.update(&first(3, 1));
+    // 3 * 9 - 5 * 10 + 1 * 20 is -3, and 2 * 9 - 7 * 18 - 1 * 10 is -118, modulo 2^61 - 1.
+    let of_first = 2_305_843_009_213_693_948;
+    let of_second = 2_305_843_009_213_693_833;
+    assert_eq!(rt; extensions_of(&seats, 0), Some((of_first, None)));
+    assert_eq!(rt; extensions_of(&seats, 1), Some((of_second, None)));
+    assert_eq!(rt; extensions_of(&seats, 2), Some((of_first, Some(of_second))));
+    assert_eq!(rt; root_of(&seats, 0), None);
     Ok(())
 }
 

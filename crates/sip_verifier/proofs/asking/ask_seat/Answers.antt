@@ -1,10 +1,12 @@
-use Rattle.std.proofs.Common.{rules, ◌≢◌, ◌+◌, ◌-◌, ◌^◌, ◌≤◌, min, length, Err, refl, sym, ap, ◌∙◌, subst, arith, IsTrue}
+use Rattle.std.proofs.Common.{◌≢◌, ◌+◌, ◌-◌, ◌^◌, ◌≤◌, min, length, Err, refl, sym, ap, ◌∙◌, subst, arith, IsTrue}
 use Rattle.sip_vector.specs.declared.query.Query.{Query}
 use Rattle.sip_wire.specs.declared.message.Message.TheVariants as messages
 use Rattle.sip_wire.specs.Spelling.{fits}
 use Rattle.sip_replies.specs.declared.asking.AskStop.TheVariants as stops
+use Rattle.sip_field.specs.Elements.{m61_number}
 use Rattle.sip_verifier.specs.QuerySeats.{Seated}
-use Rattle.sip_verifier.proofs.SeatAsked.{seat_has_spelling, sub_has_room, sub_asks}
+use Rattle.sip_verifier.specs.inside.Running.{block_of, numbers_of}
+use Rattle.sip_verifier.proofs.SeatAsked.{seat_has_spelling, sub_has_room, sub_asks, range_product, square_product, inner_product}
 use Rattle.sip_verifier.proofs.asking.ask_seat.Goals as goal
 
 pub ask-requires-clause-fits : goal.ask-requires-clause-fits
@@ -20,8 +22,8 @@ ask-requires-clause-stood g c =
     (length c.args.entries.now) is c.requires.room in
     (_, c.start-check.ensures.stands c.args.version c.args.entries.now room)
 
-pub returns-clause-asks : goal.returns-clause-asks
-returns-clause-asks g c = λ depth stream stands.
+pub returns-in-Sub-Root-clause-asks : goal.returns-in-Sub-Root-clause-asks
+returns-in-Sub-Root-clause-asks g c = λ depth stream stands.
     let asked = ap (λ (s : Seated). s.query) c.seat.view_is in
     let is = sym asked ∙ c.in-Sub-Root.is-0 in
     let room = sub_has_room c.args.seat.now c.in-Sub-Root.lo c.in-Sub-Root.hi
@@ -33,9 +35,39 @@ returns-clause-asks g c = λ depth stream stands.
     let free : c.ask.result ≢ Err stops.KeepOutOfMemory = λ is.
     (let rose : min (0 + 1) (2 ^ 64 - 1) ≤ 0 = c.ask.ensures.keeper_memory is in omega (arith, rose))
     in
-    sub_asks c.args.version depth stream c.args.seat.now c.seat.inside.running c.in-Sub-Root.lo c.in-Sub-Root.hi
-    _ _ _ _ _ _ _ c.ask.new.places c.ask.result is
-    (sym (ap (λ (s : Seated). s.block) c.seat.view_is))
-    (sym (ap (λ (s : Seated). s.running) c.seat.view_is))
-    (search rules) c.start-check.ensures.block stands
+    sub_asks c.args.version depth stream c.args.seat.now c.in-Sub-Root.lo c.in-Sub-Root.hi
+    c.in-Sub-Root.root.value c.in-Sub-Root.root.seat _ _ _ _ _ c.ask.new.places c.ask.result is
+    (sym (ap (λ (s : Seated). s.block) c.seat.view_is) ∙ ap block_of c.in-Sub-Root.is-1)
+    (sym (ap (λ (s : Seated). s.running) c.seat.view_is) ∙ ap numbers_of c.in-Sub-Root.is-1)
+    c.start-check.ensures.block stands
     (rw asked at (c.ask.ensures.answers _ refl stood)) kept free
+
+pub returns-in-Range-Point-clause-asks : goal.returns-in-Range-Point-clause-asks
+returns-in-Range-Point-clause-asks g c = λ depth stream stands.
+    let seat = c.args.seat.now in
+    let is = sym (ap (λ (s : Seated). s.query) c.seat.view_is) ∙ c.in-Range-Point.is-0 in
+    let block = sym (ap (λ (s : Seated). s.block) c.seat.view_is) ∙ ap block_of c.in-Range-Point.is-1 in
+    let running = sym (ap (λ (s : Seated). s.running) c.seat.view_is) ∙ ap numbers_of c.in-Range-Point.is-1 in
+    let product = range_product depth stream seat c.in-Range-Point.side-0 c.in-Range-Point.lo c.in-Range-Point.hi
+    c.in-Range-Point.point.value _ _ c.in-Range-Point.point.seat is running block c.interval_at-interval.ensures
+    (rw c.value.ensures at c.times-product.ensures) stands in
+    c.ask_sum.ensures.asks depth stream _ product.0 product.1
+
+pub returns-in-F2-Point-clause-asks : goal.returns-in-F2-Point-clause-asks
+returns-in-F2-Point-clause-asks g c = λ depth stream stands.
+    let seat = c.args.seat.now in
+    let is = sym (ap (λ (s : Seated). s.query) c.seat.view_is) ∙ c.in-F2-Point.is-0 in
+    let running = sym (ap (λ (s : Seated). s.running) c.seat.view_is) ∙ ap numbers_of c.in-F2-Point.is-1 in
+    let product = square_product depth stream seat c.in-F2-Point.side-0 c.in-F2-Point.point.value _ is running
+    (rw (c.value-in-F2-Point.ensures, c.value-in-F2-Point-2.ensures) at c.times-product-in-F2-Point.ensures) stands in
+    c.ask_sum-in-F2-Point.ensures.asks depth stream _ product.0 product.1
+
+pub returns-in-Inner-Points-clause-asks : goal.returns-in-Inner-Points-clause-asks
+returns-in-Inner-Points-clause-asks g c = λ depth stream stands.
+    let seat = c.args.seat.now in
+    let is = sym (ap (λ (s : Seated). s.query) c.seat.view_is) ∙ c.in-Inner-Points.is-0 in
+    let running = sym (ap (λ (s : Seated). s.running) c.seat.view_is) ∙ ap numbers_of c.in-Inner-Points.is-1 in
+    let product = inner_product depth stream seat c.in-Inner-Points.points.first.value
+    (m61_number c.in-Inner-Points.points.second) _ is running
+    (rw c.value-in-Inner-Points.ensures at c.times-product-in-Inner-Points.ensures) stands in
+    c.ask_sum-in-Inner-Points.ensures.asks depth stream _ product.0 product.1

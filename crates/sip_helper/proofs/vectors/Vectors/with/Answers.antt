@@ -4,7 +4,7 @@ use Rattle.std.specs.Prelude.{IsTrue}
 use Rattle.std.proofs.lemmas.List.{at_drop_more, drop_more}
 use Rattle.sip_vector.specs.declared.update.Side.TheVariants.{First}
 use Rattle.sip_vector.specs.declared.update.Update.{Update}
-use Rattle.sip_vector.specs.Vectors.{SideVector, contents, with_added}
+use Rattle.sip_vector.specs.Vectors.{SideVector, with_added}
 use Rattle.sip_vector.proofs.Kept.{same_z}
 use Rattle.sip_helper.specs.Vectors.{Vectors}
 use Rattle.sip_helper.specs.Turns.{stays_legal, with_updates}
@@ -28,7 +28,7 @@ loop-update-preserved c =
     let here = subst (λ (l : List Update). IsTrue (stays_legal v.first.depth (weights_of v) l)) (drop_more us i none c.loop-update-test.true) c.loop-update.invariant.legal in
     let before : with_updates v (u ∷ rest) ≡ with_updates c.args.self us = sym (at_drop_more (with_updates v) us i none c.loop-update-test.true) ∙ c.loop-update.invariant.rest in
     let kept : Vectors → Type 0 = λ x. IsTrue (stays_legal x.first.depth (weights_of x) rest)
-        × (x.second.depth ≡ x.first.depth) × (with_updates x rest ≡ with_updates c.args.self us) in
+    × (x.second.depth ≡ x.first.depth) × (with_updates x rest ≡ with_updates c.args.self us) in
     elim c.match-update.branch [
       | in-First+in_ok-add-in-First w ↦
           let next = follows_first v u rest w.in-First.is here in

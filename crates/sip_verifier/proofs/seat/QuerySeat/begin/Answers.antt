@@ -1,9 +1,14 @@
--- The root of no update stands for the stream of none.
-use Rattle.std.proofs.Common.{length, sym, ap, ◌∙◌}
-use Rattle.sip_verifier.proofs.SeatsGiven.{new-seat}
+-- The running numbers of no update stand for the stream of none.
+use Rattle.std.proofs.Common.{length, ap, ◌∙◌}
+use Rattle.sip_verifier.specs.QuerySeats.{Seated}
+use Rattle.sip_verifier.specs.inside.Running.{block_of, numbers_of}
+use Rattle.sip_verifier.proofs.SeatsGiven.{asked-can}
+use Rattle.sip_verifier.proofs.Seating.{seat_from}
 use Rattle.sip_verifier.proofs.seat.QuerySeat.begin.Goals as goal
 
 pub returns-clause-stands : goal.returns-clause-stands
 returns-clause-stands c = λ depth can size.
-    new-seat depth _ c.new.result.seat c.new.result.value can
-    (ap length c.new.ensures.seat ∙ size) (rw (sym c.new.ensures.seat) at c.new.ensures.stands)
+    let seat : Seated = record { query = c.args.query; block = block_of c.begin-running.result; running = numbers_of c.begin-running.result } in (
+      seat_from depth seat (asked-can depth c.args.query can) (ap length c.begin-running.ensures.block ∙ size) c.begin-running.ensures.keeps,
+      (c.begin-running.ensures.runs depth size).runs,
+    )

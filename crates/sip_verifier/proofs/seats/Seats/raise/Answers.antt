@@ -15,52 +15,53 @@ update_all-requires c =
     let depth = c.self.inside.depth in
     let items = ap (λ (s : Seating). s.seats) c.self.view_is in
     let each = subst (λ (l : List Seated). IsTrue (list_all (is_seat depth) l)) items c.self.inside.each in
-    let all = raised-seats c.args.first.now depth _ _ _ c.loop-seat.invariant each in
+    let all = raised-seats c.args.updates.now depth _ _ _ c.loop-seat.invariant each in
     let inside : c.loop-seat.seat-index < length c.loop-seat.seat-items = omega arith in
     let levels = seat-levels depth c.loop-seat.seat-index c.loop-seat.seat-items c.seat-item.result all inside in
     let own = ap (λ (s : Seating). s.depth) c.self.view_is in
     record {
       shallow = subst (λ n. n ≤ most_depth) (sym levels) c.self.inside.deep;
-      items = subst (λ n. All (λ (u : Update). u.item < 2 ^ n) c.args.first.now) (sym (levels ∙ own)) c.requires;
+      items = subst (λ n. All (λ (u : Update). u.item < 2 ^ n) c.args.updates.now) (sym (levels ∙ own)) c.requires.items;
+      sides = c.requires.sides;
     }
 
 pub loop-seat-preserved : goal.loop-seat-preserved
 loop-seat-preserved c =
     let inside : c.loop-seat.seat-index < length c.loop-seat.seat-items = omega arith in
-    raised-more c.args.first.now c.loop-seat.seat-index c.args.self.now.seats c.loop-seat.seat-items c.seat-item.result c.update_all.new.self c.loop-seat.invariant inside
-    (record { query = c.update_all.ensures.query; block = c.update_all.ensures.block; stands = c.update_all.ensures.stands })
+    raised-more c.args.updates.now c.loop-seat.seat-index c.args.self.now.seats c.loop-seat.seat-items c.seat-item.result c.update_all.new.self c.loop-seat.invariant inside
+    (record { query = c.update_all.ensures.query; block = c.update_all.ensures.block; kept = c.update_all.ensures.keeps; stands = c.update_all.ensures.stands })
 
 pub invariant_of-self-inside : goal.invariant_of-self-inside
 invariant_of-self-inside c =
     let old = c.self.inside.seats.items in
     let items = ap (λ (s : Seating). s.seats) c.self.view_is in
-    let raised = subst (λ (l : List Seated). RaisedTo c.args.first.now c.loop-seat.seat-index l c.loop-seat.seat-items) (sym items) c.loop-seat.invariant in
+    let raised = subst (λ (l : List Seated). RaisedTo c.args.updates.now c.loop-seat.seat-index l c.loop-seat.seat-items) (sym items) c.loop-seat.invariant in
     let len : length c.loop-seat.seat-items ≡ length old = c.loop-seat.auto.seat-items ∙ ap length c.deref_mut-seat-items.ensures.value in
     let same = refilled old c.loop-seat.seat-items len in
-    let queries = ap (map (λ (s : Seated). s.query)) same ∙ raised-queries c.args.first.now _ old c.loop-seat.seat-items raised in (
+    let queries = ap (map (λ (s : Seated). s.query)) same ∙ raised-queries c.args.updates.now _ old c.loop-seat.seat-items raised in (
       c.self.inside.deep,
       (
         c.self.inside.least ∙ ap (needed c.self.inside.depth) (sym queries),
         (
           subst (λ (l : List Seated). 0 < length l) (sym same) (omega (arith, len, c.self.inside.some)),
-          (subst (λ l. IsTrue (list_all (is_seat c.self.inside.depth) l)) (sym same) (raised-seats c.args.first.now c.self.inside.depth _ old c.loop-seat.seat-items raised c.self.inside.each), tt),
+          (subst (λ l. IsTrue (list_all (is_seat c.self.inside.depth) l)) (sym same) (raised-seats c.args.updates.now c.self.inside.depth _ old c.loop-seat.seat-items raised c.self.inside.each), tt),
         ),
       ),
     )
 
 pub returns-clause-stands : goal.returns-clause-stands
-returns-clause-stands c = λ depth queries blocks stream updates these seen.
-    let first = c.args.first.now in
+returns-clause-stands c = λ depth queries blocks stream seen.
+    let updates = c.args.updates.now in
     let old = c.self.inside.seats.items in
     let items = ap (λ (s : Seating). s.seats) c.self.view_is in
     let are = subst (AreSeats depth queries blocks stream) (sym c.self.view_is) seen in
-    let raised = subst (λ (l : List Seated). RaisedTo first c.loop-seat.seat-index l c.loop-seat.seat-items) (sym items) c.loop-seat.invariant in
+    let raised = subst (λ (l : List Seated). RaisedTo updates c.loop-seat.seat-index l c.loop-seat.seat-items) (sym items) c.loop-seat.invariant in
     let len : length c.loop-seat.seat-items ≡ length old = c.loop-seat.auto.seat-items ∙ ap length c.deref_mut-seat-items.ensures.value in
     let end : length old ≤ c.loop-seat.seat-index = omega (arith, ap length c.deref_mut-seat-items.ensures.value) in
     let same = refilled old c.loop-seat.seat-items len in
     record {
       levels = are.levels;
-      asked = ap (λ (l : List Seated). map (λ (s : Seated). s.query) l) same ∙ raised-queries first _ old c.loop-seat.seat-items raised ∙ are.asked;
-      at_blocks = ap (λ (l : List Seated). map (λ (s : Seated). s.block) l) same ∙ raised-blocks first _ old c.loop-seat.seat-items raised ∙ are.at_blocks;
-      stand = subst (All (StandsFor depth (stream ++ updates))) (sym same) (raised-stand first _ old c.loop-seat.seat-items depth stream updates these raised end are.stand);
+      asked = ap (λ (l : List Seated). map (λ (s : Seated). s.query) l) same ∙ raised-queries updates _ old c.loop-seat.seat-items raised ∙ are.asked;
+      at_blocks = ap (λ (l : List Seated). map (λ (s : Seated). s.block) l) same ∙ raised-blocks updates _ old c.loop-seat.seat-items raised ∙ are.at_blocks;
+      stand = subst (All (StandsFor depth (stream ++ updates))) (sym same) (raised-stand updates _ old c.loop-seat.seat-items depth stream raised end are.stand);
     }

@@ -1,0 +1,17 @@
+-- The parts of a query's word.
+use Rattle.std.specs.Prelude.{ℕ, ◌^◌, ◌<◌, List, ◌∷◌, ◌++◌, decimal, ⊤}
+use Rattle.sip_vector.specs.declared.query.Query.{Query}
+use Rattle.sip_vector.specs.declared.query.Query.TheVariants.{Sub, Range, F2, Inner, Heavy, Share}
+
+-- LO:HI
+abbrev pub bounds : ℕ → ℕ → List ℕ
+bounds lo hi = decimal lo ++ 58 ∷ decimal hi
+
+-- the query's word is read, whether it fits a depth or not: its numbers have room in 64 bits
+abbrev pub IsRead : Query → Type 0
+IsRead (Sub lo hi) = (lo < 2 ^ 64) × (hi < 2 ^ 64)
+IsRead (Range _ lo hi) = (lo < 2 ^ 64) × (hi < 2 ^ 64)
+IsRead (F2 _) = ⊤
+IsRead Inner = ⊤
+IsRead (Heavy _ _) = ⊥
+IsRead (Share _ _ _) = ⊥

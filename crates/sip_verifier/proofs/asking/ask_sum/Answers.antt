@@ -1,0 +1,31 @@
+use Rattle.std.proofs.Common.{◌≢◌, ◌+◌, ◌-◌, ◌^◌, ◌≤◌, min, Err, refl, sym, ap, ◌∙◌, subst, arith, IsTrue}
+use Rattle.sip_vector.specs.declared.query.Query.{Query}
+use Rattle.sip_wire.specs.declared.message.Message.TheVariants as messages
+use Rattle.sip_wire.specs.Spelling.{fits}
+use Rattle.sip_replies.specs.declared.asking.AskStop.TheVariants as stops
+use Rattle.sip_verifier.specs.QuerySeats.{Seated}
+use Rattle.sip_verifier.proofs.SeatAsked.{seat_has_spelling, sum_asks}
+use Rattle.sip_verifier.proofs.asking.ask_sum.Goals as goal
+
+pub ask-requires-clause-fits : goal.ask-requires-clause-fits
+ask-requires-clause-fits g c =
+    let asked = ap (λ (s : Seated). s.query) c.seat.view_is in
+    subst (λ (q : Query). IsTrue (fits c.args.version (messages.Query q))) (sym asked)
+    (seat_has_spelling c.args.version c.args.seat.now c.requires.seat c.requires.speaks)
+
+pub ask-requires-clause-stood : goal.ask-requires-clause-stood
+ask-requires-clause-stood g c = (_, c.start-check.ensures.stands c.args.version c.args.entries.now)
+
+pub returns-clause-asks : goal.returns-clause-asks
+returns-clause-asks g c = λ depth stream l lists product.
+    let asked = ap (λ (s : Seated). s.query) c.seat.view_is in
+    let stood = c.start-check.ensures.stands c.args.version c.args.entries.now in
+    let kept : c.ask.result ≢ Err stops.KeepFault = λ is.
+    (let rose : min (0 + 1) (2 ^ 64 - 1) ≤ 0 = c.ask.ensures.keeper is in omega (arith, rose))
+    in
+    let free : c.ask.result ≢ Err stops.KeepOutOfMemory = λ is.
+    (let rose : min (0 + 1) (2 ^ 64 - 1) ≤ 0 = c.ask.ensures.keeper_memory is in omega (arith, rose))
+    in
+    sum_asks c.args.version depth stream c.args.seat.now l _ _ _ _ _ _ c.ask.new.places c.ask.result lists product
+    (c.start-check.ensures.block ∙ c.block.ensures)
+    (rw asked at (c.ask.ensures.answers _ refl stood)) kept free

@@ -1,0 +1,22 @@
+-- The running numbers of zeros stand for the stream of none.
+use Rattle.std.proofs.Common.{◌∙◌, IsTrue, length, sym, ap, rules}
+use Rattle.sip_field.specs.Elements.{m61_number}
+use Rattle.sip_verifier.specs.QuerySeats.{keeps, root_is, point_is, points_are}
+use Rattle.sip_verifier.proofs.SeatsGiven.{new_root, new_point, new_points}
+use Rattle.sip_verifier.proofs.seat.Running.begin.Goals as goal
+
+pub returns-in-Sub-clause-runs : goal.returns-in-Sub-clause-runs
+returns-in-Sub-clause-runs c = λ depth size.
+    let kept : IsTrue (keeps c.args.query.now (root_is c.new.result.value)) = search rules in
+    record { runs = new_root depth c.new.result.seat (ap length c.new.ensures.seat ∙ size) c.args.query.now _ kept (rw (sym c.new.ensures.seat) at c.new.ensures.stands) }
+
+pub returns-in-Inner-clause-runs : goal.returns-in-Inner-clause-runs
+returns-in-Inner-clause-runs c = λ depth size.
+    let points = c.new-in-Inner.result in
+    let kept : IsTrue (keeps c.args.query.now (points_are points.first.value (m61_number points.second))) = search rules in
+    record { runs = new_points depth points.first.seat (ap length c.new-in-Inner.ensures.seat ∙ size) c.args.query.now _ _ kept (rw (sym c.new-in-Inner.ensures.seat) at c.new-in-Inner.ensures.first) (rw (sym c.new-in-Inner.ensures.seat) at c.new-in-Inner.ensures.second) }
+
+pub returns-in-Range-clause-runs : goal.returns-in-Range-clause-runs
+returns-in-Range-clause-runs c = λ depth size.
+    let kept : IsTrue (keeps c.args.query.now (point_is c.new-in-Range.result.value)) = search rules in
+    record { runs = new_point depth c.new-in-Range.result.seat (ap length c.new-in-Range.ensures.seat ∙ size) c.args.query.now _ kept (rw (sym c.new-in-Range.ensures.seat) at c.new-in-Range.ensures.stands) }

@@ -1,0 +1,24 @@
+-- What is gathered are the updates of the side.
+use Rattle.std.proofs.Common.{◌≡◌, ◌<◌, ◌^◌, ◌++◌, List, All, sym, subst}
+use Rattle.std.proofs.lemmas.List.Elements.{All-filter}
+use Rattle.sip_vector.specs.declared.update.Update.{Update}
+use Rattle.sip_vector.specs.Streams.{same_side}
+use Rattle.sip_verifier.specs.Seats.{AreSeats}
+use Rattle.sip_verifier.proofs.Seating.{all_own}
+use Rattle.sip_verifier.proofs.seats.Seats.raise_side.Goals as goal
+
+pub raise-requires-clause-items : goal.raise-requires-clause-items
+raise-requires-clause-items c =
+    let Fits : Update → Type 0 = λ u. u.item < 2 ^ c.args.self.now.depth in
+    subst (All Fits) (sym c.take_side-count.ensures.taken)
+    (All-filter (λ (u : Update). same_side u.side c.args.side) Fits c.args.updates.now c.requires.items)
+
+pub raise-requires-clause-sides : goal.raise-requires-clause-sides
+raise-requires-clause-sides c =
+    subst (All (λ (u : Update). u.side ≡ c.args.side)) (sym c.take_side-count.ensures.taken)
+    (all_own c.args.updates.now c.args.side)
+
+pub returns-clause-stands : goal.returns-clause-stands
+returns-clause-stands c = λ depth queries blocks stream are.
+    subst (λ (l : List Update). AreSeats depth queries blocks (stream ++ l) c.raise.new.self)
+    c.take_side-count.ensures.taken (c.raise.ensures.stands depth queries blocks stream are)
