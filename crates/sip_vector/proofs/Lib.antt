@@ -2,7 +2,6 @@ pub mod Dense
 pub mod Merges
 pub mod Gathers
 pub mod Finds
-pub mod SumsOverAll
 pub mod Folds
 pub mod Sums
 pub mod Products

@@ -54,13 +54,6 @@ impl Depth {
     {
         self.levels
     }
-
-    // The number of items.
-    pub(crate) fn items(self) -> u64
-        ensures { result ≡ 2 ^ self }
-    {
-        1 << self.levels
-    }
 }
 
 /// The depth 1.

@@ -26,12 +26,12 @@
 //! # Cost
 //!
 //! In these m is the length of the list of entries, or of nodes, that are not 0, and p the number of additions to a vector
-//! that are pending: none after `Vector::settle`, and else at most 2^20 or m, whichever is more.
+//! that are pending: none after `Vector::settle`, and else at most 2^18 or m, whichever is more.
 //!
 //! | Call | Time | Memory |
 //! |---|---|---|
 //! | `Vector::add` | O(log p) over many calls | one entry; once in a while as `settle` |
-//! | `Vector::settle` | O(m + p log p), or O(2^depth) where that is at most 4 (m + p) | as many entries as m + p |
+//! | `Vector::settle` | O(m + p log p) | as many entries as m + p |
 //! | `Vector::get` | O(log m + p) | none |
 //! | `Vector::entries_with_pending` | O(m + p log p) | as many entries as m + p |
 //! | `Vector::next_entry`, `Vector::count_in` | O(log m); with p above 0 O(log m + p) for each index tried | none |
@@ -49,7 +49,6 @@ pub mod laws;
 mod level;
 mod merging;
 mod query;
-mod summing;
 mod update;
 mod vector;
 

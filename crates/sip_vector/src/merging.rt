@@ -7,7 +7,6 @@ ghost use Rattle.sip_vector.specs.inside.Gathered.{as_pair, abs_sum, with_last, 
 ghost use Rattle.sip_vector.specs.Streams.{most_weight};
 
 use crate::Entry;
-use crate::summing::summed;
 use sip_field::OutOfMemory;
 use std::alloc::Global;
 
@@ -89,28 +88,4 @@ pub(crate) fn settled(
 {
     pending.sort_unstable_by_key(|entry| entry.index);
     merged(alloc, list, pending)
-}
-
-// The same, for entries below `items`. Where there are few items for each entry the sums at all of them are the quicker way.
-pub(crate) fn settled_below(
-    alloc: Global,
-    items: u64,
-    list: &[Entry],
-    pending: &mut Vec<Entry>,
-) -> Result<Vec<Entry>, OutOfMemory>
-    requires light { abs_sum list.now + abs_sum pending.old.items ≤ most_weight }
-    requires some { 0 < items }
-    requires sparse { IsSparse (pos 0) 0 items (map as_pair list.now) }
-    requires within { All (λ e. e.index < items) pending.old.items }
-    ensures permutation { IsPermutation pending.old.items pending.new.items }
-    ensures merged { IfOk result (λ out. IsMerged items list.now pending.old.items out.items) }
-    ensures light { IfOk result (λ out. abs_sum out.items
-        ≤ abs_sum list.now + abs_sum pending.old.items) }
-{
-    let entries = list.len() + pending.len();
-    if items / 4 <= entries as u64 {
-        summed(alloc, items as usize, list, pending)
-    } else {
-        settled(alloc, list, pending)
-    }
 }

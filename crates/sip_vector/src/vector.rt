@@ -8,15 +8,15 @@ ghost use Rattle.sip_vector.specs.inside.Gathered.{IsListOf, IsFirstOf};
 use crate::finding::{
     count_between, first_within, has_no_negative, next_in_list, next_of, sum_of, value_in,
 };
-use crate::merging::{settled, settled_below};
+use crate::merging::settled;
 use crate::{Depth, Entry};
 use sip_field::OutOfMemory;
 use std::alloc::Global;
 use std::marker::Model;
 
-// As many additions may wait in any vector, which take 16 MiB. In one with a longer list as many may wait as the list has
+// As many additions may wait in any vector, which take 4 MiB. In one with a longer list as many may wait as the list has
 // entries, so that a merge is paid by the additions before it.
-const MOST_PENDING: usize = 1 << 20;
+const MOST_PENDING: usize = 1 << 18;
 
 /// The vector that one side's updates add up to: `2^depth` numbers.
 ///
@@ -26,7 +26,7 @@ const MOST_PENDING: usize = 1 << 20;
 /// Only the entries that are not 0 take memory, as a list that rises, and the additions that are pending, in the order in
 /// which they came. Every call is right while additions are pending, and quick where none is, as after `settle`. In the
 /// costs below m is the length of the list and p the number of additions that are pending: none after `settle`, and else
-/// at most 2^20 or m, whichever is more.
+/// at most 2^18 or m, whichever is more.
 #[derive(Drop)]
 pub struct Vector {
     depth: Depth,
@@ -78,7 +78,7 @@ impl Vector {
         ensures err { OnErr result (contents self.new ≡ contents self.old) }
     {
         if self.pending.len() >= MOST_PENDING && self.pending.len() >= self.list.len() {
-            self.settle()?;
+            self.merge()?;
         }
         self.put(index, delta)
     }
@@ -102,8 +102,7 @@ impl Vector {
     }
 
     /// Merges what is pending into the list of entries. The numbers stay the same, also where memory is wanted; then what
-    /// was pending still is. O(m + p log p), and memory for m + p entries; O(2^depth) and a number of four bytes for each item
-    /// besides where there are at most four items for each entry of these. To be called at the end of a stream.
+    /// was pending still is. O(m + p log p), and memory for m + p entries. To be called at the end of a stream.
     pub fn settle(&mut self) -> Result<(), OutOfMemory>
         ensures ok { OnOk result (self.new ≡ record self.old { is_settled = true }) }
         ensures err { OnErr result (self.new ≡ self.old) }
@@ -111,10 +110,19 @@ impl Vector {
         if self.pending.is_empty() {
             return Ok(());
         }
+        self.merge()?;
+        self.pending = Vec::new(*self.list.allocator());
+        Ok(())
+    }
+
+    // Merges what is pending into the list, and keeps the room that it had.
+    fn merge(&mut self) -> Result<(), OutOfMemory>
+        ensures ok { OnOk result (self.new ≡ record self.old { is_settled = true }) }
+        ensures err { OnErr result (self.new ≡ self.old) }
+    {
         let alloc = *self.list.allocator();
-        let items = self.depth.items();
-        self.list = settled_below(alloc, items, &self.list, &mut self.pending)?;
-        self.pending = Vec::new(alloc);
+        self.list = settled(alloc, &self.list, &mut self.pending)?;
+        self.pending.clear();
         Ok(())
     }
 

@@ -56,12 +56,6 @@ pub record IsMerged (n : ℕ) (list added merged : List Entry) : Type 0 where
   pub sparse : IsSparse (pos 0) 0 n (map as_pair merged)
   pub sums : (k : ℕ) → sum_at merged k ≡ sum_at list k +ℤ sum_at added k
 
--- the numbers at the first indices, without those that are 0, as entries
-pub record IsCollected (numbers : List ℤ) (count : ℕ) (es : List Entry) : Type 0 where
-  pub sparse : IsSparse (pos 0) 0 count (map as_pair es)
-  pub sums : (k : ℕ) → k < count → sum_at es k ≡ number_at numbers k
-  pub light : abs_sum es ≡ sum_by nat_abs (take count numbers)
-
 -- the numbers of a vector with this list and these pending entries
 abbrev pub gathered : ℕ → List Entry → List Entry → List ℤ
 gathered depth list pending = raised (numbers_of depth (map as_pair list)) pending
