@@ -59,6 +59,8 @@ pub use update::{Entry, Side, Update};
 pub use vector::Vector;
 
 #[cfg(test)]
+mod far_tests;
+#[cfg(test)]
 mod tests;
 #[cfg(test)]
 mod vector_tests;

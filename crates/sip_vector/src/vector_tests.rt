@@ -167,7 +167,8 @@ fn each_call_sees_what_is_pending(rt: HostRuntime) -> Result<(), Fail> {
 #[test]
 fn want_of_memory_leaves_a_vector_as_it_was(rt: HostRuntime) -> Result<(), Fail> {
     let mut pair = Pair::new(rt.alloc())?;
-    for _ in 0..140_000 {
+    // More than may wait: one of them begins with a merge.
+    for _ in 0..270_000 {
         pair.add(&rt)?;
     }
     pair.shows(&rt)?;

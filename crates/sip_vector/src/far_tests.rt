@@ -1,0 +1,96 @@
+use crate::{Depth, Vector};
+use std::alloc::Global;
+use std::process::Abort;
+use std::test::Fail;
+
+const MOST_WEIGHT: u64 = (1 << 30) - 1;
+const ITEMS: u64 = 1 << Depth::MOST;
+
+// More than two merges want, of which the second is of two long lists.
+const ADDITIONS: u64 = 600_000;
+
+// The item of an addition, far from those of the additions before it. The factor is odd, so that each has an item of its own.
+fn item(addition: u64) -> u64 {
+    addition.wrapping_mul(0x9E37_79B9_7F4A_7C15) % ITEMS
+}
+
+fn delta(addition: u64) -> i64 {
+    (addition % 3) as i64 + 1
+}
+
+// A vector of the greatest depth, to which each addition is made at an item of its own.
+#[derive(Drop)]
+struct Far {
+    vector: Vector,
+    count: u64,
+    total: i64,
+}
+
+impl Far {
+    fn new(alloc: Global) -> Result<Far, Fail> {
+        let depth = Depth::new(Depth::MOST).ok_or(())?;
+        Ok(Far {
+            vector: Vector::new(alloc, depth)?,
+            count: 0,
+            total: 0,
+        })
+    }
+
+    fn add_once(&mut self, rt: &impl Abort) -> Result<bool, Fail> {
+        let (index, delta) = (item(self.count), delta(self.count));
+        assert!(rt; index < 1 << self.vector.depth().get());
+        assert!(rt; self.vector.weight() + delta.unsigned_abs() <= MOST_WEIGHT);
+        Ok(self.vector.add(index, delta).is_ok())
+    }
+
+    // Where memory is refused the vector must be as it was, and take the addition then.
+    fn add(&mut self, rt: &impl Abort) -> Result<(), Fail> {
+        if !self.add_once(rt)? {
+            self.shows(rt)?;
+            assert!(rt; self.add_once(rt)?);
+        }
+        self.total = self.total.wrapping_add(delta(self.count));
+        self.count = self.count.wrapping_add(1);
+        Ok(())
+    }
+
+    // The same for what is pending.
+    fn settle(&mut self, rt: &impl Abort) -> Result<(), Fail> {
+        if self.vector.settle().is_err() {
+            self.shows(rt)?;
+            self.vector.settle()?;
+        }
+        Ok(())
+    }
+
+    // The total, and the numbers at some items: those of the first additions, of later ones, and of some that were not made.
+    fn shows(&self, rt: &impl Abort) -> Result<(), Fail> {
+        assert_eq!(rt; self.vector.total(), self.total);
+        for eighth in 0..16u64 {
+            let addition = (self.count / 8).wrapping_mul(eighth);
+            let number = if addition < self.count {
+                delta(addition)
+            } else {
+                0
+            };
+            let index = item(addition);
+            assert!(rt; index < 1 << self.vector.depth().get());
+            assert_eq!(rt; self.vector.get(index), number, "of addition {addition}");
+        }
+        Ok(())
+    }
+}
+
+#[test]
+fn want_of_memory_leaves_far_entries_as_they_were(rt: HostRuntime) -> Result<(), Fail> {
+    let mut far = Far::new(rt.alloc())?;
+    for _ in 0..ADDITIONS {
+        far.add(&rt)?;
+    }
+    far.shows(&rt)?;
+    far.settle(&rt)?;
+    far.shows(&rt)?;
+    let entries = far.vector.entries().ok_or(())?;
+    assert_eq!(rt; entries.len() as u64, ADDITIONS);
+    Ok(())
+}
