@@ -8,7 +8,7 @@ use Rattle.std.proofs.lemmas.List.Sums.{sum_by_more, get_or-le-sum_by}
 use Rattle.sip_vector.specs.declared.update.Entry.{Entry}
 use Rattle.sip_vector.specs.Sparse.{IsSparse}
 use Rattle.sip_vector.specs.inside.Gathered.{as_pair, value_at, sum_at, abs_sum, raised, with_last, IsMerged, IsCollected}
-use Rattle.sip_vector.proofs.Finds.{value_at-other, value_at-here, abs_sum-at}
+use Rattle.sip_vector.proofs.Finds.{value_at-other, value_at-here, abs_sum-at, both_zero}
 use Rattle.sip_vector.proofs.Gathers.{raised-push, length-raised, get_or-raised, sum_by-raised}
 use Rattle.sip_vector.proofs.Merges.{sum_at-with_last, abs_sum-with_last, IsSparse-with_last}
 use Rattle.sip_vector.proofs.Sums.{sum_by-zeros}
@@ -25,9 +25,6 @@ raised-light xs es i k m d below inside within light =
     let len = length-raised xs (take i es) in
     let sums = sum_by-raised (length xs) xs (take i es) refl (All-take (λ (e : Entry). e.index < length xs) i es within) in
     omega (arith, light, sums, abs_sum-at es i d below, get_or-le-sum_by nat_abs (raised xs (take i es)) k (pos 0) (omega arith))
-
-both_zero : (a b : ℤ) → a ≡ pos 0 → b ≡ pos 0 → a +ℤ b ≡ pos 0
-both_zero a b e f = omega (arith, ints, e, f)
 
 -- entries below n add nothing from there on
 sum_at-past : (n k : ℕ) (es : List Entry) → All (λ e. e.index < n) es → n ≤ k → sum_at es k ≡ pos 0

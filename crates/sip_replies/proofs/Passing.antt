@@ -1,8 +1,7 @@
 -- What passed a test, what comes of a step that passed, and replies one after another.
-use Rattle.std.proofs.Common.{◌≡◌, ℕ, ◌+◌, Bool, true, false, Option, Some, None, Result, Ok, Err, List, [], ◌∷◌, drop, refl, ap}
+use Rattle.std.proofs.Common.{◌≡◌, ℕ, ◌+◌, Bool, true, false, Result, Ok, Err, List, [], ◌∷◌, drop, refl, ap}
 use Rattle.sip_vector.specs.Steps.{◌>>=◌, needs}
 use Rattle.sip_wire.specs.declared.message.Reason.{Reason}
-use Rattle.sip_counts.specs.Strategies.{before, all_there}
 use Rattle.sip_replies.specs.Protocols.{Rules}
 use Rattle.sip_replies.specs.Replies.{Fault, at_end, in_round, learnt, read_reply, run_from}
 
@@ -24,19 +23,20 @@ pub test_passed : {B E : Type 0} (test : Bool) (reason : E) (f : Unit {0} → Re
 test_passed true reason f y e = (refl, e)
 test_passed false reason f y e = absurd (cc)
 
+-- values that passed as one are the same
 pub same_ok : {A E : Type 0} (x y : A) → ◌≡◌ {A = Result A E} (Ok x) (Ok y) → x ≡ y
 same_ok x y e = cc
 
-pub same_some : {X : Type 0} (x y : X) → ◌≡◌ {A = Option X} (Some x) (Some y) → x ≡ y
-same_some x y e = cc
-
+-- where a reply ends with its bytes, it states what was read
 pub at_end_is : {X : Type 0} (x y : X) (rest : List ℕ) → at_end x rest ≡ Ok y → x ≡ y
 at_end_is x y [] e = same_ok {E = Reason} x y e
 at_end_is x y (b ∷ rest) e = absurd (cc)
 
+-- a value that passed
 abbrev ok_of : {X : Type 0} → X → Result X Reason
 ok_of x = Ok x
 
+-- a round that passed is a reply that did
 pub round_passed : {X : Type 0} (j : ℕ) (r : Result X Reason) (x : X) → in_round j r ≡ Ok x → r ≡ Ok x
 round_passed {X} j (Ok y) x e = ap (λ (k : X). ok_of k) (same_ok {E = Fault} y x e)
 round_passed j (Err reason) x e = absurd (cc)
@@ -44,12 +44,16 @@ round_passed j (Err reason) x e = absurd (cc)
 -- ---- replies
 
 module _ {S : Type 0} (R : Rules S) where
-  -- one reply that was read so, and those behind it
+  -- one reply that was read so, or refused, and those behind it
+  pub run_step : (j : ℕ) (rs : List ℕ) (s : S) (bytes : List ℕ) (more : List (List ℕ)) (r : Result S Reason) → read_reply R s bytes ≡ r
+      → run_from R j rs s (bytes ∷ more) ≡ (in_round j r >>= λ t. run_from R (j + 1) (drop 1 rs) (learnt R rs t) more)
+  unfolding run_from
+  run_step j rs s bytes more r is =
+      ap (λ (x : Result S Reason). in_round j x >>= λ t. run_from R (j + 1) (drop 1 rs) (learnt R rs t) more) is
+
   pub run_is : (j : ℕ) (rs : List ℕ) (s : S) (bytes : List ℕ) (more : List (List ℕ)) (t : S) → read_reply R s bytes ≡ Ok t
       → run_from R j rs s (bytes ∷ more) ≡ run_from R (j + 1) (drop 1 rs) (learnt R rs t) more
-  unfolding run_from
-  run_is j rs s bytes more t is =
-      ap (λ (x : Result S Reason). in_round j x >>= λ u. run_from R (j + 1) (drop 1 rs) (learnt R rs u) more) is
+  run_is j rs s bytes more t is = run_step j rs s bytes more (ok_of t) is
 
   -- no replies lead nowhere
   pub run_none : (j : ℕ) (rs : List ℕ) (s : S) → run_from R j rs s [] ≡ Ok s
@@ -68,25 +72,3 @@ module _ {S : Type 0} (R : Rules S) where
   run_parts j rs s bytes more t e =
       let a = step_passed {B = S} {E = Fault} (in_round j (read_reply R s bytes)) (λ u. run_from R (j + 1) (drop 1 rs) (learnt R rs u) more) t e in
       record { next = a.x; first = round_passed j (read_reply R s bytes) a.x a.first; rest = a.then }
-
--- ---- replies that are all there
-
--- the first one, and the others
-pub record There {X : Type 0} (o : Option X) (rest : List (Option X)) (all : List X) : Type 0 where
-  pub head : X
-  pub tail : List X
-  pub is_head : o ≡ Some head
-  pub is_tail : all_there rest ≡ Some tail
-  pub whole : head ∷ tail ≡ all
-
--- where all are there, the first one and the others are
-pub all_there-cons : {X : Type 0} (o : Option X) (rest : List (Option X)) (all : List X) → all_there (o ∷ rest) ≡ Some all → There o rest all
-all_there-cons None rest all e = absurd (cc)
-all_there-cons {X} (Some x) rest all e = by_rest (all_there rest) refl e
-  where
-    by_rest : (r : Option (List X)) → all_there rest ≡ r → before x r ≡ Some all → There (Some x) rest all
-    by_rest None is h = absurd (cc)
-    by_rest (Some xs) is h = record { head = x; tail = xs; is_head = refl; is_tail = is; whole = same_some (x ∷ xs) all h }
-
-pub all_there-nil : {X : Type 0} (all : List X) → all_there [] ≡ Some all → [] ≡ all
-all_there-nil {X} all e = same_some {X = List X} [] all e
