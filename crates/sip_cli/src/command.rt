@@ -227,6 +227,3 @@ pub fn read_words(words: &Words) -> Result<Command, Usage>
         }
     }
 }
-
-#[cfg(test)]
-mod tests;

@@ -66,6 +66,3 @@ pub fn finish<K: Sink>(status: &Status, errors: &mut K) -> Ending
         line: status_line(status, errors),
     }
 }
-
-#[cfg(test)]
-mod tests;

@@ -129,6 +129,3 @@ pub fn write_page<K: Sink>(text: &str, report: &mut K) -> Status
         Err(PortStop::OutOfMemory) => Status::OutOfMemory,
     }
 }
-
-#[cfg(test)]
-mod tests;

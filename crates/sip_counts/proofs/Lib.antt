@@ -4,4 +4,5 @@ pub mod Escapes
 pub mod Roots
 pub mod Differences
 pub mod Talks
+pub mod Walks
 pub mod Joint

@@ -60,3 +60,34 @@ map_of_bytes (x ∷ entries) all v reply e = elim (cases_Bool (pointwise eqb v x
       subst (λ (r : List ℕ). All (λ b. b < 256) r) same (All-head (λ (y : List ℕ × List ℕ). All (λ b. b < 256) y.1) x entries all)
   | inr t ↦ map_of_bytes entries (All-tail (λ (y : List ℕ × List ℕ). All (λ b. b < 256) y.1) x entries all) v reply (rw t at e)
 ]
+
+-- ---- replies that are all there
+
+-- the first one, and the others
+pub record There {X : Type 0} (o : Option X) (rest : List (Option X)) (all : List X) : Type 0 where
+  pub head : X
+  pub tail : List X
+  pub is_head : o ≡ Some head
+  pub is_tail : all_there rest ≡ Some tail
+  pub whole : head ∷ tail ≡ all
+
+pub same_some : {X : Type 0} (x y : X) → ◌≡◌ {A = Option X} (Some x) (Some y) → x ≡ y
+same_some x y e = cc
+
+-- where all are there, the first one and the others are
+pub all_there-cons : {X : Type 0} (o : Option X) (rest : List (Option X)) (all : List X) → all_there (o ∷ rest) ≡ Some all → There o rest all
+all_there-cons None rest all e = absurd (cc)
+all_there-cons {X} (Some x) rest all e = by_rest (all_there rest) refl e
+  where
+    by_rest : (r : Option (List X)) → all_there rest ≡ r → before x r ≡ Some all → There (Some x) rest all
+    by_rest None is h = absurd (cc)
+    by_rest (Some xs) is h = record { head = x; tail = xs; is_head = refl; is_tail = is; whole = same_some (x ∷ xs) all h }
+
+-- of none, none are there
+pub all_there-nil : {X : Type 0} (all : List X) → all_there [] ≡ Some all → [] ≡ all
+all_there-nil {X} all e = same_some {X = List X} [] all e
+
+-- the bytes of a reply, and none where it is missing
+unfoldable pub bytes_in : Option (List ℕ) → List ℕ
+bytes_in None = []
+bytes_in (Some bytes) = bytes

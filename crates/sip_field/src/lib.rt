@@ -78,6 +78,3 @@ pub use mersenne::M61;
 pub use polynomial::horner;
 pub use seats::Seat;
 pub use small::F31;
-
-#[cfg(test)]
-mod tests;

@@ -51,6 +51,3 @@ pub use helper::HelperCore;
 pub use serving::serve;
 pub use status::HelpStatus;
 pub use turn::OutOfTurn;
-
-#[cfg(test)]
-mod tests;

@@ -40,6 +40,3 @@ mod point;
 pub use factor::chi;
 pub use interval::{IntervalFold, interval_at};
 pub use point::Point;
-
-#[cfg(test)]
-mod tests;

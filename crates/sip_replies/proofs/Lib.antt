@@ -9,3 +9,4 @@ pub mod Running
 pub mod Saying
 pub mod Turns
 pub mod Ending
+pub mod Passing

@@ -3,5 +3,3 @@ pub mod Replies
 pub mod Checks
 pub mod Talks
 pub mod Asking
-pub mod SumToy
-pub mod ListToy

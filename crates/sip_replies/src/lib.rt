@@ -13,8 +13,6 @@ mod check;
 mod keeper;
 pub mod laws;
 mod taking;
-#[cfg(test)]
-mod toys;
 
 pub use asking::{AskStop, ask};
 pub use check::{Check, More, Said};

@@ -12,6 +12,8 @@ mod case;
 #[cfg(test)]
 mod check_tests;
 #[cfg(test)]
+mod command_tests;
+#[cfg(test)]
 mod copy_tests;
 #[cfg(test)]
 mod cut;
@@ -19,6 +21,8 @@ mod cut;
 mod duel;
 #[cfg(test)]
 mod duel_tests;
+#[cfg(test)]
+mod exit_tests;
 #[cfg(test)]
 mod failing_tests;
 #[cfg(test)]
@@ -35,6 +39,8 @@ mod help_tests;
 mod many_tests;
 #[cfg(test)]
 mod ones;
+#[cfg(test)]
+mod page_tests;
 #[cfg(test)]
 mod query_tests;
 #[cfg(test)]

@@ -153,6 +153,3 @@ pub fn copy<A: Source, K: Sink>(
         None => Ok(()),
     }
 }
-
-#[cfg(test)]
-mod tests;

@@ -44,6 +44,3 @@ pub fn put_line<K: Sink>(update: &Update, sink: &mut K) -> Result<(), PortStop>
 {
     write_whole(sink, line_of(update).as_slice())
 }
-
-#[cfg(test)]
-mod tests;

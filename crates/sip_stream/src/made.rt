@@ -142,6 +142,3 @@ impl Source for MadeSource {
         self.go_on();
     }
 }
-
-#[cfg(test)]
-mod tests;

@@ -203,6 +203,3 @@ fn next_piece<S: Source>(
         Form::Wide => next_record::<WIDE, S>(source),
     }
 }
-
-#[cfg(test)]
-mod tests;

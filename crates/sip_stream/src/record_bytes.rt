@@ -83,6 +83,3 @@ pub fn put_wide<K: Sink>(update: &Update, sink: &mut K) -> Result<(), PortStop>
 {
     write_whole(sink, record_of::<WIDE>(update).as_slice())
 }
-
-#[cfg(test)]
-mod tests;

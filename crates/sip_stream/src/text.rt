@@ -25,6 +25,3 @@ pub fn put_number<const ROOM: usize>(gathered: &mut ArrayVec<u8, ROOM>, number: 
     let mut digits = Buffer::new();
     put(gathered, digits.format(number).as_bytes());
 }
-
-#[cfg(test)]
-mod tests;

@@ -13,7 +13,8 @@ use Rattle.sip_vector.specs.Vectors.{nonzero_within}
 use Rattle.sip_counts.specs.Counts.{counted}
 use Rattle.sip_counts.specs.Strategies.{Strategy, IsOfBytes, replies, all_there, is_wrong, takes_wrong}
 use Rattle.sip_counts.proofs.Vectors.{counted-grows, counted-none}
-use Rattle.sip_counts.proofs.Talks.{replies-length}
+use Rattle.sip_counts.proofs.Talks.{all_there-nil, replies-length}
+use Rattle.sip_replies.proofs.Passing.{same_ok}
 use Rattle.sip_subvec.specs.AcceptsSub.{Siblings, Stated, gives_root}
 use Rattle.sip_wire.specs.declared.version.Version.{Version}
 use Rattle.sip_replies.specs.Replies.{Fault, run}
@@ -21,10 +22,9 @@ use Rattle.sip_subvec.specs.Checking.{nothing}
 use Rattle.sip_subvec.specs.Protocol.{sub_rules}
 use Rattle.sip_subvec.specs.Counting.{has_small_value, rise_within, are_all_asked, accepts_stated, entries_of, said, is_same_entry, is_right, accepts_sub, accepts_small}
 use Rattle.sip_subvec.proofs.FirstReply.{as_whole}
-use Rattle.sip_subvec.proofs.Passing.{same_ok}
 use Rattle.sip_subvec.proofs.Runs.{run_none, same_run}
 use Rattle.sip_subvec.proofs.WrongEntries.{few_wrong_entries}
-use Rattle.sip_subvec.proofs.SaidByStrategies.{Said, said-stated, entries_said, siblings_said, Accepted, accepted_parts, all_there-nil}
+use Rattle.sip_subvec.proofs.SaidByStrategies.{Said, said-stated, entries_said, siblings_said, Accepted, accepted_parts}
 use Rattle.sip_subvec.proofs.SmallValues.{first_small}
 
 -- ---- the same entries

@@ -12,12 +12,13 @@ use Rattle.sip_wire.specs.Reading.{read_frame}
 use Rattle.arrayvec.specs.ArrayVec.{ArrayVec}
 use Rattle.sip_replies.specs.declared.check.More.TheVariants as mores
 use Rattle.sip_replies.specs.Replies.{step_says, frame_says, read_from, read_reply}
+use Rattle.sip_replies.proofs.Passing.{at_end_is}
 use Rattle.sip_subvec.specs.AcceptsSub.{Siblings, Stated}
 use Rattle.sip_subvec.specs.Counting.{rise_within}
 use Rattle.sip_subvec.specs.Protocol.{sub_step, sub_rules}
 use Rattle.sip_subvec.specs.Replies.{with_entries, are_asked, asked_siblings}
 use Rattle.sip_subvec.proofs.Halvings.{whole}
-use Rattle.sip_subvec.proofs.Passing.{siblings_passed, at_end_is}
+use Rattle.sip_subvec.proofs.Passing.{siblings_passed}
 use Rattle.sip_subvec.proofs.RisingEntries.{entries-taken}
 use Rattle.sip_subvec.proofs.StatedEntries.{rise-nil}
 

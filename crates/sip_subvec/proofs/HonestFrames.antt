@@ -1,11 +1,10 @@
 -- The frames of an honest helper have a spelling, so each is read as what it says.
-use Rattle.std.proofs.Common.{◌≡◌, ◌≢◌, ℕ, zero, suc, ◌+◌, ◌-◌, ◌*◌, ◌^◌, ◌<◌, ◌≤◌, ◌%◌, ◌==◌, Bool, true, false, not, ◌&&◌, eqb, nat_le, if◌then◌else◌, List, [], ◌∷◌, length, get_or, map, ℤ, pos, negsuc, nat_abs, Some, None, All, FitsSigned, inl, inr, refl, ap, ◌∙◌, arith}
+use Rattle.std.proofs.Common.{◌≡◌, ◌≢◌, ℕ, zero, suc, ◌+◌, ◌-◌, ◌*◌, ◌^◌, ◌<◌, ◌≤◌, ◌%◌, ◌==◌, Bool, true, false, not, ◌&&◌, eqb, nat_le, if◌then◌else◌, List, [], ◌∷◌, length, get_or, map, ℤ, pos, negsuc, nat_abs, Some, None, All, FitsSigned, inl, inr, refl, ap, arith}
 use Rattle.std.specs.Prelude.{IsTrue}
 use Rattle.std.specs.Int.{w64, cast_unsigned}
 use Rattle.std.specs.List.{flat_map}
-use Rattle.std.proofs.lemmas.Bool.{and_from, le-leb, lt-ltb, ne_eqb}
+use Rattle.std.proofs.lemmas.Bool.{and_from, lt-ltb, ne_eqb}
 use Rattle.std.proofs.lemmas.Bool.Decides.{nat_tests, eqb_tells}
-use Rattle.std.proofs.lemmas.Int.{ints, to_z-of_z}
 use Rattle.std.proofs.lemmas.List.Elements.{All-head, All-tail, All-weaker}
 use Rattle.std.proofs.Math.Nat.{mod-lt}
 use Rattle.sip_field.specs.Moduli.{m61_modulus}
@@ -13,12 +12,14 @@ use Rattle.sip_field.specs.Residue.{residue}
 use Rattle.sip_vector.specs.Trees.{up}
 use Rattle.sip_vector.proofs.TreeResidues.{residue_below}
 use Rattle.sip_vector.specs.declared.update.Entry.{Entry}
+use Rattle.sip_wire.specs.declared.message.Message.{Message}
 use Rattle.sip_wire.specs.declared.message.Message.TheVariants as messages
 use Rattle.sip_wire.specs.declared.version.Version.{Version}
 use Rattle.sip_wire.specs.Versions.{index_width}
-use Rattle.sip_wire.specs.Table.{is_small, most_claim, repeat, entry_fields}
+use Rattle.sip_wire.specs.Table.{most_claim, repeat, entry_fields}
 use Rattle.sip_wire.specs.Spelling.{fits, has_room, all_hold, entry_numbers}
 use Rattle.sip_wire.proofs.SiblingElements.{HasElement}
+use Rattle.sip_wire.proofs.SmallNumbers.{in_range, bits_below, bits_small}
 use Rattle.sip_subvec.specs.Honest.{honest_siblings}
 use Rattle.sip_subvec.specs.Replies.{are_asked}
 
@@ -30,20 +31,10 @@ pub record IsRow (version : Version) (e : Entry) : Type 0 where
   pub some : e.value ≢ pos 0
   pub small : nat_abs e.value ≤ most_claim
 
-in_range : (z : ℤ) → nat_abs z ≤ most_claim → FitsSigned w64 z
-in_range z le = grind (arith, ints)
-
-bits_below : (z : ℤ) → nat_abs z ≤ most_claim → cast_unsigned w64 z < 256 ^ 8
-bits_below (pos n) le = omega (arith, le)
-bits_below (negsuc n) le = omega (arith, le)
-
 bits_some : (z : ℤ) → z ≢ pos 0 → nat_abs z ≤ most_claim → eqb (cast_unsigned w64 z) 0 ≡ false
 bits_some (pos zero) some le = absurd (some refl)
 bits_some (pos (suc n)) some le = ne_eqb (suc n) 0 (λ e. absurd (omega (arith, e)))
 bits_some (negsuc n) some le = ne_eqb (cast_unsigned w64 (negsuc n)) 0 (λ e. absurd (omega (arith, e, le)))
-
-bits_small : (z : ℤ) → nat_abs z ≤ most_claim → is_small (cast_unsigned w64 z) ≡ true
-bits_small z le = ap (λ (x : ℤ). nat_le (nat_abs x) most_claim) (to_z-of_z w64 z (in_range z le)) ∙ le-leb (nat_abs z) most_claim le
 
 module _ (version : Version) where
   rows_have_room : (es : List Entry) → All (IsRow version) es
@@ -80,6 +71,10 @@ module _ (version : Version) where
       → All (λ (e : Entry). FitsSigned w64 e.value) es
   entries_in_range es rows =
       All-weaker (IsRow version) (λ (e : Entry). FitsSigned w64 e.value) in_range_of es rows
+
+-- the frame of these
+abbrev pub entries_message : List Entry → Message
+entries_message es = messages.Entries (record { items = es })
 
 -- ---- siblings
 

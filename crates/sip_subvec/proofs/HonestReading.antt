@@ -11,8 +11,6 @@ use Rattle.sip_vector.specs.Pieces.{pieces}
 use Rattle.sip_vector.specs.Steps.{◌>>=◌}
 use Rattle.sip_vector.specs.Trees.{up}
 use Rattle.sip_wire.specs.declared.kind.Place.TheVariants as places
-use Rattle.sip_wire.specs.declared.message.Message.{Message}
-use Rattle.sip_wire.specs.declared.message.Message.TheVariants as messages
 use Rattle.sip_wire.specs.declared.message.Reason.{Reason}
 use Rattle.sip_wire.specs.declared.version.Version.{Version}
 use Rattle.sip_wire.specs.Spelling.{kind_of, spelling}
@@ -31,9 +29,9 @@ use Rattle.sip_subvec.specs.Replies.{with_entries, asked_siblings}
 use Rattle.sip_subvec.proofs.FirstReply.{in_part, as_whole}
 use Rattle.sip_subvec.proofs.Halvings.{whole, level_more}
 use Rattle.sip_subvec.proofs.HonestEntries.{with_entries-parts}
-use Rattle.sip_subvec.proofs.HonestFrames.{IsRow, entries_fit, entries_in_range, honest_are_asked, AreBelow, honest_elements, above_below}
+use Rattle.sip_subvec.proofs.HonestFrames.{IsRow, entries_fit, entries_in_range, honest_are_asked, AreBelow, honest_elements, above_below, entries_message}
 use Rattle.sip_subvec.proofs.LaterReply.{known, with_siblings}
-use Rattle.sip_subvec.proofs.Runs.{run_is, run_none}
+use Rattle.sip_subvec.proofs.Runs.{run_is, run_none, stated_as}
 use Rattle.sip_subvec.proofs.Windows.{siblings_above}
 
 -- ---- siblings
@@ -79,9 +77,6 @@ module _ (version : Version) (lo hi p : ℕ) (small : p ≤ m61_modulus) where
         step
 
     -- ---- entries
-
-    abbrev entries_message : List Entry → Message
-    entries_message es = messages.Entries (record { items = es })
 
     abbrev lowest : Siblings
     lowest = honest_siblings level lo hi
@@ -140,9 +135,6 @@ replies_above version p level lo hi [] = []
 replies_above version p level lo hi (r ∷ challenges) =
     (spelling version (siblings_message (honest_siblings level lo hi)) ++ [])
     ∷ replies_above version p (up p level r) (lo / 2) (hi / 2) challenges
-
-abbrev stated_as : List Entry → List Siblings → Stated
-stated_as es ss = record { entries = es; siblings = ss }
 
 module _ (version : Version) (lo hi p : ℕ) (some : 0 < p) (small : p ≤ m61_modulus)
     (es : List Entry) (x : Siblings) where

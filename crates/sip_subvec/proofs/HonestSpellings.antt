@@ -9,12 +9,11 @@ use Rattle.sip_vector.specs.Pieces.{pieces}
 use Rattle.sip_vector.specs.Trees.{up, tree}
 use Rattle.sip_vector.specs.Vectors.{nonzero_within}
 use Rattle.sip_wire.specs.declared.message.Message.{Message}
-use Rattle.sip_wire.specs.declared.message.Message.TheVariants as messages
 use Rattle.sip_wire.specs.declared.version.Version.{Version}
 use Rattle.sip_wire.specs.Spelling.{fits}
 use Rattle.sip_wire.proofs.SiblingElements.{siblings_fit}
 use Rattle.sip_subvec.specs.Honest.{proving, its_siblings, siblings_message, opening_frames, honest_messages, CanBeShown}
-use Rattle.sip_subvec.proofs.HonestFrames.{IsRow, entries_fit, AreBelow, honest_elements, lowest_below, above_below}
+use Rattle.sip_subvec.proofs.HonestFrames.{IsRow, entries_fit, AreBelow, honest_elements, lowest_below, above_below, entries_message}
 use Rattle.sip_subvec.proofs.HonestStreams.{shown_rows}
 
 -- each level of a tree has residues
@@ -32,9 +31,6 @@ tree_below p numbers prefix some =
 module _ (version : Version) where
   HasSpelling : Message → Type 0
   HasSpelling m = IsTrue (fits version m)
-
-  abbrev entries_message : List Entry → Message
-  entries_message es = messages.Entries (record { items = es })
 
   -- entries by 512
   pieces_fit : (n : ℕ) (es : List Entry) → n ≡ (length es + 511) / 512 → All (IsRow version) es

@@ -1,9 +1,9 @@
 -- All honest replies: what they state, and that it gives the root.
-use Rattle.std.proofs.Common.{◌≡◌, ℕ, suc, ◌+◌, ◌/◌, ◌^◌, ◌<◌, ◌≤◌, true, List, [], ◌∷◌, ◌++◌, length, take, drop, append-nil, map, fold, zip, ℤ, Ok, All, refl, sym, ap, ◌∙◌, arith}
+use Rattle.std.proofs.Common.{◌≡◌, ℕ, suc, ◌/◌, ◌^◌, ◌<◌, ◌≤◌, true, List, [], ◌∷◌, ◌++◌, length, drop, map, fold, zip, ℤ, Ok, All, refl, sym, ap, ◌∙◌, arith}
 use Rattle.std.specs.Prelude.{nat_eq}
 use Rattle.std.specs.Cmp.Lexicographic.{pointwise}
-use Rattle.std.specs.List.{flat_map, range_with_len}
-use Rattle.std.proofs.lemmas.List.{append_assoc, length-append, length-map, take_at}
+use Rattle.std.specs.List.{flat_map}
+use Rattle.std.proofs.lemmas.List.{length-append, length-map}
 use Rattle.std.proofs.lemmas.List.Concat.{flat_map-cons}
 use Rattle.std.proofs.lemmas.List.Sums.{fold-append}
 use Rattle.sip_field.specs.Moduli.{m61_modulus}
@@ -13,6 +13,7 @@ use Rattle.sip_vector.specs.Vectors.{nonzero_within}
 use Rattle.sip_vector.specs.Answers.{pairs}
 use Rattle.sip_wire.specs.declared.version.Version.{Version}
 use Rattle.sip_wire.specs.Spelling.{spelling}
+use Rattle.sip_counts.proofs.Walks.{walk, fronts_walk, walk_snoc}
 use Rattle.sip_replies.specs.Replies.{read_reply, run, verdict}
 use Rattle.sip_subvec.specs.AcceptsSub.{Stated, next_level, folded, gives_root}
 use Rattle.sip_subvec.specs.Checking.{nothing}
@@ -45,33 +46,6 @@ proving-push p numbers lo hi prefix r =
     same_proving _ _ _ _ _ _ (fold-append (up p) (map (residue p) numbers) prefix (r ∷ [])) (halvings lo) (halvings hi)
 
 -- ---- reply by reply
-
--- g of each front of front ++ challenges that has front
-walk : {X : Type 0} → (List ℕ → X) → List ℕ → List ℕ → List X
-walk g front [] = []
-walk g front (r ∷ challenges) = g front ∷ walk g (front ++ r ∷ []) challenges
-
-fronts_walk : {X : Type 0} (g : List ℕ → X) (front challenges : List ℕ) → map (λ j. g (take j (front ++ challenges))) (range_with_len (length front) (length challenges)) ≡ walk g front challenges
-unfolding walk
-fronts_walk g front [] = refl
-fronts_walk g front (r ∷ challenges) =
-    let here : take (length front) (front ++ r ∷ challenges) ≡ front = take_at front (r ∷ challenges) (length front) refl in
-    let same : (front ++ r ∷ []) ++ challenges ≡ front ++ r ∷ challenges = append_assoc front (r ∷ []) challenges in
-    let longer : length front + 1 ≡ length (front ++ r ∷ []) = omega (arith, length-append front (r ∷ [])) in
-    ap (λ x. g x ∷ map (λ j. g (take j (front ++ r ∷ challenges))) (range_with_len (length front + 1) (length challenges))) here
-    ∙ ap (λ xs. g front ∷ map (λ j. g (take j xs)) (range_with_len (length front + 1) (length challenges))) (sym same)
-    ∙ ap (λ k. g front ∷ map (λ j. g (take j ((front ++ r ∷ []) ++ challenges))) (range_with_len k (length challenges))) longer
-    ∙ ap (λ xs. g front ∷ xs) (fronts_walk g (front ++ r ∷ []) challenges)
-
--- one challenge more gives one more
-walk_snoc : {X : Type 0} (g : List ℕ → X) (front challenges : List ℕ) (r : ℕ)
-    → walk g front (challenges ++ r ∷ []) ≡ walk g front challenges ++ g (front ++ challenges) ∷ []
-unfolding walk
-walk_snoc g front [] r = ap (λ xs. g xs ∷ []) (sym (append-nil front))
-walk_snoc g front (c ∷ challenges) r =
-    ap (λ xs. g front ∷ xs) (walk_snoc g (front ++ c ∷ []) challenges r
-    ∙ ap (λ xs. walk g (front ++ c ∷ []) challenges ++ g xs ∷ [])
-    (append_assoc front (c ∷ []) challenges))
 
 -- the siblings of a level alone
 abbrev pub siblings_reply : Version → Proving → List ℕ

@@ -5,6 +5,7 @@ use Rattle.std.proofs.lemmas.Bool.{and_parts, cases_Bool}
 use Rattle.std.proofs.lemmas.Int.{ints}
 use Rattle.std.proofs.lemmas.List.Elements.{All-cons, All-nil, All-head, All-tail, All-map}
 use Rattle.std.proofs.lemmas.List.Sums.{sum_by-cons}
+use Rattle.sip_vector.proofs.Everywhere.{everywhere}
 use Rattle.sip_field.specs.Moduli.{m61_modulus}
 use Rattle.sip_vector.specs.declared.query.Query.TheVariants.{Sub}
 use Rattle.sip_vector.specs.declared.update.Side.{Side}
@@ -96,10 +97,6 @@ pub frequency_light : (s : List Update) (side : Side) (item : ℕ) → nat_abs (
 frequency_light s side item =
     omega (arith, sum_small (of_side (filter (λ (u : Update). u.item == item) s) side), part_light (λ (u : Update). u.item == item) s side)
 
-all_of : {X : Type 0} (P : X → Type 0) (xs : List X) → ((x : X) → P x) → All P xs
-all_of P [] h = All-nil P
-all_of P (x ∷ xs) h = All-cons P x xs (h x) (all_of P xs h)
-
 -- an interval of a legal stream's vector can be shown, where it does not have too many entries
 pub legal_shown : (version : Version) (depth lo hi : ℕ) (stream : List Update) → IsLegal depth stream → 1 ≤ depth → Speaks version depth (Sub lo hi) → lo ≤ hi → hi < 2 ^ depth → length (nonzero_within lo hi (vector depth stream First)) ≤ most_entries
     → CanBeShown version m61_modulus depth lo hi (vector depth stream First)
@@ -111,6 +108,6 @@ legal_shown version depth lo hi stream legal levels speaks order within few = re
   size = length-vector depth stream First;
   order = order;
   within = within;
-  small = All-map IsSmall (frequency stream First) (range_with_len 0 (2 ^ depth)) (all_of (λ (i : ℕ). IsSmall (frequency stream First i)) (range_with_len 0 (2 ^ depth)) (λ i. omega (arith, frequency_light stream First i, legal.first)));
+  small = All-map IsSmall (frequency stream First) (range_with_len 0 (2 ^ depth)) (everywhere (λ (i : ℕ). IsSmall (frequency stream First i)) (range_with_len 0 (2 ^ depth)) (λ i. omega (arith, frequency_light stream First i, legal.first)));
   few = few;
 }

@@ -14,10 +14,11 @@ use Rattle.sip_replies.specs.declared.check.More.TheVariants as mores
 use Rattle.sip_replies.specs.Replies as general
 use Rattle.sip_replies.specs.Replies.{reason_of, at_end, read_reply}
 use Rattle.sip_replies.proofs.Reading.{read_reply-frame}
+use Rattle.sip_replies.proofs.Passing.{step_passed, at_end_is}
 use Rattle.sip_subvec.specs.AcceptsSub.{Siblings, Stated}
 use Rattle.sip_subvec.specs.Protocol.{at_level, sub_step, sub_rules}
 use Rattle.sip_subvec.specs.Replies.{are_asked, asked_siblings}
-use Rattle.sip_subvec.proofs.Passing.{step_passed, siblings_passed, at_end_is}
+use Rattle.sip_subvec.proofs.Passing.{siblings_passed}
 
 -- what a message and what follows it say
 abbrev message_says : ℕ → ℕ → List ℕ → Message → Result Siblings Reason

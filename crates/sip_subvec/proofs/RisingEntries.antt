@@ -7,9 +7,9 @@ use Rattle.sip_vector.specs.Answers.{is_within}
 use Rattle.sip_vector.specs.Steps.{◌>>=◌, needs}
 use Rattle.sip_wire.specs.declared.message.Reason.{Reason}
 use Rattle.sip_wire.specs.declared.message.Reason.TheVariants as reasons
+use Rattle.sip_replies.proofs.Passing.{test_passed, same_ok}
 use Rattle.sip_subvec.specs.Replies.{most_entries, with_entries}
 use Rattle.sip_subvec.specs.Counting.{rise_within}
-use Rattle.sip_subvec.proofs.Passing.{test_passed, same_ok}
 use Rattle.sip_subvec.proofs.StatedEntries.{rise-nil, rise-parts, rise-from, within-parts, within-from}
 
 -- one more entry, above those before it

@@ -13,10 +13,10 @@ use Rattle.sip_wire.specs.declared.message.Message.TheVariants as messages
 use Rattle.sip_wire.specs.declared.message.Reason.TheVariants as reasons
 use Rattle.sip_wire.specs.declared.version.Version.{Version}
 use Rattle.sip_wire.specs.Spelling.{all_hold, has_room, fits}
+use Rattle.sip_replies.proofs.Passing.{test_passed}
 use Rattle.sip_subvec.specs.Counting.{rise_within}
 use Rattle.sip_subvec.specs.Replies.{most_entries, with_entries}
 use Rattle.sip_subvec.proofs.StatedEntries.{rise-nil, rise-parts}
-use Rattle.sip_subvec.proofs.Passing.{test_passed}
 use Rattle.sip_subvec.proofs.RisingEntries.{entries-taken}
 use Rattle.sip_subvec.specs.Asking.{most_answer}
 

@@ -1,13 +1,18 @@
 -- Replies one after another: challenges change nothing of what they state.
 use Rattle.std.proofs.Common.{◌≡◌, ℕ, ◌+◌, Result, Ok, Err, List, [], ◌∷◌, drop, refl, sym, ap, ◌∙◌}
+use Rattle.sip_vector.specs.declared.update.Entry.{Entry}
 use Rattle.sip_vector.specs.Steps.{◌>>=◌}
 use Rattle.sip_wire.specs.declared.message.Reason.{Reason}
 use Rattle.sip_wire.specs.declared.version.Version.{Version}
 use Rattle.sip_replies.specs.Protocols.{Rules}
-use Rattle.sip_replies.specs.Replies.{Fault, in_round, learnt, read_reply, run_from}
-use Rattle.sip_subvec.specs.AcceptsSub.{Stated}
+use Rattle.sip_replies.specs.Replies.{in_round, learnt, read_reply, run_from}
+use Rattle.sip_subvec.specs.AcceptsSub.{Siblings, Stated}
 use Rattle.sip_subvec.specs.Protocol.{sub_rules}
-use Rattle.sip_subvec.proofs.Passing.{step_passed, round_passed}
+use Rattle.sip_replies.proofs.Passing as passing
+
+-- these entries and these siblings, level by level
+abbrev pub stated_as : List Entry → List Siblings → Stated
+stated_as es ss = record { entries = es; siblings = ss }
 
 module _ (version : Version) (lo hi : ℕ) where
   abbrev R : Rules Stated
@@ -21,10 +26,8 @@ module _ (version : Version) (lo hi : ℕ) where
   pub run_is : (j : ℕ) (rs : List ℕ) (s : Stated) (bytes : List ℕ) (more : List (List ℕ))
       (t : Stated) → read_reply R s bytes ≡ Ok t
       → run_from R j rs s (bytes ∷ more) ≡ run_from R (j + 1) (drop 1 rs) t more
-  unfolding run_from
   run_is j rs s bytes more t is =
-      ap (λ (x : Result Stated Reason). in_round j x
-      >>= λ u. run_from R (j + 1) (drop 1 rs) (learnt R rs u) more) is
+      passing.run_is R j rs s bytes more t is
       ∙ ap (λ (u : Stated). run_from R (j + 1) (drop 1 rs) u more) (not_learnt rs t)
 
   same_step : (j : ℕ) (rs qs : List ℕ) (more : List (List ℕ)) (r : Result Stated Reason)
@@ -56,18 +59,15 @@ module _ (version : Version) (lo hi : ℕ) where
 
   pub run_parts : (j : ℕ) (rs : List ℕ) (s : Stated) (bytes : List ℕ) (more : List (List ℕ))
       (t : Stated) → run_from R j rs s (bytes ∷ more) ≡ Ok t → RunParts j rs s bytes more t
-  unfolding run_from
   run_parts j rs s bytes more t e =
-      let a = step_passed {B = Stated} {E = Fault} (in_round j (read_reply R s bytes))
-      (λ u. run_from R (j + 1) (drop 1 rs) (learnt R rs u) more) t e in
+      let a = passing.run_parts R j rs s bytes more t e in
       record {
-        next = a.x;
-        first = round_passed j (read_reply R s bytes) a.x a.first;
+        next = a.next;
+        first = a.first;
         rest = ap (λ (u : Stated). run_from R (j + 1) (drop 1 rs) u more)
-            (sym (not_learnt rs a.x)) ∙ a.then;
+            (sym (not_learnt rs a.next)) ∙ a.rest;
       }
 
   -- no replies lead nowhere
   pub run_none : (j : ℕ) (rs : List ℕ) (s : Stated) → run_from R j rs s [] ≡ Ok s
-  unfolding run_from
-  run_none j rs s = refl
+  run_none j rs s = passing.run_none R j rs s

@@ -1,5 +1,5 @@
 -- What the replies of a strategy of bytes state is what a strategy of siblings says, with entries that no challenge changes.
-use Rattle.std.proofs.Common.{◌≡◌, ℕ, ◌+◌, ◌/◌, Bool, true, false, eqb, is_ok, Option, Some, None, Result, Ok, Err, List, [], ◌∷◌, ◌++◌, length, drop, refl, ap, sym, ◌∙◌, subst, append_assoc, append-nil}
+use Rattle.std.proofs.Common.{◌≡◌, ℕ, ◌+◌, ◌/◌, Bool, true, false, eqb, is_ok, Option, Some, Result, Ok, Err, List, [], ◌∷◌, ◌++◌, length, drop, refl, ap, sym, ◌∙◌, subst, append_assoc, append-nil}
 use Rattle.std.proofs.lemmas.Bool.{and_parts, and_from}
 use Rattle.sip_vector.specs.declared.update.Entry.{Entry}
 use Rattle.sip_vector.specs.Answers.{Answer, pairs}
@@ -7,9 +7,10 @@ use Rattle.sip_vector.specs.Steps.{◌>>=◌, needs}
 use Rattle.sip_wire.specs.declared.message.Reason.{Reason}
 use Rattle.sip_wire.specs.declared.message.Reason.TheVariants as reasons
 use Rattle.sip_wire.specs.declared.version.Version.{Version}
-use Rattle.sip_counts.specs.Strategies.{Strategy, replies, before, all_there}
-use Rattle.sip_counts.proofs.Talks.{replies-more}
+use Rattle.sip_counts.specs.Strategies.{Strategy, replies, all_there}
+use Rattle.sip_counts.proofs.Talks.{all_there-cons, all_there-nil, bytes_in, replies-more}
 use Rattle.sip_replies.specs.Replies.{Fault, in_round, read_reply, run_from, run, verdict}
+use Rattle.sip_replies.proofs.Passing.{step_passed, same_ok}
 use Rattle.sip_subvec.specs.AcceptsSub.{Siblings, Stated, gives_root}
 use Rattle.sip_subvec.specs.Counting.{accepts_sub, are_all_asked, rise_within}
 use Rattle.sip_subvec.specs.Examples.{neither}
@@ -18,31 +19,7 @@ use Rattle.sip_subvec.specs.Replies.{are_asked}
 use Rattle.sip_subvec.proofs.FirstReply.{FirstKept, in_part, as_whole, first_rises}
 use Rattle.sip_subvec.proofs.Halvings.{level_more}
 use Rattle.sip_subvec.proofs.LaterReply.{later_reply, later_whole, later_reply-asked, known, with_siblings}
-use Rattle.sip_subvec.proofs.Passing.{step_passed, same_ok}
-use Rattle.sip_subvec.proofs.Runs.{run_parts, run_none}
-
--- ---- replies that are all there
-
-pub record There {X : Type 0} (o : Option X) (rest : List (Option X)) (all : List X) : Type 0 where
-  pub head : X
-  pub tail : List X
-  pub is_head : o ≡ Some head
-  pub is_tail : all_there rest ≡ Some tail
-  pub whole : head ∷ tail ≡ all
-
-same_some : {X : Type 0} (x y : X) → ◌≡◌ {A = Option X} (Some x) (Some y) → x ≡ y
-same_some x y e = cc
-
-pub all_there-cons : {X : Type 0} (o : Option X) (rest : List (Option X)) (all : List X) → all_there (o ∷ rest) ≡ Some all → There o rest all
-all_there-cons None rest all e = absurd (cc)
-all_there-cons {X} (Some x) rest all e = by_rest (all_there rest) refl e
-  where
-    by_rest : (r : Option (List X)) → all_there rest ≡ r → before x r ≡ Some all → There (Some x) rest all
-    by_rest None is h = absurd (cc)
-    by_rest (Some xs) is h = record { head = x; tail = xs; is_head = refl; is_tail = is; whole = same_some (x ∷ xs) all h }
-
-pub all_there-nil : {X : Type 0} (all : List X) → all_there [] ≡ Some all → [] ≡ all
-all_there-nil {X} all e = same_some {X = List X} [] all e
+use Rattle.sip_subvec.proofs.Runs.{run_parts, run_none, stated_as}
 
 -- ---- later replies
 
@@ -50,10 +27,6 @@ all_there-nil {X} all e = same_some {X = List X} [] all e
 pub siblings_in : {E : Type 0} → Result Siblings E → Siblings
 siblings_in (Ok s) = s
 siblings_in (Err _) = neither
-
-pub bytes_in : Option (List ℕ) → List ℕ
-bytes_in None = []
-bytes_in (Some bytes) = bytes
 
 -- what a strategy's later replies say, for the interval of their level
 pub later_said : Version → ℕ → ℕ → Strategy → List ℕ → Siblings
@@ -98,9 +71,6 @@ record Continued (version : Version) (es : List Entry) (x : Siblings) (xs : List
   ss : List Siblings
   all : record { entries = es; siblings = (x ∷ xs) ++ ss } ≡ t
   said : LaterSaid version low high strategy r ss
-
-abbrev stated_as : List Entry → List Siblings → Stated
-stated_as es ss = record { entries = es; siblings = ss }
 
 module _ (version : Version) (lo hi : ℕ) (es : List Entry) (x : Siblings) where
   none_continued : (j : ℕ) (rs : List ℕ) (xs : List Siblings) (low high : ℕ) (strategy : Strategy)

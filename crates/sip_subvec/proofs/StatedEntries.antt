@@ -1,5 +1,5 @@
 -- Entries whose level agrees with the numbers modulo p are the entries of the numbers that are not 0.
-use Rattle.std.proofs.Common.{◌≡◌, ℕ, zero, suc, ◌+◌, ◌-◌, ◌/◌, ◌%◌, ◌<◌, ◌≤◌, true, false, not, leb, List, [], ◌∷◌, length, get_or, map, filter, drop, All, ℤ, pos, negsuc, nat_abs, refl, ap, sym, ◌∙◌, arith, inl, inr, get_or-take, get_or-drop}
+use Rattle.std.proofs.Common.{◌≡◌, ℕ, zero, suc, ◌+◌, ◌-◌, ◌/◌, ◌%◌, ◌<◌, ◌≤◌, true, false, not, leb, List, [], ◌∷◌, length, get_or, map, filter, drop, All, ℤ, pos, nat_abs, refl, ap, sym, ◌∙◌, arith, inl, inr, get_or-take, get_or-drop}
 use Rattle.std.specs.List.{list_all, enumerate_from}
 use Rattle.std.proofs.Math.Nat.{mod-eq_of_lt}
 use Rattle.std.proofs.lemmas.Bool.{cases_eq, cases_lt, eq-eqb, ne_eqb, leb-true, le-leb, lt-leb, and_parts, and_from, and_left, and_right, not_from_true, not_from_false}
@@ -10,31 +10,10 @@ use Rattle.sip_field.specs.Residue.{residue}
 use Rattle.sip_vector.specs.declared.update.Entry.{Entry}
 use Rattle.sip_vector.specs.Answers.{is_within, is_zero}
 use Rattle.sip_vector.specs.Vectors.{is_nonzero_within, nonzero_within}
-use Rattle.sip_vector.proofs.TreeResidues.{residue_below}
+use Rattle.sip_vector.proofs.TreeResidues.{residue_below, same_from_residue}
 use Rattle.sip_subvec.specs.AcceptsSub.{stated_value, stated_level}
 use Rattle.sip_subvec.specs.Counting.{has_small_value, rise_within}
 use Rattle.sip_subvec.proofs.Stretches.{agree, agree-parts, window}
-
--- ---- residues of small numbers
-
--- two small numbers with one residue are the same
-pub same_from_residue : (p : ℕ) (a b : ℤ) → 0 < p → nat_abs a ≤ (p - 1) / 2 → nat_abs b ≤ (p - 1) / 2 → residue p a ≡ residue p b → a ≡ b
-same_from_residue p (pos n) (pos m) some sa sb e =
-    let x : n % p ≡ n = mod-eq_of_lt (omega arith) in
-    let y : m % p ≡ m = mod-eq_of_lt (omega arith) in
-    ap pos (omega arith)
-same_from_residue p (pos n) (negsuc m) some sa sb e =
-    let x : n % p ≡ n = mod-eq_of_lt (omega arith) in
-    let y : m % p ≡ m = mod-eq_of_lt (omega arith) in
-    absurd (omega arith)
-same_from_residue p (negsuc n) (pos m) some sa sb e =
-    let x : n % p ≡ n = mod-eq_of_lt (omega arith) in
-    let y : m % p ≡ m = mod-eq_of_lt (omega arith) in
-    absurd (omega arith)
-same_from_residue p (negsuc n) (negsuc m) some sa sb e =
-    let x : n % p ≡ n = mod-eq_of_lt (omega arith) in
-    let y : m % p ≡ m = mod-eq_of_lt (omega arith) in
-    ap negsuc (omega arith)
 
 -- ---- what is stated at an index
 

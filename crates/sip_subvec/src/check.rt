@@ -295,6 +295,3 @@ fn is_above(last: Option<u64>, index: u64) -> bool
         None => true,
     }
 }
-
-#[cfg(test)]
-mod tests;

@@ -126,6 +126,3 @@ impl<F: Field> SubProver<F> {
         self.hi /= 2;
     }
 }
-
-#[cfg(test)]
-mod tests;

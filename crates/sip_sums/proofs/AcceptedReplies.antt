@@ -14,14 +14,11 @@ use Rattle.sip_wire.specs.Spelling.{spelling}
 use Rattle.sip_wire.specs.Table.{most_claim}
 use Rattle.sip_replies.specs.Protocols.{Rules}
 use Rattle.sip_replies.specs.Replies.{Fault, IsAccepted, in_round, learnt, read_reply, run_from}
+use Rattle.sip_replies.proofs.Passing.{same_ok}
 use Rattle.sip_sums.specs.AcceptsSum.{Coefficients, Stated, adds_up, value_at}
-use Rattle.sip_sums.specs.Honest.{poly_message}
 use Rattle.sip_sums.specs.Protocol.{SumState, claimed, sum_asked, sum_protocol, sum_rules}
 use Rattle.sip_sums.specs.Stating.{AreElements, States, with_claim}
-use Rattle.sip_sums.proofs.ReadFrames.{IsPoly, first_back, poly_back, state}
-
-same_ok : {A E : Type 0} (x y : A) → ◌≡◌ {A = Result A E} (Ok x) (Ok y) → x ≡ y
-same_ok x y e = cc
+use Rattle.sip_sums.proofs.ReadFrames.{IsPoly, first_back, poly_back, state, poly_reply}
 
 -- the test behind the last reply was passed
 ended_with : (test : Bool) (d : ℕ) (claim : ℤ) (answer : Answer)
@@ -34,9 +31,6 @@ module _ (version : Version) (p product : ℕ) where
   abbrev R : Rules SumState
   R = sum_rules version p
 
-  abbrev poly_reply : Coefficients → List ℕ
-  poly_reply c = spelling version (poly_message c)
-
   -- ---- replies behind a claim
 
   -- they state polynomials, and so does the state behind them
@@ -44,7 +38,7 @@ module _ (version : Version) (p product : ℕ) where
       (t : SumState) : Type 0 where
     pub cs : List Coefficients
     pub elements : All AreElements cs
-    pub spelled : replies ≡ map poly_reply cs
+    pub spelled : replies ≡ map (poly_reply version) cs
     pub each : length cs ≡ length rs
     pub stays : t.claim ≡ Some claim
     pub sum : adds_up p product expected cs rs ≡ (t.expected == product)
@@ -59,7 +53,7 @@ module _ (version : Version) (p product : ℕ) where
     cs = poly.c ∷ rest.cs;
     elements = All-cons AreElements poly.c rest.cs poly.elements rest.elements;
     spelled = ap (λ (b : List ℕ). b ∷ more) poly.spelled
-        ∙ ap (λ (m : List (List ℕ)). poly_reply poly.c ∷ m) rest.spelled;
+        ∙ ap (λ (m : List (List ℕ)). poly_reply version poly.c ∷ m) rest.spelled;
     each = omega (arith, rest.each);
     stays = rest.stays;
     sum = ap (λ (b : Bool). b && adds_up p product (value_at p poly.c r) rest.cs rs) poly.sum

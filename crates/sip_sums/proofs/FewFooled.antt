@@ -16,10 +16,11 @@ use Rattle.sip_replies.specs.Replies.{Fault, run}
 use Rattle.sip_sums.specs.AcceptsSum.{is_small_claim, product_at, adds_up, accepts_stated, total}
 use Rattle.sip_sums.specs.Counting.{is_said, said, is_right, accepts_sum, accepts_small}
 use Rattle.sip_sums.specs.Protocol.{SumState, sum_rules}
-use Rattle.sip_sums.proofs.Parts.{all_there-nil, run_none, same_ok, same_some}
+use Rattle.sip_counts.proofs.Talks.{all_there-nil, bytes_in, same_some}
+use Rattle.sip_replies.proofs.Passing.{run_none, same_ok}
 use Rattle.sip_sums.proofs.ReadSums.{claim_in}
 use Rattle.sip_sums.proofs.SmallClaims.{claim_small}
-use Rattle.sip_sums.proofs.SaidSums.{bytes_in, claim_said, polynomials_said, said_stated, accepted_parts}
+use Rattle.sip_sums.proofs.SaidSums.{claim_said, polynomials_said, said_stated, accepted_parts}
 use Rattle.sip_sums.proofs.WrongRounds.{few_wrong_sums}
 
 -- ---- the same claim

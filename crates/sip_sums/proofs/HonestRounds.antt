@@ -7,10 +7,10 @@ use Rattle.sip_vector.specs.Extensions.{ext, line}
 use Rattle.sip_mle.proofs.Folding.{fold_is_ext}
 use Rattle.sip_sums.specs.AcceptsSum.{Coefficients, value_at, sum_of_ends, product_at, total}
 use Rattle.sip_sums.specs.Honest.{Proving, begun, learnt, proving, constant, linear, square, over_cube, round_polynomial, its_polynomial, CanBeSummed}
+use Rattle.sip_sums.specs.Stating.{AreElements}
 use Rattle.sip_sums.proofs.CubeLemma.{now_level, proving_lists, cube_lemma}
 use Rattle.sip_sums.proofs.ResidueProducts.{dot, residue_of_total}
 use Rattle.sip_sums.proofs.RoundSums.{value_is, ends_are}
-use Rattle.sip_sums.proofs.SumFrames.{AreElements}
 use Rattle.sip_sums.proofs.WrongRounds.{alone}
 
 abbrev Residues : ℕ → List ℕ → Type 0
@@ -36,7 +36,7 @@ module _ (p depth : ℕ) (first second : List ℤ) (can : CanBeSummed p depth fi
       let a : over_cube p (constant p) first second revealed n % p < p = mod-lt _ some in
       let b : over_cube p (linear p) first second revealed n % p < p = mod-lt _ some in
       let c : over_cube p (square p) first second revealed n % p < p = mod-lt _ some in
-      record { constant = omega (arith, can.elements); linear = omega (arith, can.elements); square = omega (arith, can.elements) }
+      (omega (arith, can.elements), omega (arith, can.elements), omega (arith, can.elements))
 
   module _ (revealed : List ℕ) (short : length revealed < depth) (rs : Residues p revealed) where
     abbrev left : ℕ

@@ -1,7 +1,6 @@
 -- All honest replies: what they state, and that it is accepted.
-use Rattle.std.proofs.Common.{◌≡◌, ℕ, ◌+◌, ◌<◌, ◌≤◌, Result, Ok, List, [], ◌∷◌, ◌++◌, length, take, append-nil, map, All, ℤ, refl, sym, ap, ◌∙◌, subst, arith}
+use Rattle.std.proofs.Common.{◌≡◌, ℕ, ◌+◌, ◌<◌, ◌≤◌, Result, Ok, List, [], ◌∷◌, ◌++◌, length, take, append-nil, All, ℤ, refl, sym, ap, ◌∙◌, subst, arith}
 use Rattle.std.specs.Prelude.{IsTrue}
-use Rattle.std.specs.List.{range_with_len}
 use Rattle.std.proofs.lemmas.Bool.{eq-eqb}
 use Rattle.std.proofs.lemmas.List.{append_assoc, length-append, take_at}
 use Rattle.std.proofs.lemmas.List.Concat.{flat_map-cons}
@@ -14,15 +13,19 @@ use Rattle.sip_wire.specs.declared.message.Message.TheVariants as messages
 use Rattle.sip_wire.specs.declared.version.Version.{Version}
 use Rattle.sip_wire.specs.Spelling.{fits, spelling}
 use Rattle.sip_replies.specs.Protocols.{Rules}
+use Rattle.sip_wire.proofs.Longest.{claim_fits}
+use Rattle.sip_wire.proofs.SmallNumbers.{in_range}
+use Rattle.sip_counts.proofs.Walks.{walk, fronts_walk, walk_snoc}
+use Rattle.sip_replies.proofs.Passing.{run_is, run_none}
 use Rattle.sip_replies.specs.Replies.{Fault, read_reply, run_from, run, verdict, IsAccepted, IsUnfinished}
 use Rattle.sip_sums.specs.AcceptsSum.{Coefficients, product_at, total}
 use Rattle.sip_sums.specs.Checking.{zero_polynomial}
 use Rattle.sip_sums.specs.Honest.{opening, poly_message, honest_messages, honest_reply, honest_replies, CanBeSummed}
 use Rattle.sip_sums.specs.Protocol.{SumState, sum_asked, sum_protocol, sum_rules}
 use Rattle.sip_sums.proofs.HonestRounds.{due, sent, sent_elements, adds_up_to_due, value_is_due, first_due, last_due}
-use Rattle.sip_sums.proofs.Parts.{run_is, run_none}
 use Rattle.sip_sums.proofs.ReadSums.{known}
-use Rattle.sip_sums.proofs.SumFrames.{claim_fits, poly_fits, poly_read, claim_read}
+use Rattle.sip_sums.proofs.ReadFrames.{poly_fits}
+use Rattle.sip_sums.proofs.SumFrames.{poly_read, claim_read}
 
 abbrev Residues : ℕ → List ℕ → Type 0
 Residues p = All (λ x. x < p)
@@ -30,33 +33,6 @@ Residues p = All (λ x. x < p)
 -- the front of a list has what the list has
 pub all_front : {X : Type 0} (P : X → Type 0) (front rest : List X) → All P (front ++ rest) → All P front
 all_front P front rest h = subst (All P) (take_at front rest (length front) refl) (All-take P (length front) (front ++ rest) h)
-
--- ---- reply by reply
-
--- g of each front of front ++ challenges that has front
-walk : {X : Type 0} → (List ℕ → X) → List ℕ → List ℕ → List X
-walk g front [] = []
-walk g front (r ∷ challenges) = g front ∷ walk g (front ++ r ∷ []) challenges
-
-fronts_walk : {X : Type 0} (g : List ℕ → X) (front challenges : List ℕ) → map (λ j. g (take j (front ++ challenges))) (range_with_len (length front) (length challenges)) ≡ walk g front challenges
-unfolding walk
-fronts_walk g front [] = refl
-fronts_walk g front (r ∷ challenges) =
-    let here : take (length front) (front ++ r ∷ challenges) ≡ front = take_at front (r ∷ challenges) (length front) refl in
-    let same : (front ++ r ∷ []) ++ challenges ≡ front ++ r ∷ challenges = append_assoc front (r ∷ []) challenges in
-    let longer : length front + 1 ≡ length (front ++ r ∷ []) = omega (arith, length-append front (r ∷ [])) in
-    ap (λ x. g x ∷ map (λ j. g (take j (front ++ r ∷ challenges))) (range_with_len (length front + 1) (length challenges))) here
-    ∙ ap (λ xs. g front ∷ map (λ j. g (take j xs)) (range_with_len (length front + 1) (length challenges))) (sym same)
-    ∙ ap (λ k. g front ∷ map (λ j. g (take j ((front ++ r ∷ []) ++ challenges))) (range_with_len k (length challenges))) longer
-    ∙ ap (λ xs. g front ∷ xs) (fronts_walk g (front ++ r ∷ []) challenges)
-
--- one challenge more gives one more
-walk_snoc : {X : Type 0} (g : List ℕ → X) (front challenges : List ℕ) (r : ℕ) → walk g front (challenges ++ r ∷ []) ≡ walk g front challenges ++ g (front ++ challenges) ∷ []
-unfolding walk
-walk_snoc g front [] r = ap (λ xs. g xs ∷ []) (sym (append-nil front))
-walk_snoc g front (c ∷ challenges) r =
-    ap (λ xs. g front ∷ xs) (walk_snoc g (front ++ c ∷ []) challenges r
-    ∙ ap (λ xs. walk g (front ++ c ∷ []) challenges ++ g xs ∷ []) (append_assoc front (c ∷ []) challenges))
 
 -- ---- what they state
 
@@ -89,7 +65,7 @@ module _ (version : Version) (p depth : ℕ) (first second : List ℤ) (can : Ca
       (All-cons P last [] (poly_fits version (Sent revealed) (sent_elements p depth first second can revealed)) (All-nil P))
     where
       before : (front : List ℕ) → All (λ m. IsTrue (fits version m)) (opening first second front)
-      before [] = All-cons (λ m. IsTrue (fits version m)) (messages.Claim sum) [] (claim_fits version sum can.small) (All-nil (λ m. IsTrue (fits version m)))
+      before [] = All-cons (λ m. IsTrue (fits version m)) (messages.Claim sum) [] (claim_fits version sum (in_range sum can.small) can.small) (All-nil (λ m. IsTrue (fits version m)))
       before (r ∷ front) = All-nil (λ m. IsTrue (fits version m))
 
   -- reply 0

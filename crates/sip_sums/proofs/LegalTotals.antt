@@ -6,6 +6,7 @@ use Rattle.std.proofs.lemmas.Int.{unsigned_abs-mul}
 use Rattle.std.proofs.lemmas.List.Elements.{All-nil, All-cons, All-head, All-tail, All-map}
 use Rattle.std.proofs.lemmas.List.FromFn.{length-map-range_with_len}
 use Rattle.std.proofs.lemmas.List.Sums.{sum_by-cons}
+use Rattle.sip_vector.proofs.Everywhere.{everywhere}
 use Rattle.sip_vector.specs.declared.query.Query.{Query}
 use Rattle.sip_vector.specs.declared.query.Query.TheVariants as queries
 use Rattle.sip_vector.specs.declared.update.Side.{Side}
@@ -131,15 +132,11 @@ at_most_one : (b : Bool) → nat_abs (cond b (pos 1) (pos 0)) ≤ 1
 at_most_one true = omega arith
 at_most_one false = omega arith
 
-all_of : {X : Type 0} (P : X → Type 0) (xs : List X) → ((x : X) → P x) → All P xs
-all_of P [] h = All-nil P
-all_of P (x ∷ xs) h = All-cons P x xs (h x) (all_of P xs h)
-
 -- the entries of an interval are 0 or 1
 ones_small : (d lo hi : ℕ) → AreAtMost most_weight (ones d lo hi)
 ones_small d lo hi =
     All-map (λ z. nat_abs z ≤ most_weight) (λ i. cond (is_within lo hi i) (pos 1) (pos 0)) (range_with_len 0 (2 ^ d))
-    (all_of (λ (i : ℕ). nat_abs (cond (is_within lo hi i) (pos 1) (pos 0)) ≤ most_weight) (range_with_len 0 (2 ^ d)) (λ i. omega (arith, at_most_one (is_within lo hi i))))
+    (everywhere (λ (i : ℕ). nat_abs (cond (is_within lo hi i) (pos 1) (pos 0)) ≤ most_weight) (range_with_len 0 (2 ^ d)) (λ i. omega (arith, at_most_one (is_within lo hi i))))
 
 -- the lists have a number for each item, and their sum of products is small
 pub record AreSmall (d : ℕ) (l : Lists) : Type 0 where

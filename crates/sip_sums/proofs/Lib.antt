@@ -7,7 +7,6 @@ pub mod AcceptedLists
 pub mod ResidueProducts
 pub mod RoundSums
 pub mod WrongRounds
-pub mod Parts
 pub mod ReadSums
 pub mod SaidSums
 pub mod FewFooled

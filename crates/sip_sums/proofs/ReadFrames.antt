@@ -1,9 +1,7 @@
 -- The frames of a sum's replies: which have a spelling, and how a reply of them is read.
-use Rattle.std.proofs.Common.{◌≡◌, ℕ, ◌<◌, ◌≤◌, ◌^◌, Bool, true, false, nat_lt, ℤ, nat_abs, FitsSigned, Some, Result, Ok, Err, List, [], ◌∷◌, ◌++◌, refl, sym, ap, subst, ◌∙◌, arith}
+use Rattle.std.proofs.Common.{◌≡◌, ℕ, ◌<◌, ◌≤◌, Bool, true, false, ℤ, nat_abs, Some, Result, Ok, Err, List, [], ◌∷◌, ◌++◌, refl, sym, ap, subst, ◌∙◌}
 use Rattle.std.specs.Prelude.{◌==◌, IsTrue}
-use Rattle.std.specs.Int.{w64}
 use Rattle.std.proofs.lemmas.Bool.{and_from, and_parts, lt-ltb, ltb-true}
-use Rattle.std.proofs.lemmas.Int.{ints}
 use Rattle.std.proofs.lemmas.List.{append-nil}
 use Rattle.sip_field.specs.Moduli.{m61_modulus}
 use Rattle.sip_field.specs.Residue.{residue}
@@ -23,6 +21,7 @@ use Rattle.sip_wire.proofs.Bytes.{IsBytes-drop}
 use Rattle.sip_wire.proofs.Longest.{claim_fits, claim_from_fits}
 use Rattle.sip_wire.proofs.ReadingLaws.{read_frame-rest, read_frame-spelling}
 use Rattle.sip_wire.proofs.ReadsBack.{read_frame-message}
+use Rattle.sip_wire.proofs.SmallNumbers.{element_room, in_range}
 use Rattle.sip_replies.specs.declared.check.More.{More}
 use Rattle.sip_replies.specs.declared.check.More.TheVariants as mores
 use Rattle.sip_replies.specs.Protocols.{Rules}
@@ -35,9 +34,6 @@ use Rattle.sip_sums.specs.Protocol.{SumState, sum_rules, sum_step}
 use Rattle.sip_sums.specs.Stating.{AreElements}
 
 -- ---- which have a spelling
-
-element_room : (n : ℕ) → n < m61_modulus → nat_lt n (256 ^ 8) ≡ true
-element_room n h = lt-ltb n (256 ^ 8) (omega arith)
 
 -- elements of the field
 pub poly_fits : (version : Version) (c : Coefficients) → AreElements c
@@ -63,8 +59,9 @@ poly_below version a b c h =
       ltb-true c m61_modulus third.0,
     )
 
-in_range : (z : ℤ) → nat_abs z ≤ most_claim → FitsSigned w64 z
-in_range z le = grind (arith, ints)
+-- the reply of a polynomial alone
+abbrev pub poly_reply : Version → Coefficients → List ℕ
+poly_reply version c = spelling version (poly_message c)
 
 -- ---- how they are read
 

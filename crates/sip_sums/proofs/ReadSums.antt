@@ -18,7 +18,7 @@ use Rattle.sip_replies.proofs.Reading.{read_reply-frame}
 use Rattle.sip_sums.specs.AcceptsSum.{Coefficients, sum_of_ends}
 use Rattle.sip_sums.specs.Checking.{zero_polynomial}
 use Rattle.sip_sums.specs.Protocol.{SumState, sum_step, sum_rules}
-use Rattle.sip_sums.proofs.Parts.{at_end_is}
+use Rattle.sip_replies.proofs.Passing.{at_end_is}
 
 -- a claim, what the next polynomial has to add up to, and the last one
 abbrev pub known : ℤ → ℕ → Coefficients → SumState

@@ -1,10 +1,10 @@
 -- The residue of a sum of products is that of the sum of the products of the residues.
-use Rattle.std.proofs.Common.{◌≡◌, ℕ, suc, ◌+◌, ◌-◌, ◌*◌, ◌/◌, ◌%◌, ◌<◌, ℤ, pos, negsuc, ◌*ℤ◌, List, [], ◌∷◌, map, refl, sym, ◌∙◌, ap, arith}
-use Rattle.std.proofs.Math.Nat.{mod-lt, mod-add-div, mod-eq_of_lt, add-mul-mod_self_left, mod-add-mod}
+use Rattle.std.proofs.Common.{◌≡◌, ℕ, ◌+◌, ◌*◌, ◌%◌, ◌<◌, ℤ, ◌*ℤ◌, List, [], ◌∷◌, map, refl, sym, ◌∙◌, ap, arith}
+use Rattle.std.proofs.Math.Nat.{mod-eq_of_lt, mod-add-mod}
 use Rattle.std.proofs.lemmas.Nat.{mul-mod_first, mul-mod_second}
 use borrow.Author.Differences.{up, down, product_is}
 use Rattle.sip_field.specs.Residue.{residue}
-use Rattle.sip_vector.proofs.TreeResidues.{residue_below, mod_plus, mod_cancel, residue_of_sum}
+use Rattle.sip_vector.proofs.TreeResidues.{residue_below, residue_is, mod_plus, mod_cancel, residue_of_sum}
 use Rattle.sip_sums.specs.AcceptsSum.{total}
 
 -- a remainder is its own
@@ -19,13 +19,6 @@ pub mod_times : (p a b c d : ℕ) → a % p ≡ b % p → c % p ≡ d % p → (a
 mod_times p a b c d e f =
     sym (mul-mod_first a c p) ∙ ap (λ k. (k * c) % p) e ∙ mul-mod_first b c p
     ∙ sym (mul-mod_second b c p) ∙ ap (λ k. (b * k) % p) f ∙ mul-mod_second b d p
-
--- the residue stands for the number, which is its positive part less its negative part
-residue_is : (p : ℕ) (x : ℤ) → 0 < p → (residue p x + down x) % p ≡ up x % p
-residue_is p (pos n) some = mod-add-mod n p 0 ∙ ap (λ k. k % p) (let e : n + 0 ≡ n = omega arith in e)
-residue_is p (negsuc n) some =
-    let below : n % p < p = mod-lt n some in
-    ap (λ k. k % p) (let e : p - 1 - n % p + suc n ≡ 0 + p * (n / p + 1) = omega (arith, mod-add-div n p) in e) ∙ add-mul-mod_self_left 0 p (n / p + 1)
 
 -- the parts of a product of a - d and b - e, where u and w stand for a and b with d and e added
 parts : (a b d e u w : ℕ) → a + d ≡ u → b + e ≡ w → a * b + (u * e + d * w) ≡ u * w + d * e

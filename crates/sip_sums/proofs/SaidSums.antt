@@ -7,19 +7,14 @@ use Rattle.sip_vector.specs.Steps.{◌>>=◌, needs}
 use Rattle.sip_wire.specs.declared.message.Reason.TheVariants as reasons
 use Rattle.sip_wire.specs.declared.version.Version.{Version}
 use Rattle.sip_counts.specs.Strategies.{Strategy, replies, all_there}
-use Rattle.sip_counts.proofs.Talks.{replies-more}
+use Rattle.sip_counts.proofs.Talks.{There, all_there-cons, all_there-nil, bytes_in, replies-more}
+use Rattle.sip_replies.proofs.Passing.{run_is, run_none, run_parts, same_ok}
 use Rattle.sip_replies.specs.Protocols.{Rules}
 use Rattle.sip_replies.specs.Replies.{Fault, in_round, learnt, read_reply, run_from, run, verdict}
 use Rattle.sip_sums.specs.AcceptsSum.{Coefficients, value_at, sum_of_ends, adds_up, product_at}
 use Rattle.sip_sums.specs.Counting.{claim_of, said, accepts_sum}
 use Rattle.sip_sums.specs.Protocol.{SumState, sum_asked, sum_protocol, sum_rules, claimed}
-use Rattle.sip_sums.proofs.Parts.{There, all_there-cons, all_there-nil, run_is, run_none, run_parts, same_ok}
 use Rattle.sip_sums.proofs.ReadSums.{known, Adds, polynomial_in, claim_in, first_polynomial_in, first_adds, later_adds}
-
--- no bytes where there is no reply
-unfoldable pub bytes_in : Option (List ℕ) → List ℕ
-bytes_in None = []
-bytes_in (Some bytes) = bytes
 
 -- what a strategy's later replies say
 abbrev later_said : Version → Strategy → List ℕ → Coefficients

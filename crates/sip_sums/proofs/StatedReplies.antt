@@ -14,12 +14,12 @@ use Rattle.sip_wire.specs.declared.message.Reason.TheVariants as reasons
 use Rattle.sip_wire.specs.declared.version.Version.{Version}
 use Rattle.sip_wire.specs.Spelling.{spelling}
 use Rattle.sip_replies.specs.Protocols.{Rules}
-use Rattle.sip_replies.specs.Replies.{Fault, in_round, learnt, read_reply, run_from, verdict}
+use Rattle.sip_replies.specs.Replies.{Fault, in_round, learnt, run_from, verdict}
+use Rattle.sip_replies.proofs.Passing.{run_step}
 use Rattle.sip_sums.specs.AcceptsSum.{Coefficients, Stated, adds_up, sum_of_ends, value_at}
-use Rattle.sip_sums.specs.Honest.{poly_message}
 use Rattle.sip_sums.specs.Protocol.{SumState, claimed, sum_asked, sum_protocol, sum_rules}
 use Rattle.sip_sums.specs.Stating.{AreElements, HasSpelling, first_difference, judged, outcome, stated_replies, with_claim}
-use Rattle.sip_sums.proofs.ReadFrames.{first_read, poly_read, state, tested}
+use Rattle.sip_sums.proofs.ReadFrames.{first_read, poly_read, state, tested, poly_reply}
 
 -- the two differ
 abbrev differs : ℕ × ℕ → Bool
@@ -81,19 +81,6 @@ module _ (version : Version) (p product : ℕ) where
   abbrev R : Rules SumState
   R = sum_rules version p
 
-  abbrev poly_reply : Coefficients → List ℕ
-  poly_reply c = spelling version (poly_message c)
-
-  -- one reply that was read so, and those behind it
-  run_is : (j : ℕ) (rs : List ℕ) (s : SumState) (bytes : List ℕ) (more : List (List ℕ))
-      (r : Result SumState Reason) → read_reply R s bytes ≡ r
-      → run_from R j rs s (bytes ∷ more)
-      ≡ (in_round j r >>= λ t. run_from R (j + 1) (drop 1 rs) (learnt R rs t) more)
-  unfolding run_from
-  run_is j rs s bytes more r is =
-      ap (λ (q : Result SumState Reason). in_round j q
-      >>= λ t. run_from R (j + 1) (drop 1 rs) (learnt R rs t) more) is
-
   -- the tests behind the last of d replies
   abbrev ended : ℕ → Result SumState Fault → Result Answer Fault
   ended d r = r >>= λ t. in_round d (claimed (sum_asked version p product) t t.claim)
@@ -122,7 +109,7 @@ module _ (version : Version) (p product : ℕ) where
   later_judged : (claim : ℤ) (cs : List Coefficients) (rs : List ℕ) (expected : ℕ)
       (last : Coefficients) (j d : ℕ) → length cs ≡ length rs → j + length rs ≡ d
       → All AreElements cs
-      → ended d (run_from R j rs (state claim expected last) (map poly_reply cs))
+      → ended d (run_from R j rs (state claim expected last) (map (poly_reply version) cs))
       ≡ outcome d claim (difference p product expected cs rs j)
   unfolding run_from
   later_judged claim [] [] expected last j d same count h =
@@ -132,11 +119,11 @@ module _ (version : Version) (p product : ℕ) where
   later_judged claim [] (r ∷ rs) expected last j d same count h = absurd (omega (arith, same))
   later_judged claim (c ∷ cs) [] expected last j d same count h = absurd (omega (arith, same))
   later_judged claim (c ∷ cs) (r ∷ rs) expected last j d same count h =
-      ap (ended d) (run_is j (r ∷ rs) (state claim expected last) (poly_reply c)
-      (map poly_reply cs) (tested p claim expected c)
+      ap (ended d) (run_step R j (r ∷ rs) (state claim expected last) (poly_reply version c)
+      (map (poly_reply version) cs) (tested p claim expected c)
       (poly_read version p claim expected last c (All-head AreElements c cs h)))
       ∙ by_sum (sum_of_ends p c == expected) d j claim (state claim expected c)
-      (λ t. run_from R (j + 1) (drop 1 (r ∷ rs)) (learnt R (r ∷ rs) t) (map poly_reply cs))
+      (λ t. run_from R (j + 1) (drop 1 (r ∷ rs)) (learnt R (r ∷ rs) t) (map (poly_reply version) cs))
       (difference p product (value_at p c r) cs rs (j + 1)) (omega (arith, count))
       (later_judged claim cs rs (value_at p c r) c (j + 1) d (omega (arith, same))
       (omega (arith, count)) (All-tail AreElements c cs h))
@@ -145,18 +132,18 @@ module _ (version : Version) (p product : ℕ) where
   all_judged : (claim : ℤ) (cs : List Coefficients) (rs : List ℕ)
       → HasSpelling (record { claim = claim; polynomials = cs }) → length cs ≡ length rs
       → 0 < length rs
-      → ended (length rs) (run_from R 0 rs R.start (with_claim version claim (map poly_reply cs)))
+      → ended (length rs) (run_from R 0 rs R.start (with_claim version claim (map (poly_reply version) cs)))
       ≡ outcome (length rs) claim (difference p product (residue p claim) cs rs 0)
   all_judged claim cs [] h same some = absurd (omega (arith, some))
   all_judged claim [] (r ∷ rs) h same some = absurd (omega (arith, same))
   all_judged claim (c ∷ cs) (r ∷ rs) h same some =
       let d = length (r ∷ rs) in
-      ap (ended d) (run_is 0 (r ∷ rs) R.start
-      (spelling version (messages.Claim claim) ++ poly_reply c) (map poly_reply cs)
+      ap (ended d) (run_step R 0 (r ∷ rs) R.start
+      (spelling version (messages.Claim claim) ++ poly_reply version c) (map (poly_reply version) cs)
       (tested p claim (residue p claim) c)
       (first_read version p claim c h.claim (All-head AreElements c cs h.elements)))
       ∙ by_sum (sum_of_ends p c == residue p claim) d 0 claim (state claim (residue p claim) c)
-      (λ t. run_from R (0 + 1) (drop 1 (r ∷ rs)) (learnt R (r ∷ rs) t) (map poly_reply cs))
+      (λ t. run_from R (0 + 1) (drop 1 (r ∷ rs)) (learnt R (r ∷ rs) t) (map (poly_reply version) cs))
       (difference p product (value_at p c r) cs rs (0 + 1)) (omega arith)
       (later_judged claim cs rs (value_at p c r) c (0 + 1) d (omega (arith, same))
       (omega arith) (All-tail AreElements c cs h.elements))

@@ -12,7 +12,7 @@ use Rattle.sip_sums.specs.AcceptsSum.{product_at, total}
 use Rattle.sip_sums.specs.Counting.{said, is_right, accepts_sum}
 use Rattle.sip_sums.specs.Protocol.{SumState, sum_asked, sum_protocol, sum_rules, claimed}
 use Rattle.sip_sums.proofs.FewFooled.{says_decides}
-use Rattle.sip_sums.proofs.Parts.{step_passed, round_passed, test_passed, same_ok}
+use Rattle.sip_replies.proofs.Passing.{step_passed, round_passed, test_passed, same_ok}
 use Rattle.sip_sums.proofs.SaidSums.{run_says}
 
 -- ---- answers

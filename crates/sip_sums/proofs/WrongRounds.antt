@@ -1,6 +1,6 @@
 -- A claim that is wrong stays wrong for all but two challenges of each round.
-use Rattle.std.proofs.Common.{◌≡◌, ◌≢◌, ℕ, zero, suc, ◌*◌, ◌-◌, ◌/◌, ◌%◌, ◌<◌, ◌≤◌, ◌^◌, Bool, true, false, eqb, ◌&&◌, List, [], ◌∷◌, ◌++◌, length, map, fold, All, ℤ, pos, negsuc, nat_abs, ap, sym, ◌∙◌, arith, inl, inr}
-use Rattle.std.proofs.Math.Nat.{pow-suc, mod-eq_of_lt}
+use Rattle.std.proofs.Common.{◌≡◌, ◌≢◌, ℕ, zero, suc, ◌*◌, ◌-◌, ◌/◌, ◌%◌, ◌<◌, ◌≤◌, ◌^◌, Bool, true, false, eqb, ◌&&◌, List, [], ◌∷◌, ◌++◌, length, map, fold, All, ℤ, nat_abs, ap, sym, ◌∙◌, arith, inl, inr}
+use Rattle.std.proofs.Math.Nat.{pow-suc}
 use Rattle.std.proofs.lemmas.Bool.{cases_Bool, cases_eq, eqb-true, eqb-false, ne_eqb, leb-true, and_parts, and_left}
 use Rattle.std.proofs.lemmas.List.{length-map}
 use Rattle.std.proofs.lemmas.List.Elements.{All-from_recursion}
@@ -16,6 +16,7 @@ use Rattle.sip_counts.proofs.Vectors.{counted-grows, counted-none}
 use Rattle.sip_counts.proofs.Escapes.{few_become_good}
 use Rattle.sip_counts.proofs.Differences.{few_polynomials_agree}
 use Rattle.sip_counts.proofs.Talks.{replies-more}
+use Rattle.sip_vector.proofs.TreeResidues.{same_from_residue}
 use Rattle.sip_sums.specs.AcceptsSum.{Coefficients, value_at, sum_of_ends, adds_up, product_at, total, is_small_claim, accepts_stated}
 use Rattle.sip_sums.proofs.ResidueProducts.{dot, residue_of_total}
 use Rattle.sip_sums.proofs.RoundSums.{polynomial_of, value_is, ends_mod, ends_are}
@@ -110,25 +111,6 @@ adds_up_passes p a b polynomials expected xs ys [] e f = ap (λ k. eqb expected 
 adds_up_passes p a b polynomials expected xs ys (x ∷ v) e f =
     ap (λ cs. adds_up p ((a * b) % p) expected cs (x ∷ v)) (replies-more polynomials x v)
     ∙ ap (λ k. eqb (sum_of_ends p (polynomials [])) expected && k) (adds_up_passes p a b (λ w. polynomials (x ∷ w)) (value_at p (polynomials []) x) (line p xs x) (line p ys x) v e f)
-
--- two small numbers with one residue are the same
-pub same_from_residue : (p : ℕ) (a b : ℤ) → 0 < p → nat_abs a ≤ (p - 1) / 2 → nat_abs b ≤ (p - 1) / 2 → residue p a ≡ residue p b → a ≡ b
-same_from_residue p (pos n) (pos m) some sa sb e =
-    let x : n % p ≡ n = mod-eq_of_lt (omega arith) in
-    let y : m % p ≡ m = mod-eq_of_lt (omega arith) in
-    ap pos (omega arith)
-same_from_residue p (pos n) (negsuc m) some sa sb e =
-    let x : n % p ≡ n = mod-eq_of_lt (omega arith) in
-    let y : m % p ≡ m = mod-eq_of_lt (omega arith) in
-    absurd (omega arith)
-same_from_residue p (negsuc n) (pos m) some sa sb e =
-    let x : n % p ≡ n = mod-eq_of_lt (omega arith) in
-    let y : m % p ≡ m = mod-eq_of_lt (omega arith) in
-    absurd (omega arith)
-same_from_residue p (negsuc n) (negsuc m) some sa sb e =
-    let x : n % p ≡ n = mod-eq_of_lt (omega arith) in
-    let y : m % p ≡ m = mod-eq_of_lt (omega arith) in
-    ap negsuc (omega arith)
 
 -- ---- the count
 

@@ -137,6 +137,3 @@ impl Check for SumAsking {
 
     ghost tests = { sum_tests };
 }
-
-#[cfg(test)]
-mod tests;

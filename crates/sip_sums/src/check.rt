@@ -166,6 +166,3 @@ fn copy_of<F: Field, const CAP: usize>(seat: &Seat<F, CAP>) -> Seat<F, CAP>
 {
     seat.clone().unwrap()
 }
-
-#[cfg(test)]
-mod tests;

@@ -168,6 +168,3 @@ impl<F: Field> SumProver<F> {
         self.first.fold_line(r);
     }
 }
-
-#[cfg(test)]
-mod tests;

@@ -47,6 +47,3 @@ mod weight;
 pub use augmented::AugRoot;
 pub use fold::up;
 pub use root::Root;
-
-#[cfg(test)]
-mod tests;

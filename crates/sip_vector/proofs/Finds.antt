@@ -18,7 +18,7 @@ value_at-other e k other = elim (eqb_tells e.index k) [ inl t ↦ absurd (other 
 pub value_at-here : (e : Entry) (k : ℕ) → e.index ≡ k → value_at e k ≡ e.value
 value_at-here e k same = elim (eqb_tells e.index k) [ inl t ↦ rw t.0 refl | inr t ↦ absurd (t.1 same) ]
 
-both_zero : (a b : ℤ) → a ≡ pos 0 → b ≡ pos 0 → a +ℤ b ≡ pos 0
+pub both_zero : (a b : ℤ) → a ≡ pos 0 → b ≡ pos 0 → a +ℤ b ≡ pos 0
 both_zero a b e f = omega (arith, ints, e, f)
 
 only_first : (a b v : ℤ) → a ≡ v → b ≡ pos 0 → a +ℤ b ≡ v

@@ -17,3 +17,4 @@ pub mod TreeCounted
 pub mod TreeZeros
 pub mod TreeSums
 pub mod TreeStreams
+pub mod Everywhere

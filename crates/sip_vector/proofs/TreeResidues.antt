@@ -1,5 +1,5 @@
 -- The residue of a signed sum.
-use Rattle.std.proofs.Common.{◌≡◌, ℕ, zero, suc, ◌+◌, ◌-◌, ◌*◌, ◌/◌, ◌%◌, ◌<◌, ℤ, pos, negsuc, ◌+ℤ◌, refl, sym, ◌∙◌, ap, arith}
+use Rattle.std.proofs.Common.{◌≡◌, ℕ, zero, suc, ◌+◌, ◌-◌, ◌*◌, ◌/◌, ◌%◌, ◌<◌, ℤ, pos, negsuc, ◌+ℤ◌, refl, sym, ◌∙◌, ap, arith, ◌≤◌, nat_abs}
 use Rattle.std.proofs.Math.Nat.{mod-lt, mod-add-div, mod-eq_of_lt, add-mul-mod_self_left, mod-add-mod, add-mod-mod}
 use Rattle.std.proofs.lemmas.Int.{ints}
 use borrow.Author.Differences.{up, down}
@@ -10,11 +10,30 @@ residue_below p (pos n) some = mod-lt n some
 residue_below p (negsuc n) some = omega arith
 
 -- the residue stands for the number, which is its positive part less its negative part
-residue_is : (p : ℕ) (x : ℤ) → 0 < p → (residue p x + down x) % p ≡ up x % p
+pub residue_is : (p : ℕ) (x : ℤ) → 0 < p → (residue p x + down x) % p ≡ up x % p
 residue_is p (pos n) some = simp mod-add-mod (ap (λ k. k % p) (let e : n + 0 ≡ n = omega arith in e))
 residue_is p (negsuc n) some =
     let below : n % p < p = mod-lt n some in
     ap (λ k. k % p) (let e : p - 1 - n % p + suc n ≡ 0 + p * (n / p + 1) = omega (arith, mod-add-div n p) in e) ∙ add-mul-mod_self_left 0 p (n / p + 1)
+
+-- two small numbers with one residue are the same
+pub same_from_residue : (p : ℕ) (a b : ℤ) → 0 < p → nat_abs a ≤ (p - 1) / 2 → nat_abs b ≤ (p - 1) / 2 → residue p a ≡ residue p b → a ≡ b
+same_from_residue p (pos n) (pos m) some sa sb e =
+    let x : n % p ≡ n = mod-eq_of_lt (omega arith) in
+    let y : m % p ≡ m = mod-eq_of_lt (omega arith) in
+    ap pos (omega arith)
+same_from_residue p (pos n) (negsuc m) some sa sb e =
+    let x : n % p ≡ n = mod-eq_of_lt (omega arith) in
+    let y : m % p ≡ m = mod-eq_of_lt (omega arith) in
+    absurd (omega arith)
+same_from_residue p (negsuc n) (pos m) some sa sb e =
+    let x : n % p ≡ n = mod-eq_of_lt (omega arith) in
+    let y : m % p ≡ m = mod-eq_of_lt (omega arith) in
+    absurd (omega arith)
+same_from_residue p (negsuc n) (negsuc m) some sa sb e =
+    let x : n % p ≡ n = mod-eq_of_lt (omega arith) in
+    let y : m % p ≡ m = mod-eq_of_lt (omega arith) in
+    ap negsuc (omega arith)
 
 -- a number and p - 1 times it are a multiple of p
 cancelled : (p a c : ℕ) → 0 < p → (a + c + (p - 1) * c) % p ≡ a % p

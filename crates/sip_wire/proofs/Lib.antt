@@ -17,4 +17,5 @@ pub mod Lengths
 pub mod Longest
 pub mod EntryValues
 pub mod SiblingElements
+pub mod SmallNumbers
 pub mod Wider

@@ -1,20 +1,17 @@
 -- Siblings that are elements of the field have a spelling.
-use Rattle.std.proofs.Common.{◌≡◌, ℕ, ◌^◌, ◌<◌, true, nat_lt, Option, Some, None, refl, arith}
+use Rattle.std.proofs.Common.{ℕ, ◌<◌, Option, Some, None, refl}
 use Rattle.std.specs.Prelude.{IsTrue}
 use Rattle.std.proofs.lemmas.Bool.{and_from, lt-ltb}
 use Rattle.sip_field.specs.Moduli.{m61_modulus}
 use Rattle.sip_wire.specs.declared.version.Version.{Version}
 use Rattle.sip_wire.specs.declared.message.Message.TheVariants as messages
 use Rattle.sip_wire.specs.Spelling.{fits, has_room, all_hold}
+use Rattle.sip_wire.proofs.SmallNumbers.{element_room}
 
 -- a sibling that is present is an element of the field
 abbrev pub HasElement : Option ℕ → Type 0
 HasElement None = Unit {0}
 HasElement (Some n) = n < m61_modulus
-
--- an element has room in eight bytes
-element_room : (n : ℕ) → n < m61_modulus → nat_lt n (256 ^ 8) ≡ true
-element_room n h = lt-ltb n (256 ^ 8) (omega arith)
 
 -- such siblings have a spelling
 pub siblings_fit : (version : Version) (left right : Option ℕ) → HasElement left → HasElement right → IsTrue (fits version (messages.Siblings left right))

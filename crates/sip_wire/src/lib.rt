@@ -53,6 +53,3 @@ pub use kind::Place;
 pub use message::{Leaf, MOST_NODES, MOST_QUERIES, MOST_ROWS, Message, Node, Reason, WireFault};
 pub use transcript::{put_ask, put_head};
 pub use version::Version;
-
-#[cfg(test)]
-mod tests;

@@ -1,0 +1,327 @@
+ghost use Rattle.std.specs.Prelude.{◌≡◌, ◌≤◌, IfOk};
+
+use sip_ports::{MemorySource, ReaderSource, Source};
+use sip_stream::{Form, Reader, StreamFault, Why};
+use sip_vector::{Depth, Side, Update};
+use std::alloc::Global;
+use std::test::Fail;
+
+const HEAVIEST: i64 = (1 << 30) - 1;
+
+fn depth(levels: u8) -> Result<Depth, Fail>
+    ensures { IfOk result (λ d. d ≡ levels) }
+{
+    Ok(Depth::new(levels).ok_or("a depth")?)
+}
+
+fn update(side: Side, item: u64, delta: i64) -> Update {
+    Update { side, item, delta }
+}
+
+// Records of bytes, in either form.
+fn stream(alloc: Global, form: Form, records: &[(u8, u64, i64)]) -> Result<Vec<u8>, Fail> {
+    let mut out = Vec::new(alloc);
+    for (side, item, delta) in records {
+        out.push(*side)?;
+        let bytes = item.to_be_bytes();
+        out.extend_from_slice(if form == Form::Wide {
+            &bytes
+        } else {
+            &bytes[4..]
+        })?;
+        out.extend_from_slice(&delta.to_be_bytes())?;
+    }
+    Ok(out)
+}
+
+// The legal updates of a source, and how they end.
+fn read_from<S: Source>(
+    alloc: Global,
+    levels: u8,
+    form: Form,
+    source: &mut S,
+) -> Result<(Vec<Update>, Option<(u64, Why)>), Fail> {
+    let mut reader = Reader::new(depth(levels)?, form);
+    let mut updates = Vec::new(alloc);
+    for _ in 0..100u32 {
+        if reader.spent() {
+            break;
+        }
+        match reader.next(source) {
+            Ok(Some(update)) => updates.push(update)?,
+            Ok(None) => return Ok((updates, None)),
+            Err(StreamFault::Bad { at, why }) => return Ok((updates, Some((at, why)))),
+            Err(_) => break,
+        }
+    }
+    Err("the source stopped")?
+}
+
+// Those of some bytes, which come in pieces and are not held.
+fn read_all(
+    alloc: Global,
+    levels: u8,
+    form: Form,
+    bytes: &[u8],
+    chunk: usize,
+) -> Result<(Vec<Update>, Option<(u64, Why)>), Fail>
+    requires { 1 ≤ chunk }
+{
+    let mut source = MemorySource::new(bytes.to_vec(alloc)?, chunk, Vec::new(alloc));
+    read_from(alloc, levels, form, &mut source)
+}
+
+// Those of some bytes, which are held from the first one on, since a byte was read in front of them.
+fn read_held(
+    alloc: Global,
+    levels: u8,
+    form: Form,
+    bytes: &[u8],
+) -> Result<(Vec<Update>, Option<(u64, Why)>), Fail> {
+    let mut more = b"x".to_vec(alloc)?;
+    more.extend_from_slice(bytes)?;
+    let mut source = ReaderSource::new(Some(more.as_slice()));
+    if source.read(&mut [0; 1]) != Ok(1) || source.held() != bytes {
+        return Err("all bytes are held")?;
+    }
+    read_from(alloc, levels, form, &mut source)
+}
+
+// Whether some bytes end so, in pieces of one byte, in one piece, and held.
+fn ends(
+    alloc: Global,
+    levels: u8,
+    form: Form,
+    bytes: &[u8],
+    want: Option<(u64, Why)>,
+) -> Result<bool, Fail> {
+    let pieces = read_all(alloc, levels, form, bytes, 1)?.1;
+    let whole = read_all(alloc, levels, form, bytes, 10_000)?.1;
+    let held = read_held(alloc, levels, form, bytes)?.1;
+    Ok(pieces == want && whole == want && held == want)
+}
+
+#[test]
+fn all_forms_are_read_in_any_chunks(rt: HostRuntime) -> Result<(), Fail> {
+    let alloc = rt.alloc();
+    let three = [
+        update(Side::First, 0, 3),
+        update(Side::First, 2, 5),
+        update(Side::Second, 3, -1),
+    ];
+    let records = [(0, 0, 3), (0, 2, 5), (1, 3, -1)];
+    let table = [
+        (Form::Binary, stream(alloc, Form::Binary, &records)?),
+        (Form::Wide, stream(alloc, Form::Wide, &records)?),
+        (Form::Text, b"0 0 3\n0 2 5\n1 3 -1\n".to_vec(alloc)?),
+    ];
+    for (form, bytes) in &table {
+        for chunk in 1..60 {
+            let (updates, end) = read_all(alloc, 2, *form, bytes, chunk)?;
+            assert!(rt; updates.as_slice() == three.as_slice() && end.is_none());
+        }
+        let (updates, end) = read_all(alloc, 2, *form, bytes, 10_000)?;
+        assert!(rt; updates.as_slice() == three.as_slice() && end.is_none());
+        let (updates, end) = read_held(alloc, 2, *form, bytes)?;
+        assert!(rt; updates.as_slice() == three.as_slice() && end.is_none());
+    }
+    Ok(())
+}
+
+// Each record fails one test, or several of which the first one is named.
+#[test]
+fn records_with_a_fault(rt: HostRuntime) -> Result<(), Fail> {
+    let alloc = rt.alloc();
+    let table = [
+        ((2, 0, 1), Why::BadSide),
+        ((255, 9, 0), Why::BadSide),
+        ((0, 4, 1), Why::BadItem),
+        ((0, 4_294_967_295, 0), Why::BadItem),
+        ((1, 9, i64::MIN), Why::BadItem),
+        ((1, 0, 0), Why::ZeroDelta),
+        ((0, 0, i64::MIN), Why::TooHeavy(Side::First)),
+        ((1, 0, HEAVIEST + 1), Why::TooHeavy(Side::Second)),
+    ];
+    for form in [Form::Binary, Form::Wide] {
+        for (record, why) in table {
+            let first = stream(alloc, form, &[record])?;
+            assert!(rt; ends(alloc, 2, form, &first, Some((0, why)))?);
+            let second = stream(alloc, form, &[(0, 3, -2), record])?;
+            assert!(rt; ends(alloc, 2, form, &second, Some((1, why)))?);
+        }
+        let heavy = stream(alloc, form, &[(0, 0, HEAVIEST), (0, 0, -1)])?;
+        let why = Why::TooHeavy(Side::First);
+        assert!(rt; ends(alloc, 2, form, &heavy, Some((1, why)))?);
+        assert!(rt; ends(alloc, 2, form, &[], None)?);
+    }
+    Ok(())
+}
+
+// Items whose low four bytes are those of another item.
+#[test]
+fn wide_items_have_eight_bytes(rt: HostRuntime) -> Result<(), Fail> {
+    let alloc = rt.alloc();
+    let table = [
+        (2, 1 << 32, Some((0, Why::BadItem))),
+        (2, u64::MAX, Some((0, Why::BadItem))),
+        (33, 1 << 32, None),
+        (33, 1 << 33, Some((0, Why::BadItem))),
+        (48, (1 << 48) - 1, None),
+        (48, 1 << 48, Some((0, Why::BadItem))),
+    ];
+    for (levels, item, want) in table {
+        let bytes = stream(alloc, Form::Wide, &[(1, item, 7)])?;
+        assert!(rt; ends(alloc, levels, Form::Wide, &bytes, want)?);
+    }
+    let bytes = b"\0\0\0\x80\0\0\0\0\0\0\0\0\0\0\0\0\x07";
+    let (updates, end) = read_all(alloc, 48, Form::Wide, bytes, 1)?;
+    assert!(rt; end.is_none());
+    assert!(rt; updates.as_slice() == [update(Side::First, 140_737_488_355_328, 7)].as_slice());
+    Ok(())
+}
+
+// Two records, of which each is cut behind each of its bytes but the last.
+#[test]
+fn a_part_of_a_record_is_cut_short(rt: HostRuntime) -> Result<(), Fail> {
+    let alloc = rt.alloc();
+    for (form, size) in [(Form::Binary, 13), (Form::Wide, 17)] {
+        let bytes = stream(alloc, form, &[(0, 3, -2), (1, 1, 5)])?;
+        assert_eq!(rt; bytes.len(), 2 * size);
+        for len in 0..bytes.len() {
+            let at = (len / size) as u64;
+            let want = (len % size > 0).then_some((at, Why::Truncated));
+            assert!(rt; ends(alloc, 2, form, &bytes[..len], want)?);
+        }
+    }
+    Ok(())
+}
+
+fn expect_line(alloc: Global, line: &str, why: Option<Why>) -> Result<bool, Fail> {
+    let want = match why {
+        Some(why) => Some((0, why)),
+        None => None,
+    };
+    ends(alloc, 2, Form::Text, line.as_bytes(), want)
+}
+
+#[test]
+fn lines_of_another_shape(rt: HostRuntime) -> Result<(), Fail> {
+    let alloc = rt.alloc();
+    let lines = [
+        "2 x 5\n",
+        "00 0 5\n",
+        "01 0 5\n",
+        "-1 0 5\n",
+        "0 01 5\n",
+        "0 +1 5\n",
+        "0 -1 5\n",
+        "0 1 +5\n",
+        "0 1 -0\n",
+        "0 1 -01\n",
+        "0 1 00\n",
+        "0 1 -\n",
+        "0 1 --5\n",
+        "0 1 5\r\n",
+        "\n",
+        " \n",
+        "  \n",
+        "0  1 5\n",
+        "0 1  5\n",
+        " 0 1 5\n",
+        "0 1 5 \n",
+        "0 1\n",
+        "0 1 5 6\n",
+        "0,1,5\n",
+        "0\t1\t5\n",
+        "0 18446744073709551616 5\n",
+        "0 1 9223372036854775808\n",
+        "1 1 -9223372036854775809\n",
+        "0000000000000000000000000000000000000000\n",
+        "999999999999999999999999999999999999 0 5\n",
+        "0 18446744073709551615 -9223372036854775808\n",
+    ];
+    for line in lines {
+        assert!(rt; expect_line(alloc, line, Some(Why::BadLine))?);
+    }
+    Ok(())
+}
+
+#[test]
+fn lines_of_the_right_shape(rt: HostRuntime) -> Result<(), Fail> {
+    let alloc = rt.alloc();
+    let table = [
+        ("0 0 3\n", None),
+        ("1 3 -1073741823\n", None),
+        ("0 3 1073741823\n", None),
+        ("2 0 5\n", Some(Why::BadSide)),
+        ("10 9 0\n", Some(Why::BadSide)),
+        (
+            "99999999999999999999999999999999999 0 5\n",
+            Some(Why::BadSide),
+        ),
+        ("0 4 5\n", Some(Why::BadItem)),
+        ("0 9 0\n", Some(Why::BadItem)),
+        ("0 18446744073709551615 5\n", Some(Why::BadItem)),
+        ("0 1 0\n", Some(Why::ZeroDelta)),
+        ("0 1 1073741824\n", Some(Why::TooHeavy(Side::First))),
+        (
+            "0 1 9223372036854775807\n",
+            Some(Why::TooHeavy(Side::First)),
+        ),
+        (
+            "1 1 -9223372036854775808\n",
+            Some(Why::TooHeavy(Side::Second)),
+        ),
+        ("0 1 5", Some(Why::Truncated)),
+        ("x", Some(Why::Truncated)),
+        (
+            "0000000000000000000000000000000000000000",
+            Some(Why::Truncated),
+        ),
+    ];
+    for (line, why) in table {
+        assert!(rt; expect_line(alloc, line, why)?);
+    }
+    Ok(())
+}
+
+// Call 2 fails: after one record of 13 bytes, and after the first byte of a line.
+#[test]
+fn a_source_that_fails_is_no_end(rt: HostRuntime) -> Result<(), Fail> {
+    let alloc = rt.alloc();
+    let records = stream(alloc, Form::Binary, &[(0, 0, 3), (0, 2, 5)])?;
+    let mut source = MemorySource::new(records, 13, vec![in alloc; 2]?);
+    let mut reader = Reader::new(depth(2)?, Form::Binary);
+    assert!(rt; reader.next(&mut source) == Ok(Some(update(Side::First, 0, 3))));
+    if !reader.spent() {
+        assert!(rt; reader.next(&mut source) == Err(StreamFault::ReadFault));
+    }
+    assert!(rt; reader.spent());
+    let mut source = MemorySource::new(b"0 0 3\n".to_vec(alloc)?, 1, vec![in alloc; 2]?);
+    let mut reader = Reader::new(depth(2)?, Form::Text);
+    assert!(rt; reader.next(&mut source) == Err(StreamFault::ReadFault));
+    assert!(rt; reader.spent());
+    Ok(())
+}
+
+#[test]
+fn faults_have_texts(rt: HostRuntime) -> Result<(), Fail> {
+    let alloc = rt.alloc();
+    let bad = StreamFault::Bad {
+        at: 7,
+        why: Why::BadItem,
+    };
+    assert_eq!(rt;
+        bad.to_string(alloc)?.as_str(),
+        "record 7 is not legal: BadItem"
+    );
+    assert_eq!(rt;
+        StreamFault::ReadFault.to_string(alloc)?.as_str(),
+        "the source failed"
+    );
+    assert_eq!(rt;
+        StreamFault::OutOfMemory.to_string(alloc)?.as_str(),
+        "out of memory"
+    );
+    Ok(())
+}

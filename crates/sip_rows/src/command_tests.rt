@@ -1,0 +1,397 @@
+use sip_cli::{Command, Opening, Usage, Words, ports, read_words};
+use sip_stream::Form;
+use sip_vector::{Query, Side};
+use std::alloc::Global;
+use std::test::Fail;
+
+// The words of a text, with a bar between them.
+fn words(alloc: Global, text: &str) -> Result<Words, Fail> {
+    let mut list = Vec::new(alloc);
+    for word in text.split('|') {
+        list.push(String::from_str(alloc, word)?)?;
+    }
+    Ok(Words::of(list))
+}
+
+fn refused_at(words: &Words) -> Option<u32> {
+    match read_words(words) {
+        Ok(_) => None,
+        Err(Usage { word }) => Some(word),
+    }
+}
+
+// Words, and the number of the first of them that no command has behind the words before it, found by hand; none where
+// they are a command.
+const REFUSALS: [(&str, Option<u32>); 159] = [
+    ("", Some(0)),
+    ("audit|s|t", Some(0)),
+    ("show|t", Some(0)),
+    ("play|s|k|honest|-|3|sub:1:2", Some(0)),
+    ("Verify|s|k|f|t|-|3|sub:1:2", Some(0)),
+    ("verify ", Some(0)),
+    ("verify", Some(1)),
+    ("verify||k|f|t|-|3|sub:1:2", Some(1)),
+    ("verify|text:|k|f|t|-|3|sub:1:2", Some(1)),
+    ("verify|wide:|k|f|t|-|3|sub:1:2", Some(1)),
+    ("verify|made:|k|f|t|-|3|sub:1:2", Some(1)),
+    ("verify|made:7|k|f|t|-|3|sub:1:2", Some(1)),
+    ("verify|made:07:20|k|f|t|-|3|sub:1:2", Some(1)),
+    ("verify|made:7:|k|f|t|-|3|sub:1:2", Some(1)),
+    ("verify|made:7:20:1|k|f|t|-|3|sub:1:2", Some(1)),
+    ("verify|made:7:10000001|k|f|t|-|3|sub:1:2", Some(1)),
+    (
+        "verify|made:18446744073709551616:20|k|f|t|-|3|sub:1:2",
+        Some(1),
+    ),
+    ("verify|s", Some(2)),
+    ("verify|s||f|t|-|3|sub:1:2", Some(2)),
+    ("verify|s|k", Some(3)),
+    ("verify|s|k||t|-|3|sub:1:2", Some(3)),
+    ("verify|s|k|f", Some(4)),
+    ("verify|s|k|f||+|3|sub:1:2", Some(4)),
+    ("verify|s|k|f|t", Some(5)),
+    ("verify|s|k|f|t|r|3|sub:1:2", Some(5)),
+    ("verify|s|k|f|t|r|33|sub:1:2", Some(5)),
+    ("verify|s|k|f|t|--|3|sub:1:2", Some(5)),
+    ("verify|s|k|f|t||3|sub:1:2", Some(5)),
+    ("verify|s|k|f|t|-", Some(6)),
+    ("verify|s|k|f|t|-|0|sub:0:0", Some(6)),
+    ("verify|s|k|f|t|-|49|sub:1:2", Some(6)),
+    ("verify|s|k|f|t|-|49|inner", Some(6)),
+    ("verify|wide:s|k|f|t|-|49|sub:1:2", Some(6)),
+    ("verify|s|k|f|t|-|048|sub:1:2", Some(6)),
+    ("verify|s|k|f|t|-|03|sub:1:2", Some(6)),
+    ("verify|s|k|f|t|-|+3|sub:1:2", Some(6)),
+    ("verify|s|k|f|t|-|3x|sub:1:2", Some(6)),
+    ("verify|s|k|f|t|-||sub:1:2", Some(6)),
+    ("verify|s|k|f|t|-|18446744073709551619|sub:1:2", Some(6)),
+    ("verify|s|k|f|t|-|3", Some(7)),
+    ("verify|s|k|f|t|-|3|", Some(7)),
+    ("verify|s|k|f|t|-|3|sub:2:1", Some(7)),
+    ("verify|s|k|f|t|-|3|sub:0:8", Some(7)),
+    ("verify|s|k|f|t|-|2|sub:1:4", Some(7)),
+    ("verify|s|k|f|t|-|3|sub:01:2", Some(7)),
+    ("verify|s|k|f|t|-|3|sub:-1:2", Some(7)),
+    ("verify|s|k|f|t|-|3|sub:1:2:3", Some(7)),
+    ("verify|s|k|f|t|-|3|sub:1", Some(7)),
+    ("verify|s|k|f|t|-|3|sub::2", Some(7)),
+    ("verify|s|k|f|t|-|3|Sub:1:2", Some(7)),
+    ("verify|s|k|f|t|-|3|f2", Some(7)),
+    ("verify|s|k|f|t|-|3|f2:", Some(7)),
+    ("verify|s|k|f|t|-|3|f2:2", Some(7)),
+    ("verify|s|k|f|t|-|3|f2:00", Some(7)),
+    ("verify|s|k|f|t|-|3|f2:0:1", Some(7)),
+    ("verify|s|k|f|t|-|3|inner:", Some(7)),
+    ("verify|s|k|f|t|-|3|Inner", Some(7)),
+    ("verify|s|k|f|t|-|3|range:1:2", Some(7)),
+    ("verify|s|k|f|t|-|3|range:2:1:2", Some(7)),
+    ("verify|s|k|f|t|-|3|range:0:2:1", Some(7)),
+    ("verify|s|k|f|t|-|3|range:1:0:8", Some(7)),
+    ("verify|s|k|f|t|-|3|range:0:1:02", Some(7)),
+    ("verify|s|k|f|t|-|3|range:00:1:2", Some(7)),
+    ("verify|s|k|f|t|-|3|range:0:1:2:3", Some(7)),
+    ("verify|s|k|f|t|-|3|heavy:0:4", Some(7)),
+    ("verify|s|k|f|t|-|3|share:0:1:2", Some(7)),
+    ("verify|s|k|f|t|-|48|share:0:1:2", Some(7)),
+    ("verify|s|k|f|t|-|20|sub:0:1048576", Some(7)),
+    ("verify|s|k|f|t|-|32|sub:0:4294967296", Some(7)),
+    ("verify|s|k|f|t|-|32|sub:0:18446744073709551616", Some(7)),
+    ("verify|s|k|f|t|-|33|sub:0:8589934592", Some(7)),
+    ("verify|s|k|f|t|-|48|sub:0:281474976710656", Some(7)),
+    ("verify|s|k|f|t|-|2|f2:2", Some(7)),
+    ("verify|s|k|f|t|-|2|sub:01:2", Some(7)),
+    ("verify|s|k|f|t|-|3|sub:1:2|", Some(8)),
+    ("verify|s|k|f|t|-|3|sub:1:2|heavy:0:4", Some(8)),
+    ("verify|s|k|f|t|-|3|sub:1:2|share:1:1:1", Some(8)),
+    ("verify|s|k|f|t|-|3|sub:1:2|sub:0:8|sub:2:1", Some(8)),
+    ("verify|s|k|f|t|-|3|sub:1:2|sub:0:7|sub:0:8", Some(9)),
+    ("verify|s|k|f|t|-|3|sub:1:2", None),
+    ("verify|s|k|f|t|-|3|f2:0|f2:1|inner", None),
+    ("verify|s|k|f|t|-|3|range:0:1:2|sub:1:2|range:1:0:7", None),
+    ("verify|s|k|f|t|-|1|inner", None),
+    ("verify|s|k|f|t|-|48|range:1:0:281474976710655", None),
+    ("verify|s|k|f|t|-|3|sub:1:2|sub:1:2", None),
+    ("verify|s|k|f|t|-|3|sub:0:7|sub:7:7|sub:0:0", None),
+    ("verify|s|k|f|t|-|21|sub:1:2", None),
+    ("verify|s|k|f|t|-|32|sub:0:4294967295", None),
+    ("verify|s|k|f|t|-|33|sub:0:8589934591", None),
+    ("verify|s|k|f|t|-|48|sub:0:281474976710655", None),
+    ("verify|wide:s|k|f|t|-|48|sub:1:2", None),
+    ("verify|wide:s|k|f|t|-|3|sub:1:2", None),
+    ("verify|text:s|k|f|t|-|3|sub:1:2", None),
+    ("verify|text:made:7:20|k|f|t|-|3|sub:1:2", None),
+    ("verify|wide:text:|k|f|t|-|3|sub:1:2", None),
+    ("verify|made:0:0|k|f|t|-|3|sub:1:2", None),
+    (
+        "verify|made:18446744073709551615:10000000|k|f|t|-|20|sub:1:2",
+        None,
+    ),
+    ("verify|-|made:|text:|wide:|-|1|sub:0:0", None),
+    ("verify|made|k|f|t|-|20|sub:0:1048575", None),
+    ("verify|wide|k|f|t|-|20|sub:0:1048575", None),
+    ("help", Some(1)),
+    ("help|", Some(1)),
+    ("help|f", Some(2)),
+    ("help|f|", Some(2)),
+    ("help|f|t", None),
+    ("help|made:|-", None),
+    ("help|f|t|x", Some(3)),
+    ("help|f|t|", Some(3)),
+    ("gen", Some(1)),
+    ("gen|07|1|20", Some(1)),
+    ("gen|-7|1|20", Some(1)),
+    ("gen||1|20", Some(1)),
+    ("gen|18446744073709551616|1|20", Some(1)),
+    ("gen|7", Some(2)),
+    ("gen|7|10000001|20", Some(2)),
+    ("gen|7|1e3|20", Some(2)),
+    ("gen|7|1", Some(3)),
+    ("gen|7|1|0", Some(3)),
+    ("gen|7|1|49", Some(3)),
+    ("gen|7|1|020", Some(3)),
+    ("gen|7|1|20|", Some(4)),
+    ("gen|7|1|20|20", Some(4)),
+    ("gen|18446744073709551615|10000000|32", None),
+    ("gen|18446744073709551615|10000000|48", None),
+    ("gen|0|0|1", None),
+    ("lines", Some(1)),
+    ("lines||20", Some(1)),
+    ("lines|text:|20", Some(1)),
+    ("lines|made:7:1x|20", Some(1)),
+    ("lines|made:7|20", Some(1)),
+    ("lines|s", Some(2)),
+    ("lines|made:7:1|49", Some(2)),
+    ("lines|made:7:1|0", Some(2)),
+    ("lines|s|", Some(2)),
+    ("lines|s|20|20", Some(3)),
+    ("lines|text:made:7|32", None),
+    ("lines|made:7:1|20", None),
+    ("lines|lines|1", None),
+    ("lines|wide:s|48", None),
+    ("lines|wide:|48", Some(1)),
+    ("widen", Some(1)),
+    ("widen||20", Some(1)),
+    ("widen|wide:|20", Some(1)),
+    ("widen|text:|20", Some(1)),
+    ("widen|made:7:10000001|20", Some(1)),
+    ("widen|s", Some(2)),
+    ("widen|s|0", Some(2)),
+    ("widen|s|49", Some(2)),
+    ("widen|s|048", Some(2)),
+    ("widen|s|", Some(2)),
+    ("widen|s|20|w", Some(3)),
+    ("widen|s|20|", Some(3)),
+    ("widen|s|1", None),
+    ("widen|text:s|33", None),
+    ("widen|wide:s|48", None),
+    ("widen|made:7:10000000|48", None),
+    ("wide|s|20", Some(0)),
+    ("wide:s|20", Some(0)),
+    ("Widen|s|20", Some(0)),
+];
+
+#[test]
+fn refuses_the_first_word_that_begins_no_command(rt: HostRuntime) -> Result<(), Fail> {
+    let alloc = rt.alloc();
+    for (text, want) in &REFUSALS {
+        assert_eq!(rt; refused_at(&words(alloc, text)?), *want, "at {text}");
+    }
+    assert_eq!(rt; refused_at(&Words::of(Vec::new(alloc))), Some(0));
+    Ok(())
+}
+
+// Sixteen queries are a command, and a seventeenth is word 23.
+#[test]
+fn reads_16_queries(rt: HostRuntime) -> Result<(), Fail> {
+    let alloc = rt.alloc();
+    for (count, want) in [
+        (1, None),
+        (2, None),
+        (15, None),
+        (16, None),
+        (17, Some(23)),
+        (20, Some(23)),
+    ] {
+        let mut text = String::from_str(alloc, "verify|s|k|f|t|-|3")?;
+        for _ in 0..count {
+            text.push_str("|sub:1:2")?;
+        }
+        assert_eq!(rt; refused_at(&words(alloc, &text)?), want, "{count} queries");
+    }
+    Ok(())
+}
+
+#[test]
+fn reads_the_task(rt: HostRuntime) -> Result<(), Fail> {
+    let words = words(
+        rt.alloc(),
+        "verify|text:s|k|f|t|-|12|sub:10:4095|range:0:1:4094|range:1:7:7|f2:0|f2:1|inner|sub:0:0",
+    )?;
+    match read_words(&words) {
+        Ok(Command::Verify(task)) => {
+            assert_eq!(rt; task.depth.get(), 12);
+            assert_eq!(rt; task.form, Form::Text);
+            let (first, second) = (Side::First, Side::Second);
+            let asked = [
+                Query::Sub { lo: 10, hi: 4095 },
+                Query::Range {
+                    side: first,
+                    lo: 1,
+                    hi: 4094,
+                },
+                Query::Range {
+                    side: second,
+                    lo: 7,
+                    hi: 7,
+                },
+                Query::F2 { side: first },
+                Query::F2 { side: second },
+                Query::Inner,
+                Query::Sub { lo: 0, hi: 0 },
+            ];
+            assert_eq!(rt; task.queries.as_slice(), asked.as_slice());
+        }
+        _ => assert!(rt; false),
+    }
+    assert_eq!(rt; words.get(3), Some("f"));
+    assert_eq!(rt; words.get(14), None);
+    Ok(())
+}
+
+// The form of the stream of `verify`.
+#[test]
+fn the_form_of_a_made_stream_is_that_of_its_depth(rt: HostRuntime) -> Result<(), Fail> {
+    let alloc = rt.alloc();
+    for (text, form) in [
+        ("verify|made:7:20|k|f|t|-|32|sub:1:2", Form::Binary),
+        ("verify|made:7:20|k|f|t|-|33|sub:1:2", Form::Wide),
+        ("verify|made:7:20|k|f|t|-|48|sub:1:2", Form::Wide),
+        ("verify|s|k|f|t|-|48|sub:1:2", Form::Binary),
+        ("verify|wide:s|k|f|t|-|3|sub:1:2", Form::Wide),
+        ("verify|text:s|k|f|t|-|48|sub:1:2", Form::Text),
+    ] {
+        match read_words(&words(alloc, text)?) {
+            Ok(Command::Verify(task)) => assert_eq!(rt; task.form, form, "at {text}"),
+            _ => assert!(rt; false, "at {text}"),
+        }
+    }
+    Ok(())
+}
+
+// The form of what is read, if it has one, and the depth.
+fn form_and_depth(command: &Command) -> (Option<Form>, u8) {
+    match command {
+        Command::Gen { depth } => (None, depth.get()),
+        Command::Lines { form, depth } | Command::Widen { form, depth } => {
+            (Some(*form), depth.get())
+        }
+        Command::Verify(_) | Command::Help => (None, 0),
+    }
+}
+
+#[test]
+fn reads_a_depth_and_a_form(rt: HostRuntime) -> Result<(), Fail> {
+    let alloc = rt.alloc();
+    for (text, form, depth) in [
+        ("gen|7|1|32", None, 32),
+        ("gen|7|1|48", None, 48),
+        ("lines|s|1", Some(Form::Binary), 1),
+        ("lines|made:7:1|20", Some(Form::Binary), 20),
+        ("lines|text:s|13", Some(Form::Text), 13),
+        ("lines|made:7:1|32", Some(Form::Binary), 32),
+        ("lines|made:7:1|33", Some(Form::Wide), 33),
+        ("lines|wide:s|20", Some(Form::Wide), 20),
+        ("widen|s|48", Some(Form::Binary), 48),
+        ("widen|made:7:1|20", Some(Form::Binary), 20),
+        ("widen|made:7:1|48", Some(Form::Wide), 48),
+        ("widen|wide:s|33", Some(Form::Wide), 33),
+        ("widen|text:s|33", Some(Form::Text), 33),
+    ] {
+        match read_words(&words(alloc, text)?) {
+            Ok(command) => assert_eq!(rt; form_and_depth(&command), (form, depth), "at {text}"),
+            Err(_) => assert!(rt; false, "at {text}"),
+        }
+    }
+    Ok(())
+}
+
+// The files of commands: of the stream and the seed, and the two ends of the link.
+const FILES: [(&str, [Option<&str>; 4]); 13] = [
+    (
+        "verify|s|k|f|t|-|3|sub:1:2",
+        [Some("s"), Some("k"), Some("f"), Some("t")],
+    ),
+    (
+        "verify|text:s|k|f|t|-|32|sub:1:2|sub:3:4",
+        [Some("s"), Some("k"), Some("f"), Some("t")],
+    ),
+    (
+        "verify|made:7:20|made:|text:t|-|-|3|sub:1:2",
+        [None, Some("made:"), Some("text:t"), Some("-")],
+    ),
+    ("verify|s|k|f|t|-|3", [None; 4]),
+    ("help|f|t", [None, None, Some("f"), Some("t")]),
+    ("gen|7|100|20", [None; 4]),
+    (
+        "lines|text:\u{e9}t\u{e9}|32",
+        [Some("\u{e9}t\u{e9}"), None, None, None],
+    ),
+    ("lines|s|32", [Some("s"), None, None, None]),
+    ("lines|s|49", [None; 4]),
+    ("lines|wide:w|48", [Some("w"), None, None, None]),
+    ("widen|wide:text:|48", [Some("text:"), None, None, None]),
+    ("widen|s|48", [Some("s"), None, None, None]),
+    ("widen|s|49", [None; 4]),
+];
+
+#[test]
+fn opens_the_files_of_a_command(rt: HostRuntime) -> Result<(), Fail> {
+    let alloc = rt.alloc();
+    for (text, want) in &FILES {
+        let words = words(alloc, text)?;
+        let plan = ports(&words);
+        for (opening, name) in [plan.first, plan.second, plan.from, plan.to]
+            .iter()
+            .zip(want)
+        {
+            assert_eq!(rt; opening.name(&words), *name, "at {text}");
+        }
+        assert_eq!(rt; plan.keep, Opening::Nothing, "at {text}");
+    }
+    Ok(())
+}
+
+// The made streams of commands: their numbers, how many records, and their depths.
+const MADE: [(&str, (u64, u64, u8)); 6] = [
+    ("verify|made:7:20|k|f|t|-|3|sub:1:2", (7, 20, 3)),
+    ("gen|7|100|20", (7, 100, 20)),
+    (
+        "gen|18446744073709551615|10000000|32",
+        (u64::MAX, 10_000_000, 32),
+    ),
+    ("lines|made:0:1|32", (0, 1, 32)),
+    ("widen|made:7:10000000|48", (7, 10_000_000, 48)),
+    ("verify|made:7:20|k|f|t|-|48|sub:1:2", (7, 20, 48)),
+];
+
+// What a made stream is made of.
+fn made(opening: &Opening) -> Option<(u64, u64, u8)> {
+    match opening {
+        Opening::Made {
+            number,
+            count,
+            depth,
+        } => Some((*number, *count, depth.get())),
+        Opening::Nothing | Opening::Path { .. } => None,
+    }
+}
+
+#[test]
+fn makes_the_stream_of_a_command(rt: HostRuntime) -> Result<(), Fail> {
+    let alloc = rt.alloc();
+    for (text, want) in &MADE {
+        let plan = ports(&words(alloc, text)?);
+        assert_eq!(rt; made(&plan.first), Some(*want), "at {text}");
+    }
+    Ok(())
+}
