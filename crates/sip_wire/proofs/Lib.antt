@@ -18,3 +18,4 @@ pub mod Longest
 pub mod EntryValues
 pub mod SiblingElements
 pub mod Wider
+pub mod AtHand
