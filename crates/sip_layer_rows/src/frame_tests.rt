@@ -204,6 +204,73 @@ fn frames_are_decoded_and_encoded_again(rt: HostRuntime) -> Result<(), Fail> {
     Ok(())
 }
 
+// What `read` answers to bytes that are no more than a frame has.
+fn at_hand(version: Version, place: Place, bytes: &[u8]) -> Option<Result<Message, WireFault>> {
+    if bytes.len() < 3 || frame_length(place, version, bytes) < bytes.len() {
+        return None;
+    }
+    Some(read(place, version, bytes))
+}
+
+// The frame without its last byte is not whole yet, and with it is read as the message that it is the encoding of.
+fn is_read_at_hand(
+    rt: &impl Abort,
+    alloc: Global,
+    version: Version,
+    place: Place,
+    bytes: &[u8],
+) -> Result<(), Fail> {
+    let (_, front) = bytes.split_last().ok_or("a byte")?;
+    if front.len() >= 3 {
+        let answer = at_hand(version, place, front).ok_or("a front")?;
+        assert_eq!(rt; answer.err(), Some(WireFault::Closed), "at {front:?}");
+    }
+    let answer = at_hand(version, place, bytes).ok_or("a frame")?;
+    let message = answer.ok().ok_or("a message")?;
+    let mut sink = MemorySink::new(alloc, 1, Vec::new(alloc));
+    assert!(rt; message.fits(version));
+    assert_eq!(rt; encode(&message, version, &mut sink), Ok(()));
+    assert_eq!(rt; sink.bytes(), bytes);
+    Ok(())
+}
+
+// The fault is that which a link with these bytes would have.
+fn has_fault_at_hand(
+    rt: &impl Abort,
+    version: Version,
+    place: Place,
+    bytes: &[u8],
+    fault: WireFault,
+) -> Result<(), Fail> {
+    if bytes.len() >= 3 {
+        let answer = at_hand(version, place, bytes).ok_or("no more than a frame")?;
+        assert_eq!(rt; answer.err(), Some(fault), "at {bytes:?}");
+    }
+    Ok(())
+}
+
+#[test]
+fn frames_are_read_at_hand(rt: HostRuntime) -> Result<(), Fail> {
+    let alloc = rt.alloc();
+    for (place, bytes) in FRAMES {
+        is_read_at_hand(&rt, alloc, Version::One, place, bytes)?;
+    }
+    for (place, bytes) in WIDE_FRAMES {
+        is_read_at_hand(&rt, alloc, Version::Two, place, bytes)?;
+    }
+    for (place, bytes, fault, taken) in FAULTS {
+        if taken == bytes.len() {
+            has_fault_at_hand(&rt, Version::One, place, bytes, fault)?;
+        }
+    }
+    for (place, bytes, fault, taken) in WIDE_FAULTS {
+        if taken == bytes.len() {
+            has_fault_at_hand(&rt, Version::Two, place, bytes, fault)?;
+        }
+    }
+    Ok(())
+}
+
 /// Bytes that are no frame of version 2, where they are awaited, their fault, and how many of them are taken.
 const WIDE_FAULTS: [(Place, &[u8], WireFault, usize); 17] = [
     // The lengths of version 1 are none.

@@ -24,7 +24,7 @@ use Rattle.sip_wire.proofs.Whole.{whole_fault, of_body, spelled_back, same_head,
 use Rattle.sip_wire.proofs.ReadingLaws.{asked-least, asked-append, read_frame-closed, read_frame-fault, read_frame-short, read_frame-spelling, same_answer}
 
 -- reading a spelling gives its message, with nothing behind it
-whole_spelling : (version : Version) (place : Place) (got : List ℕ) (m : Message) → IsTrue (fits version m) → IsTrue (allows place (kind_of m)) → InRange m → got ≡ spelling version m → read_frame version place got ≡ Ok (m, [])
+pub whole_spelling : (version : Version) (place : Place) (got : List ℕ) (m : Message) → IsTrue (fits version m) → IsTrue (allows place (kind_of m)) → InRange m → got ≡ spelling version m → read_frame version place got ≡ Ok (m, [])
 whole_spelling version place got m fit allowed range e = ap (read_frame version place) (e ∙ sym (append-nil (spelling version m))) ∙ read_frame-spelling version place m [] fit allowed range
 
 -- what reading answers at the faults of a call

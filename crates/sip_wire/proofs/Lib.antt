@@ -19,3 +19,4 @@ pub mod EntryValues
 pub mod SiblingElements
 pub mod SmallNumbers
 pub mod Wider
+pub mod AtHand

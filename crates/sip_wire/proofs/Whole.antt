@@ -60,7 +60,7 @@ unfolding frame_fault in_bytes
 past_length version place bytes le = rw (le-ltb (length bytes) 3 le) refl
 
 -- with a whole body the body decides
-past_head : (version : Version) (place : Place) (kind : Kind) (bytes : List ℕ) → allows place kind ≡ true → (shape version kind).has_length (length_in bytes) ≡ true → 3 + length_in bytes ≤ length bytes → kind_fault version place (Some kind) bytes ≡ body_fault (shape version kind) (drop 3 bytes)
+pub past_head : (version : Version) (place : Place) (kind : Kind) (bytes : List ℕ) → allows place kind ≡ true → (shape version kind).has_length (length_in bytes) ≡ true → 3 + length_in bytes ≤ length bytes → kind_fault version place (Some kind) bytes ≡ body_fault (shape version kind) (drop 3 bytes)
 unfolding kind_fault in_bytes
 past_head version place kind bytes a b le = rw (a, b, le-ltb (length bytes) (3 + length_in bytes) le) refl
 

@@ -7,6 +7,7 @@ pub mod Rows
 pub mod Reading
 pub mod Faults
 pub mod Decoding
+pub mod AtHand
 pub mod Frames
 pub mod Transcript
 pub mod Examples

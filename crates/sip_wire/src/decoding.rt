@@ -18,7 +18,11 @@ use sip_ports::Link;
 
 /// The kind and the length of the body, where a frame may begin with these three bytes.
 #[tactic(auto, unfolding(crate::specs::Spelling::frame_fault, crate::specs::Spelling::kind_fault, crate::specs::Spelling::asked))]
-fn head_of(version: Version, place: Place, bytes: &[u8]) -> Result<(Kind, usize), WireFault>
+pub(crate) fn head_of(
+    version: Version,
+    place: Place,
+    bytes: &[u8],
+) -> Result<(Kind, usize), WireFault>
     requires { 3 ≤ length bytes.now }
     ensures { FindsHead version place bytes.now result }
 {
@@ -37,7 +41,7 @@ fn head_of(version: Version, place: Place, bytes: &[u8]) -> Result<(Kind, usize)
 }
 
 /// Reads the message of a frame whose body is as long as its kind has it.
-fn read_message(
+pub(crate) fn read_message(
     version: Version,
     kind: Kind,
     bytes: &[u8],

@@ -3,14 +3,16 @@
 //! A frame is the kind (1 byte), the length of the body (2 bytes) and the body, numbers with the high byte first. [`encode`]
 //! writes the one spelling of a message in one piece, and [`decode`] receives exactly one frame into a [`Frame`] and answers its
 //! message or its first fault. [`decode_into`] reads it into a message of the caller's, and [`encode_updates`] writes updates where
-//! they lie: with these a stream of updates is received and sent without a message being moved. [`put_head`] and [`put_ask`] write
-//! the two parts of a transcript's head. Only [`Frame::new`] takes memory.
+//! they lie: with these a stream of updates is received and sent without a message being moved. [`read`] answers the message of a
+//! frame that is at hand. [`put_head`] and [`put_ask`] write the two parts of a transcript's head. Only [`Frame::new`] takes memory.
 //!
 //! # What is proved
 //!
 //! - `encode` sends `spelling` of the message, or after a fault of the sink a shorter front of it.
 //! - `decode` answers a message exactly where the bytes that it received are the message's spelling and the place allows its
 //!   kind, and else the fault that `read_frame` gives for these bytes. It receives no byte that the answer does not need.
+//! - `read` answers the message whose spelling the bytes are, or the fault that `read_frame` gives for them, `Closed` exactly where
+//!   the frame has more bytes than these.
 //! - `decode_into` and `encode_updates` have the same clauses, over the message as it was left (`filled`) and over a slice.
 //! - No spelling begins another, a spelling is read as its message whatever follows, and what is read is spelled in front of the
 //!   bytes ([`laws`]).
@@ -30,6 +32,7 @@
 //! `ask_bytes`: the file of [`examples`] shows the attribute.
 #![tactic(auto)]
 
+mod at_hand;
 mod decoding;
 mod encoding;
 pub mod examples;
@@ -46,6 +49,7 @@ mod transcript;
 mod version;
 mod writing;
 
+pub use at_hand::{frame_length, read};
 pub use decoding::{decode, decode_into};
 pub use encoding::{encode, encode_updates};
 pub use frame::{Frame, LONGEST_FRAME};
