@@ -1,16 +1,18 @@
 //! All that a verifier does until the stream has ended.
 
-ghost use Rattle.std.specs.Prelude.{◌≡◌, ◌≢◌, ◌⊎◌, ◌<◌, ◌^◌, ◌++◌, map, ℕ, List, length, All, Some, Ok, Err, IsSome, IfOk, OnOk, MatchResult, false, pos};
+ghost use Rattle.std.specs.Prelude.{◌≡◌, ◌≢◌, ◌⊎◌, ◌<◌, ◌^◌, ◌++◌, ◌∷◌, [], map, ℕ, List, length, All, Some, Ok, Err, IsSome, IfOk, OnOk, MatchResult, false, pos};
 ghost use Rattle.sip_ports.specs.Ports.{HasCause, Lasts, Rose, SendsWhole};
 ghost use Rattle.sip_wire.specs.Table.{most_rows};
 ghost use Rattle.sip_wire.specs.Versions.{index_width};
 ghost use Rattle.sip_vector.specs.declared.query.Query.{Query as AnyQuery};
+ghost use Rattle.sip_vector.specs.declared.update.Side.{Side as AnySide};
 ghost use Rattle.sip_vector.specs.declared.update.Update.{Update as AnyUpdate};
 ghost use Rattle.sip_stream.specs.declared.fault.StreamFault.{StreamFault as AnyStreamFault};
 ghost use Rattle.sip_verifier.specs.inside.Drawing.{AreOf, Draws, HasDrawn};
 ghost use Rattle.sip_verifier.specs.inside.Ending.{status_of_stream};
 ghost use Rattle.sip_verifier.specs.Feeding.{due_with, waiting_with};
 ghost use Rattle.sip_verifier.specs.inside.Passing.{taken_with};
+ghost use Rattle.sip_verifier.specs.QuerySeats.{HaveRoom};
 ghost use Rattle.sip_verifier.specs.Seats.{AreSeats};
 ghost use Rattle.std.specs.Result.{is_err};
 ghost use Rattle.sip_verifier.specs.Exchanges.{TakesAtMost};
@@ -46,7 +48,7 @@ fn on_stream(read: Result<Option<Update>, StreamFault>) -> Result<Option<Update>
 fn draw<B: Source>(task: &Task, second: &mut B) -> Result<Seats, Status>
     requires { CanBeDone task.now }
     ensures draws { (seed : List ℕ) → B.left second.old ≡ Some seed → Draws task.now seed result }
-    ensures seats { IfOk result (AreOf task.now) }
+    ensures seats { IfOk result (AreOf task.now []) }
     ensures fault { (first firsts peer peers report reports : ℕ) → Stops stops_gathering
         (counts first (B.faults second.old) peer report)
         (counts firsts (B.faults second.new) peers reports) result }
@@ -85,6 +87,8 @@ fn pass_on<L: Link>(
     requires delta { update.now.delta ≢ pos 0 }
     requires item { update.now.item < 2 ^ seats.old.depth }
     requires items { All (λ u. u.item < 2 ^ seats.old.depth) feed.old.waiting }
+    requires room { (side : AnySide)
+        → HaveRoom seats.old.seats (feed.old.waiting ++ update.now ∷ []) side }
     ensures talk { SendsWhole (L.talk peer.old)
         (L.talk peer.new) result (due_with feed.old.version feed.old.waiting update.now) }
     ensures version { feed.new.version ≡ feed.old.version }
@@ -116,12 +120,12 @@ fn follow<A: Source, L: Link>(
     first: &mut A,
     peer: &mut L,
 ) -> Result<Seats, Status>
-    requires { AreOf task.now seats }
+    requires { AreOf task.now [] seats }
     ensures gathers { (bytes seed : List ℕ) → A.left first.old ≡ Some bytes
         → HasDrawn task.now seed seats
         → Gathers task.now bytes seed (A.left first.new) (L.talk peer.old)
         (L.talk peer.new) result }
-    ensures seats { IfOk result (AreOf task.now) }
+    ensures seats { IfOk result (λ seats. (stream : List AnyUpdate) × AreOf task.now stream seats) }
     ensures fault { (second seconds report reports : ℕ) → Stops stops_gathering
         (counts (A.faults first.old) second (L.faults peer.old) report)
         (counts (A.faults first.new) seconds (L.faults peer.new) reports) result }

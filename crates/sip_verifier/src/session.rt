@@ -11,7 +11,9 @@ ghost use Rattle.sip_wire.specs.Versions.{Speaks, deepest, speaks};
 ghost use Rattle.sip_verifier.specs.Asking.{AnswersCount, Asks};
 ghost use Rattle.sip_verifier.specs.inside.Judging.{has_places};
 ghost use Rattle.sip_verifier.specs.NextSeat.{IsNext};
-ghost use Rattle.sip_verifier.specs.QuerySeats.{Seated};
+ghost use Rattle.sip_verifier.specs.QuerySeats.{Seated, is_seat};
+ghost use Rattle.sip_verifier.specs.Widths.{first_wide_seat};
+ghost use Rattle.sip_wire.specs.Table.{most_queries};
 ghost use Rattle.sip_verifier.specs.Sittings.{Starts, is_over};
 
 use crate::Seats;
@@ -119,6 +121,20 @@ fn most_entries(seats: &[QuerySeat]) -> usize
     most
 }
 
+/// The number of the first of these seats, counted from 1, whose answer may be too wide.
+fn first_wide(seats: &[QuerySeat]) -> Option<u8>
+    requires most { length seats.now ≤ most_queries }
+    requires each { (depth : ℕ) × IsTrue (list_all (is_seat depth) seats.now) }
+    ensures { result ≡ first_wide_seat seats.now }
+{
+    for (index, seat) in seats.iter().enumerate() {
+        if seat.is_wide() {
+            return Some(index as u8 + 1);
+        }
+    }
+    None
+}
+
 impl Session {
     /// A session that asks the queries of these seats in order, in a version in which each can be asked.
     ///
@@ -127,11 +143,15 @@ impl Session {
     ///
     /// # Errors
     ///
-    /// `OutOfMemory`; the seats are then dropped.
+    /// `TooWide` exactly for the first query for heavy hitters whose total n reaches its threshold T with more than 65,536 for
+    /// floor(n / T); else `OutOfMemory`. The seats are then dropped.
     pub fn new(alloc: Global, version: Version, seats: Seats) -> Result<Session, SessionStart>
         requires { All (λ s. Speaks version seats.depth s.query) seats.seats }
         ensures { Starts version seats result }
     {
+        if let Some(query) = first_wide(seats.all()) {
+            return Err(SessionStart::TooWide { query });
+        }
         let Ok(frame) = Frame::new(alloc) else {
             return Err(SessionStart::OutOfMemory);
         };

@@ -1,21 +1,23 @@
 -- What holds at each exit follows from how far the stream was read, sent and added to the seats.
-use Rattle.std.proofs.Common.{length, arith, All, ◌≡◌, ◌<◌, ◌≤◌, ◌^◌, ◌∙◌, ◌++◌, [], rules, ap, subst, sym}
+use Rattle.std.proofs.Common.{List, length, arith, All, ◌≡◌, ◌<◌, ◌≤◌, ◌^◌, ◌∙◌, ◌++◌, [], rules, ap, subst, sym}
 use Rattle.std.proofs.lemmas.List.Elements.{All-nil}
 use Rattle.std.proofs.lemmas.Result.{err_from_is_err_and}
 use Rattle.sip_wire.specs.Table.{most_rows}
 use Rattle.sip_verifier.specs.inside.Sending.{IsSentBut}
 use Rattle.sip_verifier.specs.Tasks.{version_of}
 use Rattle.sip_vector.specs.Limits.{most_depth}
+use Rattle.sip_stream.specs.Reading.{IsAfter}
+use Rattle.sip_vector.specs.declared.update.Side.{Side}
 use Rattle.sip_vector.specs.declared.update.Update.{Update}
 use Rattle.sip_wire.specs.declared.version.Version.{Version}
 use Rattle.sip_wire.specs.Versions.{index_width}
 use Rattle.sip_verifier.specs.Feeding.{Waiting}
 use Rattle.sip_verifier.proofs.FramesFit.{item_below}
 use Rattle.sip_verifier.proofs.SeatsHead.{depth-shallow}
-use Rattle.sip_verifier.specs.inside.Passing.{taken_with}
+use Rattle.sip_verifier.specs.QuerySeats.{HaveRoom}
 use Rattle.sip_verifier.specs.Draws.{blocks}
 use Rattle.sip_verifier.specs.Seats.{AreSeats}
-use Rattle.sip_verifier.proofs.Gathered.{IsUnderway, begins, goes_on, stops_first, stops_after, stops_at_end, gathered, link_stops, reading_stops}
+use Rattle.sip_verifier.proofs.Gathered.{IsFollowed, followed_on, followed_one, followed_room, IsUnderway, begins, goes_on, stops_first, stops_after, stops_at_end, gathered, link_stops, reading_stops}
 use Rattle.sip_verifier.proofs.StreamSending.{opened, stopped_in_opening, one_more, at_end}
 use Rattle.sip_verifier.proofs.gathering.follow.Goals as goal
 
@@ -40,7 +42,11 @@ loop-update-init g c =
       version = c.begin.ensures.version ∙ own;
       few = few;
       items = subst (All (λ (u : Update). u.item < 2 ^ task.depth)) (sym none) (All-nil (λ (u : Update). u.item < 2 ^ task.depth));
-      seats = c.requires;
+      seats = record {
+        sent = [];
+        after = subst (IsAfter c.new-reader.result) (sym none) c.new-reader.ensures.after;
+        stand = c.requires;
+      };
       levels = c.requires.stand.levels;
       depth = search rules;
       form = search rules;
@@ -78,11 +84,12 @@ loop-update-preserved g c = record {
       let stand = subst (λ l. AreSeats c.args.task.now.depth c.args.task.now.queries.items (blocks c.args.task.now has.challenges) l c.pass_on.new.seats) (sym moved.longer) (c.pass_on.ensures.stands _ _ _ so.said.sent so.stand) in
       subst (IsUnderway c.args.task.now bytes (blocks c.args.task.now has.challenges) _ _ _ _ _) (sym waiting)
       (goes_on _ bytes seed _ _ has _ _ _ _ _ _ _ _ _ _ c.in-Some.update so reads after moved.said stand);
-  seats = (let had = c.loop-update.invariant.seats in record {
-    at_blocks = had.at_blocks;
-    stream = had.stream ++ taken_with c.loop-update.feed.waiting c.in-Some.update;
-    stand = c.pass_on.ensures.stands _ _ _ had.stream had.stand;
-  });
+  seats = (let had = c.loop-update.invariant.seats in
+      let after = rw (c.in_ok-update.ensures, c.in-Some.is) at (c.next.ensures.after (had.sent ++ c.loop-update.feed.waiting) had.after) in
+      let waiting = rw c.in_ok-on_link-2.ensures at c.pass_on.ensures.waiting in
+      subst (IsFollowed c.args.task.now c.next.new.self c.pass_on.new.seats) (sym waiting)
+      (followed_on c.args.task.now c.loop-update.reader c.next.new.self c.loop-update.seats c.pass_on.new.seats c.loop-update.feed.waiting c.in-Some.update had after
+      (c.pass_on.ensures.stands _ _ _ had.sent had.stand.stand)));
   version = c.pass_on.ensures.version ∙ c.loop-update.invariant.version;
   few = rw c.in_ok-on_link-2.ensures at c.pass_on.ensures.few;
   items = subst (λ n. All (λ (u : Update). u.item < 2 ^ n) c.pass_on.new.feed.waiting) c.loop-update.invariant.levels (rw c.in_ok-on_link-2.ensures at c.pass_on.ensures.items);
@@ -114,10 +121,23 @@ returns-in_err-on_link-3-clause-gathers g c = λ bytes seed all has.
     let moved = rw stop at (at_end (version_of c.args.task.now) _ _ _ _ so.stream _ c.finish.result so.said (rw c.loop-update.invariant.version at c.finish.ensures.talk)) in
     rw (p.1, p.2, is) (link_stops _ bytes seed _ _ has (g.A.Source.left c.next.new.source) _ port (stops_at_end _ bytes seed _ _ has _ _ _ _ _ _ _ so reads moved))
 
+pub pass_on-requires-clause-room : goal.pass_on-requires-clause-room
+pass_on-requires-clause-room g c =
+    let had = c.loop-update.invariant.seats in
+    let after = rw (c.in_ok-update.ensures, c.in-Some.is) at (c.next.ensures.after (had.sent ++ c.loop-update.feed.waiting) had.after) in
+    let depth : c.next.new.self.depth ≡ c.args.task.now.depth = search rules in
+    followed_room c.args.task.now c.next.new.self c.loop-update.seats _
+    (followed_one c.args.task.now c.loop-update.reader c.next.new.self c.loop-update.seats c.loop-update.feed.waiting c.in-Some.update had after) depth
+
+pub update_all-requires-clause-room : goal.update_all-requires-clause-room
+update_all-requires-clause-room g c =
+    subst (λ (l : List Update). (side : Side) → HaveRoom c.loop-update.seats.seats l side) (sym c.waiting-rest.ensures)
+    (followed_room c.args.task.now c.loop-update.reader c.loop-update.seats c.loop-update.feed.waiting c.loop-update.invariant.seats c.loop-update.invariant.depth)
+
 pub returns-clause-seats : goal.returns-clause-seats
 returns-clause-seats g c =
     let had = c.loop-update.invariant.seats in
-    record { at_blocks = had.at_blocks; stream = had.stream ++ c.waiting-rest.result.now; stand = c.update_all.ensures.stands _ _ _ had.stream had.stand }
+    (had.sent ++ c.waiting-rest.result.now, record { at_blocks = had.stand.at_blocks; stand = c.update_all.ensures.stands _ _ _ had.sent had.stand.stand })
 
 pub returns-clause-gathers : goal.returns-clause-gathers
 returns-clause-gathers g c = λ bytes seed all has.
