@@ -1,0 +1,14 @@
+//! Heavy hitters: a trial of the check and its space.
+#![tactic(auto)]
+
+mod check;
+pub mod laws;
+mod level;
+mod prover;
+mod space;
+
+pub use check::HeavyCheck;
+pub use space::HeavySpace;
+
+#[cfg(test)]
+mod check_tests;
