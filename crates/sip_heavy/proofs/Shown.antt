@@ -10,7 +10,8 @@ use Rattle.std.proofs.lemmas.List.Elements.{filter-append, All-nil, All-cons, Al
 use Rattle.std.proofs.lemmas.List.Sums.{sum_by-cons}
 use Rattle.sip_wire.specs.declared.message.Node.{Node}
 use Rattle.sip_heavy.specs.AcceptsHeavy.{joined}
-use Rattle.sip_heavy.specs.Honest.{shown, shown_pair, left_of, right_of, spots_above, shown_spots, from_on}
+use Rattle.sip_heavy.specs.Honest.{shown, shown_pair}
+use Rattle.sip_heavy.specs.Spots.{left_of, right_of, spots_above, shown_spots, from_on}
 use Rattle.sip_heavy.specs.Rising.{Rises}
 
 -- ---- nodes before an index are not shown after it

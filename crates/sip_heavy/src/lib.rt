@@ -4,11 +4,16 @@
 mod check;
 pub mod laws;
 mod level;
-mod prover;
 mod space;
 
 pub use check::HeavyCheck;
 pub use space::HeavySpace;
+
+// The honest side.
+mod prover;
+mod spots;
+
+pub use prover::{HeavyNode, HeavyProver};
 
 #[cfg(test)]
 mod check_tests;
