@@ -136,7 +136,8 @@ above_index p r x = elim (eqb_tells (x.index % 2) 0) [
   | inr s ↦ rw s.0 (omega (arith, s.1))
 ]
 
-rises_more : (n a b : ℕ) (xs : List Node) → a ≤ b → Rises b n xs → Rises a n xs
+-- an earlier index will do
+pub rises_more : (n a b : ℕ) (xs : List Node) → a ≤ b → Rises b n xs → Rises a n xs
 rises_more n a b [] le rises = tt
 rises_more n a b (x ∷ xs) le rises = (omega (arith, rises.0), rises.1, rises.2)
 

@@ -4,9 +4,12 @@
 -- reply has the children, with a count below T, of the nodes with a count of at least T of the
 -- level above, which the next challenge gives. A child with a count of at least T is not shown
 -- there: the reply before says what it is.
-use Rattle.std.specs.Prelude.{ℕ, ◌+◌, Bool, true, false, ◌||◌, nat_lt, nat_le, ℤ, nat_abs, List, [], ◌∷◌, ◌++◌, length, map, fold, take, if◌then◌else◌}
+use Rattle.std.specs.Prelude.{◌≡◌, ℕ, ◌+◌, ◌^◌, ◌<◌, ◌≤◌, Bool, true, false, ◌||◌, nat_lt, nat_le, ℤ, pos, ◌≤ℤ◌, int_le, nat_abs, List, [], ◌∷◌, ◌++◌, All, length, map, filter, fold, take, if◌then◌else◌}
 use Rattle.std.specs.List.{range_with_len, flat_map}
+use Rattle.sip_vector.specs.declared.update.Entry.{Entry}
+use Rattle.sip_vector.specs.Answers.{entries}
 use Rattle.sip_vector.specs.Pieces.{cut}
+use Rattle.sip_vector.specs.Streams.{int_sum}
 use Rattle.sip_vector.specs.Trees.{Counted, leaf, up3, augtree}
 use Rattle.sip_wire.specs.declared.message.Leaf.{Leaf}
 use Rattle.sip_wire.specs.declared.message.Message.{Message}
@@ -101,8 +104,23 @@ honest_replies version p numbers t challenges =
     map (λ j. honest_reply version p numbers t (take j challenges))
     (range_with_len 0 (length challenges))
 
--- the nodes of all replies, by level
-abbrev pub honest_lists : ℕ → List ℤ → ℕ → List ℕ → List (List Node)
-honest_lists p numbers t challenges =
-    map (λ j. its_nodes (proving p numbers t (take j challenges)))
-    (range_with_len 0 (length challenges))
+-- the nodes of the replies that follow, by level, for these challenges
+abbrev pub honest_lists : ℕ → Proving → List ℕ → List (List Node)
+honest_lists p s [] = []
+honest_lists p s (r ∷ challenges) = its_nodes s ∷ honest_lists p (learnt p s r) challenges
+
+-- The heavy entries of a vector can be found: no number is negative, and their sum, which is n,
+-- reaches the threshold and is itself a residue.
+pub record CanBeFound (p depth t n : ℕ) (numbers : List ℤ) : Type 0 where
+  pub modulus : 0 < p
+  pub levels : 1 ≤ depth
+  pub size : length numbers ≡ 2 ^ depth
+  pub strict : All (λ a. pos 0 ≤ℤ a) numbers
+  pub total : int_sum numbers ≡ pos n
+  pub light : n < p
+  pub some : 1 ≤ t
+  pub reached : t ≤ n
+
+-- the entries of at least t
+abbrev pub heavy_of : ℕ → List ℤ → List Entry
+heavy_of t numbers = filter (λ e. int_le (pos t) e.value) (entries numbers)

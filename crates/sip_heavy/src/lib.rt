@@ -10,6 +10,7 @@ pub use check::HeavyCheck;
 pub use space::HeavySpace;
 
 // The honest side.
+pub mod completeness;
 mod prover;
 mod spots;
 
