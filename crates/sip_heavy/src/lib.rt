@@ -15,6 +15,3 @@ mod prover;
 mod spots;
 
 pub use prover::{HeavyNode, HeavyProver};
-
-#[cfg(test)]
-mod check_tests;
