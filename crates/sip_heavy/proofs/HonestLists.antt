@@ -25,12 +25,12 @@ abbrev at : ℕ → Bool → List Counted → Proving
 at t is_leaf level = record { at_least = t; is_leaf = is_leaf; level = level }
 
 -- what is known of a level: its children that are not sent
-abbrev known_of : ℕ → Bool → List Counted → List Node
+abbrev pub known_of : ℕ → Bool → List Counted → List Node
 known_of t is_leaf level = filter (λ x. not (is_sent t is_leaf x)) (children t 0 level)
 
 -- ---- one level
 
-two_halves : (n : ℕ) → 1 ≤ n → 2 ^ n ≡ 2 ^ (n - 1) + 2 ^ (n - 1)
+pub two_halves : (n : ℕ) → 1 ≤ n → 2 ^ n ≡ 2 ^ (n - 1) + 2 ^ (n - 1)
 two_halves zero some = absurd (omega arith)
 two_halves (suc n) some = let one : suc n - 1 ≡ n = omega arith in rw one (pow-succ' 2 n ∙ (let twice : 2 * 2 ^ n ≡ 2 ^ n + 2 ^ n = omega arith in twice))
 
@@ -43,7 +43,7 @@ some_shown t n (l ∷ h ∷ x ∷ level) size sum reached = absurd (omega (arith
 
 module _ (q : Asked) (j : ℕ) (is_leaf : Bool) (level : List Counted) (first : is_leaf ≡ (j == 0)) (below : j < q.depth)
          (sum : counts level ≡ q.total) (size : length level ≡ width q j) (some : 1 ≤ q.at_least) (reached : q.at_least ≤ q.total) where
-  received_pass : with_nodes q j (known_of q.at_least is_leaf level) [] (shown_from q.at_least is_leaf 0 level) ≡ Ok (shown_from q.at_least is_leaf 0 level)
+  pub received_pass : with_nodes q j (known_of q.at_least is_leaf level) [] (shown_from q.at_least is_leaf 0 level) ≡ Ok (shown_from q.at_least is_leaf 0 level)
   received_pass =
       let t : ℕ = q.at_least in
       let nodes = children t 0 level in
@@ -53,7 +53,7 @@ module _ (q : Asked) (j : ℕ) (is_leaf : Bool) (level : List Counted) (first : 
       let light : list_all (λ x. j == 0 || nat_lt x.count t) (filter (is_sent t is_leaf) nodes) ≡ true = subst (λ b. list_all (λ x. b || nat_lt x.count t) (filter (is_sent t is_leaf) nodes) ≡ true) first (cut_passes (is_sent t is_leaf) nodes) in
       rw (sent_is t is_leaf 0 level) (all_pass q j (known_of t is_leaf level) 0 [] (filter (is_sent t is_leaf) nodes) refl (filter_rises (is_sent t is_leaf) 0 (width q j) nodes rises) (cut_apart (is_sent t is_leaf) 0 (width q j) nodes rises) light (omega (arith, few, long)))
 
-  all_merge : merged (known_of q.at_least is_leaf level) (shown_from q.at_least is_leaf 0 level) ≡ children q.at_least 0 level
+  pub all_merge : merged (known_of q.at_least is_leaf level) (shown_from q.at_least is_leaf 0 level) ≡ children q.at_least 0 level
   all_merge =
       let nodes = children q.at_least 0 level in
       rw (sent_is q.at_least is_leaf 0 level) (merge_back (is_sent q.at_least is_leaf) 0 (width q j) nodes (children_rise q.at_least 0 (width q j) level (omega (arith, size))))
@@ -67,7 +67,7 @@ module _ (q : Asked) (j : ℕ) (is_leaf : Bool) (level : List Counted) (first : 
         rw (s.0, some_shown q.at_least q.total level two sum reached) refl
   ]
 
-  ends_well : end_test q j (children q.at_least 0 level) ≡ Ok tt
+  pub ends_well : end_test q j (children q.at_least 0 level) ≡ Ok tt
   ends_well = rw (children_pair q.at_least 0 level refl, not_bare, children_heavy q.at_least 0 level, children_within q.at_least 0 q.total level (omega (arith, sum))) refl
 
   pub level_passes : level_nodes q j (known_of q.at_least is_leaf level) (shown_from q.at_least is_leaf 0 level) ≡ Ok (children q.at_least 0 level)
@@ -75,10 +75,10 @@ module _ (q : Asked) (j : ℕ) (is_leaf : Bool) (level : List Counted) (first : 
 
 -- ---- all levels
 
-above_long : (p r n : ℕ) (level : List Counted) → length level ≡ 2 ^ suc n → length (up3 p level r) ≡ 2 ^ n
+pub above_long : (p r n : ℕ) (level : List Counted) → length level ≡ 2 ^ suc n → length (up3 p level r) ≡ 2 ^ n
 above_long p r n level size = length-up3 p r level (2 ^ n) (size ∙ pow-succ' 2 n)
 
-half_size : (n : ℕ) (level : List Counted) → length level ≡ 2 ^ suc n → length level ≡ 2 ^ n + 2 ^ n
+pub half_size : (n : ℕ) (level : List Counted) → length level ≡ 2 ^ suc n → length level ≡ 2 ^ n + 2 ^ n
 half_size n level size = size ∙ pow-succ' 2 n ∙ (let twice : 2 * 2 ^ n ≡ 2 ^ n + 2 ^ n = omega arith in twice)
 
 left_levels : (d j n : ℕ) → j + suc n ≡ d → d - j ≡ suc n
@@ -157,11 +157,11 @@ top_is p n [] (x ∷ y ∷ level) size are sum = absurd (omega (arith, size))
 top_is p n (r ∷ challenges) level size are sum =
     top_is p n challenges (up3 p level r) (above_long p r (length challenges) level size) (above_are p r level are) (above_counts p r (2 ^ length challenges) level are (half_size (length challenges) level size) ∙ sum)
 
-none_known : (t : ℕ) (xs : List Node) → filter (λ x. not (is_sent t true x)) xs ≡ []
+pub none_known : (t : ℕ) (xs : List Node) → filter (λ x. not (is_sent t true x)) xs ≡ []
 none_known t [] = refl
 none_known t (x ∷ xs) = none_known t xs
 
-top_passes : (q : Asked) (root : ℕ) (x : Counted) (top : List Counted) → top ≡ x ∷ [] → nat_abs x.count ≡ q.total → x.hash ≡ root → q.at_least ≤ q.total
+pub top_passes : (q : Asked) (root : ℕ) (x : Counted) (top : List Counted) → top ≡ x ∷ [] → nat_abs x.count ≡ q.total → x.hash ≡ root → q.at_least ≤ q.total
     → top_test q root (filter (is_heavy q.at_least) (numbered 0 top)) ≡ Ok tt
 top_passes q root x top is sum same reached =
     let heavy : nat_lt (nat_abs x.count) q.at_least ≡ false = elim (ltb_tells (nat_abs x.count) q.at_least) [ inl u ↦ absurd (omega (arith, u.1, sum, reached)) | inr u ↦ u.0 ] in
@@ -175,13 +175,13 @@ verdict_by p q root challenges replies top known test = rw (known, test) refl
 -- ---- the verdict
 
 module _ (p depth t n : ℕ) (numbers : List ℤ) (can : CanBeFound p depth t n numbers) where
-  abbrev asked : Asked
+  abbrev pub asked : Asked
   asked = record { depth = depth; at_least = t; total = n }
 
-  total_is : counts (map (leaf p) numbers) ≡ n
+  pub total_is : counts (map (leaf p) numbers) ≡ n
   total_is = ap nat_abs (sym (leaves_sum p numbers can.strict) ∙ can.total)
 
-  stated : heavy_entries t (children t 0 (map (leaf p) numbers)) ≡ heavy_of t numbers
+  pub stated : heavy_entries t (children t 0 (map (leaf p) numbers)) ≡ heavy_of t numbers
   stated = sym (heavy_filtered t (children t 0 (map (leaf p) numbers)))
       ∙ ap (heavy_entries t) (sym (heavy_is t (2 ^ (depth - 1)) 0 (map (leaf p) numbers) (length-map numbers (leaf p) ∙ can.size ∙ two_halves depth can.levels)))
       ∙ heavy_filtered t (numbered 0 (map (leaf p) numbers))

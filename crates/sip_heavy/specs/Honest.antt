@@ -6,6 +6,7 @@
 -- there: the reply before says what it is.
 use Rattle.std.specs.Prelude.{◌≡◌, ℕ, ◌+◌, ◌^◌, ◌<◌, ◌≤◌, Bool, true, false, ◌||◌, nat_lt, nat_le, ℤ, pos, ◌≤ℤ◌, int_le, nat_abs, List, [], ◌∷◌, ◌++◌, All, length, map, filter, fold, take, if◌then◌else◌}
 use Rattle.std.specs.List.{range_with_len, flat_map}
+use Rattle.sip_field.specs.Moduli.{m61_modulus}
 use Rattle.sip_vector.specs.declared.update.Entry.{Entry}
 use Rattle.sip_vector.specs.Answers.{entries}
 use Rattle.sip_vector.specs.Pieces.{cut}
@@ -18,6 +19,7 @@ use Rattle.sip_wire.specs.declared.message.Node.{Node}
 use Rattle.sip_wire.specs.declared.version.Version.{Version}
 use Rattle.sip_wire.specs.Spelling.{spelling}
 use Rattle.sip_wire.specs.Table.{most_rows, most_nodes}
+use Rattle.sip_wire.specs.Versions.{deepest}
 use Rattle.sip_heavy.specs.declared.prover.HeavyNode.{HeavyNode}
 
 -- ---- what is shown of a level
@@ -124,3 +126,10 @@ pub record CanBeFound (p depth t n : ℕ) (numbers : List ℤ) : Type 0 where
 -- the entries of at least t
 abbrev pub heavy_of : ℕ → List ℤ → List Entry
 heavy_of t numbers = filter (λ e. int_le (pos t) e.value) (entries numbers)
+
+-- They can be sent: the version has items of the vector's depth, and messages have room for the
+-- field.
+pub record CanBeSent (version : Version) (p depth t n : ℕ) (numbers : List ℤ) : Type 0 where
+  pub found : CanBeFound p depth t n numbers
+  pub elements : p ≤ m61_modulus
+  pub shallow : depth ≤ deepest version
