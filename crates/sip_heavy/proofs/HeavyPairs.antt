@@ -168,7 +168,7 @@ pub count_sum : (a b : ℤ) → a ≡ pos (nat_abs a) → b ≡ pos (nat_abs b) 
 count_sum a b is same = ap (λ z. z +ℤ b) is ∙ ap (λ z. pos (nat_abs a) +ℤ z) same
 
 -- the count of the node above a pair
-abs_sum : (a b : ℤ) → a ≡ pos (nat_abs a) → b ≡ pos (nat_abs b) → nat_abs (a +ℤ b) ≡ nat_abs a + nat_abs b
+pub abs_sum : (a b : ℤ) → a ≡ pos (nat_abs a) → b ≡ pos (nat_abs b) → nat_abs (a +ℤ b) ≡ nat_abs a + nat_abs b
 abs_sum a b is same = ap nat_abs (count_sum a b is same)
 
 abbrev whole : ℕ → ℕ → Counted

@@ -11,7 +11,7 @@ use Rattle.sip_field.specs.Moduli.{m61_modulus}
 use Rattle.sip_vector.specs.Answers.{Answer, pairs}
 use Rattle.sip_vector.specs.Steps.{◌>>=◌}
 use Rattle.sip_vector.specs.Streams.{int_sum}
-use Rattle.sip_vector.specs.Trees.{Counted, leaf, up3, augroot}
+use Rattle.sip_vector.specs.Trees.{Counted, leaf, up3, augtree, augroot}
 use Rattle.sip_wire.specs.declared.message.Node.{Node}
 use Rattle.sip_wire.specs.declared.message.Message.TheVariants as messages
 use Rattle.sip_wire.specs.declared.message.Reason.{Reason}
@@ -21,7 +21,7 @@ use Rattle.sip_wire.specs.Versions.{index_width, deepest}
 use Rattle.sip_replies.specs.Protocols.{Rules}
 use Rattle.sip_replies.specs.Replies.{Fault, in_round, learnt as learnt_by, read_reply, run_from, run, verdict, IsAccepted, IsUnfinished}
 use Rattle.sip_heavy.specs.AcceptsHeavy.{Asked, merged, with_nodes, end_test, nodes_above, top_test, heavy_entries}
-use Rattle.sip_heavy.specs.Honest.{Proving, begun, learnt, proving, its_nodes, shown_from, opening_frames, honest_messages, honest_reply, honest_replies, CanBeFound, CanBeSent, heavy_of}
+use Rattle.sip_heavy.specs.Honest.{Proving, begun, learnt, is_first, proving, its_nodes, shown_from, opening_frames, honest_messages, honest_reply, honest_replies, CanBeFound, CanBeSent, heavy_of}
 use Rattle.sip_heavy.specs.Protocol.{HeavyState, leaf_nodes, ended, heavy_rules, heavy_asked, heavy_protocol}
 use Rattle.sip_heavy.proofs.HeavyPairs.{counts, AreCounts, numbered, children, is_sent, is_heavy, heavy_is, above_is, above_counts, above_are}
 use Rattle.sip_heavy.proofs.HonestFrames.{AreHashed, AreLeaves, IsNodeRow, room_below, shown_rows, above_hashed, leaves_hashed, leaves_are_leaves, leaves_back}
@@ -57,7 +57,13 @@ walk_snoc g front (c ∷ challenges) r =
 
 -- one more challenge leads to the level above
 pub proving-push : (p : ℕ) (numbers : List ℤ) (t : ℕ) (prefix : List ℕ) (r : ℕ) → proving p numbers t (prefix ++ r ∷ []) ≡ learnt p (proving p numbers t prefix) r
-proving-push p numbers t prefix r = fold-append (learnt p) (begun p numbers t) prefix (r ∷ [])
+proving-push p numbers t prefix r =
+    ap (λ (b : Bool). let s : Proving = record { at_least = t; is_leaf = b; level = augtree p numbers (prefix ++ r ∷ []) } in s) (not_first prefix)
+    ∙ ap (λ (l : List Counted). let s : Proving = record { at_least = t; is_leaf = false; level = l } in s) (fold-append (up3 p) (map (leaf p) numbers) prefix (r ∷ []))
+  where
+    not_first : (front : List ℕ) → is_first (front ++ r ∷ []) ≡ false
+    not_first [] = refl
+    not_first (x ∷ front) = refl
 
 -- ---- what is known of a level
 
@@ -118,9 +124,9 @@ abbrev pub replies_of : Version → ℕ → ℕ → Bool → List Counted → Li
 replies_of version p t is_leaf level [] = []
 replies_of version p t is_leaf level (r ∷ challenges) = reply_of version (at t is_leaf level) ∷ replies_of version p t false (up3 p level r) challenges
 
-is_first : (j : ℕ) → true ≡ (j == 0) → j ≡ 0
-is_first zero e = refl
-is_first (suc j) e = absurd (let f = later j in let g : suc j ≡ j + 1 = omega arith in let h : true ≡ (j + 1 == 0) = rw g at e in cc)
+first_is : (j : ℕ) → true ≡ (j == 0) → j ≡ 0
+first_is zero e = refl
+first_is (suc j) e = absurd (let f = later j in let g : suc j ≡ j + 1 = omega arith in let h : true ≡ (j + 1 == 0) = rw g at e in cc)
 
 module _ (version : Version) (p : ℕ) (q : Asked) (some : 0 < p) (elements : p ≤ m61_modulus) (light : q.total < p) (shallow : q.depth ≤ deepest version) (one : 1 ≤ q.at_least) (reached : q.at_least ≤ q.total) where
   abbrev R : Rules HeavyState
@@ -156,7 +162,7 @@ module _ (version : Version) (p : ℕ) (q : Asked) (some : 0 < p) (elements : p 
       → read_reply R (arrives p q.at_least j leaves is_leaf level []) (reply_of version (at q.at_least is_leaf level)) ≡ Ok (came j leaves is_leaf level)
   reply_read j leaves true level less stands =
       let s : HeavyState = arrives p q.at_least j leaves true level [] in
-      leaves_read version p q s (shown j leaves true level less stands) (is_first j stands.first) (shown_fit j leaves true level less stands) (leaves_back q.at_least 0 level (stands.leaves refl))
+      leaves_read version p q s (shown j leaves true level less stands) (first_is j stands.first) (shown_fit j leaves true level less stands) (leaves_back q.at_least 0 level (stands.leaves refl))
       (shown_pass j leaves true level less stands) (shown_end j leaves true level less stands)
       ∙ ap (λ (xs : List Node). Ok (let x : HeavyState = record { level = j + 1; known = xs; received = []; leaves = if j == 0 then shown_from q.at_least true 0 level else leaves } in x)) (shown_merge j leaves true level less stands)
   reply_read j leaves false level less stands =

@@ -59,9 +59,18 @@ begun p numbers t = record { at_least = t; is_leaf = true; level = map (leaf p) 
 abbrev pub learnt : ℕ → Proving → ℕ → Proving
 learnt p s r = record { at_least = s.at_least; is_leaf = false; level = up3 p s.level r }
 
+-- no challenge is revealed
+abbrev pub is_first : List ℕ → Bool
+is_first [] = true
+is_first (r ∷ prefix) = false
+
 -- the level that these challenges lead to
 abbrev pub proving : ℕ → List ℤ → ℕ → List ℕ → Proving
-proving p numbers t prefix = fold (learnt p) (begun p numbers t) prefix
+proving p numbers t prefix = record {
+  at_least = t;
+  is_leaf = is_first prefix;
+  level = augtree p numbers prefix;
+}
 
 -- what is shown of a prover's level
 abbrev pub its_nodes : Proving → List Node

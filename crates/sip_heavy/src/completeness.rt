@@ -1,15 +1,31 @@
 //! Laws: honest replies are accepted, and what they state is the answer. These functions do nothing: each contract is a fact
 //! that holds.
 
-ghost use Rattle.std.specs.Prelude.{◌≡◌, ℕ, ◌≤◌, ℤ, List, [], ◌∷◌, ◌++◌, length, Ok};
+ghost use Rattle.std.specs.Prelude.{◌≡◌, ℕ, ◌≤◌, ℤ, All, IsTrue, List, [], ◌∷◌, ◌++◌, length, Ok};
 ghost use Rattle.sip_vector.specs.Answers.{pairs};
 ghost use Rattle.sip_vector.specs.Streams.{int_sum};
 ghost use Rattle.sip_vector.specs.Trees.{augroot};
+ghost use Rattle.sip_wire.specs.Spelling.{fits};
 ghost use Rattle.sip_wire.specs.declared.version.Version.{Version};
 ghost use Rattle.sip_replies.specs.Replies.{IsAccepted, IsUnfinished};
 ghost use Rattle.sip_heavy.specs.AcceptsHeavy.{verdict};
-ghost use Rattle.sip_heavy.specs.Honest.{begun, honest_lists, honest_reply, honest_replies, heavy_of, CanBeFound, CanBeSent};
+ghost use Rattle.sip_heavy.specs.Honest.{begun, learnt, proving, honest_lists, honest_messages, honest_reply, honest_replies, heavy_of, CanBeFound, CanBeSent};
 ghost use Rattle.sip_heavy.specs.Protocol.{heavy_asked, heavy_protocol, heavy_rules};
+
+/// A prover that learns the challenges one after another comes to the levels of the augmented tree that they lead to.
+pub fn provers_go_up()
+    ensures begun { (p : ℕ) (numbers : List ℤ) (t : ℕ)
+        → proving p numbers t [] ≡ begun p numbers t }
+    ensures learnt { (p : ℕ) (numbers : List ℤ) (t : ℕ) (prefix : List ℕ) (r : ℕ)
+        → proving p numbers t (prefix ++ r ∷ []) ≡ learnt p (proving p numbers t prefix) r }
+{}
+
+/// What can be sent has a spelling: each honest message, in its version.
+pub fn honest_messages_have_spellings()
+    ensures { (version : Version) (p depth t n : ℕ) (numbers : List ℤ)
+        → CanBeSent version p depth t n numbers → (revealed : List ℕ)
+        → All (λ m. IsTrue (fits version m)) (honest_messages p numbers t revealed) }
+{}
 
 /// The honest nodes, level by level, are accepted against the root of the vector, and what they state is its heavy entries.
 pub fn honest_lists_are_accepted()
