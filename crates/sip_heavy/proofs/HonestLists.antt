@@ -133,7 +133,7 @@ heavy_filtered t (x ∷ xs) = elim (leb_tells t x.count) [
       rw (light, s.0) (heavy_filtered t xs)
 ]
 
-heavy_numbers : (p t i : ℕ) (numbers : List ℤ) → All (λ a. pos 0 ≤ℤ a) numbers
+pub heavy_numbers : (p t i : ℕ) (numbers : List ℤ) → All (λ a. pos 0 ≤ℤ a) numbers
     → heavy_entries t (numbered i (map (leaf p) numbers)) ≡ filter (λ e. int_le (pos t) e.value) (map as_entry (enumerate_from i numbers))
 heavy_numbers p t i [] strict = refl
 heavy_numbers p t i (a ∷ numbers) strict =
