@@ -42,7 +42,7 @@ some_shown t n (l ∷ h ∷ []) size sum reached = rw (le-leb t (nat_abs l.count
 some_shown t n (l ∷ h ∷ x ∷ level) size sum reached = absurd (omega (arith, size))
 
 module _ (q : Asked) (j : ℕ) (is_leaf : Bool) (level : List Counted) (first : is_leaf ≡ (j == 0)) (below : j < q.depth)
-         (sum : counts level ≡ q.total) (size : length level ≡ width q j) (some : 1 ≤ q.at_least) (reached : q.at_least ≤ q.total) where
+    (sum : counts level ≡ q.total) (size : length level ≡ width q j) (some : 1 ≤ q.at_least) (reached : q.at_least ≤ q.total) where
   pub received_pass : with_nodes q j (known_of q.at_least is_leaf level) [] (shown_from q.at_least is_leaf 0 level) ≡ Ok (shown_from q.at_least is_leaf 0 level)
   received_pass =
       let t : ℕ = q.at_least in

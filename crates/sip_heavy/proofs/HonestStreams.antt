@@ -70,8 +70,8 @@ none_asked version p hash depth t n numbers challenges strict sum less =
     (by_reach (nat_le t n) (elim (leb_tells t n) [ inl s ↦ absurd (omega (arith, s.1, less)) | inr s ↦ s.0 ]))
   where
     by_reach : (b : Bool) → b ≡ false → elim (if b then None else Some (pairs [])) as (λ (u : Option Answer). Type 0) [
-        | None ↦ IsStated (heavy_protocol (heavy_asked version p hash (pos n) depth t)) challenges [] (pairs (heavy_of t numbers))
-        | Some known ↦ (let none : List (List ℕ) = [] in none ≡ []) × (pairs (heavy_of t numbers) ≡ known)
-      ]
+      | None ↦ IsStated (heavy_protocol (heavy_asked version p hash (pos n) depth t)) challenges [] (pairs (heavy_of t numbers))
+      | Some known ↦ (let none : List (List ℕ) = [] in none ≡ []) × (pairs (heavy_of t numbers) ≡ known)
+    ]
     by_reach true e = absurd cc
     by_reach false e = (refl, ap (λ es. pairs es) (no_heavy p t n numbers strict sum less))

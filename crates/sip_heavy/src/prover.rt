@@ -117,3 +117,6 @@ impl<F: Field> HeavyProver<F> {
         self.levels_left -= 1;
     }
 }
+
+#[cfg(test)]
+mod tests;
