@@ -1,0 +1,40 @@
+//! How many challenges a helper can win by. These functions do nothing: each contract is a fact that holds.
+#![tactic(auto, unfolding(crate::specs::AcceptsHeavy::verdict, crate::specs::AcceptsHeavy::known_after, sip_counts::specs::Counts::sum_below, sip_counts::specs::Counts::count_below, sip_counts::specs::Counts::counted_from, sip_counts::specs::Counts::counted, sip_counts::specs::Strategies::takes_wrong))]
+
+ghost use Rattle.std.specs.Prelude.{◌≡◌, ℕ, ◌*◌, ◌-◌, ◌^◌, ◌<◌, ◌≤◌, ◌≤ℤ◌, true, ℤ, pos, nat_abs, Option, List, [], ◌∷◌, length, All};
+ghost use Rattle.sip_field.specs.Prime.{IsPrime};
+ghost use Rattle.sip_vector.specs.Streams.{int_sum};
+ghost use Rattle.sip_counts.specs.Counts.{counted};
+ghost use Rattle.sip_counts.specs.Strategies.{takes_wrong};
+ghost use Rattle.sip_wire.specs.declared.message.Node.{Node as AnyNode};
+ghost use Rattle.sip_heavy.specs.Counting.{accepts_nodes, are_right};
+ghost use Rattle.sip_heavy.specs.CountedExamples.{misplaced, says_first};
+
+/// Over every prime modulus p, for numbers of which none is negative and whose sum is below p: however a helper replies to
+/// the query for those of at least t, by what was revealed to it, it has another list than theirs accepted at no more than
+/// 3·d·p^(d - 1) of the p^d vectors of challenges. Nothing is asked of the nodes that it sends.
+pub fn few_challenges_for_wrong_leaves()
+    ensures { (p d t : ℕ) (numbers : List ℤ) (strategy : List ℕ → Option (List AnyNode))
+        → IsPrime p → length numbers ≡ 2 ^ d → All (λ a. pos 0 ≤ℤ a) numbers
+        → nat_abs (int_sum numbers) < p
+        → counted p (takes_wrong (accepts_nodes p d t numbers) (are_right t numbers) strategy) d
+        ≤ 3 * d * p ^ (d - 1) }
+{}
+
+/// Over 31, for (3, 1) and the entries of at least 3: the leaves (0, 4) and (1, 0) are accepted at the challenges 1 and 30
+/// alone; the bound is 3.
+pub fn two_challenges_of_31()
+    ensures count { counted 31 (takes_wrong (accepts_nodes 31 1 3 (pos 3 ∷ pos 1 ∷ []))
+        (are_right 3 (pos 3 ∷ pos 1 ∷ [])) says_first) 1 ≡ 2 }
+    ensures one { takes_wrong (accepts_nodes 31 1 3 (pos 3 ∷ pos 1 ∷ []))
+        (are_right 3 (pos 3 ∷ pos 1 ∷ [])) says_first (1 ∷ []) ≡ true }
+    ensures thirty { takes_wrong (accepts_nodes 31 1 3 (pos 3 ∷ pos 1 ∷ []))
+        (are_right 3 (pos 3 ∷ pos 1 ∷ [])) says_first (30 ∷ []) ≡ true }
+{}
+
+/// Over 31, for (0, 0, 4, 0) and the entries of at least 3: the leaves (0, 4) and (1, 0), with an empty node beside theirs,
+/// are accepted where 4·(1 + r_1 + r_2)·(1 - r_2²) is 0, at 91 of the 961 vectors; the bound is 186.
+pub fn ninety_one_of_961()
+    ensures { counted 31 (takes_wrong (accepts_nodes 31 2 3 misplaced) (are_right 3 misplaced)
+        says_first) 2 ≡ 91 }
+{}
