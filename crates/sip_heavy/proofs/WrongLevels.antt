@@ -1,5 +1,5 @@
 -- One level: where some node is wrong, or no node stands at or above a heavy leaf yet, the level above clears that up for at most three challenges.
-use Rattle.std.proofs.Common.{◌≡◌, ℕ, suc, ◌+◌, ◌*◌, ◌/◌, ◌%◌, ◌<◌, ◌≤◌, Bool, true, false, ◌&&◌, ◌||◌, eqb, ltb, leb, List, [], ◌∷◌, ◌++◌, map, refl, ap, sym, ◌∙◌, arith, inl, inr, ◌⊎◌}
+use Rattle.std.proofs.Common.{◌≡◌, ℕ, ◌+◌, ◌*◌, ◌/◌, ◌%◌, ◌<◌, ◌≤◌, Bool, true, false, ◌&&◌, ◌||◌, eqb, ltb, leb, List, [], ◌∷◌, map, refl, ap, sym, ◌∙◌, arith, inl, inr, ◌⊎◌}
 use Rattle.std.specs.Prelude.{nat_lt, nat_le, ◌==◌, if◌then◌else◌}
 use Rattle.std.specs.List.{list_all, list_any}
 use Rattle.std.proofs.lemmas.Bool.{cases_Bool, cases_eq, eqb-true, eq-eqb, ltb-true, leb-true, le-leb, and_parts, and_from, and_cases, or_cases, or_left, or_right, both_ways, false_from_ne_true}
@@ -8,9 +8,9 @@ use Rattle.sip_field.specs.Prime.{IsPrime}
 use Rattle.sip_counts.specs.Counts.{count_below}
 use Rattle.sip_counts.proofs.Sums.{count_below-grows, count_below-none}
 use Rattle.sip_wire.specs.declared.message.Node.{Node}
-use Rattle.sip_heavy.specs.AcceptsHeavy.{are_pairs, pair_counts, joined, nodes_above, nodes_below, nodes_from, merged}
+use Rattle.sip_heavy.specs.AcceptsHeavy.{are_pairs, pair_counts, nodes_above, nodes_below, nodes_from, merged}
 use Rattle.sip_heavy.proofs.Merging.{below_and_from}
-use Rattle.sip_heavy.proofs.WrongNodes.{Spot, is_spot, are_true, spot_above, level_above, pair_at, few_true_above}
+use Rattle.sip_heavy.proofs.WrongNodes.{Spot, is_spot, are_true, level_above, pair_at, few_true_above}
 
 -- ---- what is clear
 
