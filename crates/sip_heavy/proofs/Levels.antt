@@ -11,7 +11,8 @@ use Rattle.sip_vector.specs.Steps.{◌>>=◌, needs}
 use Rattle.sip_wire.specs.declared.message.Node.{Node}
 use Rattle.sip_wire.specs.declared.message.Reason.{Reason}
 use Rattle.sip_wire.specs.declared.message.Reason.TheVariants as reasons
-use Rattle.sip_heavy.specs.AcceptsHeavy.{Asked, Fault, in_round, most_nodes, width, nodes_below, nodes_from, merged, are_pairs, pair_counts, is_empty, nodes_above, is_next, with_nodes, end_test, level_nodes, known_after, heavy_entries, leaves_of}
+use Rattle.sip_replies.specs.Replies.{Fault, in_round}
+use Rattle.sip_heavy.specs.AcceptsHeavy.{Asked, most_nodes, width, nodes_below, nodes_from, merged, are_pairs, pair_counts, is_empty, nodes_above, is_next, with_nodes, end_test, level_nodes, known_after, heavy_entries, leaves_of}
 use Rattle.sip_heavy.specs.Checking.{Kept, Given, HasTaken, AnswersAs, asked_of, passing_all, keeping, folded}
 use Rattle.sip_heavy.specs.Rising.{Rises}
 use Rattle.sip_heavy.proofs.Merging.{all_below, merges_all, merges_none}

@@ -1,16 +1,17 @@
 -- What always holds of a check holds after one step more.
-use Rattle.std.proofs.Common.{◌≡◌, ℕ, ◌+◌, ◌-◌, ◌^◌, ◌<◌, ◌≤◌, List, [], ◌∷◌, length, take, drop, All, None, Bool, true, false, Result, Ok, leb, ◌&&◌, ◌||◌, not, refl, sym, ap, arith, length-append}
+use Rattle.std.proofs.Common.{◌≡◌, ℕ, ◌+◌, ◌-◌, ◌^◌, ◌<◌, ◌≤◌, List, [], ◌∷◌, length, take, drop, All, None, Bool, true, false, Result, Ok, leb, ◌&&◌, ◌||◌, not, refl, sym, ap, arith, inl, inr, length-append}
 use Rattle.std.proofs.lemmas.List.{length-drop}
 use Rattle.std.proofs.lemmas.List.Elements.{All-nil, All-cons, All-take, All-drop, All-append, All-same, All-push}
 use Rattle.std.specs.Prelude.{nat_lt, nat_le, slice_index}
 use Rattle.std.specs.List.{list_all}
 use Rattle.std.proofs.lemmas.Bool.{ltb-true, leb-true, and_parts}
+use Rattle.std.proofs.lemmas.Bool.Decides.{leb_tells}
 use Rattle.sip_vector.specs.Steps.{◌>>=◌, needs}
 use Rattle.sip_vector.specs.declared.update.Entry.{Entry}
 use Rattle.sip_wire.specs.declared.message.Node.{Node}
 use Rattle.sip_wire.specs.declared.message.Reason.{Reason}
 use Rattle.sip_wire.specs.declared.message.Reason.TheVariants as reasons
-use Rattle.sip_heavy.specs.AcceptsHeavy.{Asked, most_nodes, known_after, are_pairs, is_empty, end_test, nodes_below, pair_counts, joined, nodes_above}
+use Rattle.sip_heavy.specs.AcceptsHeavy.{Asked, most_nodes, known_after, are_pairs, is_empty, end_test, nodes_below, pair_counts, joined, nodes_above, heavy_entries}
 use Rattle.sip_heavy.specs.Checking.{Kept, IsSound, HasTaken, nothing, asked_of, passing, passing_all, folded, with_node, node_test}
 use Rattle.sip_heavy.proofs.Merging.{take_below, length_below}
 
@@ -34,6 +35,7 @@ module _ (c : Kept) (sound : IsSound c) (i : ℕ) where
         few = omega (arith, sound.few, sound.passes, length-append c.nodes (nodes_below i rest));
         small_known = sound.small_known;
         small_nodes = All-append (λ x. x.count < 2 ^ 61) c.nodes (nodes_below i rest) sound.small_nodes small_below;
+        shown = sound.shown;
       }
 
 -- one node more, where there is room
@@ -47,6 +49,7 @@ sound_with c x sound small room = record {
   few = omega (arith, sound.few, length-append c.nodes (x ∷ []));
   small_known = sound.small_known;
   small_nodes = All-push (λ y. y.count < 2 ^ 61) c.nodes x sound.small_nodes small;
+  shown = sound.shown;
 }
 
 -- a node that passes has room
@@ -67,6 +70,7 @@ sound_passing_all c sound = record {
   few = omega (arith, sound.few, length-append c.nodes (drop c.passed c.known), length-drop c.passed c.known);
   small_known = sound.small_known;
   small_nodes = All-append (λ x. x.count < 2 ^ 61) c.nodes (drop c.passed c.known) sound.small_nodes (All-drop (λ x. x.count < 2 ^ 61) c.passed c.known sound.small_known);
+  shown = sound.shown;
 }
 
 -- the nodes above are half as many, and light
@@ -92,6 +96,7 @@ sound_folded p c sound left within = record {
   few = omega (arith, sound.few, length_above p (slice_index c.challenges c.level) c.nodes);
   small_known = small_above p (slice_index c.challenges c.level) c.total c.nodes sound.light within;
   small_nodes = All-nil (λ x. x.count < 2 ^ 61);
+  shown = sound.shown;
 }
 
 -- the tests of a level, where the first two pass
@@ -101,8 +106,8 @@ end_says q level nodes w whole heavy within = rw (whole, heavy, within) refl
 
 -- ---- the start
 
-pub sound_nothing : (c : Kept) → c.level ≡ 0 → c.passed ≡ 0 → c.most ≤ c.room → c.total < 2 ^ 61 → c.known ≡ [] → c.nodes ≡ [] → IsSound c
-sound_nothing c level passed fits light known nodes = record {
+pub sound_nothing : (c : Kept) → c.level ≡ 0 → c.passed ≡ 0 → c.most ≤ c.room → c.total < 2 ^ 61 → c.known ≡ [] → c.nodes ≡ [] → c.found ≡ [] → IsSound c
+sound_nothing c level passed fits light known nodes found = record {
   depth = omega (arith, level);
   passes = omega (arith, passed);
   fits = fits;
@@ -110,6 +115,7 @@ sound_nothing c level passed fits light known nodes = record {
   few = rw (known, nodes) (omega arith);
   small_known = rw known (All-nil (λ x. x.count < 2 ^ 61));
   small_nodes = rw nodes (All-nil (λ x. x.count < 2 ^ 61));
+  shown = rw found (omega arith);
 }
 
 pub HasTaken-nothing : (p : ℕ) (q : Asked) (root : ℕ) (challenges : List ℕ) (c : Kept) → asked_of c ≡ q → c.most ≡ most_nodes q → c.challenges ≡ challenges → c.hash ≡ root → c.level ≡ 0
@@ -132,9 +138,17 @@ HasTaken-nothing p q root challenges c asked most at for level known nodes passe
   found = found;
 }
 
+-- the heavy leaves are leaves
+pub length_heavy : (t : ℕ) (xs : List Node) → length (heavy_entries t xs) ≤ length xs
+length_heavy t [] = omega arith
+length_heavy t (x ∷ xs) = elim (leb_tells t x.count) [
+  | inl s ↦ rw s.0 (omega (arith, length_heavy t xs))
+  | inr s ↦ rw s.0 (omega (arith, length_heavy t xs))
+]
+
 -- the heavy leaves make no difference
-pub sound_keeping : (c : Kept) (found : List Entry) → IsSound c → IsSound (record c { found = found })
-sound_keeping c found sound = record {
+pub sound_keeping : (c : Kept) (found : List Entry) → IsSound c → length found ≤ c.most → IsSound (record c { found = found })
+sound_keeping c found sound few = record {
   depth = sound.depth;
   passes = sound.passes;
   fits = sound.fits;
@@ -142,4 +156,5 @@ sound_keeping c found sound = record {
   few = sound.few;
   small_known = sound.small_known;
   small_nodes = sound.small_nodes;
+  shown = few;
 }

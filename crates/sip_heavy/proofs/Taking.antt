@@ -10,8 +10,8 @@ use Rattle.sip_vector.specs.Steps.{◌>>=◌, needs}
 use Rattle.sip_wire.specs.declared.message.Node.{Node}
 use Rattle.sip_wire.specs.declared.message.Reason.{Reason}
 use Rattle.sip_wire.specs.declared.message.Reason.TheVariants as reasons
-use Rattle.sip_heavy.specs.AcceptsHeavy.{Asked, most_nodes, width, nodes_below, nodes_from, is_next, with_nodes}
-use Rattle.sip_heavy.specs.Checking.{Kept, Given, HasTaken, AnswersAs, passing, with_node, node_test, is_above, begins_with}
+use Rattle.sip_heavy.specs.AcceptsHeavy.{Asked, most_nodes, width, nodes_below, nodes_from, is_next, with_nodes, top_test}
+use Rattle.sip_heavy.specs.Checking.{Kept, Given, HasTaken, AnswersAs, asked_of, passing, with_node, node_test, is_above, begins_with}
 use Rattle.sip_heavy.proofs.Merging.{drop_below, length_below, merges_next, known_is, from_passed, passed_below, all_lower}
 
 -- nodes are tested one after another
@@ -143,3 +143,9 @@ module _ (p : ℕ) (q : Asked) (root : ℕ) (challenges : List ℕ) (g : Given) 
       subst (λ (r : Result (List Node) Reason). AnswersAs r (λ all. HasTaken p q root challenges (record g { received = all }) (record new { spent = spent })) (Ok done))
       (sym (node_says ∙ ap (λ (t : Result (Unit {0}) Reason). t >>= λ _. Ok (g.received ++ x ∷ [])) (sym is)))
       (refl, HasTaken-spent p q root challenges (record g { received = g.received ++ x ∷ [] }) new spent (subst (HasTaken p q root challenges (record g { received = g.received ++ x ∷ [] })) (sym same) (HasTaken-node (sym is))))
+
+-- the answer to the end of the check
+pub top_answers : (p : ℕ) (q : Asked) (root : ℕ) (challenges : List ℕ) (g : Given) (c : Kept) → HasTaken p q root challenges g c
+    → (result : Result (Unit {0}) Reason) → result ≡ top_test (asked_of c) c.hash c.known → result ≡ top_test q root c.known
+top_answers p q root challenges g c taken result is =
+    is ∙ ap (λ (a : Asked). top_test a c.hash c.known) taken.asked ∙ ap (λ (h : ℕ). top_test q h c.known) taken.for_root

@@ -1,5 +1,5 @@
--- The check of heavy hitters over lists of nodes by level: what is known of a level is merged with what was received of it,
--- and each pair of siblings becomes a known node of the level above.
+-- The check of heavy hitters over lists of nodes by level: what is known of a level is merged with
+-- what was received of it, and each pair of siblings becomes a known node of the level above.
 use Rattle.std.specs.Prelude.{ℕ, ◌+◌, ◌-◌, ◌*◌, ◌/◌, ◌%◌, ◌^◌, ◌==◌, Bool, true, false, not, ◌&&◌, ◌||◌, nat_lt, nat_le, pos, nat_abs, List, [], ◌∷◌, ◌++◌, length, Result, Ok, Err, is_ok, if◌then◌else◌}
 use Rattle.std.specs.List.{list_all, list_any}
 use Rattle.sip_vector.specs.Steps.{◌>>=◌, needs}
@@ -8,6 +8,7 @@ use Rattle.sip_vector.specs.declared.update.Entry.{Entry}
 use Rattle.sip_wire.specs.declared.message.Node.{Node}
 use Rattle.sip_wire.specs.declared.message.Reason.{Reason}
 use Rattle.sip_wire.specs.declared.message.Reason.TheVariants as reasons
+use Rattle.sip_replies.specs.Replies.{Fault, in_round}
 
 -- ---- a query
 
@@ -39,13 +40,15 @@ nodes_from i (k ∷ ks) = if nat_lt k.index i then nodes_from i ks else (k ∷ k
 -- two rising lists as one
 abbrev pub merged : List Node → List Node → List Node
 merged known [] = known
-merged known (x ∷ received) = nodes_below x.index known ++ x ∷ merged (nodes_from x.index known) received
+merged known (x ∷ received) =
+    nodes_below x.index known ++ x ∷ merged (nodes_from x.index known) received
 
 -- the list is made of pairs of siblings, the left one at an even index
 abbrev pub are_pairs : List Node → Bool
 are_pairs [] = true
 are_pairs (l ∷ []) = false
-are_pairs (l ∷ h ∷ more) = (l.index % 2 == 0) && (h.index == l.index + 1) && are_pairs more
+are_pairs (l ∷ h ∷ more) =
+    (l.index % 2 == 0) && (h.index == l.index + 1) && are_pairs more
 
 -- the counts of the pairs
 abbrev pub pair_counts : List Node → List ℕ
@@ -53,6 +56,11 @@ pair_counts [] = []
 pair_counts (l ∷ []) = []
 pair_counts (l ∷ h ∷ more) = (l.count + h.count) ∷ pair_counts more
 
+-- a leaf as a node: its hash is its count
+abbrev pub leaf_node : ℕ → ℕ → Node
+leaf_node item count = record { index = item; hash = count; count = count }
+
+-- a node's hash and count, as a pair of AugmentedTree
 abbrev pub counted : Node → Counted
 counted x = record { hash = x.hash; count = pos x.count }
 
@@ -73,10 +81,12 @@ nodes_above p r (l ∷ h ∷ more) = joined p r l h ∷ nodes_above p r more
 -- an index is above all received before it, in the level, and not known
 abbrev pub is_next : Asked → ℕ → List Node → List Node → ℕ → Bool
 is_next q level known before i =
-    list_all (λ b. nat_lt b.index i) before && nat_lt i (width q level) && not (list_any (λ k. k.index == i) known)
+    list_all (λ b. nat_lt b.index i) before && nat_lt i (width q level)
+    && not (list_any (λ k. k.index == i) known)
 
 -- the nodes received so far and these, or the first fault among these
-abbrev pub with_nodes : Asked → ℕ → List Node → List Node → List Node → Result (List Node) Reason
+abbrev pub with_nodes : Asked → ℕ → List Node → List Node → List Node
+    → Result (List Node) Reason
 with_nodes q level known before [] = Ok before
 with_nodes q level known before (x ∷ xs) = do
   _ ← needs (is_next q level known before x.index) reasons.BadOrder
@@ -84,6 +94,7 @@ with_nodes q level known before (x ∷ xs) = do
   _ ← needs (level == 0 || nat_lt x.count q.at_least) reasons.HeavySibling
   with_nodes q level known (before ++ x ∷ []) xs
 
+-- the list has no node
 abbrev pub is_empty : List Node → Bool
 is_empty [] = true
 is_empty (x ∷ xs) = false
@@ -91,7 +102,8 @@ is_empty (x ∷ xs) = false
 -- the tests of a level's nodes at its end
 abbrev pub end_test : Asked → ℕ → List Node → Result (Unit {0}) Reason
 end_test q level nodes = do
-  _ ← needs (are_pairs nodes && (nat_lt (level + 1) q.depth || not (is_empty nodes))) reasons.Pairs
+  _ ← needs (are_pairs nodes && (nat_lt (level + 1) q.depth || not (is_empty nodes)))
+      reasons.Pairs
   _ ← needs (list_all (nat_le q.at_least) (pair_counts nodes)) reasons.LightParent
   needs (list_all (λ c. nat_le c q.total) (pair_counts nodes)) reasons.Total
 
@@ -104,17 +116,9 @@ level_nodes q level known received = do
 
 -- ---- all replies
 
--- the number of the reply, or d for the tests after the last one, and why it fails
-pub record Fault : Type 0 where
-  pub round : ℕ
-  pub reason : Reason
-
-abbrev pub in_round : {X : Type 0} → ℕ → Result X Reason → Result X Fault
-in_round j (Ok x) = Ok x
-in_round j (Err reason) = Err (record { round = j; reason = reason })
-
 -- the known nodes after these replies, from a level on whose known nodes are these
-unfoldable pub known_after : ℕ → Asked → ℕ → List Node → List ℕ → List (List Node) → Result (List Node) Fault
+unfoldable pub known_after : ℕ → Asked → ℕ → List Node → List ℕ → List (List Node)
+    → Result (List Node) Fault
 known_after p q level known challenges [] = Ok known
 known_after p q level known [] (received ∷ more) = Ok known
 known_after p q level known (r ∷ challenges) (received ∷ more) = do
@@ -128,16 +132,22 @@ top_test q root (x ∷ more) = do
   _ ← needs (x.count == q.total) reasons.Total
   needs (x.hash == root) reasons.Root
 
+-- the leaves with a count of at least this, as entries
 abbrev pub heavy_entries : ℕ → List Node → List Entry
 heavy_entries t [] = []
-heavy_entries t (x ∷ xs) = if nat_le t x.count then record { index = x.index; value = pos x.count } ∷ heavy_entries t xs else heavy_entries t xs
+heavy_entries t (x ∷ xs) =
+    if nat_le t x.count
+    then record { index = x.index; value = pos x.count } ∷ heavy_entries t xs
+    else heavy_entries t xs
 
+-- what reply 0 states
 abbrev pub leaves_of : List (List Node) → List Node
 leaves_of [] = []
 leaves_of (leaves ∷ more) = leaves
 
 -- what all replies say, or their first fault
-unfoldable pub verdict : ℕ → Asked → ℕ → List ℕ → List (List Node) → Result (List Entry) Fault
+unfoldable pub verdict : ℕ → Asked → ℕ → List ℕ → List (List Node)
+    → Result (List Entry) Fault
 verdict p q root challenges replies = do
   top ← known_after p q 0 [] challenges replies
   _ ← in_round q.depth (top_test q root top)
@@ -145,4 +155,5 @@ verdict p q root challenges replies = do
 
 -- there is a reply for each challenge, and no fault
 abbrev pub accepts : ℕ → Asked → ℕ → List ℕ → List (List Node) → Bool
-accepts p q root challenges replies = (length replies == length challenges) && is_ok (verdict p q root challenges replies)
+accepts p q root challenges replies =
+    (length replies == length challenges) && is_ok (verdict p q root challenges replies)

@@ -2,18 +2,26 @@
 
 ghost use Rattle.std.specs.Prelude.{◌≡◌, ℕ, ◌+◌, ◌-◌, ◌*◌, ◌/◌, ◌%◌, ◌^◌, ◌<◌, ◌≤◌, ◌&&◌, ◌||◌, not, true, false, nat_lt, nat_le, nat_abs, pos, ◌≤ℤ◌, slice_index, List, [], ◌∷◌, ◌++◌, length, drop, is_err, IfOk};
 ghost use Rattle.std.specs.List.{list_all};
-ghost use Rattle.sip_heavy.specs.AcceptsHeavy.{Asked, are_pairs, end_test, is_empty, merged, pair_counts, top_test, with_nodes};
-ghost use Rattle.sip_heavy.specs.Checking.{Kept, Advances, Given, HasTaken, nothing, AnswersAs, asked_of, passing, passing_all, keeping, folded, is_above, begins_with, node_test, with_node};
+ghost use Rattle.sip_heavy.specs.AcceptsHeavy.{Asked, are_pairs, end_test, is_empty, leaf_node, merged, nodes_above, pair_counts, top_test, with_nodes};
+ghost use Rattle.sip_heavy.specs.Checking.{Advances, AnswersAs, Begun, Given, HasTaken, Kept, asked_of, begins_with, folded, is_above, keeping, node_test, nothing, passing, passing_all, with_node};
 
 use crate::level::{are_heavy, are_pairs, are_within, fold_pairs, move_below, put_heavy};
-use sip_wire::{Node, Reason};
 use crate::space::HeavySpace;
 use sip_field::Field;
 use sip_tree::AugRoot;
 use sip_vector::Entry;
+use sip_wire::{Node, Reason};
 use std::marker::Model;
 
-/// The check of the replies to one query for heavy hitters.
+/// The check of the replies to one query for heavy hitters: the entries of at least a threshold.
+///
+/// It keeps the root and its challenges, the nodes of one level, those known of it from the level
+/// below, and what was found at the lowest: three lists in the space that it was lent. None of them
+/// grows beyond its room. Received nodes are merged with the known ones as they come, and at a
+/// level's end its pairs become the known nodes of the level above.
+///
+/// The calls come in the order of a talk: each `leaf`, then `level_end`; for each level above a
+/// `reveal`, each `node`, and `level_end`; at last `finish`. A refusal spends the check.
 #[derive(Drop)]
 pub struct HeavyCheck<F: Field, const CAP: usize> {
     at_least: u64,
@@ -37,7 +45,7 @@ pub struct HeavyCheck<F: Field, const CAP: usize> {
     // How many nodes each list has room for.
     room: usize,
     spent: bool,
-    // The last field, since its size depends on CAP: the check's proofs of the sizes before it are short then.
+    // The last field: its size depends on CAP, and those before it have short proofs so.
     root: AugRoot<F, CAP>,
 }
 
@@ -79,23 +87,48 @@ impl<F: Field, const CAP: usize> Model for HeavyCheck<F, CAP> {
       found = c.found.items;
       room = c.room;
       spent = c.spent;
-    }) × (c.room ≤ vec_capacity c.known) × (c.room ≤ vec_capacity c.nodes) × (c.room ≤ vec_capacity c.found) };
+    }) × (c.room ≤ vec_capacity c.known) × (c.room ≤ vec_capacity c.nodes)
+        × (c.room ≤ vec_capacity c.found) };
 }
 
 impl<F: Field, const CAP: usize> HeavyCheck<F, CAP> {
-    /// The check of the entries of at least `at_least` in the vector that has this root. It takes no memory.
+    /// The check of the entries of at least `at_least` in the vector that has this root, in space
+    /// that is lent for it.
+    ///
+    /// No `times`: one copy of the challenges.
     pub fn start(root: &AugRoot<F, CAP>, at_least: u64, space: HeavySpace) -> HeavyCheck<F, CAP>
         requires least { 1 ≤ at_least }
         requires total { pos at_least ≤ℤ root.now.total }
         requires room { 2 * (nat_abs root.now.total / at_least) ≤ space.nodes }
-        ensures taken { let asked : Asked = record { depth = length root.now.seat; at_least = at_least; total = nat_abs root.now.total } in
+        ensures taken { let asked : Asked = record {
+          depth = length root.now.seat;
+          at_least = at_least;
+          total = nat_abs root.now.total;
+        } in
             HasTaken F.MODULUS asked root.now.hash root.now.seat nothing result }
-        ensures challenges { result.challenges ≡ root.now.seat }
-        ensures level { result.level ≡ 0 }
-        ensures revealed { result.revealed ≡ 0 }
-        ensures spent { result.spent ≡ false }
+        ensures begun { Begun root.now.seat space.nodes result }
     {
-        let total = root.total.unsigned_abs();
+        HeavyCheck::begin(root, at_least, root.total.unsigned_abs(), space)
+    }
+
+    // The same, for a side whose total is taken to be this one. It may be below `at_least`.
+    pub(crate) fn begin(
+        root: &AugRoot<F, CAP>,
+        at_least: u64,
+        total: u64,
+        space: HeavySpace,
+    ) -> HeavyCheck<F, CAP>
+        requires least { 1 ≤ at_least }
+        requires small { total < 2 ^ 61 }
+        requires room { 2 * (total / at_least) ≤ space.nodes }
+        ensures taken { let asked : Asked = record {
+          depth = length root.now.seat;
+          at_least = at_least;
+          total = total;
+        } in
+            HasTaken F.MODULUS asked root.now.hash root.now.seat nothing result }
+        ensures begun { Begun root.now.seat space.nodes result }
+    {
         let HeavySpace {
             nodes: room,
             mut known,
@@ -122,17 +155,21 @@ impl<F: Field, const CAP: usize> HeavyCheck<F, CAP> {
         }
     }
 
-    /// Takes a leaf: `Reason::BadOrder` where its item is not above the one before, or is outside the level, and
-    /// `Reason::TooMany` where the level has no more room.
+    /// Takes a leaf of reply 0: `Reason::BadOrder` where its item is not above the one before or is
+    /// outside the level, and else `Reason::TooMany` where the level has no more room.
+    ///
+    /// No `times`, and constant time.
     pub fn leaf(&mut self, item: u64, count: u64) -> Result<(), Reason>
         requires unspent { self.old.spent ≡ false }
         requires lowest { self.old.level ≡ 0 }
         requires small { count < F.MODULUS }
         ensures answers { (q : Asked) (root : ℕ) (challenges : List ℕ) (g : Given)
             → HasTaken F.MODULUS q root challenges g self.old
-            → AnswersAs (with_nodes q self.old.level self.old.known g.received (record { index = item; hash = count; count = count } ∷ []))
-            (λ all. HasTaken F.MODULUS q root challenges (record g { received = all }) self.new) result }
-        ensures advances { IfOk result (λ _. Advances self.old self.new 0 0) }
+            → AnswersAs (with_nodes q self.old.level self.old.known g.received
+            (leaf_node item count ∷ []))
+            (λ all. HasTaken F.MODULUS q root challenges (record g { received = all }) self.new)
+            result }
+        ensures advances { Advances self.old self.new 0 0 }
         ensures spent { self.new.spent ≡ is_err result }
     {
         let taken = self.take(Node {
@@ -144,43 +181,23 @@ impl<F: Field, const CAP: usize> HeavyCheck<F, CAP> {
         taken
     }
 
-    /// The next challenge.
-    pub fn reveal(&mut self) -> F
-        requires unspent { self.old.spent ≡ false }
-        requires given { self.old.level ≡ self.old.revealed + 1 }
-        requires left { self.old.level < length self.old.challenges }
-        ensures challenge { F.number result ≡ slice_index self.old.challenges (self.old.level - 1) }
-        ensures revealed { self.new ≡ record self.old { revealed = self.old.revealed + 1 } }
-    {
-        self.revealed += 1;
-        self.root.seat.at(self.revealed)
-    }
-
-    /// Gives the space back, with as much room as before.
-    pub fn into_space(self) -> HeavySpace
-        ensures nodes { result.nodes ≡ self.room }
-        ensures found { result.found ≡ self.found }
-    {
-        HeavySpace {
-            nodes: self.room,
-            known: self.known,
-            level: self.nodes,
-            found: self.found,
-        }
-    }
-
-    /// Takes a received node of a level above the lowest: `Reason::BadOrder` where its index is not above the one before, or is
-    /// outside the level or known, `Reason::TooMany` where the level has no more room, `Reason::HeavySibling` where its
-    /// count is at least the threshold.
+    /// Takes a received node of a level above the lowest: `Reason::BadOrder` where its index is not
+    /// above the one before, or is outside the level, or known; else `Reason::TooMany` where the
+    /// level has no more room; else `Reason::HeavySibling` where its count is at least the threshold.
+    ///
+    /// No `times`. Each known node that is below the index and not passed before is passed: over a
+    /// level, the time is linear in its nodes.
     pub fn node(&mut self, index: u64, hash: F, count: u64) -> Result<(), Reason>
         requires unspent { self.old.spent ≡ false }
         requires above { 0 < self.old.level }
         requires small { count < F.MODULUS }
         ensures answers { (q : Asked) (root : ℕ) (challenges : List ℕ) (g : Given)
             → HasTaken F.MODULUS q root challenges g self.old
-            → AnswersAs (with_nodes q self.old.level self.old.known g.received (record { index = index; hash = F.number hash; count = count } ∷ []))
-            (λ all. HasTaken F.MODULUS q root challenges (record g { received = all }) self.new) result }
-        ensures advances { IfOk result (λ _. Advances self.old self.new 0 0) }
+            → AnswersAs (with_nodes q self.old.level self.old.known g.received
+            (record { index = index; hash = F.number hash; count = count } ∷ []))
+            (λ all. HasTaken F.MODULUS q root challenges (record g { received = all }) self.new)
+            result }
+        ensures advances { Advances self.old self.new 0 0 }
         ensures spent { self.new.spent ≡ is_err result }
     {
         let taken = self.take(Node {
@@ -192,16 +209,26 @@ impl<F: Field, const CAP: usize> HeavyCheck<F, CAP> {
         taken
     }
 
-    /// Ends the reply of a level: `Reason::Pairs` where a node has no sibling, or the last level none, `Reason::LightParent`
-    /// where a pair's count is below the threshold, `Reason::Total` where one is above the total. Three `times` a pair.
+    /// Ends the reply of a level: `Reason::Pairs` where a node has no sibling, or the last level no
+    /// node; else `Reason::LightParent` where a pair's count is below the threshold; else
+    /// `Reason::Total` where one is above the total.
+    ///
+    /// Three `times` a pair, which make the known nodes of the level above.
     pub fn level_end(&mut self) -> Result<(), Reason>
         requires unspent { self.old.spent ≡ false }
         requires left { self.old.level < length self.old.challenges }
         ensures answers { (q : Asked) (root : ℕ) (challenges : List ℕ) (g : Given)
             → HasTaken F.MODULUS q root challenges g self.old
             → AnswersAs (end_test q self.old.level (merged self.old.known g.received))
-            (λ _. HasTaken F.MODULUS q root challenges (record { ended = g.ended ++ g.received ∷ []; received = [] }) self.new) result }
+            (λ _. HasTaken F.MODULUS q root challenges
+            (record { ended = g.ended ++ g.received ∷ []; received = [] }) self.new) result }
         ensures advances { IfOk result (λ _. Advances self.old self.new 1 0) }
+        ensures known { (q : Asked) (root : ℕ) (challenges : List ℕ) (g : Given)
+            → HasTaken F.MODULUS q root challenges g self.old
+            → IfOk result (λ _. self.new.known ≡ nodes_above F.MODULUS
+            (slice_index self.old.challenges self.old.level)
+            (merged self.old.known g.received)) }
+        ensures room { self.new.room ≡ self.old.room }
         ensures spent { self.new.spent ≡ is_err result }
     {
         self.pass_all();
@@ -214,18 +241,71 @@ impl<F: Field, const CAP: usize> HeavyCheck<F, CAP> {
         Ok(())
     }
 
-    /// Ends the check: `Reason::Total` where the count of the top node is not the total, and else `Reason::Root` where its hash
-    /// is not the root.
+    /// The next challenge, in the order from `r_1` on: the one that reply `j` waits for is `r_j`.
+    /// The last one, `r_d`, is never revealed.
+    ///
+    /// No `times`.
+    pub fn reveal(&mut self) -> F
+        requires unspent { self.old.spent ≡ false }
+        requires given { self.old.level ≡ self.old.revealed + 1 }
+        requires left { self.old.level < length self.old.challenges }
+        ensures challenge { F.number result ≡ slice_index self.old.challenges self.old.revealed }
+        ensures revealed { self.new ≡ record self.old { revealed = self.old.revealed + 1 } }
+        ensures taken { (q : Asked) (root : ℕ) (challenges : List ℕ) (g : Given)
+            → HasTaken F.MODULUS q root challenges g self.old
+            → HasTaken F.MODULUS q root challenges g self.new }
+    {
+        self.revealed += 1;
+        self.root.seat.at(self.revealed)
+    }
+
+    /// Ends the check: `Reason::Total` where the count of the top node is not the total, and else
+    /// `Reason::Root` where its hash is not the root.
+    ///
+    /// No `times`.
     pub fn finish(&mut self) -> Result<(), Reason>
         requires unspent { self.old.spent ≡ false }
         requires whole { self.old.level ≡ length self.old.challenges }
         ensures answers { (q : Asked) (root : ℕ) (challenges : List ℕ) (g : Given)
-            → HasTaken F.MODULUS q root challenges g self.old → result ≡ top_test q root self.old.known }
-        ensures spent { self.new.spent ≡ is_err result }
+            → HasTaken F.MODULUS q root challenges g self.old
+            → result ≡ top_test q root self.old.known }
+        ensures spent { self.new ≡ record self.old { spent = is_err result } }
+        ensures taken { (q : Asked) (root : ℕ) (challenges : List ℕ) (g : Given)
+            → HasTaken F.MODULUS q root challenges g self.old
+            → HasTaken F.MODULUS q root challenges g self.new }
     {
         let tested = self.test_top();
         self.spent = tested.is_err();
         tested
+    }
+
+    /// Gives the space back, with as much room as it was lent with, and with what was found. Any
+    /// call may stand before this one, also one that refused.
+    pub fn into_space(self) -> HeavySpace
+        ensures nodes { result.nodes ≡ self.room }
+        ensures found { result.found ≡ self.found }
+    {
+        HeavySpace {
+            nodes: self.room,
+            known: self.known,
+            level: self.nodes,
+            found: self.found,
+        }
+    }
+
+    /// Whether a call refused: then only this call and `into_space` may follow.
+    pub fn spent(&self) -> bool
+        ensures { result ≡ self.now.spent }
+    {
+        self.spent
+    }
+
+    // The number of challenges.
+    pub(crate) fn depth(&self) -> usize
+        ensures exact { result ≡ length self.now.challenges }
+        ensures fits { result ≤ CAP }
+    {
+        self.root.seat.depth()
     }
 
     // The tests of the top node.
@@ -244,7 +324,9 @@ impl<F: Field, const CAP: usize> HeavyCheck<F, CAP> {
     fn take(&mut self, node: Node) -> Result<(), Reason>
         requires { node.count < 2 ^ 61 }
         ensures tested { result ≡ node_test (passing self.old node.index) node }
-        ensures taken { IfOk result (λ _. self.new ≡ with_node (passing self.old node.index) node) }
+        ensures taken { IfOk result (λ _. self.new
+            ≡ with_node (passing self.old node.index) node) }
+        ensures advances { Advances self.old self.new 0 0 }
     {
         self.pass_below(node.index);
         self.test_node(node)?;
@@ -271,7 +353,8 @@ impl<F: Field, const CAP: usize> HeavyCheck<F, CAP> {
     // Adds a node, for which there is room.
     fn push(&mut self, node: Node)
         requires small { node.count < 2 ^ 61 }
-        requires room { length self.old.nodes + (length self.old.known - self.old.passed) < self.old.most }
+        requires room { length self.old.nodes + (length self.old.known - self.old.passed)
+            < self.old.most }
         ensures { self.new ≡ with_node self.old node }
     {
         self.nodes.push(node).unwrap();
@@ -280,7 +363,8 @@ impl<F: Field, const CAP: usize> HeavyCheck<F, CAP> {
 
     // Whether an index is in the level and above the last one.
     fn is_in_order(&self, index: u64) -> bool
-        ensures { result ≡ (is_above self.now.last index && nat_lt index (2 ^ (length self.now.challenges - self.now.level))) }
+        ensures { result ≡ (is_above self.now.last index
+            && nat_lt index (2 ^ (length self.now.challenges - self.now.level))) }
     {
         let depth = self.root.seat.depth();
         is_above(self.last, index) && is_within(index, depth - self.level)
@@ -324,7 +408,9 @@ impl<F: Field, const CAP: usize> HeavyCheck<F, CAP> {
     // Whether the level is made of pairs, and has one if it is the last.
     fn is_whole(&self) -> bool
         requires { self.now.level < length self.now.challenges }
-        ensures { result ≡ (are_pairs self.now.nodes && (nat_lt (self.now.level + 1) (length self.now.challenges) || not (is_empty self.now.nodes))) }
+        ensures { result ≡ (are_pairs self.now.nodes
+            && (nat_lt (self.now.level + 1) (length self.now.challenges)
+            || not (is_empty self.now.nodes))) }
     {
         let left = self.root.seat.depth() - self.level;
         are_pairs(&self.nodes) && (left > 1 || !self.nodes.is_empty())
@@ -343,7 +429,8 @@ impl<F: Field, const CAP: usize> HeavyCheck<F, CAP> {
     // Goes to the known nodes of the level above.
     fn fold_level(&mut self)
         requires left { self.old.level < length self.old.challenges }
-        requires within { list_all (λ c. nat_le c self.old.total) (pair_counts self.old.nodes) ≡ true }
+        requires within { list_all (λ c. nat_le c self.old.total) (pair_counts self.old.nodes)
+            ≡ true }
         ensures { self.new ≡ folded F.MODULUS self.old }
     {
         let depth = self.root.seat.depth();
@@ -404,3 +491,6 @@ fn copy_of<F: Field, const CAP: usize>(root: &AugRoot<F, CAP>) -> AugRoot<F, CAP
         total: root.total,
     }
 }
+
+#[cfg(test)]
+mod tests;

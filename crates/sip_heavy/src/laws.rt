@@ -1,40 +1,54 @@
-//! Worked examples that hold by computation. These functions do nothing: each contract is a fact that holds.
+//! Laws of the check of heavy hitters. These functions do nothing: each contract is a fact that holds.
 #![tactic(auto, unfolding(crate::specs::AcceptsHeavy::verdict, crate::specs::AcceptsHeavy::known_after))]
 
 ghost use Rattle.std.specs.Prelude.{Bool as AnyBool};
-ghost use Rattle.std.specs.Prelude.{◌≡◌, ℕ, ◌+◌, ◌/◌, ◌<◌, ◌≤◌, List, [], ◌∷◌, Ok, Err, pos};
+ghost use Rattle.std.specs.Prelude.{◌≡◌, ℕ, ◌+◌, ◌<◌, ◌≤◌, List, [], ◌∷◌, Ok, pos};
 ghost use Rattle.sip_field.specs.Moduli.{m61_modulus};
+ghost use Rattle.sip_vector.specs.Examples.{four};
 ghost use Rattle.sip_vector.specs.Trees.{augroot, up3};
 ghost use Rattle.sip_wire.specs.declared.message.Node.{Node as AnyNode};
 ghost use Rattle.sip_heavy.specs.Rising.{Rises};
 ghost use Rattle.sip_heavy.specs.Honest.{whole_level, spots_above, honest_from, shown_spots};
-ghost use Rattle.sip_heavy.specs.AcceptsHeavy.{merged, nodes_above, known_after, verdict};
-ghost use Rattle.sip_heavy.specs.Examples.{node, leaf, at_least, verdict_of};
+ghost use Rattle.sip_heavy.specs.AcceptsHeavy.{merged, nodes_above};
+ghost use Rattle.sip_heavy.specs.Examples.{fault, leaf, node, pair, verdict_of};
 ghost use Rattle.sip_wire.specs.declared.message.Reason.TheVariants as reasons;
 
-/// The entries of at least 4 of (3, 0, 5, 1): the leaves 2 and 3 become the node 1, and with the received node 0 the root.
+/// The entries of at least 4 of (3, 0, 5, 1), worked out by hand: the leaves 2 and 3 become the node
+/// 1, and with the received node 0 the root.
 pub fn five_is_heavy()
     ensures above { nodes_above m61_modulus 2 (leaf 2 5 ∷ leaf 3 1 ∷ []) ≡ node 1 27 6 ∷ [] }
     ensures merged { merged (node 1 27 6 ∷ []) (node 0 9 3 ∷ []) ≡ node 0 9 3 ∷ node 1 27 6 ∷ [] }
     ensures top { nodes_above m61_modulus 10 (node 0 9 3 ∷ node 1 27 6 ∷ []) ≡ node 0 8739 9 ∷ [] }
-    ensures root { augroot m61_modulus (pos 3 ∷ pos 0 ∷ pos 5 ∷ pos 1 ∷ []) (2 ∷ 10 ∷ []) ≡ record { hash = 8739; count = pos 9 } }
-    ensures said { verdict_of 4 ((leaf 2 5 ∷ leaf 3 1 ∷ []) ∷ (node 0 9 3 ∷ []) ∷ []) ≡ Ok (record { index = 2; value = pos 5 } ∷ []) }
+    ensures root { augroot m61_modulus four (2 ∷ 10 ∷ []) ≡ record { hash = 8739; count = pos 9 } }
+    ensures said { verdict_of 4 (pair ∷ (node 0 9 3 ∷ []) ∷ [])
+        ≡ Ok (record { index = 2; value = pos 5 } ∷ []) }
 {}
 
-/// Each fault with its round.
-pub fn faults_have_their_rounds()
-    ensures alone { verdict_of 4 ((leaf 2 5 ∷ []) ∷ []) ≡ Err (record { round = 0; reason = reasons.Pairs }) }
-    ensures light { verdict_of 4 ((leaf 0 3 ∷ leaf 1 0 ∷ []) ∷ []) ≡ Err (record { round = 0; reason = reasons.LightParent }) }
-    ensures many { verdict_of 4 ((leaf 2 9 ∷ leaf 3 1 ∷ []) ∷ []) ≡ Err (record { round = 0; reason = reasons.Total }) }
-    ensures order { verdict_of 4 ((leaf 3 1 ∷ leaf 2 5 ∷ []) ∷ []) ≡ Err (record { round = 0; reason = reasons.BadOrder }) }
-    ensures heavy { verdict_of 4 ((leaf 2 5 ∷ leaf 3 1 ∷ []) ∷ (node 0 9 4 ∷ []) ∷ []) ≡ Err (record { round = 1; reason = reasons.HeavySibling }) }
-    ensures total { verdict_of 4 ((leaf 2 5 ∷ leaf 3 1 ∷ []) ∷ (node 0 9 2 ∷ []) ∷ []) ≡ Err (record { round = 2; reason = reasons.Total }) }
-    ensures too_many { verdict_of 9 ((leaf 0 3 ∷ leaf 1 0 ∷ leaf 2 5 ∷ []) ∷ []) ≡ Err (record { round = 0; reason = reasons.TooMany }) }
-    ensures known { verdict_of 4 ((leaf 2 5 ∷ leaf 3 1 ∷ []) ∷ (node 1 27 3 ∷ []) ∷ []) ≡ Err (record { round = 1; reason = reasons.BadOrder }) }
-    ensures outside { verdict_of 4 ((leaf 2 5 ∷ leaf 3 1 ∷ []) ∷ (node 2 9 3 ∷ []) ∷ []) ≡ Err (record { round = 1; reason = reasons.BadOrder }) }
-    ensures none { verdict_of 4 ([] ∷ [] ∷ []) ≡ Err (record { round = 1; reason = reasons.Pairs }) }
-    ensures light_first { verdict_of 4 ((leaf 0 9 ∷ leaf 1 9 ∷ leaf 2 1 ∷ leaf 3 1 ∷ []) ∷ []) ≡ Err (record { round = 0; reason = reasons.LightParent }) }
-    ensures root { verdict_of 4 ((leaf 2 5 ∷ leaf 3 1 ∷ []) ∷ (node 0 8 3 ∷ []) ∷ []) ≡ Err (record { round = 2; reason = reasons.Root }) }
+/// Faults of reply 0: a leaf without its sibling, a pair below the threshold, a pair above the total,
+/// leaves that do not rise, a third leaf where there is room for two. A light pair wins over one that
+/// is too heavy before it.
+pub fn faults_of_the_leaves()
+    ensures alone { verdict_of 4 ((leaf 2 5 ∷ []) ∷ []) ≡ fault 0 reasons.Pairs }
+    ensures light { verdict_of 4 ((leaf 0 3 ∷ leaf 1 0 ∷ []) ∷ []) ≡ fault 0 reasons.LightParent }
+    ensures many { verdict_of 4 ((leaf 2 9 ∷ leaf 3 1 ∷ []) ∷ []) ≡ fault 0 reasons.Total }
+    ensures order { verdict_of 4 ((leaf 3 1 ∷ leaf 2 5 ∷ []) ∷ []) ≡ fault 0 reasons.BadOrder }
+    ensures too_many { verdict_of 9 ((leaf 0 3 ∷ leaf 1 0 ∷ leaf 2 5 ∷ []) ∷ [])
+        ≡ fault 0 reasons.TooMany }
+    ensures light_first { verdict_of 4 ((leaf 0 9 ∷ leaf 1 9 ∷ leaf 2 1 ∷ leaf 3 1 ∷ []) ∷ [])
+        ≡ fault 0 reasons.LightParent }
+{}
+
+/// Faults of reply 1, and of the tests behind it: a heavy sibling, a node that is known or outside the
+/// level, no node at all in the last level, a wrong total, a wrong hash.
+pub fn faults_of_the_nodes()
+    ensures heavy { verdict_of 4 (pair ∷ (node 0 9 4 ∷ []) ∷ []) ≡ fault 1 reasons.HeavySibling }
+    ensures known { verdict_of 4 (pair ∷ (node 1 27 3 ∷ []) ∷ []) ≡ fault 1 reasons.BadOrder }
+    ensures outside { verdict_of 4 (pair ∷ (node 2 9 3 ∷ []) ∷ []) ≡ fault 1 reasons.BadOrder }
+    ensures none { verdict_of 4 ([] ∷ [] ∷ []) ≡ fault 1 reasons.Pairs }
+    ensures total { verdict_of 4 (pair ∷ (node 0 9 2 ∷ []) ∷ []) ≡ fault 2 reasons.Total }
+    ensures root { verdict_of 4 (pair ∷ (node 0 8 3 ∷ []) ∷ []) ≡ fault 2 reasons.Root }
+    ensures wrong_leaves { verdict_of 4 ([] ∷ (node 0 9 3 ∷ node 1 0 3 ∷ []) ∷ [])
+        ≡ fault 2 reasons.Total }
 {}
 
 /// The rising list of the nodes that are not zero stands for a whole level: what is folded from it is the level above, and what

@@ -1,15 +1,14 @@
 //! The nodes of a level: what the check does with lists of them.
-
 ghost use Rattle.std.specs.Prelude.{◌≡◌, ℕ, ◌+◌, ◌*◌, ◌/◌, ◌%◌, ◌^◌, ◌<◌, ◌≤◌, ◌++◌, All, length, nat_le, pos, vec_len, vec_capacity};
 ghost use Rattle.std.specs.List.{list_all};
 ghost use Rattle.sip_heavy.specs.AcceptsHeavy as heavy;
 
-use sip_wire::Node;
 use sip_field::Field;
 use sip_vector::Entry;
+use sip_wire::Node;
 
-// Moves the nodes before the first one that is not below an index to the end of a list, which has room for all of them.
-// How many these are.
+// Moves the nodes before the first one that is not below an index to the end of a list, which has
+// room for all of them. How many these are.
 pub(crate) fn move_below(known: &[Node], level: &mut Vec<Node>, index: u64) -> usize
     requires room { vec_len level.old + length known.now ≤ vec_capacity level.old }
     ensures moved { level.new.items ≡ level.old.items ++ heavy.nodes_below index known.now }
@@ -91,7 +90,8 @@ pub(crate) fn joined<F: Field>(r: F, left: Node, right: Node) -> Node
 pub(crate) fn fold_pairs<F: Field>(nodes: &[Node], r: F, above: &mut Vec<Node>)
     requires room { vec_len above.old + length nodes.now ≤ vec_capacity above.old }
     requires counts { All (λ x. x.count < 2 ^ 61) nodes.now }
-    ensures above { above.new.items ≡ above.old.items ++ heavy.nodes_above F.MODULUS (F.number r) nodes.now }
+    ensures above { above.new.items
+        ≡ above.old.items ++ heavy.nodes_above F.MODULUS (F.number r) nodes.now }
     ensures capacity { vec_capacity above.old ≤ vec_capacity above.new }
 {
     let mut rest = nodes;
@@ -101,7 +101,8 @@ pub(crate) fn fold_pairs<F: Field>(nodes: &[Node], r: F, above: &mut Vec<Node>)
     }
 }
 
-// Puts the entries of the nodes with a count of at least this behind others, in a list that has room for them.
+// Puts the entries of the nodes with a count of at least this behind others, in a list that has room
+// for them.
 pub(crate) fn put_heavy(nodes: &[Node], at_least: u64, found: &mut Vec<Entry>)
     requires room { vec_len found.old + length nodes.now ≤ vec_capacity found.old }
     requires small { All (λ x. x.count < 2 ^ 61) nodes.now }

@@ -9,6 +9,3 @@ mod space;
 
 pub use check::HeavyCheck;
 pub use space::HeavySpace;
-
-#[cfg(test)]
-mod check_tests;

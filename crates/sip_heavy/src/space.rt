@@ -1,16 +1,16 @@
 //! Memory for a check, taken before it.
+ghost use Rattle.std.specs.Prelude.{◌≡◌, [], IfOk};
 
-ghost use Rattle.std.specs.Prelude.{◌≡◌, ◌≤◌, [], IfOk};
-
-use sip_wire::Node;
 use sip_field::OutOfMemory;
 use sip_vector::Entry;
+use sip_wire::Node;
 use std::alloc::Global;
 use std::marker::Model;
 
 /// Room for the check of one query after another, and what the last one found.
 ///
-/// It has two lists of nodes and one of entries, each with room for the same number of them. No list ever takes more.
+/// It has two lists of nodes and one of entries, each with room for the same number of them: 24
+/// bytes a node, 16 an entry. A check that it is lent to takes no more, and gives it back.
 #[derive(Drop)]
 pub struct HeavySpace {
     pub(crate) nodes: usize,
@@ -27,13 +27,23 @@ impl Model for HeavySpace {
 
     ghost Value = { Space };
 
-    ghost view = { λ s. record { nodes = s.nodes; known = s.known.items; level = s.level.items; found = s.found.items } };
+    ghost view = { λ s. record {
+      nodes = s.nodes;
+      known = s.known.items;
+      level = s.level.items;
+      found = s.found.items;
+    } };
 
-    ghost invariant = { λ s. (s.nodes ≤ vec_capacity s.known) × (s.nodes ≤ vec_capacity s.level) × (s.nodes ≤ vec_capacity s.found) };
+    ghost invariant = { λ s. (s.nodes ≤ vec_capacity s.known) × (s.nodes ≤ vec_capacity s.level)
+        × (s.nodes ≤ vec_capacity s.found) };
 }
 
 impl HeavySpace {
-    /// Room for this many nodes. It takes all its memory now.
+    /// Room for this many nodes in each list. All memory is taken now.
+    ///
+    /// # Errors
+    ///
+    /// [`OutOfMemory`] where an allocation is refused.
     pub fn reserve(alloc: Global, nodes: usize) -> Result<HeavySpace, OutOfMemory>
         ensures nodes { IfOk result (λ space. space.nodes ≡ nodes) }
         ensures found { IfOk result (λ space. space.found ≡ []) }
@@ -49,7 +59,8 @@ impl HeavySpace {
         })
     }
 
-    /// The leaves of the last check with a count of at least its threshold.
+    /// The leaves of the last check with a count of at least its threshold, in the order in which
+    /// they came. They are an answer only where that check was passed to its end.
     pub fn found(&self) -> &[Entry]
         ensures { result.now ≡ self.now.found }
     {

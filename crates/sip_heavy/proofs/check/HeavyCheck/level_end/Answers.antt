@@ -1,10 +1,10 @@
 use Rattle.std.proofs.Common.{◌≡◌, ◌<◌, Ok, Err, Result, true, length, ap, subst, sym, ◌∙◌, rules}
-use Rattle.std.specs.Prelude.{nat_le}
+use Rattle.std.specs.Prelude.{nat_le, slice_index}
 use Rattle.std.specs.List.{list_all}
 use Rattle.sip_wire.specs.declared.message.Reason.{Reason}
-use Rattle.sip_heavy.specs.AcceptsHeavy.{pair_counts, end_test}
+use Rattle.sip_heavy.specs.AcceptsHeavy.{pair_counts, end_test, nodes_above}
 use Rattle.sip_heavy.specs.Checking.{Kept, asked_of, passing_all, keeping, folded}
-use Rattle.sip_heavy.proofs.Levels.{end_answers, end_refused, ended_within}
+use Rattle.sip_heavy.proofs.Levels.{end_answers, end_refused, ended_within, nodes_are}
 use Rattle.sip_heavy.proofs.check.HeavyCheck.level_end.Goals as goal
 
 pub returns-in-Err-clause-answers : goal.returns-in-Err-clause-answers
@@ -30,3 +30,11 @@ returns-clause-answers g c q root challenges given taken =
     let p = g.F.Field.MODULUS in
     let tested = subst (λ (k : Kept). ◌≡◌ {A = Result (Unit {0}) Reason} (Ok c.in_default.field-0) (end_test (asked_of k) k.level k.nodes)) c.pass_all.ensures c.in_default.ensures in
     end_answers p q root challenges given c.args.self.now taken (Ok tt) c.fold_level.new.self c.requires.left tested (c.fold_level.ensures ∙ ap (folded p) (c.keep_heavy.ensures ∙ ap keeping c.pass_all.ensures))
+
+pub returns-clause-known : goal.returns-clause-known
+returns-clause-known g c q root challenges given taken =
+    let p = g.F.Field.MODULUS in
+    let old = c.args.self.now in
+    let same = c.fold_level.ensures ∙ ap (folded p) (c.keep_heavy.ensures ∙ ap keeping c.pass_all.ensures) in
+    ap (λ (k : Kept). k.known) same
+    ∙ ap (nodes_above p (slice_index old.challenges old.level)) (sym (nodes_are p q root challenges given old taken))
