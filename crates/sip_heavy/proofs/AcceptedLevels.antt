@@ -75,23 +75,23 @@ level_after p [] truth = truth
 level_after p (x ∷ v) truth = level_after p v (level_above p x truth)
 
 -- the first of replies that are all there
-pub record First (o : Option (List Node)) (rest : List (Option (List Node))) (all : List (List Node)) : Type 0 where
-  pub received : List Node
-  pub more : List (List Node)
+pub record First {X : Type 0} (o : Option X) (rest : List (Option X)) (all : List X) : Type 0 where
+  pub received : X
+  pub more : List X
   pub there : o ≡ Some received
   pub others : all_there rest ≡ Some more
   pub same : all ≡ received ∷ more
 
-pub first_there : (o : Option (List Node)) (rest : List (Option (List Node))) (all : List (List Node)) → all_there (o ∷ rest) ≡ Some all → First o rest all
+pub first_there : {X : Type 0} (o : Option X) (rest : List (Option X)) (all : List X) → all_there (o ∷ rest) ≡ Some all → First o rest all
 first_there None rest all is = absurd cc
-first_there (Some received) rest all is = by_rest (all_there rest) refl is
+first_there {X} (Some received) rest all is = by_rest (all_there rest) refl is
   where
-    by_rest : (w : Option (List (List Node))) → all_there rest ≡ w → before received w ≡ Some all → First (Some received) rest all
+    by_rest : (w : Option (List X)) → all_there rest ≡ w → before received w ≡ Some all → First (Some received) rest all
     by_rest None e k = absurd cc
     by_rest (Some more) e k = record { received = received; more = more; there = refl; others = e; same = (let same : all ≡ received ∷ more = cc in same) }
 
-in_round-ok : (level : ℕ) (r : Result (List Node) Reason) (nodes : List Node) → in_round level r ≡ Ok nodes → r ≡ Ok nodes
-in_round-ok level (Ok xs) nodes e = let same : xs ≡ nodes = cc in ap (λ (ys : List Node). Ok ys) same
+pub in_round-ok : {X : Type 0} (level : ℕ) (r : Result X Reason) (nodes : X) → in_round level r ≡ Ok nodes → r ≡ Ok nodes
+in_round-ok {X} level (Ok xs) nodes e = let same : xs ≡ nodes = cc in ap (λ (ys : X). Ok ys) same
 in_round-ok level (Err reason) nodes e = absurd cc
 
 module _ (p root : ℕ) (q : Asked) where

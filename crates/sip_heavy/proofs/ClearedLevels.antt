@@ -32,7 +32,7 @@ node_parts true false light r all e = absurd cc
 node_parts false room light r all e = absurd cc
 
 -- what was received is what is taken
-taken_same : (q : Asked) (level : ℕ) (known before xs all : List Node) → with_nodes q level known before xs ≡ Ok all → before ++ xs ≡ all
+pub taken_same : (q : Asked) (level : ℕ) (known before xs all : List Node) → with_nodes q level known before xs ≡ Ok all → before ++ xs ≡ all
 taken_same q level known before [] all is = let same : before ≡ all = cc in append-nil before ∙ same
 taken_same q level known before (x ∷ xs) all is =
     let parts = node_parts (is_next q level known before x.index) (nat_lt (length known + length before) (most_nodes q)) (level == 0 || nat_lt x.count q.at_least) (with_nodes q level known (before ++ x ∷ []) xs) all is in

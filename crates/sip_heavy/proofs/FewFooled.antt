@@ -27,7 +27,7 @@ use Rattle.sip_heavy.proofs.WrongNodes.{Spot}
 use Rattle.sip_heavy.proofs.WrongLevels.{is_clear}
 use Rattle.sip_heavy.proofs.ClearedLevels.{nodes_of, is_there, nodes_from_reply, clears, few_clear}
 use Rattle.sip_heavy.proofs.AcceptedLevels.{first_there, accepted_clears}
-use Rattle.sip_heavy.proofs.TrueLevels.{true_level, top_hash, top_count}
+use Rattle.sip_heavy.proofs.TrueLevels.{true_level, count_is_sum, top_hash, top_count}
 use Rattle.sip_heavy.proofs.SaidLeaves.{heavy_from, heavy_are, heavy_within, leaves_counts, said_right}
 
 -- ---- the same entries
@@ -50,11 +50,11 @@ same_entries = pointwise_decides entry_decides
 
 -- ---- where a wrong list is taken
 
-ok_parts : {A B E : Type 0} (r : Result A E) (f : A → Result B E) → is_ok (r >>= f) ≡ true → (x : A) × ((r ≡ Ok x) × (is_ok (f x) ≡ true))
+pub ok_parts : {A B E : Type 0} (r : Result A E) (f : A → Result B E) → is_ok (r >>= f) ≡ true → (x : A) × ((r ≡ Ok x) × (is_ok (f x) ≡ true))
 ok_parts (Ok x) f e = (x, (refl, e))
 ok_parts (Err err) f e = absurd cc
 
-round_ok : (j : ℕ) (r : Result (Unit {0}) Reason) (x : Unit {0}) → in_round j r ≡ Ok x → r ≡ Ok tt
+pub round_ok : (j : ℕ) (r : Result (Unit {0}) Reason) (x : Unit {0}) → in_round j r ≡ Ok x → r ≡ Ok tt
 round_ok j (Ok u) x e = refl
 round_ok j (Err reason) x e = absurd cc
 
@@ -148,7 +148,7 @@ module _ (p d t : ℕ) (numbers : List ℤ) (strategy : List ℕ → Option (Lis
   few_fooled = elim (cases_Bool (cleared [])) [
     | inl start ↦ omega (arith, counted-none p d wrongly (never start))
     | inr wrong ↦
-        let bound = few_clear p q prime few d strategy truth (heavy_from t 0 numbers) (heavy_are t truth 0 numbers (leaves_counts p numbers)) wrong in
+        let bound = few_clear p q prime (omega (arith, few, count_is_sum numbers strict)) d strategy truth (heavy_from t 0 numbers) (heavy_are t truth 0 numbers (leaves_counts p numbers)) wrong in
         let grows = counted-grows p wrongly cleared d (λ v e _ h. taken_clears v e h) in
         omega arith
   ]

@@ -8,6 +8,7 @@ use Rattle.std.proofs.lemmas.List.Elements.{recursion_from_All}
 use Rattle.sip_vector.specs.Streams.{int_sum}
 use Rattle.sip_vector.specs.Trees.{Counted, leaf, parent, up3, augroot}
 use Rattle.sip_vector.proofs.TreeCounted.{length-up3}
+use Rattle.sip_heavy.specs.Protocol.{count_of}
 use Rattle.sip_heavy.proofs.WrongNodes.{Spot, spot_above, level_above}
 use Rattle.sip_heavy.proofs.AcceptedLevels.{level_after}
 
@@ -96,6 +97,22 @@ leaves_count p [] all = tt
 leaves_count p (pos n ∷ numbers) all = ((n, refl), leaves_count p numbers all.1)
 leaves_count p (negsuc n ∷ numbers) all = absurd (omega (arith, ints, all.0))
 
+-- where none is negative, the sum isn't
+pub sum_positive : (numbers : List ℤ) → AllByRecursion (λ a. pos 0 ≤ℤ a) numbers → pos 0 ≤ℤ int_sum numbers
+sum_positive [] all = omega (arith, ints)
+sum_positive (a ∷ numbers) all = omega (arith, ints, all.0, sum_positive numbers all.1)
+
+count_positive : (z : ℤ) → pos 0 ≤ℤ z → nat_abs z ≡ count_of z
+count_positive (pos n) at_least = refl
+count_positive (negsuc n) at_least = absurd (omega (arith, ints, at_least))
+
+pub count_is_sum : (numbers : List ℤ) → All (λ a. pos 0 ≤ℤ a) numbers → nat_abs (int_sum numbers) ≡ count_of (int_sum numbers)
+count_is_sum numbers strict = count_positive (int_sum numbers) (sum_positive numbers (recursion_from_All (λ a. pos 0 ≤ℤ a) numbers strict))
+
+-- the count of an augmented root is the sum of the numbers
+pub root_counts_all : (p : ℕ) (numbers : List ℤ) (v : List ℕ) → length numbers ≡ 2 ^ length v → (augroot p numbers v).count ≡ int_sum numbers
+root_counts_all p numbers v long = top_sum p v (map (leaf p) numbers) (length-map numbers (leaf p) ∙ long) ∙ ap int_sum (counts_of_leaves p numbers)
+
 module _ (p : ℕ) (numbers : List ℤ) (v : List ℕ) (long : length numbers ≡ 2 ^ length v) (strict : All (λ a. pos 0 ≤ℤ a) numbers) where
   leaves_long : length (map (leaf p) numbers) ≡ 2 ^ length v
   leaves_long = length-map numbers (leaf p) ∙ long
@@ -107,5 +124,5 @@ module _ (p : ℕ) (numbers : List ℤ) (v : List ℕ) (long : length numbers �
   pub top_hash : (level_after p v (true_level p (map (leaf p) numbers)) 0).0 ≡ (augroot p numbers v).hash
   top_hash = ap (λ (s : Spot). s.0) at_top
 
-  pub top_count : (level_after p v (true_level p (map (leaf p) numbers)) 0).1 ≡ nat_abs (int_sum numbers)
-  top_count = ap (λ (s : Spot). s.1) at_top ∙ ap nat_abs (top_sum p v (map (leaf p) numbers) leaves_long ∙ ap int_sum (counts_of_leaves p numbers))
+  pub top_count : (level_after p v (true_level p (map (leaf p) numbers)) 0).1 ≡ count_of (int_sum numbers)
+  top_count = ap (λ (s : Spot). s.1) at_top ∙ ap nat_abs (root_counts_all p numbers v long) ∙ count_is_sum numbers strict

@@ -71,10 +71,10 @@ module _ (p : ℕ) (prime : IsPrime p) (l h : Node) (s t : Spot) (small : l.coun
       | inl e1 ↦ elim (cases_eq (h.hash % p) (t.0 % p)) [
         | inr f ↦ few_polynomials_agree p 3 2 stated true_ones prime (omega arith) (omega arith) f
         | inl e2 ↦ few_polynomials_agree p 3 3 stated true_ones prime (omega arith) (omega arith) (λ e3.
-              both_ways (is_spot p l s && is_spot p h t) wrong
-              (and_from (is_spot p l s) (is_spot p h t)
-              (and_from (eqb (l.hash % p) (s.0 % p)) (eqb l.count s.1) (eq-eqb (l.hash % p) (s.0 % p) e0) (eq-eqb l.count s.1 (same_below p l.count s.1 (omega arith) (omega arith) e1)))
-              (and_from (eqb (h.hash % p) (t.0 % p)) (eqb h.count t.1) (eq-eqb (h.hash % p) (t.0 % p) e2) (eq-eqb h.count t.1 (same_below p h.count t.1 (omega arith) (omega arith) e3)))))
+            both_ways (is_spot p l s && is_spot p h t) wrong
+            (and_from (is_spot p l s) (is_spot p h t)
+            (and_from (eqb (l.hash % p) (s.0 % p)) (eqb l.count s.1) (eq-eqb (l.hash % p) (s.0 % p) e0) (eq-eqb l.count s.1 (same_below p l.count s.1 (omega arith) (omega arith) e1)))
+            (and_from (eqb (h.hash % p) (t.0 % p)) (eqb h.count t.1) (eq-eqb (h.hash % p) (t.0 % p) e2) (eq-eqb h.count t.1 (same_below p h.count t.1 (omega arith) (omega arith) e3)))))
       ]
     ]
   ]
@@ -117,10 +117,10 @@ few_true_above p prime truth (l ∷ h ∷ more) pairs small wrong =
           omega arith
       | inl e ↦
           let bad : (is_spot p l (truth (2 * m)) && is_spot p h (truth (2 * m + 1))) ≡ false = false_from_ne_true (is_spot p l (truth (2 * m)) && is_spot p h (truth (2 * m + 1))) (λ k.
-              let both = and_parts (is_spot p l (truth (2 * m))) (is_spot p h (truth (2 * m + 1))) k in
-              both_ways (are_true p truth (l ∷ h ∷ more)) wrong
-              (and_from (is_spot p l (truth l.index)) (is_spot p h (truth h.index) && are_true p truth more) (ap (λ i. is_spot p l (truth i)) at.0 ∙ both.0)
-              (and_from (is_spot p h (truth h.index)) (are_true p truth more) (ap (λ i. is_spot p h (truth i)) at.1 ∙ both.1) e))) in
+          let both = and_parts (is_spot p l (truth (2 * m))) (is_spot p h (truth (2 * m + 1))) k in
+          both_ways (are_true p truth (l ∷ h ∷ more)) wrong
+          (and_from (is_spot p l (truth l.index)) (is_spot p h (truth h.index) && are_true p truth more) (ap (λ i. is_spot p l (truth i)) at.0 ∙ both.0)
+          (and_from (is_spot p h (truth h.index)) (are_true p truth more) (ap (λ i. is_spot p h (truth i)) at.1 ∙ both.1) e))) in
           let few = few_joined p prime l h (truth (2 * m)) (truth (2 * m + 1)) (ltb-true (l.count + h.count) p counts.0) bad in
           let grows = count_below-grows p (λ x. here x && there x) here (λ x _ k. (and_parts (here x) (there x) k).0) in
           omega arith

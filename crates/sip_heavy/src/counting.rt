@@ -1,13 +1,21 @@
 //! How many challenges a helper can win by. These functions do nothing: each contract is a fact that holds.
 #![tactic(auto, unfolding(crate::specs::AcceptsHeavy::verdict, crate::specs::AcceptsHeavy::known_after, sip_counts::specs::Counts::sum_below, sip_counts::specs::Counts::count_below, sip_counts::specs::Counts::counted_from, sip_counts::specs::Counts::counted, sip_counts::specs::Strategies::takes_wrong))]
 
-ghost use Rattle.std.specs.Prelude.{◌≡◌, ℕ, ◌*◌, ◌-◌, ◌^◌, ◌<◌, ◌≤◌, ◌≤ℤ◌, true, ℤ, pos, nat_abs, Option, List, [], ◌∷◌, length, All};
+ghost use Rattle.std.specs.Prelude.{◌≡◌, ◌↔◌, ℕ, ◌*◌, ◌-◌, ◌^◌, ◌<◌, ◌≤◌, ◌≤ℤ◌, true, ℤ, pos, nat_abs, Option, Some, List, [], ◌∷◌, length, All};
+ghost use Rattle.sip_field.specs.Moduli.{m61_modulus};
 ghost use Rattle.sip_field.specs.Prime.{IsPrime};
-ghost use Rattle.sip_vector.specs.Streams.{int_sum};
+ghost use Rattle.sip_vector.specs.declared.update.Entry.{Entry as AnyEntry};
+ghost use Rattle.sip_vector.specs.declared.update.Side.{Side as AnySide};
+ghost use Rattle.sip_vector.specs.declared.update.Update.{Update as AnyUpdate};
+ghost use Rattle.sip_vector.specs.Answers.{pairs};
+ghost use Rattle.sip_vector.specs.Streams.{int_sum, vector, IsLegal, IsStrict};
+ghost use Rattle.sip_vector.specs.Trees.{augroot};
 ghost use Rattle.sip_counts.specs.Counts.{counted};
-ghost use Rattle.sip_counts.specs.Strategies.{takes_wrong};
+ghost use Rattle.sip_counts.specs.Strategies.{Strategy, fooled, takes_wrong};
 ghost use Rattle.sip_wire.specs.declared.message.Node.{Node as AnyNode};
-ghost use Rattle.sip_heavy.specs.Counting.{accepts_nodes, are_right};
+ghost use Rattle.sip_wire.specs.declared.version.Version.{Version};
+ghost use Rattle.sip_replies.specs.Replies.{IsAccepted};
+ghost use Rattle.sip_heavy.specs.Counting.{accepts_heavy, accepts_nodes, are_right, entries_at_least, heavy_over, is_right, said, HeavyCountClause};
 ghost use Rattle.sip_heavy.specs.CountedExamples.{misplaced, says_first};
 
 /// Over every prime modulus p, for numbers of which none is negative and whose sum is below p: however a helper replies to
@@ -19,6 +27,51 @@ pub fn few_challenges_for_wrong_leaves()
         → nat_abs (int_sum numbers) < p
         → counted p (takes_wrong (accepts_nodes p d t numbers) (are_right t numbers) strategy) d
         ≤ 3 * d * p ^ (d - 1) }
+{}
+
+/// The same over replies as bytes, for every strategy, made of bytes or not. Where the sum is below t nothing is asked, and no
+/// wrong answer is accepted.
+pub fn few_challenges_for_wrong_replies()
+    ensures { (version : Version) (p d t : ℕ) (numbers : List ℤ) (strategy : Strategy)
+        → IsPrime p → length numbers ≡ 2 ^ d → All (λ a. pos 0 ≤ℤ a) numbers
+        → nat_abs (int_sum numbers) < p
+        → fooled p d (accepts_heavy version p d t numbers) (is_right version p d t numbers) strategy
+        ≤ 3 * d * p ^ (d - 1) }
+{}
+
+/// Modulo 2^61 - 1, for a side of every legal stream with no negative entry, no more is asked: its sum is small enough.
+pub fn few_challenges_for_wrong_answers()
+    ensures { (version : Version) (d t : ℕ) (stream : List AnyUpdate) (side : AnySide)
+        (strategy : Strategy)
+        → IsLegal d stream → IsStrict d stream side
+        → fooled m61_modulus d (accepts_heavy version m61_modulus d t (vector d stream side))
+        (is_right version m61_modulus d t (vector d stream side)) strategy
+        ≤ 3 * d * m61_modulus ^ (d - 1) }
+{}
+
+/// Where entries are written only for replies that are accepted and state them, the promise on helpers that lie holds.
+pub fn accepted_answers_are_counted()
+    ensures { (version : Version) (d t : ℕ) (stream : List AnyUpdate) (side : AnySide)
+        (block : List ℕ) (taken : List (List ℕ)) (written : Option (List AnyEntry))
+        → IsLegal d stream → IsStrict d stream side
+        → ((answer : List AnyEntry) → written ≡ Some answer
+        → IsAccepted (heavy_over version m61_modulus d t (vector d stream side) block)
+        block taken (pairs answer))
+        → HeavyCountClause version d t (vector d stream side) block taken written }
+{}
+
+/// Replies are right exactly if the heavy leaves that they say are the numbers of at least t.
+pub fn right_replies_say_the_heavy_numbers()
+    ensures { (version : Version) (p d t : ℕ) (numbers : List ℤ) (all : List (List ℕ))
+        → (is_right version p d t numbers all ≡ true)
+        ↔ (said version p d t numbers all ≡ entries_at_least t numbers) }
+{}
+
+/// An augmented root counts all of its numbers: so the total that a running root keeps is their sum.
+pub fn augmented_roots_count_all()
+    ensures { (p : ℕ) (numbers : List ℤ) (challenges : List ℕ)
+        → length numbers ≡ 2 ^ length challenges
+        → (augroot p numbers challenges).count ≡ int_sum numbers }
 {}
 
 /// Over 31, for (3, 1) and the entries of at least 3: the leaves (0, 4) and (1, 0) are accepted at the challenges 1 and 30

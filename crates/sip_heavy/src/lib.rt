@@ -2,6 +2,7 @@
 #![tactic(auto)]
 
 mod check;
+pub mod counting;
 pub mod laws;
 mod level;
 mod prover;
