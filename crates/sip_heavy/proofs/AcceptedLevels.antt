@@ -14,7 +14,7 @@ use Rattle.sip_wire.specs.declared.message.Reason.TheVariants as reasons
 use Rattle.sip_heavy.specs.AcceptsHeavy.{Asked, width, merged, nodes_above, level_nodes, known_after, top_test}
 use Rattle.sip_heavy.specs.Rising.{Rises}
 use Rattle.sip_heavy.proofs.Levels.{received_rise, merged_rises, above_rises}
-use Rattle.sip_heavy.proofs.WrongNodes.{Spot, is_spot, are_true, level_above}
+use Rattle.sip_heavy.specs.TrueNodes.{Spot, is_spot, are_true, level_above}
 use Rattle.sip_heavy.proofs.WrongLevels.{has, left_over, halves, is_clear}
 use Rattle.sip_heavy.proofs.ClearedLevels.{two_parts, Passed, level_passed, passed, nodes_of, is_there, clears}
 

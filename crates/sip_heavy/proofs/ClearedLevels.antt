@@ -14,7 +14,7 @@ use Rattle.sip_wire.specs.declared.message.Node.{Node}
 use Rattle.sip_wire.specs.declared.message.Reason.{Reason}
 use Rattle.sip_wire.specs.declared.message.Reason.TheVariants as reasons
 use Rattle.sip_heavy.specs.AcceptsHeavy.{Asked, most_nodes, is_next, is_empty, are_pairs, pair_counts, nodes_above, merged, with_nodes, end_test, level_nodes}
-use Rattle.sip_heavy.proofs.WrongNodes.{Spot, level_above}
+use Rattle.sip_heavy.specs.TrueNodes.{Spot, level_above}
 use Rattle.sip_heavy.proofs.WrongLevels.{left_over, halves, is_clear, are_heavy, heavy_above, ClearsAbove, level_step}
 
 -- ---- a level that passes

@@ -23,7 +23,7 @@ use Rattle.sip_heavy.specs.AcceptsHeavy.{Asked, width, known_after, top_test, he
 use Rattle.sip_heavy.specs.Counting.{asked_over, accepts_nodes, entries_at_least, is_same_entry, are_right}
 use Rattle.sip_heavy.specs.Rising.{Rises}
 use Rattle.sip_heavy.proofs.Levels.{received_rise, merged_none}
-use Rattle.sip_heavy.proofs.WrongNodes.{Spot}
+use Rattle.sip_heavy.specs.TrueNodes.{Spot}
 use Rattle.sip_heavy.proofs.WrongLevels.{is_clear}
 use Rattle.sip_heavy.proofs.ClearedLevels.{nodes_of, is_there, nodes_from_reply, clears, few_clear}
 use Rattle.sip_heavy.proofs.AcceptedLevels.{first_there, accepted_clears}

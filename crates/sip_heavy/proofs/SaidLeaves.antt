@@ -11,7 +11,7 @@ use Rattle.sip_wire.specs.declared.message.Node.{Node}
 use Rattle.sip_heavy.specs.AcceptsHeavy.{heavy_entries}
 use Rattle.sip_heavy.specs.Counting.{entries_at_least}
 use Rattle.sip_heavy.specs.Rising.{Rises}
-use Rattle.sip_heavy.proofs.WrongNodes.{Spot, is_spot, are_true}
+use Rattle.sip_heavy.specs.TrueNodes.{Spot, is_spot, are_true}
 use Rattle.sip_heavy.proofs.WrongLevels.{has, is_clear, are_heavy}
 use Rattle.sip_heavy.proofs.AcceptedLevels.{are_within}
 use Rattle.sip_heavy.proofs.TrueLevels.{true_level}

@@ -9,7 +9,7 @@ use Rattle.sip_vector.specs.Streams.{int_sum}
 use Rattle.sip_vector.specs.Trees.{Counted, leaf, parent, up3, augroot}
 use Rattle.sip_vector.proofs.TreeCounted.{length-up3}
 use Rattle.sip_heavy.specs.Protocol.{count_of}
-use Rattle.sip_heavy.proofs.WrongNodes.{Spot, spot_above, level_above}
+use Rattle.sip_heavy.specs.TrueNodes.{Spot, spot_above, level_above}
 use Rattle.sip_heavy.proofs.AcceptedLevels.{level_after}
 
 abbrev pub spot_of : Counted → Spot

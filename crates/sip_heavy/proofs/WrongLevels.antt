@@ -10,7 +10,8 @@ use Rattle.sip_counts.proofs.Sums.{count_below-grows, count_below-none}
 use Rattle.sip_wire.specs.declared.message.Node.{Node}
 use Rattle.sip_heavy.specs.AcceptsHeavy.{are_pairs, pair_counts, nodes_above, nodes_below, nodes_from, merged}
 use Rattle.sip_heavy.proofs.Merging.{below_and_from}
-use Rattle.sip_heavy.proofs.WrongNodes.{Spot, is_spot, are_true, level_above, pair_at, few_true_above}
+use Rattle.sip_heavy.specs.TrueNodes.{Spot, is_spot, are_true, level_above}
+use Rattle.sip_heavy.proofs.WrongNodes.{pair_at, few_true_above}
 
 -- ---- what is clear
 

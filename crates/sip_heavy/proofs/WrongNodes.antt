@@ -10,29 +10,8 @@ use Rattle.sip_counts.specs.Counts.{count_below}
 use Rattle.sip_counts.proofs.Sums.{count_below-grows, count_below-none}
 use Rattle.sip_counts.proofs.Differences.{few_polynomials_agree}
 use Rattle.sip_wire.specs.declared.message.Node.{Node}
+use Rattle.sip_heavy.specs.TrueNodes.{Spot, is_spot, spot_above, are_true, level_above}
 use Rattle.sip_heavy.specs.AcceptsHeavy.{are_pairs, pair_counts, joined, nodes_above}
-
--- ---- true levels
-
--- a node's hash and count
-abbrev pub Spot : Type 0
-Spot = ℕ × ℕ
-
--- a node has the hash modulo p and the count of the true one
-abbrev pub is_spot : ℕ → Node → Spot → Bool
-is_spot p x s = eqb (x.hash % p) (s.0 % p) && eqb x.count s.1
-
--- the true node above two
-abbrev pub spot_above : ℕ → ℕ → Spot → Spot → Spot
-spot_above p r s t = ((s.0 + s.1 % p * r + t.0 * r ^ 2 + t.1 % p * r ^ 3) % p, s.1 + t.1)
-
--- each of these nodes is the true one at its index
-abbrev pub are_true : ℕ → (ℕ → Spot) → List Node → Bool
-are_true p truth nodes = list_all (λ x. is_spot p x (truth x.index)) nodes
-
--- the true nodes of the level above
-abbrev pub level_above : ℕ → ℕ → (ℕ → Spot) → ℕ → Spot
-level_above p r truth i = spot_above p r (truth (2 * i)) (truth (2 * i + 1))
 
 -- ---- one pair
 

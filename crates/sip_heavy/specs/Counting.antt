@@ -68,7 +68,8 @@ said version p depth t numbers replies =
 -- the replies say the numbers of at least t
 abbrev pub is_right : Version → ℕ → ℕ → ℕ → List ℤ → List (List ℕ) → Bool
 is_right version p depth t numbers replies =
-    pointwise is_same_entry (said version p depth t numbers replies) (entries_at_least t numbers)
+    pointwise is_same_entry (said version p depth t numbers replies)
+    (entries_at_least t numbers)
 
 -- ---- on a call
 

@@ -1,7 +1,8 @@
 //! How many challenges a helper can win by. These functions do nothing: each contract is a fact that holds.
 #![tactic(auto, unfolding(crate::specs::AcceptsHeavy::verdict, crate::specs::AcceptsHeavy::known_after, sip_counts::specs::Counts::sum_below, sip_counts::specs::Counts::count_below, sip_counts::specs::Counts::counted_from, sip_counts::specs::Counts::counted, sip_counts::specs::Strategies::takes_wrong))]
 
-ghost use Rattle.std.specs.Prelude.{◌≡◌, ◌↔◌, ℕ, ◌*◌, ◌-◌, ◌^◌, ◌<◌, ◌≤◌, ◌≤ℤ◌, true, ℤ, pos, nat_abs, Option, Some, List, [], ◌∷◌, length, All};
+ghost use Rattle.std.specs.Prelude.{◌≡◌, ◌↔◌, ℕ, ◌*◌, ◌-◌, ◌^◌, ◌<◌, ◌≤◌, ◌≤ℤ◌, true, false, nat_lt, ℤ, pos, nat_abs, Option, Some, List, [], ◌∷◌, length, All};
+ghost use Rattle.std.specs.List.{list_all};
 ghost use Rattle.sip_field.specs.Moduli.{m61_modulus};
 ghost use Rattle.sip_field.specs.Prime.{IsPrime};
 ghost use Rattle.sip_vector.specs.declared.update.Entry.{Entry as AnyEntry};
@@ -10,13 +11,24 @@ ghost use Rattle.sip_vector.specs.declared.update.Update.{Update as AnyUpdate};
 ghost use Rattle.sip_vector.specs.Answers.{pairs};
 ghost use Rattle.sip_vector.specs.Streams.{int_sum, vector, IsLegal, IsStrict};
 ghost use Rattle.sip_vector.specs.Trees.{augroot};
-ghost use Rattle.sip_counts.specs.Counts.{counted};
+ghost use Rattle.sip_counts.specs.Counts.{count_below, counted};
 ghost use Rattle.sip_counts.specs.Strategies.{Strategy, fooled, takes_wrong};
 ghost use Rattle.sip_wire.specs.declared.message.Node.{Node as AnyNode};
 ghost use Rattle.sip_wire.specs.declared.version.Version.{Version};
 ghost use Rattle.sip_replies.specs.Replies.{IsAccepted};
+ghost use Rattle.sip_heavy.specs.AcceptsHeavy.{are_pairs, nodes_above, pair_counts};
+ghost use Rattle.sip_heavy.specs.TrueNodes.{Spot, are_true, level_above};
 ghost use Rattle.sip_heavy.specs.Counting.{accepts_heavy, accepts_nodes, are_right, entries_at_least, heavy_over, is_right, said, HeavyCountClause};
 ghost use Rattle.sip_heavy.specs.CountedExamples.{misplaced, says_first};
+
+/// Over every prime modulus, nodes in whole pairs, of which one is wrong, have right nodes above them for at most three
+/// challenges. The counts of each pair have to add up to less than p; the true counts may be any.
+pub fn few_challenges_hide_a_wrong_node()
+    ensures { (p : ℕ) (truth : ℕ → Spot) (nodes : List AnyNode)
+        → IsPrime p → are_pairs nodes ≡ true
+        → list_all (λ c. nat_lt c p) (pair_counts nodes) ≡ true → are_true p truth nodes ≡ false
+        → count_below p (λ r. are_true p (level_above p r truth) (nodes_above p r nodes)) ≤ 3 }
+{}
 
 /// Over every prime modulus p, for numbers of which none is negative and whose sum is below p: however a helper replies to
 /// the query for those of at least t, by what was revealed to it, it has another list than theirs accepted at no more than

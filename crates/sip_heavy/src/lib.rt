@@ -10,3 +10,6 @@ mod space;
 
 pub use check::HeavyCheck;
 pub use space::HeavySpace;
+
+#[cfg(test)]
+mod counting_tests;
