@@ -22,7 +22,8 @@ pub record Space : Type 0 where
 
 -- What a check keeps. `level` counts the levels whose end was given, `revealed` the challenges that
 -- were revealed. `known` has the nodes known from the level below, and `nodes` those of the level
--- so far, among them the first `passed` known ones. `room` is how many nodes each list has room for.
+-- so far, among them the first `passed` known ones. `room` is how many nodes each list has room
+-- for.
 pub record Kept : Type 0 where
   pub challenges : List ℕ
   pub hash : ℕ
@@ -163,6 +164,15 @@ abbrev pub AnswersAs : {X : Type 0} → Result X Reason → (X → Type 0)
     → Result (Unit {0}) Reason → Type 0
 AnswersAs (Ok x) HasMore result = (result ≡ Ok tt) × HasMore x
 AnswersAs (Err reason) HasMore result = result ≡ Err reason
+
+-- Nodes of the level that is due were given to a check: it answers as the definition does of them,
+-- behind those received before, whatever the query.
+abbrev pub Takes : ℕ → Kept → List Node → Kept → Result (Unit {0}) Reason → Type 0
+Takes p old xs new result =
+    (q : Asked) (root : ℕ) (challenges : List ℕ) (g : Given)
+    → HasTaken p q root challenges g old
+    → AnswersAs (with_nodes q old.level old.known g.received xs)
+    (λ all. HasTaken p q root challenges (record g { received = all }) new) result
 
 -- The challenges and the room stay as they are, and this many levels and challenges more were given
 -- and revealed.

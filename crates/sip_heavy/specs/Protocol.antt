@@ -1,8 +1,8 @@
 -- The replies to a query for heavy hitters as a protocol of the general talk.
 --
 -- Reply 0 is any number of Leaves frames and a LevelEnd frame; each later reply is any number of
--- Nodes frames and a LevelEnd frame. Where the side's total is below the threshold nothing is asked,
--- and the answer is empty.
+-- Nodes frames and a LevelEnd frame. Where the side's total is below the threshold nothing is
+-- asked, and the answer is empty.
 use Rattle.std.specs.Prelude.{ℕ, ◌+◌, ◌==◌, ℤ, pos, negsuc, Bool, not, nat_le, Some, None, List, [], map, Result, Ok, Err, if◌then◌else◌}
 use Rattle.sip_vector.specs.Answers.{Answer, pairs}
 use Rattle.sip_vector.specs.Steps.{◌>>=◌, needs}
@@ -21,9 +21,10 @@ use Rattle.sip_heavy.specs.AcceptsHeavy.{Asked, leaf_node, merged, nodes_above, 
 
 -- ---- the rules
 
--- What replies state so far. `level` is the one whose nodes come next, and `received` are those that
--- came. `known` are those that are known of it from the level below; behind the end of a level, and
--- until the next challenge is learnt, all nodes of the level that ended. `leaves` is reply 0.
+-- What replies state so far. `level` is the one whose nodes come next, and `received` are those
+-- that came. `known` are those that are known of it from the level below; behind the end of a
+-- level, and until the next challenge is learnt, all nodes of the level that ended. `leaves` is
+-- reply 0.
 pub record HeavyState : Type 0 where
   pub level : ℕ
   pub known : List Node

@@ -1,9 +1,9 @@
 //! The verifier's check of heavy hitters, level by level in reserved space.
 
-ghost use Rattle.std.specs.Prelude.{◌≡◌, ℕ, ◌+◌, ◌-◌, ◌*◌, ◌/◌, ◌%◌, ◌^◌, ◌<◌, ◌≤◌, ◌&&◌, ◌||◌, not, true, false, nat_lt, nat_le, nat_abs, pos, ◌≤ℤ◌, slice_index, List, [], ◌∷◌, ◌++◌, length, drop, is_err, IfOk};
+ghost use Rattle.std.specs.Prelude.{◌≡◌, ℕ, ◌+◌, ◌-◌, ◌*◌, ◌/◌, ◌%◌, ◌^◌, ◌<◌, ◌≤◌, ◌==◌, ◌&&◌, ◌||◌, not, true, false, nat_lt, nat_le, nat_abs, pos, ◌≤ℤ◌, slice_index, List, [], ◌∷◌, ◌++◌, length, drop, is_err, IfOk};
 ghost use Rattle.std.specs.List.{list_all};
-ghost use Rattle.sip_heavy.specs.AcceptsHeavy.{Asked, are_pairs, end_test, is_empty, leaf_node, merged, nodes_above, pair_counts, top_test, with_nodes};
-ghost use Rattle.sip_heavy.specs.Checking.{Advances, AnswersAs, Begun, Given, HasTaken, Kept, asked_of, begins_with, folded, is_above, keeping, node_test, nothing, passing, passing_all, with_node};
+ghost use Rattle.sip_heavy.specs.AcceptsHeavy.{Asked, are_pairs, end_test, is_empty, leaf_node, merged, nodes_above, pair_counts, top_test};
+ghost use Rattle.sip_heavy.specs.Checking.{Advances, AnswersAs, Begun, Given, HasTaken, Kept, asked_of, begins_with, folded, is_above, keeping, node_test, Takes, nothing, passing, passing_all, with_node};
 
 use crate::level::{are_heavy, are_pairs, are_within, fold_pairs, move_below, put_heavy};
 use crate::space::HeavySpace;
@@ -163,12 +163,7 @@ impl<F: Field, const CAP: usize> HeavyCheck<F, CAP> {
         requires unspent { self.old.spent ≡ false }
         requires lowest { self.old.level ≡ 0 }
         requires small { count < F.MODULUS }
-        ensures answers { (q : Asked) (root : ℕ) (challenges : List ℕ) (g : Given)
-            → HasTaken F.MODULUS q root challenges g self.old
-            → AnswersAs (with_nodes q self.old.level self.old.known g.received
-            (leaf_node item count ∷ []))
-            (λ all. HasTaken F.MODULUS q root challenges (record g { received = all }) self.new)
-            result }
+        ensures answers { Takes F.MODULUS self.old (leaf_node item count ∷ []) self.new result }
         ensures advances { Advances self.old self.new 0 0 }
         ensures spent { self.new.spent ≡ is_err result }
     {
@@ -183,7 +178,8 @@ impl<F: Field, const CAP: usize> HeavyCheck<F, CAP> {
 
     /// Takes a received node of a level above the lowest: `Reason::BadOrder` where its index is not
     /// above the one before, or is outside the level, or known; else `Reason::TooMany` where the
-    /// level has no more room; else `Reason::HeavySibling` where its count is at least the threshold.
+    /// level has no more room; else `Reason::HeavySibling` where its count is at least the
+    /// threshold.
     ///
     /// No `times`. Each known node that is below the index and not passed before is passed: over a
     /// level, the time is linear in its nodes.
@@ -191,12 +187,8 @@ impl<F: Field, const CAP: usize> HeavyCheck<F, CAP> {
         requires unspent { self.old.spent ≡ false }
         requires above { 0 < self.old.level }
         requires small { count < F.MODULUS }
-        ensures answers { (q : Asked) (root : ℕ) (challenges : List ℕ) (g : Given)
-            → HasTaken F.MODULUS q root challenges g self.old
-            → AnswersAs (with_nodes q self.old.level self.old.known g.received
-            (record { index = index; hash = F.number hash; count = count } ∷ []))
-            (λ all. HasTaken F.MODULUS q root challenges (record g { received = all }) self.new)
-            result }
+        ensures answers { Takes F.MODULUS self.old
+            (record { index = index; hash = F.number hash; count = count } ∷ []) self.new result }
         ensures advances { Advances self.old self.new 0 0 }
         ensures spent { self.new.spent ≡ is_err result }
     {
@@ -298,6 +290,28 @@ impl<F: Field, const CAP: usize> HeavyCheck<F, CAP> {
         ensures { result ≡ self.now.spent }
     {
         self.spent
+    }
+
+    // Whether the total reaches the threshold.
+    pub(crate) fn reaches(&self) -> bool
+        ensures { result ≡ nat_le self.now.at_least self.now.total }
+    {
+        self.total >= self.at_least
+    }
+
+    // Whether the nodes that come next are leaves.
+    pub(crate) fn is_lowest(&self) -> bool
+        ensures { result ≡ (self.now.level == 0) }
+    {
+        self.level == 0
+    }
+
+    // What was found.
+    pub(crate) fn found(&self) -> &[Entry]
+        ensures found { result.now ≡ self.now.found }
+        ensures few { length self.now.found ≤ self.now.most }
+    {
+        &self.found
     }
 
     // The number of challenges.

@@ -1,4 +1,5 @@
-//! Laws of the check of heavy hitters. These functions do nothing: each contract is a fact that holds.
+//! Laws of the check of heavy hitters. These functions do nothing: each contract is a fact that
+//! holds.
 #![tactic(auto, unfolding(crate::specs::AcceptsHeavy::verdict, crate::specs::AcceptsHeavy::known_after))]
 
 ghost use Rattle.std.specs.Prelude.{Bool as AnyBool};
@@ -13,8 +14,8 @@ ghost use Rattle.sip_heavy.specs.AcceptsHeavy.{merged, nodes_above};
 ghost use Rattle.sip_heavy.specs.Examples.{fault, leaf, node, pair, verdict_of};
 ghost use Rattle.sip_wire.specs.declared.message.Reason.TheVariants as reasons;
 
-/// The entries of at least 4 of (3, 0, 5, 1), worked out by hand: the leaves 2 and 3 become the node
-/// 1, and with the received node 0 the root.
+/// The entries of at least 4 of (3, 0, 5, 1), worked out by hand: the leaves 2 and 3 become the
+/// node 1, and with the received node 0 the root.
 pub fn five_is_heavy()
     ensures above { nodes_above m61_modulus 2 (leaf 2 5 ∷ leaf 3 1 ∷ []) ≡ node 1 27 6 ∷ [] }
     ensures merged { merged (node 1 27 6 ∷ []) (node 0 9 3 ∷ []) ≡ node 0 9 3 ∷ node 1 27 6 ∷ [] }
@@ -24,9 +25,9 @@ pub fn five_is_heavy()
         ≡ Ok (record { index = 2; value = pos 5 } ∷ []) }
 {}
 
-/// Faults of reply 0: a leaf without its sibling, a pair below the threshold, a pair above the total,
-/// leaves that do not rise, a third leaf where there is room for two. A light pair wins over one that
-/// is too heavy before it.
+/// Faults of reply 0: a leaf without its sibling, a pair below the threshold, a pair above the
+/// total, leaves that do not rise, a third leaf where there is room for two. A light pair wins over
+/// one that is too heavy before it.
 pub fn faults_of_the_leaves()
     ensures alone { verdict_of 4 ((leaf 2 5 ∷ []) ∷ []) ≡ fault 0 reasons.Pairs }
     ensures light { verdict_of 4 ((leaf 0 3 ∷ leaf 1 0 ∷ []) ∷ []) ≡ fault 0 reasons.LightParent }
@@ -38,8 +39,8 @@ pub fn faults_of_the_leaves()
         ≡ fault 0 reasons.LightParent }
 {}
 
-/// Faults of reply 1, and of the tests behind it: a heavy sibling, a node that is known or outside the
-/// level, no node at all in the last level, a wrong total, a wrong hash.
+/// Faults of reply 1, and of the tests behind it: a heavy sibling, a node that is known or outside
+/// the level, no node at all in the last level, a wrong total, a wrong hash.
 pub fn faults_of_the_nodes()
     ensures heavy { verdict_of 4 (pair ∷ (node 0 9 4 ∷ []) ∷ []) ≡ fault 1 reasons.HeavySibling }
     ensures known { verdict_of 4 (pair ∷ (node 1 27 3 ∷ []) ∷ []) ≡ fault 1 reasons.BadOrder }
@@ -51,8 +52,8 @@ pub fn faults_of_the_nodes()
         ≡ fault 2 reasons.Total }
 {}
 
-/// The rising list of the nodes that are not zero stands for a whole level: what is folded from it is the level above, and what
-/// is shown of it is what is shown of the level.
+/// The rising list of the nodes that are not zero stands for a whole level: what is folded from it
+/// is the level above, and what is shown of it is what is shown of the level.
 pub fn lists_stand_for_levels()
     ensures above { (p r m : ℕ) (spots : List AnyNode) → 0 < p → Rises 0 (m + m) spots
         → up3 p (whole_level (m + m) 0 spots) r ≡ whole_level m 0 (spots_above p r spots) }

@@ -101,8 +101,8 @@ pub(crate) fn fold_pairs<F: Field>(nodes: &[Node], r: F, above: &mut Vec<Node>)
     }
 }
 
-// Puts the entries of the nodes with a count of at least this behind others, in a list that has room
-// for them.
+// Puts the entries of the nodes with a count of at least this behind others, in a list that has
+// room for them.
 pub(crate) fn put_heavy(nodes: &[Node], at_least: u64, found: &mut Vec<Entry>)
     requires room { vec_len found.old + length nodes.now ≤ vec_capacity found.old }
     requires small { All (λ x. x.count < 2 ^ 61) nodes.now }

@@ -1,6 +1,7 @@
 //! Heavy hitters: a trial of the check and its space.
 #![tactic(auto)]
 
+mod asking;
 mod check;
 pub mod counting;
 pub mod laws;
@@ -8,6 +9,7 @@ mod level;
 mod prover;
 mod space;
 
+pub use asking::HeavyAsking;
 pub use check::HeavyCheck;
 pub use space::HeavySpace;
 

@@ -6,8 +6,8 @@ ghost use Rattle.sip_heavy.specs.AcceptsHeavy as heavy;
 ghost use Rattle.sip_heavy.specs.Honest as honest;
 
 use crate::level::joined;
-use sip_field::Field;
 use sip_wire::Node;
+use sip_field::Field;
 use std::marker::{Model, PhantomData};
 
 // Two siblings of which one at least is not zero, and how many nodes of a list they are.

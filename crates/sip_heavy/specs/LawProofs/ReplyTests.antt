@@ -56,15 +56,18 @@ by_nodes : (q : Asked) (level : ℕ) (known before xs : List Node)
 by_nodes q level known before [] = by_ok before
 by_nodes q level known before (x ∷ xs) =
     by_needs (is_next q level known before x.index) reasons.BadOrder _ (λ c. absurd cc)
-    (by_needs (nat_lt (length known + length before) (most_nodes q)) reasons.TooMany _ (λ c. absurd cc)
+    (by_needs (nat_lt (length known + length before) (most_nodes q)) reasons.TooMany _
+    (λ c. absurd cc)
     (by_needs (level == 0 || nat_lt x.count q.at_least) reasons.HeavySibling _ (λ c. absurd cc)
     (by_nodes q level known (before ++ x ∷ []) xs)))
 
 -- those of a level's end
 by_end : (q : Asked) (level : ℕ) (nodes : List Node) → NotClosed (end_test q level nodes)
 by_end q level nodes =
-    by_needs (are_pairs nodes && (nat_lt (level + 1) q.depth || not (is_empty nodes))) reasons.Pairs _ (λ c. absurd cc)
-    (by_needs (list_all (nat_le q.at_least) (pair_counts nodes)) reasons.LightParent _ (λ c. absurd cc)
+    by_needs (are_pairs nodes && (nat_lt (level + 1) q.depth || not (is_empty nodes)))
+    reasons.Pairs _ (λ c. absurd cc)
+    (by_needs (list_all (nat_le q.at_least) (pair_counts nodes)) reasons.LightParent _
+    (λ c. absurd cc)
     (by_test (list_all (λ c. nat_le c q.total) (pair_counts nodes)) reasons.Total (λ c. absurd cc)))
 
 -- those of a frame's nodes
@@ -78,7 +81,8 @@ by_rows asked s xs =
 pub heavy_tests : (asked : HeavyAsked) (s : HeavyState) (m : Message) (reason : Reason)
     → (heavy_protocol asked).rules.step s m ≡ Err reason → reason ≢ reasons.Closed
 heavy_tests asked s (messages.Leaves v) =
-    by_needs (s.level == 0) reasons.BadKind _ (λ c. absurd cc) (by_rows asked s (leaf_nodes v.items))
+    by_needs (s.level == 0) reasons.BadKind _ (λ c. absurd cc)
+    (by_rows asked s (leaf_nodes v.items))
 heavy_tests asked s (messages.Nodes v) =
     by_needs (not (s.level == 0)) reasons.BadKind _ (λ c. absurd cc) (by_rows asked s v.items)
 heavy_tests asked s messages.LevelEnd =
