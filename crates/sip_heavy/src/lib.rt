@@ -3,6 +3,7 @@
 
 mod asking;
 mod check;
+pub mod counting;
 pub mod laws;
 mod level;
 mod space;
@@ -17,3 +18,5 @@ mod prover;
 mod spots;
 
 pub use prover::{HeavyNode, HeavyProver};
+#[cfg(test)]
+mod counting_tests;
