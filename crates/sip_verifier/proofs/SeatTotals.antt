@@ -1,5 +1,5 @@
 -- The sum that a seat for heavy hitters keeps is the total of its side, and the updates of a legal stream keep it within the greatest weight.
-use Rattle.std.proofs.Common.{◌≡◌, ℕ, zero, suc, ◌+◌, ◌-◌, ◌*◌, Bool, true, false, ◌^◌, ◌<◌, ◌≤◌, ℤ, pos, ◌+ℤ◌, nat_abs, List, [], ◌∷◌, ◌++◌, length, map, get_or, take, fold, sum_by, filter, All, refl, sym, ap, ◌∙◌, subst, arith}
+use Rattle.std.proofs.Common.{◌≡◌, ℕ, zero, suc, ◌+◌, ◌-◌, ◌*◌, Bool, true, false, true≢false, ◌^◌, ◌<◌, ◌≤◌, ℤ, pos, ◌+ℤ◌, nat_abs, List, [], ◌∷◌, ◌++◌, length, map, get_or, take, fold, sum_by, filter, All, refl, sym, ap, ◌∙◌, subst, arith}
 use Rattle.std.specs.Prelude.{IsTrue}
 use Rattle.std.proofs.Math.Nat.{pow-succ'}
 use Rattle.std.specs.List.{list_all}
@@ -133,14 +133,15 @@ never_heavy Inner side is = refl
 never_heavy (Heavy own least) side is = absurd cc
 never_heavy (Share own num den) side is = absurd cc
 
-none_heavy : (seats : List Seated) (updates : List Update) (side : Side) → IsTrue (list_all not_heavy (map (λ (s : Seated). s.query) seats)) → HaveRoom seats updates side
-none_heavy [] updates side none = All-nil (λ (s : Seated). IsTrue (is_heavy_of s.query side) → HasRoom s.running (of_side updates side))
-none_heavy (s ∷ seats) updates side none =
+none_heavy : (seats : List Seated) (side : Side) → IsTrue (list_all not_heavy (map (λ (s : Seated). s.query) seats)) → All (λ s. is_heavy_of s.query side ≡ false) seats
+none_heavy [] side none = All-nil (λ (s : Seated). is_heavy_of s.query side ≡ false)
+none_heavy (s ∷ seats) side none =
     let both = and_parts (not_heavy s.query) (list_all not_heavy (map (λ (x : Seated). x.query) seats)) none in
-    All-cons (λ (x : Seated). IsTrue (is_heavy_of x.query side) → HasRoom x.running (of_side updates side)) s seats
-    (λ heavy. absurd (let never = never_heavy s.query side both.0 in cc)) (none_heavy seats updates side both.1)
+    All-cons (λ (x : Seated). is_heavy_of x.query side ≡ false) s seats (never_heavy s.query side both.0) (none_heavy seats side both.1)
 
-pub no_heavy_room : (depth : ℕ) (queries : List Query) (blocks : List (List ℕ)) (stream updates : List Update) (s : Seating)
-    → AreSeats depth queries blocks stream s → IsTrue (list_all not_heavy queries) → (side : Side) → HaveRoom s.seats updates side
-no_heavy_room depth queries blocks stream updates s are none side =
-    none_heavy s.seats updates side (subst (λ l. IsTrue (list_all not_heavy l)) (sym are.asked) none)
+pub no_heavy_seat : (depth : ℕ) (queries : List Query) (blocks : List (List ℕ)) (stream : List Update) (s : Seating)
+    → AreSeats depth queries blocks stream s → IsTrue (list_all not_heavy queries)
+    → (side : Side) (k : ℕ) (d : Seated) → k < length s.seats → IsTrue (is_heavy_of (get_or s.seats k d).query side) → ⊥
+no_heavy_seat depth queries blocks stream s are none side k d lt heavy =
+    let never = none_heavy s.seats side (subst (λ l. IsTrue (list_all not_heavy l)) (sym are.asked) none) k d lt in
+    true≢false (sym heavy ∙ never)

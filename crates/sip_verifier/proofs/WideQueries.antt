@@ -14,7 +14,7 @@ few_narrow version depth stream (Sub lo hi) few = refl
 few_narrow version depth stream (Range side lo hi) few = refl
 few_narrow version depth stream (F2 side) few = refl
 few_narrow version depth stream Inner few = refl
-few_narrow version depth stream (Heavy side at_least) few = absurd few
+few_narrow version depth stream (Heavy side at_least) few = few.1
 few_narrow version depth stream (Share side num den) few = absurd few
 
 pub none_wide : (version : Version) (depth : ℕ) (stream : List Update) (queries : List Query) → All (HasFewEntries version depth stream) queries → first_wide stream queries ≡ None
