@@ -84,6 +84,8 @@ impl Check for HeavyAsking {
 
     ghost room = { λ c. c.most - (length c.nodes + (length c.known - c.passed)) };
 
+    ghost lent = { λ c. c.room };
+
     ghost stands = { HeavyStands };
 
     fn depth(&self) -> usize {

@@ -83,6 +83,8 @@ impl<'a> Check for SumCheck<'a> {
 
     ghost room = { λ c. if is_none c.claim then 1 else 0 };
 
+    ghost lent = { λ c. 0 };
+
     ghost stands = { λ asked s c places. SumStands asked s c.value c.claim
         (m61_number c.expected) (m61_number c.c0) (m61_number c.c1) (m61_number c.c2) };
 

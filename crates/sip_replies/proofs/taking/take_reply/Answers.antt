@@ -15,6 +15,7 @@ loop-message-init g c = record {
   entered = λ asked s same stands. Entered-none (g.C.Check.protocol asked).rules s (g.L.Sink.talk c.args.link.now) (g.K.Sink.talk c.args.keep.now) (λ t. g.C.Check.stands asked t c.args.check.now c.args.places.now) stands;
   stood = λ asked s stands. (s, stands);
   phase = refl;
+  lent = refl;
   places = refl;
   link = Lasts-refl g.L.Sink.faults g.L.Sink.wants g.L.Sink.is_sure c.args.link.now;
   keep = Lasts-refl g.K.Sink.faults g.K.Sink.wants g.K.Sink.is_sure c.args.keep.now;
@@ -54,6 +55,7 @@ loop-message-preserved g c = record {
       let before = c.loop-message.invariant.stood asked s stands in
       stepped ((g.C.Check.protocol asked).rules.step before.0 c.in_ok-message.message) (λ t. g.C.Check.stands asked t c.take.new.self c.take.new.places) _ (c.in_ok-take.ensures.took asked before.0 before.1);
   phase = subst (λ (m : More). g.C.Check.phase c.take.new.self ≡ after m (g.C.Check.phase c.loop-message.check)) c.in-Due.is c.in_ok-take.ensures.phase ∙ c.loop-message.invariant.phase;
+  lent = c.take.ensures.lent ∙ c.loop-message.invariant.lent;
   places = c.take.ensures.places ∙ c.loop-message.invariant.places;
   link = Lasts-trans g.L.Sink.faults g.L.Sink.wants g.L.Sink.is_sure c.args.link.now c.loop-message.link c.receive.new.link c.loop-message.invariant.link c.receive.ensures.link;
   keep = Lasts-trans g.K.Sink.faults g.K.Sink.wants g.K.Sink.is_sure c.args.keep.now c.loop-message.keep c.receive.new.keep c.loop-message.invariant.keep c.receive.ensures.keep;
