@@ -4,6 +4,7 @@ pub mod Drawing
 pub mod Raising
 pub mod Sending
 pub mod Judging
+pub mod Protocols
 pub mod Ending
 pub mod Passing
 pub mod Progress

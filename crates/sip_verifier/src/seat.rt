@@ -1,6 +1,6 @@
 //! The seat of one query.
 
-ghost use Rattle.std.specs.Prelude.{◌≡◌, ◌<◌, ◌≤◌, ◌^◌, ℕ, List, [], ◌++◌, length, All, IsTrue, false, nat_abs};
+ghost use Rattle.std.specs.Prelude.{◌≡◌, ◌*◌, ◌/◌, ◌<◌, ◌≤◌, ◌^◌, ℕ, List, [], ◌++◌, length, All, IsTrue, false, nat_abs};
 ghost use Rattle.sip_vector.specs.declared.update.Update.{Update as AnyUpdate};
 ghost use Rattle.sip_vector.specs.declared.query.Query.{Query as AnyQuery};
 ghost use Rattle.sip_verifier.specs.QuerySeats.{HasRoom, StandsFor, concerns, is_seat, keeps};
@@ -9,12 +9,15 @@ ghost use Rattle.sip_vector.specs.Answers.{Fits};
 ghost use Rattle.sip_vector.specs.Limits.{most_depth};
 ghost use Rattle.sip_vector.specs.Streams.{most_weight};
 ghost use Rattle.sip_verifier.specs.Thresholds.{share_of};
+ghost use Rattle.sip_heavy.specs.Protocol.{count_of};
+ghost use Rattle.sip_verifier.specs.inside.Judging.{most_nodes, most_places};
 ghost use Rattle.sip_verifier.specs.Widths.{is_wide, is_wide_seat};
 ghost use Rattle.sip_verifier.specs.Tasks.{CanBeAsked};
 
 use crate::points::Points;
 use sip_field::{M61, Seat};
 use sip_mle::Point;
+use sip_subvec::MOST_ENTRIES;
 use sip_tree::{AugRoot, Root};
 use sip_vector::{CAP, Query, Side, Update};
 use std::marker::Model;
@@ -103,6 +106,18 @@ pub(crate) fn share_of(total: i64, num: u32, den: u32) -> u64
     (u64::from(num) * total as u64 + u64::from(den) - 1) / u64::from(den)
 }
 
+// How many nodes a level of the replies may have, of a total with this threshold.
+fn nodes_of(total: i64, at_least: u64) -> usize
+    requires total { nat_abs total ≤ most_weight }
+    requires some { 1 ≤ at_least }
+    ensures { result ≡ 2 * (count_of total / at_least) }
+{
+    if total < 1 {
+        return 0;
+    }
+    2 * (total as u64 / at_least) as usize
+}
+
 // Whether a total may have more entries of at least a threshold than may be asked for.
 fn is_wide(total: i64, at_least: u64) -> bool
     requires total { nat_abs total ≤ most_weight }
@@ -167,6 +182,34 @@ impl QuerySeat {
             Running::Point(point) => &point.seat,
             Running::Points(points) => &points.first.seat,
             Running::AugRoot(root) => &root.seat,
+        }
+    }
+
+    /// How many nodes a level of the replies may have, where the query is for heavy hitters.
+    pub(crate) fn most_nodes(&self) -> usize
+        requires fits { (depth : ℕ) × Fits depth self.now.query }
+        ensures { result ≡ most_nodes self.now.query self.now.running }
+    {
+        match (&self.query, &self.running) {
+            (Query::Heavy { at_least, .. }, Running::AugRoot(root)) => {
+                nodes_of(root.total(), *at_least)
+            }
+            (Query::Share { num, den, .. }, Running::AugRoot(root)) => {
+                let total = root.total();
+                nodes_of(total, share_of(total, *num, *den))
+            }
+            _ => 0,
+        }
+    }
+
+    /// How many places the pairs of an answer need, at most.
+    pub(crate) fn most_places(&self) -> usize
+        requires fits { (depth : ℕ) × Fits depth self.now.query }
+        ensures { most_places self.now.query self.now.running ≤ result }
+    {
+        match &self.query {
+            Query::Sub { lo, hi } => (hi.saturating_sub(*lo).min(MOST_ENTRIES - 1) + 1) as usize,
+            _ => self.most_nodes(),
         }
     }
 
