@@ -1,5 +1,5 @@
 -- Room for what the most demanding of some seats needs.
-use Rattle.std.proofs.Common.{◌≡◌, ℕ, zero, suc, ◌+◌, ◌<◌, ◌≤◌, true, List, [], ◌∷◌, length, take, get_or, refl, ap, ◌∙◌, arith}
+use Rattle.std.proofs.Common.{◌≡◌, ℕ, ◌+◌, ◌<◌, ◌≤◌, true, List, [], ◌∷◌, length, take, get_or, refl, ap, ◌∙◌, arith}
 use Rattle.std.specs.Prelude.{nat_le, IsTrue}
 use Rattle.std.specs.List.{list_all}
 use Rattle.std.proofs.lemmas.Bool.{and_parts, and_from, leb-true, le-leb}
@@ -29,9 +29,3 @@ module _ (need : Query → RunningNumbers → ℕ) where
       ∙ list_all-append (λ (s : Seated). nat_le (of s) large) (take i seats) (seat ∷ [])
       ∙ and_from (are_enough need large (take i seats)) (are_enough need large (seat ∷ [])) (enough-more most large (take i seats) le_most before)
       (and_from (nat_le (of seat) large) true (le-leb (of seat) large (omega (arith, here, le_one))) refl)
-
-  -- they are enough for each
-  pub enough-at : (room : ℕ) (seats : List Seated) (i : ℕ) (d : Seated) → IsTrue (are_enough need room seats) → i < length seats → of (get_or seats i d) ≤ room
-  enough-at room [] i d all lt = absurd (omega (arith, lt))
-  enough-at room (s ∷ seats) zero d all lt = leb-true (of s) room (and_parts (nat_le (of s) room) (are_enough need room seats) all).0
-  enough-at room (s ∷ seats) (suc i) d all lt = enough-at room seats i d (and_parts (nat_le (of s) room) (are_enough need room seats) all).1 (omega (arith, lt))

@@ -1,6 +1,6 @@
 //! The queries of a run, asked one after another.
 
-ghost use Rattle.std.specs.Prelude.{◌≡◌, ◌≢◌, ◌<◌, ◌≤◌, ◌^◌, All, ℕ, List, [], ◌∷◌, true, false, length, drop, vec_len, IsTrue, IsSomeAnd};
+ghost use Rattle.std.specs.Prelude.{◌≡◌, ◌≢◌, ◌<◌, ◌≤◌, ◌^◌, All, ℕ, List, [], ◌∷◌, true, false, length, drop, vec_len, IsTrue};
 ghost use Rattle.std.specs.List.{list_all};
 ghost use Rattle.sip_ports.specs.Ports.{Lasts, Rose};
 ghost use Rattle.sip_vector.specs.declared.query.Query.{Query as AnyQuery};
@@ -9,7 +9,7 @@ ghost use Rattle.sip_vector.specs.Answers.{Fits};
 ghost use Rattle.sip_vector.specs.Streams.{IsLegal};
 ghost use Rattle.sip_wire.specs.Versions.{Speaks, deepest, speaks};
 ghost use Rattle.sip_verifier.specs.Asking.{AnswersCount, Asks};
-ghost use Rattle.sip_verifier.specs.inside.Judging.{are_enough, most_nodes, most_places};
+ghost use Rattle.sip_verifier.specs.inside.Judging.{are_enough, lends_enough, most_nodes, most_places};
 ghost use Rattle.sip_verifier.specs.NextSeat.{IsNext};
 ghost use Rattle.sip_verifier.specs.QuerySeats.{Seated, is_seat};
 ghost use Rattle.sip_verifier.specs.Widths.{first_wide_seat};
@@ -77,7 +77,7 @@ pub struct Session {
     ghost spoken: { IsTrue (list_all (λ s. speaks version s.query) seats.seats) },
     ghost shown: { found ≤ vec_len entries },
     ghost room: { IsTrue (are_enough most_places (vec_len entries) seats.seats) },
-    ghost lent: { IsSomeAnd space (λ s. IsTrue (are_enough most_nodes s.nodes seats.seats)) },
+    ghost lent: { IsTrue (lends_enough space seats.seats) },
 }
 
 impl Model for Session {
@@ -210,7 +210,12 @@ impl Session {
         let seats = self.seats.all();
         let seat = &seats[self.asked];
         let asked = ask_seat(
-            self.version, seat, &mut self.entries, &mut self.frame, &mut self.space, link,
+            self.version,
+            seat,
+            &mut self.entries,
+            &mut self.frame,
+            &mut self.space,
+            link,
         );
         self.asked += 1;
         self.found = found_in(self.entries.len(), &asked);

@@ -1,5 +1,5 @@
 -- What a seat's question needs, and what comes of it. (For the proof of a session's `judge` alone.)
-use Rattle.std.specs.Prelude.{ℕ, ◌*◌, ◌/◌, min, nat_le, Bool, List, Result, Ok, Err}
+use Rattle.std.specs.Prelude.{ℕ, ◌*◌, ◌/◌, min, nat_le, Bool, false, List, Option, Some, None, Result, Ok, Err}
 use Rattle.std.specs.List.{list_all}
 use Rattle.sip_vector.specs.declared.query.Query.{Query}
 use Rattle.sip_vector.specs.declared.query.Query.TheVariants.{Sub, Heavy, Share}
@@ -7,6 +7,7 @@ use Rattle.sip_replies.specs.declared.asking.AskStop.{AskStop}
 use Rattle.sip_replies.specs.declared.asking.AskStop.TheVariants as stops
 use Rattle.sip_replies.specs.declared.check.Said.{Said}
 use Rattle.sip_replies.specs.declared.check.Said.TheVariants as saids
+use Rattle.sip_heavy.specs.Checking.{Space}
 use Rattle.sip_heavy.specs.Protocol.{count_of}
 use Rattle.sip_subvec.specs.Asking.{most_answer}
 use Rattle.sip_verifier.specs.QuerySeats.{RunningNumbers, Seated, aug_root_is}
@@ -31,6 +32,11 @@ most_places query running = most_nodes query running
 -- so many are enough for each seat
 abbrev pub are_enough : (Query → RunningNumbers → ℕ) → ℕ → List Seated → Bool
 are_enough need room seats = list_all (λ s. nat_le (need s.query s.running) room) seats
+
+-- what is lent is enough for each seat
+abbrev pub lends_enough : Option Space → List Seated → Bool
+lends_enough None seats = false
+lends_enough (Some space) seats = are_enough most_nodes space.nodes seats
 
 -- how many of so many places have pairs of the answer
 abbrev pub found_in : ℕ → Result Said AskStop → ℕ
