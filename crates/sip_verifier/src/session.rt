@@ -128,6 +128,7 @@ impl Session {
     /// # Errors
     ///
     /// `OutOfMemory`; the seats are then dropped.
+    #[inline(never)]
     pub fn new(alloc: Global, version: Version, seats: Seats) -> Result<Session, SessionStart>
         requires { All (λ s. Speaks version seats.depth s.query) seats.seats }
         ensures { Starts version seats result }
