@@ -43,41 +43,59 @@ fn emptied(rt: &HostRuntime, words: &Words, opening: Opening) -> Option<File> {
     File::create(rt, opening.name(words)?).ok()
 }
 
-/// Opens the two ends of the link, in the order of the plan: so two FIFOs can stand between the two sides.
-fn link(rt: &HostRuntime, words: &Words, plan: &PortPlan) -> FileLink {
-    match plan.link_order() {
+/// A source over a file to read; `None` where memory is refused.
+///
+/// What reads through a buffer stands on the heap, and is made in a call of its own, so that the stack has the buffer
+/// no longer than that.
+#[inline(never)]
+fn source(rt: &HostRuntime, words: &Words, opening: Opening) -> Option<Box<FileSource>> {
+    let file = opened(rt, words, opening);
+    Box::new(rt.alloc(), FileSource::new(file)).ok()
+}
+
+/// Opens the two ends of the link, in the order of the plan: so two FIFOs can stand between the two sides. `None` where
+/// memory is refused.
+#[inline(never)]
+fn link(rt: &HostRuntime, words: &Words, plan: &PortPlan) -> Option<Box<FileLink>> {
+    let (from, to) = match plan.link_order() {
         LinkOrder::ToFirst => {
             let to = emptied(rt, words, plan.to);
-            let from = opened(rt, words, plan.from);
-            FileLink::new(from, to)
+            (opened(rt, words, plan.from), to)
         }
         LinkOrder::FromFirst => {
             let from = opened(rt, words, plan.from);
-            let to = emptied(rt, words, plan.to);
-            FileLink::new(from, to)
+            (from, emptied(rt, words, plan.to))
         }
-    }
+    };
+    Box::new(rt.alloc(), FileLink::new(from, to)).ok()
 }
 
 /// Opens the files that the words name, but for the first source, and does what the words say. A file that does not open
-/// is a port whose calls fail.
-fn obey_over<S: Source>(rt: &HostRuntime, words: &Words, plan: &PortPlan, first: &mut S) -> Status {
-    let mut second = FileSource::new(opened(rt, words, plan.second));
-    let mut peer = link(rt, words, plan);
+/// is a port whose calls fail. `None` where memory is refused to a port.
+#[inline(never)]
+fn obey_over<S: Source>(
+    rt: &HostRuntime,
+    words: &Words,
+    plan: &PortPlan,
+    first: &mut S,
+) -> Option<Status> {
+    let mut second = source(rt, words, plan.second)?;
+    let mut peer = link(rt, words, plan)?;
     let mut report = StdoutSink::new(io::writer(rt));
-    run(
+    Some(run(
         rt.alloc(),
         words,
         first,
-        &mut second,
-        &mut peer,
+        &mut *second,
+        &mut *peer,
         &mut report,
         &mut NullSink::new(),
-    )
+    ))
 }
 
-/// Does what the words say, over the file or the made stream that is the first source.
-fn obey(rt: &HostRuntime, words: &Words) -> Status {
+/// Does what the words say, over the file or the made stream that is the first source. `None` where memory is refused to
+/// a port.
+fn obey(rt: &HostRuntime, words: &Words) -> Option<Status> {
     let plan = ports(words);
     match &plan.first {
         Opening::Made {
@@ -89,8 +107,8 @@ fn obey(rt: &HostRuntime, words: &Words) -> Status {
             obey_over(rt, words, &plan, &mut first)
         }
         Opening::Nothing | Opening::Path { .. } => {
-            let mut first = FileSource::new(opened(rt, words, plan.first));
-            obey_over(rt, words, &plan, &mut first)
+            let mut first = source(rt, words, plan.first)?;
+            obey_over(rt, words, &plan, &mut *first)
         }
     }
 }
@@ -100,7 +118,7 @@ fn main(rt: HostRuntime) -> ExitCode {
     let status = match words(&rt) {
         Ok(words) => match page_of(&words) {
             Some(text) => write_page(text, &mut StdoutSink::new(io::writer(&rt))),
-            None => obey(&rt, &words),
+            None => obey(&rt, &words).unwrap_or(Status::OutOfMemory),
         },
         Err(error) => status_without_words(&error),
     };

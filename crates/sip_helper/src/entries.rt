@@ -15,25 +15,27 @@ use sip_ports::{PortStop, Sink};
 use sip_vector::{Entry, Vector};
 use sip_wire::{MOST_ROWS, Message, Version, encode};
 
-/// The first entries from `from` to `hi` that are not 0, as many as a frame has, and the index from which on the others stand.
-fn next_rows(vector: &Vector, from: u64, hi: u64) -> (ArrayVec<Entry, MOST_ROWS>, u64)
+/// Writes the first entries from `from` to `hi` that are not 0 to `rows`, as many as a frame has, and answers the index from which
+/// on the others stand.
+fn next_rows(vector: &Vector, from: u64, hi: u64, rows: &mut ArrayVec<Entry, MOST_ROWS>) -> u64
     requires within { hi < 2 ^ vector.now.depth }
     requires deep { vector.now.depth ≤ most_depth }
-    ensures split { nonzero_within from hi vector.now.numbers ≡ result.0.items
-        ++ nonzero_within result.1 hi vector.now.numbers }
-    ensures last { length result.0.items < most_rows
-        → nonzero_within result.1 hi vector.now.numbers ≡ [] }
+    requires empty { rows.old.items ≡ [] }
+    ensures split { nonzero_within from hi vector.now.numbers ≡ rows.new.items
+        ++ nonzero_within result hi vector.now.numbers }
+    ensures few { length rows.new.items ≤ most_rows }
+    ensures last { length rows.new.items < most_rows
+        → nonzero_within result hi vector.now.numbers ≡ [] }
 {
-    let mut rows = ArrayVec::new();
     let mut next = from;
     while let Some(entry) = vector.next_entry(next, hi) {
         if rows.is_full() {
-            return (rows, next);
+            return next;
         }
         rows.push(entry);
         next = entry.index + 1;
     }
-    (rows, next)
+    next
 }
 
 /// Sends the entries from `lo` to `hi` that are not 0, in full frames and a last one of the rest. It takes no memory.
@@ -56,7 +58,8 @@ pub(crate) fn put_entries<K: Sink>(
     prove!(weight < 1 << 30);
     let mut next = lo;
     loop {
-        let (rows, behind) = next_rows(vector, next, hi);
+        let mut rows = ArrayVec::new();
+        let behind = next_rows(vector, next, hi, &mut rows);
         if rows.is_empty() {
             return Ok(());
         }

@@ -1,17 +1,30 @@
 //! A whole talk, on a link.
 
 ghost use Rattle.std.specs.Prelude.{◌≡◌, ◌≢◌, ◌⊎◌, false, true, Err};
-ghost use Rattle.sip_ports.specs.Ports.{Lasts, Rose};
+ghost use Rattle.sip_ports.specs.Ports.{HasCause, Lasts, Rose, SendsWhole};
+ghost use Rattle.sip_wire.specs.declared.message.Message.TheVariants as messages;
 ghost use Rattle.sip_wire.specs.Frames.{frame_bytes};
+ghost use Rattle.sip_wire.specs.Spelling.{spelling};
 ghost use Rattle.sip_helper.specs.inside.OneTurn.{TakesTurn};
 ghost use Rattle.sip_helper.specs.Serving.{Serves};
 
 use crate::asked::is_known;
 use crate::refusal::OUT_OF_TURN;
 use crate::{HelpStatus, HelperCore};
-use sip_ports::Link;
-use sip_wire::{Frame, Message, Place, decode_into, encode};
+use sip_ports::{Link, PortStop};
+use sip_wire::{Frame, Message, Place, Version, decode_into, encode};
 use std::alloc::Global;
+
+/// Sends the refusal of a message out of turn. It is made in a call of its own, since a message is as large as the longest frame's
+/// rows: the stack has it no longer than that.
+#[inline(never)]
+fn refuse<L: Link>(version: Version, link: &mut L) -> Result<(), PortStop>
+    ensures talk { SendsWhole (L.talk link.old) (L.talk link.new) result
+        (spelling version (messages.Refuse 4)) }
+    ensures cause { HasCause L.faults L.wants L.is_sure link.old link.new result }
+{
+    encode(&Message::Refuse { code: OUT_OF_TURN }, version, link)
+}
 
 /// Receives one frame, hears its message and sends the reply that is owed. The message of the frame before gives its room. The
 /// status says why the talk is over.
@@ -41,7 +54,7 @@ fn take_turn<L: Link>(
         return Err(HelpStatus::BadFrame { offset });
     }
     if core.hear(message).is_err() {
-        encode(&Message::Refuse { code: OUT_OF_TURN }, version, link)?;
+        refuse(version, link)?;
         return Err(HelpStatus::BadFrame { offset });
     }
     if core.done() {

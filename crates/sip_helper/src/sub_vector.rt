@@ -5,7 +5,7 @@ ghost use Rattle.sip_field.specs.Moduli.{m61_modulus};
 ghost use Rattle.sip_ports.specs.Ports.{HasCause, SendsWhole};
 ghost use Rattle.sip_vector.specs.declared.query.Query.TheVariants as queries;
 ghost use Rattle.sip_wire.specs.declared.version.Version.{Version as AnyVersion};
-ghost use Rattle.sip_wire.specs.Spelling.{fits};
+ghost use Rattle.sip_wire.specs.Spelling.{fits, spelling};
 ghost use Rattle.sip_wire.specs.Versions.{deepest};
 ghost use Rattle.sip_subvec.specs.Honest.{honest_reply, its_siblings, proving, siblings_message};
 ghost use Rattle.sip_helper.specs.inside.Starting.{StartsProver};
@@ -91,6 +91,22 @@ fn siblings_of(prover: &SubProver<M61>) -> Message
     }
 }
 
+/// Sends the siblings of the level that is reached. Their message is made in a call of its own, so that the stack does not have it
+/// while entries are sent.
+#[inline(never)]
+fn put_siblings<K: Sink>(
+    version: Version,
+    prover: &SubProver<M61>,
+    out: &mut K,
+) -> Result<(), PortStop>
+    requires { 2 ≤ length prover.now.level }
+    ensures talk { SendsWhole (K.talk out.old) (K.talk out.new) result
+        (spelling version (siblings_message (its_siblings prover.now))) }
+    ensures cause { HasCause K.faults K.wants K.is_sure out.old out.new result }
+{
+    encode(&siblings_of(prover), version, out)
+}
+
 /// Sends an honest reply: the entries before any challenge was revealed, and the siblings.
 fn put_honest<K: Sink>(
     version: Version,
@@ -113,5 +129,5 @@ fn put_honest<K: Sink>(
     if revealed.is_empty() {
         put_entries(version, vector, lo, hi, out)?;
     }
-    encode(&siblings_of(prover), version, out)
+    put_siblings(version, prover, out)
 }

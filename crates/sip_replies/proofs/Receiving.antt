@@ -16,7 +16,7 @@ use Rattle.sip_wire.specs.Faults.{ended_by}
 use Rattle.sip_wire.specs.Decoding.{Decodes}
 use Rattle.sip_replies.specs.declared.taking.ReplyStop.{ReplyStop}
 use Rattle.sip_replies.specs.Replies.{reasoned, read_one}
-use Rattle.sip_replies.specs.Asking.{stop_of_keeper, KeepsPart, MayEnd, IsUnkept, Shows, Takes}
+use Rattle.sip_replies.specs.Asking.{stop_of_keeper, KeepsPart, MayEnd, IsUnkept, Shows, Takes, filled}
 
 module _ (version : Version) (place : Place) (old new before now : Option (List TalkEvent)) (rose risen : ℕ) (got : List ℕ) where
   -- where the end of the link was found the frame is not whole
@@ -50,7 +50,7 @@ module _ (version : Version) (place : Place) (old new before now : Option (List 
     }
 
     -- the keeper stopped
-    pub Takes-unkept : (port : PortStop) → ((n : ℕ) × (n < length got) × GoesOn before now (outs (take n got))) → (result : Result Message ReplyStop) → IsErrAnd result (λ stop. stop ≡ stop_of_keeper port) → Takes (read_one version place) old new before now (Shows version) result
-    Takes-unkept port (n, less, part) (Ok m) is = absurd is
-    Takes-unkept ports.Failed (n, less, part) (Err stop) is = rw is (IsUnkept-received (take n got, (drop n got, sym (take-append-drop n got)), part))
-    Takes-unkept ports.OutOfMemory (n, less, part) (Err stop) is = rw is (IsUnkept-received (take n got, (drop n got, sym (take-append-drop n got)), part))
+    pub Takes-unkept : (port : PortStop) → ((n : ℕ) × (n < length got) × GoesOn before now (outs (take n got))) → (message : Message) (result : Result Unit ReplyStop) → IsErrAnd result (λ stop. stop ≡ stop_of_keeper port) → Takes (read_one version place) old new before now (Shows version) (filled message result)
+    Takes-unkept port (n, less, part) message (Ok _) is = absurd is
+    Takes-unkept ports.Failed (n, less, part) message (Err stop) is = rw is (IsUnkept-received (take n got, (drop n got, sym (take-append-drop n got)), part))
+    Takes-unkept ports.OutOfMemory (n, less, part) message (Err stop) is = rw is (IsUnkept-received (take n got, (drop n got, sym (take-append-drop n got)), part))

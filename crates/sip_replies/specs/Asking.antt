@@ -53,6 +53,11 @@ abbrev pub stop_of_keeper : PortStop → ReplyStop
 stop_of_keeper ports.Failed = reply_stops.KeepFault
 stop_of_keeper ports.OutOfMemory = reply_stops.KeepOutOfMemory
 
+-- what a call that fills a value of its caller's took: the value as it left it, or why it stopped
+abbrev pub filled : {X : Type 0} → X → Result Unit ReplyStop → Result X ReplyStop
+filled x (Ok _) = Ok x
+filled x (Err stop) = Err stop
+
 -- a front of these bytes was kept
 abbrev pub KeepsPart : Option (List TalkEvent) → Option (List TalkEvent) → List ℕ → Type 0
 KeepsPart before now bytes = (part : List ℕ) × IsPrefix part bytes × GoesOn before now (outs part)

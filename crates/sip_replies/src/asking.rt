@@ -1,7 +1,7 @@
 //! One query, asked of the helper and checked.
 ghost use Rattle.std.specs.Prelude.{◌≡◌, length, Ok, Err, IsTrue, MatchResult};
-ghost use Rattle.sip_ports.specs.Ports.{Lasts, Rose};
-ghost use Rattle.sip_wire.specs.Spelling.{fits};
+ghost use Rattle.sip_ports.specs.Ports.{HasCause, Lasts, Rose, SendsWhole};
+ghost use Rattle.sip_wire.specs.Spelling.{fits, spelling};
 ghost use Rattle.sip_wire.specs.declared.message.Message.TheVariants as messages;
 ghost use Rattle.sip_replies.specs.Protocols.{Begins};
 ghost use Rattle.sip_replies.specs.Asking.{Answers, stop_in_round};
@@ -66,6 +66,31 @@ fn in_round(round: u8, taken: Result<(), ReplyStop>) -> Result<(), AskStop>
     }
 }
 
+// A message is as large as the longest frame's rows, so each that is sent is made in a call of its own: the stack has it no longer
+// than that, and never while a reply is taken.
+
+/// Sends a query.
+#[inline(never)]
+fn send_query<L: Link>(query: Query, version: Version, link: &mut L) -> Result<(), PortStop>
+    requires { IsTrue (fits version (messages.Query query)) }
+    ensures talk { SendsWhole (L.talk link.old) (L.talk link.new) result
+        (spelling version (messages.Query query)) }
+    ensures cause { HasCause L.faults L.wants L.is_sure link.old link.new result }
+{
+    encode(&Message::Query(query), version, link)
+}
+
+/// Reveals a challenge.
+#[inline(never)]
+fn send_reveal<L: Link>(challenge: u64, version: Version, link: &mut L) -> Result<(), PortStop>
+    requires { IsTrue (fits version (messages.Reveal challenge)) }
+    ensures talk { SendsWhole (L.talk link.old) (L.talk link.new) result
+        (spelling version (messages.Reveal challenge)) }
+    ensures cause { HasCause L.faults L.wants L.is_sure link.old link.new result }
+{
+    encode(&Message::Reveal { challenge }, version, link)
+}
+
 /// Asks a query, takes the replies, reveals a challenge between two of them, and checks them.
 ///
 /// A challenge leaves only after the reply before it was taken and passed its tests, and the last
@@ -109,11 +134,11 @@ pub fn ask<C: Check, L: Link, K: Keeper>(
         return Ok(said);
     }
     let depth = check.depth();
-    encode(&Message::Query(query), version, link)?;
+    send_query(query, version, link)?;
     in_round(0, take_reply(check, version, places, frame, link, keep))?;
     for round in 1..depth {
         let challenge = check.reveal();
-        encode(&Message::Reveal { challenge }, version, link)?;
+        send_reveal(challenge, version, link)?;
         in_round(
             round as u8,
             take_reply(check, version, places, frame, link, keep),

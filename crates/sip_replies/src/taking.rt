@@ -3,14 +3,14 @@ ghost use Rattle.std.specs.Prelude.{◌≡◌, ℕ, List, length, Ok, Err, IfOk,
 ghost use Rattle.sip_ports.specs.Ports.{Lasts, Rose};
 ghost use Rattle.sip_replies.specs.Protocols.{Awaits, after};
 ghost use Rattle.sip_replies.specs.Replies.{read_one, read_reply};
-ghost use Rattle.sip_replies.specs.Asking.{Shows, Takes};
+ghost use Rattle.sip_replies.specs.Asking.{Shows, Takes, filled};
 ghost use Rattle.sip_replies.specs.declared.check.More.TheVariants.{Complete};
 
 use crate::check::{Check, More};
 use crate::keeper::Keeper;
 use sip_ports::{Link, PortStop};
 use sip_vector::Entry;
-use sip_wire::{Frame, Message, Place, Reason, Version, WireFault, decode};
+use sip_wire::{Frame, Message, Place, Reason, Version, WireFault, decode_into};
 
 /// Why a reply was not taken.
 #[derive(Clone, Copy, Debug, PartialEq, Eq)]
@@ -73,16 +73,17 @@ impl From<Reason> for ReplyStop {
 }
 
 /// Receives one frame, writes its bytes to `keep`, and then judges it. Where the link stopped inside
-/// the frame nothing is kept.
+/// the frame nothing is kept. What the frame says is read into `message`, so that nothing is moved.
 pub(crate) fn receive<L: Link, K: Keeper>(
     version: Version,
     place: Place,
     frame: &mut Frame,
     link: &mut L,
     keep: &mut K,
-) -> Result<Message, ReplyStop>
+    message: &mut Message,
+) -> Result<(), ReplyStop>
     ensures took { Takes (read_one version place) (L.talk link.old) (L.talk link.new)
-        (K.talk keep.old) (K.talk keep.new) (Shows version) result }
+        (K.talk keep.old) (K.talk keep.new) (Shows version) (filled message.new result) }
     ensures link { Lasts L.faults L.wants L.is_sure link.old link.new }
     ensures keep { Lasts K.faults K.wants K.is_sure keep.old keep.new }
     ensures peer { result ≡ Err ReplyStop.PeerFault → Rose (L.faults link.old) (L.faults link.new) }
@@ -93,7 +94,7 @@ pub(crate) fn receive<L: Link, K: Keeper>(
     ensures keeper_memory { result ≡ Err ReplyStop.KeepOutOfMemory
         → Rose (K.wants keep.old) (K.wants keep.new) }
 {
-    match decode(link, place, version, frame) {
+    match decode_into(link, place, version, frame, message) {
         Err(WireFault::PeerFault) => Err(ReplyStop::PeerFault),
         Err(WireFault::OutOfMemory) => Err(ReplyStop::OutOfMemory),
         judged => {
@@ -134,8 +135,10 @@ pub(crate) fn take_reply<C: Check, L: Link, K: Keeper>(
     ensures keeper_memory { result ≡ Err ReplyStop.KeepOutOfMemory
         → Rose (K.wants keep.old) (K.wants keep.new) }
 {
+    // One message for the whole reply: the rows of a frame are read in place of those of the frame before.
+    let mut message = Message::Bye;
     loop {
-        let message = receive(version, check.place(), frame, link, keep)?;
+        receive(version, check.place(), frame, link, keep, &mut message)?;
         match check.take(&message, places)? {
             More::Due => {}
             More::Complete => return Ok(()),

@@ -23,7 +23,7 @@ use Rattle.sip_stream.proofs.RecordsRead.{records_end}
 -- ---- records
 
 -- how it goes on after a piece, by what stands against it
-abbrev after_piece : ℕ → Form → List Update → List ℕ → List (List ℕ) → Option Why → Records
+abbrev pub after_piece : ℕ → Form → List Update → List ℕ → List (List ℕ) → Option Why → Records
 after_piece depth form before piece more fault = elim fault [
   | None ↦ records_after depth form (before ++ update_at (layout_of form) piece ∷ []) more
   | Some why ↦ record { legal = before; fault = Some why }

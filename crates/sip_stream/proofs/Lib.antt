@@ -11,3 +11,4 @@ pub mod LinesRead
 pub mod RecordsRead
 pub mod Copies
 pub mod LegalRecords
+pub mod ManyRead

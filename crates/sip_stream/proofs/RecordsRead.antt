@@ -61,6 +61,10 @@ module _ (width : ℕ) where
       by_side true faulty = faulty
       by_side false faulty = (refl, faulty)
 
+  -- a whole record in front of more
+  pub first_said : (piece more : List ℕ) (u : Update) → length piece ≡ size → Ok u ≡ record_said width piece → IsFirst (of_bytes width) (piece ++ more) piece more × Says (of_bytes width) piece (Ok u)
+  first_said piece more u len is = (first_record (piece ++ more) piece more refl len, subst (Says (of_bytes width) piece) (sym is) (says_by piece (nat_lt 1 (slice_index piece 0)) len refl))
+
   -- a whole record in front, which was consumed
   pub reads_front : (old new : Option (List ℕ)) (bytes piece : List ℕ) (answer : Result Update Why) → old ≡ Some bytes → Consumes old new piece → length piece ≡ size → answer ≡ record_said width piece
       → ReadsPiece (of_bytes width) bytes new (Ok (Some answer))

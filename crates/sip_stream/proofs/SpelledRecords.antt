@@ -1,5 +1,5 @@
 -- The record of an update says that update.
-use Rattle.std.proofs.Common.{◌≡◌, ℕ, ◌+◌, ◌^◌, ◌<◌, List, [], ◌∷◌, ◌++◌, drop_at, length-append, length, take, drop, ◌-◌, ◌≤◌, ◌==◌, cond, ℤ, pos, negsuc, refl, ap, ◌∙◌, arith, w64}
+use Rattle.std.proofs.Common.{◌≡◌, ℕ, ◌+◌, ◌^◌, ◌<◌, List, [], ◌∷◌, ◌++◌, append_assoc, drop_at, length-append, length, take, drop, ◌-◌, ◌≤◌, ◌==◌, cond, ℤ, pos, negsuc, refl, ap, ◌∙◌, arith, w64}
 use Rattle.std.specs.Prelude.{FitsSigned}
 use Rattle.std.specs.Int.{cast_signed, cast_unsigned}
 use Rattle.std.proofs.Math.Nat.{mod-eq_of_lt}
@@ -63,10 +63,11 @@ module _ (width : ℕ) (u : Update) where
   unfolding back
   length-record = ap length record_parts ∙ length-append front back ∙ omega (arith, length-front, length-bytes_high_first 8 (cast_unsigned w64 u.delta))
 
--- the bytes of a record, the item's being the last of eight
-pub record_built : (width : ℕ) (u : Update) (start number item back all : List ℕ) → width ≤ 8 → start ≡ [] → number ≡ start ++ side_number u.side ∷ [] → item ≡ number ++ take (8 - (8 - width)) (drop (8 - width) (big_bytes 8 u.item))
-    → back ≡ big_bytes 8 (cast_unsigned w64 u.delta) → all ≡ item ++ back → all ≡ record_bytes width u
+-- the bytes of a record behind others, the item's being the last of eight
+pub record_built : (width : ℕ) (u : Update) (start number item back all : List ℕ) → width ≤ 8 → number ≡ start ++ side_number u.side ∷ [] → item ≡ number ++ take (8 - (8 - width)) (drop (8 - width) (big_bytes 8 u.item))
+    → back ≡ big_bytes 8 (cast_unsigned w64 u.delta) → all ≡ item ++ back → all ≡ start ++ record_bytes width u
 unfolding record_bytes
-record_built width u start number item back all le none one two three four =
+record_built width u start number item back all le one two three four =
     let low = between-bytes_high_first 8 width u.item le in
-    four ∙ rw (two, one, none, three, low) refl
+    let joined : ((start ++ side_number u.side ∷ []) ++ big_bytes width u.item) ++ big_bytes 8 (cast_unsigned w64 u.delta) ≡ start ++ (side_number u.side ∷ big_bytes width u.item ++ big_bytes 8 (cast_unsigned w64 u.delta)) = simp append_assoc in
+    four ∙ rw (two, one, three, low) joined

@@ -1,5 +1,5 @@
 -- What a reader stands for, and what its next record is, by the bytes to come.
-use Rattle.std.specs.Prelude.{◌≡◌, ◌≢◌, ℕ, ◌+◌, ◌-◌, ◌*◌, ◌^◌, ◌<◌, ◌≤◌, Bool, false, pos, nat_abs, ⊤, List, [], ◌∷◌, ◌++◌, length, Option, Some, None, Result, Ok, Err}
+use Rattle.std.specs.Prelude.{◌≡◌, ◌≢◌, ℕ, ◌+◌, ◌-◌, ◌*◌, ◌^◌, ◌<◌, ◌≤◌, Bool, false, pos, nat_abs, ⊤, All, List, [], ◌∷◌, ◌++◌, length, Option, Some, None, Result, Ok, Err}
 use Rattle.sip_ports.specs.declared.port.PortStop.{PortStop}
 use Rattle.sip_ports.specs.declared.port.PortStop.TheVariants as ports
 use Rattle.sip_vector.specs.declared.update.Side.{Side}
@@ -66,6 +66,25 @@ Reads depth form before bytes left (Err (faults.Bad at why)) =
     × (records_from depth form before bytes ≡ record { legal = before; fault = Some why })
 Reads depth form before bytes left (Err faults.ReadFault) = TakesFront bytes left
 Reads depth form before bytes left (Err faults.OutOfMemory) = TakesFront bytes left
+
+-- an update that a stream may have by itself, whatever came before it
+pub record IsFair (depth : ℕ) (u : Update) : Type 0 where
+  pub item : u.item < 2 ^ depth
+  pub delta : u.delta ≢ pos 0
+  pub size : nat_abs u.delta ≤ most_weight
+
+-- A reader took these bytes, whatever comes behind them: they are records of these updates, which
+-- are legal after those before.
+pub record HasRead (old new : Reading) (taken : List ℕ) (us : List Update) : Type 0 where
+  pub depth : new.depth ≡ old.depth
+  pub form : new.form ≡ old.form
+  pub spent : new.is_spent ≡ old.is_spent
+  pub nearer : room new ≤ room old
+  pub fair : All (IsFair old.depth) us
+  pub after : (before : List Update) → IsAfter old before → IsAfter new (before ++ us)
+  pub same : (before : List Update) (more : List ℕ) → IsAfter old before
+      → records_from old.depth old.form before (taken ++ more)
+      ≡ records_from old.depth old.form (before ++ us) more
 
 -- the fault of a stream whose source stopped
 abbrev pub fault_of : PortStop → StreamFault

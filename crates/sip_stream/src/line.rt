@@ -1,6 +1,7 @@
 //! An update as a line of text.
 
-ghost use Rattle.std.specs.Prelude.{◌≡◌, ◌≢◌, ◌<◌, ◌^◌, pos};
+ghost use Rattle.std.specs.Prelude.{◌≡◌, ◌≢◌, ◌<◌, ◌≤◌, ◌+◌, ◌^◌, ◌++◌, pos};
+ghost use Rattle.arrayvec.specs.ArrayVec.{array_vec_len};
 ghost use Rattle.sip_ports.specs.Ports.{HasCause, SendsWhole};
 ghost use Rattle.sip_vector.specs.Limits.{most_depth};
 ghost use Rattle.sip_stream.specs.Spellings.{line_bytes};
@@ -15,19 +16,27 @@ use sip_vector::Update;
 /// Room for the line of any update.
 pub(crate) const LINE_ROOM: usize = 46;
 
-/// The line of an update: at most 39 bytes, where its item is below 2^48.
+/// Adds the line of an update at the end: at most 39 bytes, where its item is below 2^48. There is room for it.
 #[tactic(auto, using(std::proofs::lemmas::Grind::common_steps), unfolding(crate::specs::Spellings::line_bytes))]
-pub(crate) fn line_of(update: &Update) -> ArrayVec<u8, LINE_ROOM>
-    ensures { result.items ≡ line_bytes update.now }
+pub(crate) fn put_line_bytes<const ROOM: usize>(update: &Update, gathered: &mut ArrayVec<u8, ROOM>)
+    requires { array_vec_len gathered.old + LINE_ROOM ≤ ROOM }
+    ensures { gathered.new.items ≡ gathered.old.items ++ line_bytes update.now }
 {
     let mut digits = Buffer::new();
+    put(gathered, digits.format(number_of(update.side)).as_bytes());
+    put(gathered, b" ");
+    put(gathered, digits.format(update.item).as_bytes());
+    put(gathered, b" ");
+    put(gathered, digits.format(update.delta).as_bytes());
+    put(gathered, b"\n");
+}
+
+/// The line of an update.
+fn line_of(update: &Update) -> ArrayVec<u8, LINE_ROOM>
+    ensures { result.items ≡ line_bytes update.now }
+{
     let mut line = ArrayVec::new();
-    put(&mut line, digits.format(number_of(update.side)).as_bytes());
-    put(&mut line, b" ");
-    put(&mut line, digits.format(update.item).as_bytes());
-    put(&mut line, b" ");
-    put(&mut line, digits.format(update.delta).as_bytes());
-    put(&mut line, b"\n");
+    put_line_bytes(update, &mut line);
     line
 }
 

@@ -1,6 +1,7 @@
 //! An update as a record of bytes.
 
-ghost use Rattle.std.specs.Prelude.{◌≡◌, ◌≢◌, ◌≤◌, ◌<◌, ◌^◌, pos};
+ghost use Rattle.std.specs.Prelude.{◌≡◌, ◌≢◌, ◌≤◌, ◌<◌, ◌+◌, ◌^◌, ◌++◌, pos};
+ghost use Rattle.arrayvec.specs.ArrayVec.{array_vec_len};
 ghost use Rattle.sip_ports.specs.Ports.{HasCause, SendsWhole};
 ghost use Rattle.sip_vector.specs.Limits.{most_depth, most_narrow_depth};
 ghost use Rattle.sip_stream.specs.Layouts.{record_size};
@@ -40,17 +41,30 @@ pub(crate) fn number_of(side: Side) -> u8
     }
 }
 
+/// Adds the record of an update, whose item has so many bytes, at the end. There is room for it. The bytes are written where they
+/// are to lie, once: what is written in parts and read whole right after waits for these parts.
+pub(crate) fn put_bytes<const WIDTH: usize, const ROOM: usize>(
+    update: &Update,
+    gathered: &mut ArrayVec<u8, ROOM>,
+)
+    requires width { WIDTH ≤ 8 }
+    requires item { update.now.item < 256 ^ WIDTH }
+    requires room { array_vec_len gathered.old + MOST_RECORD ≤ ROOM }
+    ensures { gathered.new.items ≡ gathered.old.items ++ record_bytes WIDTH update.now }
+{
+    put(gathered, &[number_of(update.side)]);
+    put(gathered, &update.item.to_be_bytes()[8 - WIDTH..]);
+    put(gathered, &update.delta.to_be_bytes());
+}
+
 /// The record of an update, whose item has so many bytes.
-#[tactic(auto, unfolding(crate::specs::Spellings::record_bytes))]
-pub(crate) fn record_of<const WIDTH: usize>(update: &Update) -> ArrayVec<u8, MOST_RECORD>
+fn record_of<const WIDTH: usize>(update: &Update) -> ArrayVec<u8, MOST_RECORD>
     requires width { WIDTH ≤ 8 }
     requires item { update.now.item < 256 ^ WIDTH }
     ensures { result.items ≡ record_bytes WIDTH update.now }
 {
     let mut record = ArrayVec::new();
-    put(&mut record, &[number_of(update.side)]);
-    put(&mut record, &update.item.to_be_bytes()[8 - WIDTH..]);
-    put(&mut record, &update.delta.to_be_bytes());
+    put_bytes::<WIDTH, MOST_RECORD>(update, &mut record);
     record
 }
 

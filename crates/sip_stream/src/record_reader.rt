@@ -39,7 +39,7 @@ fn update_of<const WIDTH: usize>(bytes: &[u8]) -> Update
 }
 
 /// What a whole record says, whose item has so many bytes, or why it says no update.
-fn said_by<const WIDTH: usize>(bytes: &[u8]) -> Result<Update, Why>
+pub(crate) fn said_by<const WIDTH: usize>(bytes: &[u8]) -> Result<Update, Why>
     requires some { 1 ≤ WIDTH }
     requires most { WIDTH ≤ 8 }
     requires whole { length bytes.now ≡ record_size WIDTH }

@@ -6,9 +6,8 @@ ghost use Rattle.sip_stream.specs.Layouts.{deepest_in, layout_of};
 ghost use Rattle.sip_stream.specs.Spellings.{spelled};
 
 use crate::Form;
-use crate::line::{LINE_ROOM, line_of};
-use crate::record_bytes::{NARROW, WIDE, record_of};
-use crate::text::put;
+use crate::line::{LINE_ROOM, put_line_bytes};
+use crate::record_bytes::{NARROW, WIDE, put_bytes};
 use arrayvec::ArrayVec;
 use sip_vector::Update;
 
@@ -26,8 +25,8 @@ pub(crate) fn put_update<const ROOM: usize>(
     ensures items { gathered.new.items ≡ gathered.old.items ++ spelled (layout_of form) update.now }
 {
     match form {
-        Form::Binary => put(gathered, record_of::<NARROW>(update).as_slice()),
-        Form::Text => put(gathered, line_of(update).as_slice()),
-        Form::Wide => put(gathered, record_of::<WIDE>(update).as_slice()),
+        Form::Binary => put_bytes::<NARROW, ROOM>(update, gathered),
+        Form::Text => put_line_bytes(update, gathered),
+        Form::Wide => put_bytes::<WIDE, ROOM>(update, gathered),
     }
 }

@@ -1,7 +1,10 @@
 -- How far a stream was read, sent and added to the seats, and where the call may stop.
 use Rattle.std.proofs.Common.{◌≡◌, ℕ, ◌<◌, ◌^◌, List, [], ◌∷◌, ◌++◌, length, inr, refl, sym, ap, ◌∙◌, subst, arith, length-append, inl, append_assoc, append-nil, All}
+use Rattle.std.specs.Io.KnownBytes.{Consumes}
 use Rattle.std.proofs.lemmas.Bool.{cases_Bool}
 use Rattle.std.proofs.lemmas.List.{nil_from_length}
+use Rattle.std.proofs.lemmas.List.Elements.{All-cons, All-head, All-nil, All-tail}
+use Rattle.sip_wire.specs.Table.{most_rows}
 use Rattle.std.specs.Prelude.{Some, None, Ok, Err}
 use Rattle.std.specs.declared.option.Option.{Option}
 use Rattle.sip_ports.specs.declared.port.PortStop.{PortStop}
@@ -13,11 +16,11 @@ use Rattle.sip_vector.specs.declared.update.Update.{Update}
 use Rattle.sip_vector.specs.Streams.{IsLegal}
 use Rattle.sip_stream.specs.declared.fault.StreamFault.{StreamFault}
 use Rattle.sip_stream.specs.declared.fault.StreamFault.TheVariants as faults
-use Rattle.sip_stream.specs.Reading.{Reading, IsAfter, Reads}
+use Rattle.sip_stream.specs.Reading.{Reading, IsAfter, IsFair, HasRead, Reads}
 use Rattle.sip_stream.specs.Layouts.{layout_of}
 use Rattle.sip_stream.specs.Records.{Records, records, records_from, pieces_of}
 use Rattle.sip_stream.proofs.Copies.{read_front}
-use Rattle.sip_stream.proofs.RecordsRead.{records_end}
+use Rattle.sip_stream.proofs.RecordsRead.{came_front, records_end}
 use Rattle.sip_verifier.specs.Tasks.{version_of}
 use Rattle.sip_verifier.specs.declared.task.Task.{Task}
 use Rattle.sip_verifier.specs.inside.Drawing.{AreOf, HasDrawn}
@@ -84,6 +87,20 @@ followed_on task reader reader' seats seats' waiting u so after stand = record {
   stand = record { at_blocks = so.stand.at_blocks; stand = stand };
 }
 
+-- more records that the source held were read
+pub followed_many : (task : Task) (reader reader' : Reading) (seats : Seating) (waiting waiting' us : List Update) (taken : List ℕ) (so : IsFollowed task reader seats waiting)
+    → HasRead reader reader' taken us → waiting' ≡ waiting ++ us → IsFollowed task reader' seats waiting'
+followed_many task reader reader' seats waiting waiting' us taken so had grown = record {
+  sent = so.sent;
+  after = subst (IsAfter reader') (append_assoc so.sent waiting us ∙ ap (λ l. so.sent ++ l) (sym grown)) (had.after (so.sent ++ waiting) so.after);
+  stand = so.stand;
+}
+
+-- the items of records that were read together
+pub fair_items : (depth : ℕ) (us : List Update) → All (IsFair depth) us → All (λ (u : Update). u.item < 2 ^ depth) us
+fair_items depth [] fair = All-nil (λ (u : Update). u.item < 2 ^ depth)
+fair_items depth (u ∷ us) fair = All-cons (λ (v : Update). v.item < 2 ^ depth) u us (All-head (IsFair depth) u us fair).item (fair_items depth us (All-tail (IsFair depth) u us fair))
+
 module _ (task : Task) (bytes seed : List ℕ) (start : Option (List TalkEvent)) (first : Seating) (has : HasDrawn task seed first) where
   abbrev at_blocks : List (List ℕ)
   at_blocks = blocks task has.challenges
@@ -111,6 +128,29 @@ module _ (task : Task) (bytes seed : List ℕ) (start : Option (List TalkEvent))
     said = said;
     stand = stand;
   }
+
+  -- after more records that the source held
+  pub goes_on_many : (left left' : Option (List ℕ)) (now : Option (List TalkEvent)) (reader reader' : Reading) (seats : Seating) (waiting waiting' us : List Update) (taken : List ℕ)
+      → IsUnderway task bytes at_blocks left start now reader seats waiting → reader.depth ≡ task.depth → reader.form ≡ task.form → HasRead reader reader' taken us → Consumes left left' taken → waiting' ≡ waiting ++ us → length waiting' < most_rows
+      → IsUnderway task bytes at_blocks left' start now reader' seats waiting'
+  goes_on_many left left' now reader reader' seats waiting waiting' us taken so depth form had took grown few =
+      let came = came_front left left' so.rest taken so.to_come took in
+      let same = rw (depth, form) at (had.same so.stream came.0 so.after) in
+      record {
+        rest = came.0;
+        to_come = came.1;
+        stream = so.stream ++ us;
+        after = had.after so.stream so.after;
+        ahead = so.ahead ∙ ap (records_from task.depth task.form so.stream) came.2 ∙ same;
+        said = record {
+          sent = so.said.sent;
+          whole = so.said.whole;
+          talk = so.said.talk;
+          order = ap (λ l. l ++ us) so.said.order ∙ append_assoc so.said.sent waiting us ∙ ap (λ l. so.said.sent ++ l) (sym grown);
+          few = few;
+        };
+        stand = so.stand;
+      }
 
   -- the records so far are a front of the legal ones
   is_front : (stream : List Update) (rest : List ℕ) → records task.depth task.form bytes ≡ records_from task.depth task.form stream rest → IsPrefix stream (legal task bytes seed)

@@ -29,6 +29,7 @@ use sip_vector::{CAP, Entry, Query};
 use sip_wire::{Frame, Version};
 
 /// Asks the query of a seat, takes the replies and checks them. The pairs of an answer are written to the front of `entries`.
+#[inline(never)]
 pub(crate) fn ask_seat<L: Link>(
     version: Version,
     seat: &QuerySeat,
@@ -131,6 +132,7 @@ fn ask_heavy<L: Link>(
 }
 
 // Asks the query of a seat for a sum, where the extensions of the lists that it is over have this product.
+#[inline(never)]
 fn ask_sum<L: Link>(
     version: Version,
     seat: &QuerySeat,

@@ -139,6 +139,7 @@ impl Seats {
     ///
     /// The block is split by side once. Then an update takes, for each query that it concerns, one look-up and one multiplication
     /// for each seven levels; their tables are made once for a block, a side and a query, on the stack. No memory.
+    #[inline(never)]
     pub fn update_all(&mut self, updates: &[Update])
         requires most { length updates.now ≤ most_rows }
         requires items { All (λ u. u.item < 2 ^ self.old.depth) updates.now }

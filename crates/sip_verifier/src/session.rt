@@ -142,6 +142,7 @@ impl Session {
     ///
     /// `TooWide` exactly for the first query for heavy hitters whose total n reaches its threshold T with more than 65,536 for
     /// floor(n / T); else `OutOfMemory`. The seats are then dropped.
+    #[inline(never)]
     pub fn new(alloc: Global, version: Version, seats: Seats) -> Result<Session, SessionStart>
         requires { All (λ s. Speaks version seats.depth s.query) seats.seats }
         ensures { Starts version seats result }

@@ -1,35 +1,31 @@
 -- A message came: it is known or not, it may come or not, and its reply goes out whole or not.
-use Rattle.std.proofs.Common.{◌≡◌, Bool, true, false, List, ℕ, rules, sym, ap, subst, ◌∙◌, lit≤}
+use Rattle.std.proofs.Common.{◌≡◌, Bool, true, false, List, ℕ, rules, sym, ap, subst, ◌∙◌}
 use Rattle.std.specs.Prelude.{is_err, Err}
 use Rattle.std.proofs.lemmas.Result.{err_from_is_err_and}
 use Rattle.sip_ports.specs.Ports.{GoesOn, SendsWhole, outs}
 use Rattle.sip_ports.proofs.TalkLemmas.{GoesOn-refl}
 use Rattle.sip_wire.proofs.Wider.{fits_two}
 use Rattle.sip_helper.specs.Turns.{HelperState, after_answer, is_allowed, is_known, owed, step}
-use Rattle.sip_helper.proofs.Hearing.{refusal_fits}
 use Rattle.sip_helper.proofs.Turning.{in_version, refused, refusal_cut, reply_cut, given, owes_nothing, not_allowed, is_allowed_by, on_ok_holds}
 use Rattle.sip_helper.proofs.serving.take_turn.Goals as goal
 
 pub hear-requires-clause-fits : goal.hear-requires-clause-fits
 hear-requires-clause-fits g c = fits_two c.version-version.result c.decode_into.new.message c.in_default.ensures.did.answer.has_spelling
 
-pub encode-requires : goal.encode-requires
-encode-requires g c = refusal_fits _ 4 (lit≤ tt) (lit≤ tt)
-
-pub returns-in_err-encode-clause-turn : goal.returns-in_err-encode-clause-turn
-returns-in_err-encode-clause-turn g c =
+pub returns-in_err-refuse-clause-turn : goal.returns-in_err-refuse-clause-turn
+returns-in_err-refuse-clause-turn g c =
     let failed : is_err c.hear.result ≡ true = search rules in
     let out = not_allowed c.hear.result (is_allowed c.args.core.now c.decode_into.new.message) c.hear.ensures.turn failed in
     let known : is_known c.decode_into.new.message ≡ true = search rules in
     let p = err_from_is_err_and c.from_residual.result c.from_residual.ensures.1 in
-    rw (p.1, p.2) (refusal_cut c.args.core.now _ _ _ _ _ c.decode_into.new.message (in_version c.args.core.now _ _ _ _ _ _ _ c.version-version.ensures c.in_default.ensures.did) _ c.args.offset c.in_err-encode.field-0.0 known out (rw c.version-version.ensures at c.in_err-encode.ensures.talk))
+    rw (p.1, p.2) (refusal_cut c.args.core.now _ _ _ _ _ c.decode_into.new.message (in_version c.args.core.now _ _ _ _ _ _ _ c.version-version.ensures c.in_default.ensures.did) _ c.args.offset c.in_err-refuse.field-0.0 known out (rw c.version-version.ensures at c.in_err-refuse.ensures.talk))
 
 pub returns-then-is_err-clause-turn : goal.returns-then-is_err-clause-turn
 returns-then-is_err-clause-turn g c =
     let failed : is_err c.hear.result ≡ true = search rules in
     let out = not_allowed c.hear.result (is_allowed c.args.core.now c.decode_into.new.message) c.hear.ensures.turn failed in
     let known : is_known c.decode_into.new.message ≡ true = search rules in
-    refused c.args.core.now _ _ _ _ _ c.decode_into.new.message (in_version c.args.core.now _ _ _ _ _ _ _ c.version-version.ensures c.in_default.ensures.did) _ c.args.offset known out (rw c.version-version.ensures at c.in_ok-encode.ensures.talk)
+    refused c.args.core.now _ _ _ _ _ c.decode_into.new.message (in_version c.args.core.now _ _ _ _ _ _ _ c.version-version.ensures c.in_default.ensures.did) _ c.args.offset known out (rw c.version-version.ensures at c.in_ok-refuse.ensures.talk)
 
 pub returns-in_err-answer-clause-turn : goal.returns-in_err-answer-clause-turn
 returns-in_err-answer-clause-turn g c =

@@ -7,7 +7,6 @@ use Rattle.sip_field.specs.Moduli.{m61_modulus}
 use Rattle.sip_ports.specs.declared.port.TalkEvent.{TalkEvent}
 use Rattle.sip_ports.specs.Ports.{GoesOn, SendsWhole, outs}
 use Rattle.sip_vector.specs.Vectors.{nonzero_within}
-use Rattle.sip_wire.specs.declared.message.Message.{Message}
 use Rattle.sip_wire.specs.Spelling.{spelling}
 use Rattle.sip_subvec.specs.Honest.{Proving, honest_reply, its_siblings, proving, siblings_message}
 use Rattle.sip_helper.proofs.SubVectors.{reply_first, reply_behind}
@@ -33,21 +32,19 @@ returns-clause-talk g c =
     let revealed = c.args.revealed.now in
     let before = g.K.Sink.talk c.args.out.now in
     let now = g.K.Sink.talk c.if-is_empty.out in
-    let after = g.K.Sink.talk c.encode.new.sink in
-    let message : c.siblings_of.result ≡ siblings_message (its_siblings (proving m61_modulus numbers lo hi revealed)) =
-    c.siblings_of.ensures.message ∙ ap (λ (x : Proving). siblings_message (its_siblings x)) c.requires.proving in
-    let sent : SendsWhole now after c.encode.result (spelling c.args.version (siblings_message (its_siblings (proving m61_modulus numbers lo hi revealed)))) =
-    subst (λ (m : Message). SendsWhole now after c.encode.result (spelling c.args.version m)) message c.encode.ensures.talk in
+    let after = g.K.Sink.talk c.put_siblings.new.out in
+    let sent : SendsWhole now after c.put_siblings.result (spelling c.args.version (siblings_message (its_siblings (proving m61_modulus numbers lo hi revealed)))) =
+    subst (λ (x : Proving). SendsWhole now after c.put_siblings.result (spelling c.args.version (siblings_message (its_siblings x)))) c.requires.proving c.put_siblings.ensures.talk in
     elim c.if-is_empty.branch [
       | then-is_empty+in_ok-put_entries w ↦
           let len : length c.args.revealed.now ≡ 0 = search rules in
           let none = nil_from_length c.args.revealed.now len in
           let entries = subst (λ (t : Option (List TalkEvent)). GoesOn before t (outs (framed c.args.version (nonzero_within lo hi numbers)))) (sym (ap g.K.Sink.talk w.out-is)) w.in_ok-put_entries.ensures.talk in
-          subst (SendsWhole before after c.encode.result) (sym (ap (honest_reply c.args.version m61_modulus numbers lo hi) none ∙ reply_first c.args.version m61_modulus numbers lo hi))
-          (sends_after before now after c.encode.result (framed c.args.version (nonzero_within lo hi numbers)) _ entries
-          (subst (λ (l : List ℕ). SendsWhole now after c.encode.result (spelling c.args.version (siblings_message (its_siblings (proving m61_modulus numbers lo hi l))))) none sent))
+          subst (SendsWhole before after c.put_siblings.result) (sym (ap (honest_reply c.args.version m61_modulus numbers lo hi) none ∙ reply_first c.args.version m61_modulus numbers lo hi))
+          (sends_after before now after c.put_siblings.result (framed c.args.version (nonzero_within lo hi numbers)) _ entries
+          (subst (λ (l : List ℕ). SendsWhole now after c.put_siblings.result (spelling c.args.version (siblings_message (its_siblings (proving m61_modulus numbers lo hi l))))) none sent))
       | else-is_empty w ↦
           let some : 0 < length revealed = search rules in
-          subst (λ (t : Option (List TalkEvent)). SendsWhole t after c.encode.result (honest_reply c.args.version m61_modulus numbers lo hi revealed)) (ap g.K.Sink.talk w.out-is)
-          (subst (SendsWhole now after c.encode.result) (sym (reply_behind c.args.version m61_modulus numbers lo hi revealed some)) sent)
+          subst (λ (t : Option (List TalkEvent)). SendsWhole t after c.put_siblings.result (honest_reply c.args.version m61_modulus numbers lo hi revealed)) (ap g.K.Sink.talk w.out-is)
+          (subst (SendsWhole now after c.put_siblings.result) (sym (reply_behind c.args.version m61_modulus numbers lo hi revealed some)) sent)
     ]

@@ -3,8 +3,8 @@ use Rattle.sip_ports.specs.Ports.{Lasts}
 use Rattle.sip_replies.proofs.Entering.{Entered}
 use Rattle.sip_replies.proofs.taking.take_reply.Given as goal
 
-abbrev pub invariant-loop-message : goal.invariant-loop-message
-invariant-loop-message g l = record {
+abbrev pub invariant-loop-check : goal.invariant-loop-check
+invariant-loop-check g l = record {
   entered : (asked : g.C.Check.Asked) (s : g.C.Check.State) → (g.C.Check.protocol asked).rules.version ≡ l.version → g.C.Check.stands asked s l.initial.check l.initial.places
       → Entered (g.C.Check.protocol asked).rules s (g.L.Sink.talk l.initial.link) (g.L.Sink.talk l.link) (g.K.Sink.talk l.initial.keep) (g.K.Sink.talk l.keep) (λ t. g.C.Check.stands asked t l.check l.places);
   stood : (asked : g.C.Check.Asked) (s : g.C.Check.State) → g.C.Check.stands asked s l.initial.check l.initial.places → (t : g.C.Check.State) × g.C.Check.stands asked t l.check l.places;
@@ -15,5 +15,5 @@ invariant-loop-message g l = record {
   keep : Lasts g.K.Sink.faults g.K.Sink.wants g.K.Sink.is_sure l.initial.keep l.keep;
 }
 
-abbrev pub decreases-loop-message : goal.decreases-loop-message
-decreases-loop-message g l = g.C.Check.room l.check
+abbrev pub decreases-loop-check : goal.decreases-loop-check
+decreases-loop-check g l = g.C.Check.room l.check
