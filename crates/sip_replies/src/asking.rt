@@ -120,6 +120,7 @@ pub fn ask<C: Check, L: Link, K: Keeper>(
         → C.stands asked (C.protocol asked).rules.start check.old places.old
         → Answers (C.protocol asked) query (C.phase check.old).block
         (L.talk link.old) (L.talk link.new) (K.talk keep.old) (K.talk keep.new) places.new result }
+    ensures lent { C.lent check.new ≡ C.lent check.old }
     ensures places { length places.new ≡ length places.old }
     ensures link { Lasts L.faults L.wants L.is_sure link.old link.new }
     ensures keep { Lasts K.faults K.wants K.is_sure keep.old keep.new }

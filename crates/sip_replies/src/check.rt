@@ -57,6 +57,9 @@ pub trait Check {
     /// How many frames may still come in a reply, at most.
     ghost room: { Self → ℕ };
 
+    /// How much room was lent to the check for its work. No call changes it.
+    ghost lent: { Self → ℕ };
+
     /// The check and the places stand for this state.
     ghost stands: { Asked → State → Self → List AnyEntry → Type 0 };
 
@@ -88,6 +91,7 @@ pub trait Check {
             (λ t. stands asked t self.new places.new) result }
         ensures phase { IfOk result (λ more. phase self.new ≡ after more (phase self.old)) }
         ensures smaller { result ≡ Ok Due → room self.new < room self.old }
+        ensures lent { lent self.new ≡ lent self.old }
         ensures places { length places.new ≡ length places.old };
 
     /// The next challenge.
@@ -100,15 +104,17 @@ pub trait Check {
         ensures learns { (asked : Asked) (s : State) (places : List AnyEntry)
             → stands asked s self.old places
             → stands asked ((protocol asked).rules.learn s result) self.new places }
-        ensures phase { phase self.new ≡ revealed_more (phase self.old) };
+        ensures phase { phase self.new ≡ revealed_more (phase self.old) }
+        ensures lent { lent self.new ≡ lent self.old };
 
     /// The tests behind the last reply, which learn the last challenge.
     fn finish(&mut self, places: &[Entry]) -> Result<Said, Reason>
         requires phase { Ends (phase self.old) }
         requires stood { (asked : Asked) × (s : State) × stands asked s self.old places.now }
-        ensures { (asked : Asked) (s : State) → stands asked s self.old places.now
+        ensures says { (asked : Asked) (s : State) → stands asked s self.old places.now
             → answered places.now result ≡ (protocol asked).finish ((protocol asked).rules.learn s
-            (slice_index (phase self.old).block (phase self.old).revealed)) };
+            (slice_index (phase self.old).block (phase self.old).revealed)) }
+        ensures lent { lent self.new ≡ lent self.old };
 
     /// The end of the link is no reason of the tests behind the last reply.
     ghost ends: { (asked : Asked) (s : State) (reason : AnyReason)

@@ -123,6 +123,7 @@ pub(crate) fn take_reply<C: Check, L: Link, K: Keeper>(
     ensures stands { (asked : C.Asked) (s : C.State) → C.stands asked s check.old places.old
         → IfOk result (λ _. (t : C.State) × C.stands asked t check.new places.new) }
     ensures phase { IfOk result (λ _. C.phase check.new ≡ after Complete (C.phase check.old)) }
+    ensures lent { C.lent check.new ≡ C.lent check.old }
     ensures places { length places.new ≡ length places.old }
     ensures link { Lasts L.faults L.wants L.is_sure link.old link.new }
     ensures keep { Lasts K.faults K.wants K.is_sure keep.old keep.new }

@@ -84,6 +84,8 @@ impl Check for SubAsking {
 
     ghost room = { λ a. most_entries + 1 - a.found };
 
+    ghost lent = { λ a. 0 };
+
     ghost stands = { SubStands };
 
     fn depth(&self) -> usize {

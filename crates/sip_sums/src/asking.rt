@@ -80,6 +80,8 @@ impl Check for SumAsking {
 
     ghost room = { λ a. if is_none a.claim then 1 else 0 };
 
+    ghost lent = { λ a. 0 };
+
     ghost stands = { SumStands };
 
     fn depth(&self) -> usize {

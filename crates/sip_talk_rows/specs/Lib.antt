@@ -1,1 +1,2 @@
 pub mod ListToy
+pub mod SumToy

@@ -18,3 +18,5 @@ mod sum_asking_tests;
 mod sum_check_tests;
 #[cfg(test)]
 mod sum_prover_tests;
+#[cfg(test)]
+mod sum_tests;

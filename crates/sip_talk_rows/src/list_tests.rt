@@ -65,6 +65,8 @@ impl<'a> Check for ListCheck<'a> {
 
     ghost room = { λ c. c.most - c.count };
 
+    ghost lent = { λ c. 0 };
+
     ghost stands = { λ asked s c places. ListStands asked s c.most c.count c.learnt.items places };
 
     fn depth(&self) -> usize {

@@ -27,6 +27,7 @@ use Rattle.sip_replies.specs.Talks.{ending}
 use Rattle.sip_verifier.specs.Questions.{Question, said_for, updates, questions_of, AreQuestions, Reached}
 use Rattle.sip_verifier.specs.VerdictClause.{AllWritten, OneFaulty, VerdictClause}
 use Rattle.sip_verifier.proofs.Blocks.{none_drawn, are_blocks}
+use Rattle.sip_verifier.proofs.WideQueries.{none_wide}
 use Rattle.sip_verifier.proofs.HeardTalks.{IsHeard, replied, heard-talk, last_is}
 use Rattle.sip_verifier.proofs.HonestRuns.{faulty_heard, done_heard, CanBeAsked, AreFirst, all_honest, done_honest, none_faulty}
 use Rattle.sip_vector.specs.Limits.{most_depth}
@@ -101,6 +102,7 @@ module _ (task : Task) (x : Exchange) (some : 1 ≤ task.depth) (most : task.dep
   completes before now statuses.Accepted v cause is = λ honest none. inl (refl, accepted_report task x some most fits honest v)
   completes before now (statuses.Rejected query round reason) v cause is = λ honest none. absurd (not_rejected task x some most fits honest query round reason v)
   completes before now (statuses.BadStream at why) v cause is = λ honest none. absurd (let fault = cause.2 in let legal = honest.legal in cc)
+  completes before now (statuses.TooWide query) v cause is = λ honest none. absurd (let narrow = none_wide (version_of task) task.depth (updates task x) task.queries.items honest.few in let wide = cause.1 in cc)
   completes before now statuses.BadSeed v cause is = λ honest none. absurd (some_drawn task x some most fits honest (none_drawn (challenge_count task) x.seed cause))
   completes before now statuses.SeedSpent v cause is = λ honest none. absurd (some_drawn task x some most fits honest cause.1)
   completes before now (statuses.ReadFault ports.First) v cause is = λ honest none. absurd (none.first cause.1)

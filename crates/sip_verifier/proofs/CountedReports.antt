@@ -134,6 +134,7 @@ module _ (task : Task) (x : Exchange) (can : All (CanBeAsked task.depth) task.qu
   report_counts (statuses.BadStream at why) v is = nothing v
   report_counts statuses.BadSeed v is = nothing v
   report_counts statuses.SeedSpent v is = nothing v
+  report_counts (statuses.TooWide query) v is = nothing v
   report_counts (statuses.ReadFault port) v is = nothing v
   report_counts (statuses.WriteFault ports.Report) v is = cut_in_line v v.verdict
   report_counts statuses.PeerFault v is = whole v.done (were_in_talk v.done v.reached) v.report

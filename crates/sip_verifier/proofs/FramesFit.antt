@@ -1,10 +1,12 @@
 -- A frame of updates that each have a spelling has one.
-use Rattle.std.proofs.Common.{◌≡◌, ◌≢◌, ℕ, zero, suc, ◌^◌, ◌<◌, ◌≤◌, true, false, not, ◌&&◌, nat_lt, nat_le, eqb, ℤ, pos, negsuc, nat_abs, List, [], ◌∷◌, length, refl, ap, arith, w64, ◌++◌, FitsSigned}
+use Rattle.std.proofs.Common.{◌≡◌, ◌≢◌, ℕ, zero, suc, ◌^◌, ◌<◌, ◌≤◌, true, false, not, ◌&&◌, nat_lt, nat_le, eqb, ℤ, pos, negsuc, nat_abs, List, [], ◌∷◌, length, refl, sym, ap, ◌∙◌, arith, w64, ◌++◌, All, append-nil, append_assoc, FitsSigned}
 use Rattle.std.specs.Prelude.{IsTrue}
 use Rattle.std.specs.List.{flat_map, list_all}
 use Rattle.std.specs.Int.{cast_unsigned}
 use Rattle.std.proofs.lemmas.Bool.{and_from, and_parts, lt-ltb, ltb-true, leb-true, le-leb, ne_eqb}
 use Rattle.std.proofs.lemmas.Int.{ints}
+use Rattle.std.proofs.lemmas.List.Elements.{All-head, All-tail}
+use Rattle.sip_stream.specs.Reading.{IsFair}
 use Rattle.std.proofs.lemmas.Bool.Decides.{nat_tests}
 use Rattle.std.proofs.Math.Nat.{pow-le-pow_right}
 use Rattle.sip_wire.specs.declared.version.Version.TheVariants.{One, Two}
@@ -84,16 +86,25 @@ bits_most z fits = omega (arith, ints, fits)
 pub spelled_one : (version : Version) (u : Update) → u.item < 256 ^ index_width version → u.delta ≢ pos 0 → FitsSigned w64 u.delta → has_spelling version u ≡ true
 spelled_one version u item some fits = and_from _ _ (and_from _ _ (lt-ltb u.item (256 ^ index_width version) item) (ap not (is_zero-false u.delta some))) (le-leb (nat_abs u.delta) (2 ^ 63) (bits_most u.delta fits))
 
+-- an item of a depth that a version goes to has room in its bytes
+pub item_below : (version : Version) (depth item : ℕ) → depth ≤ deepest version → item < 2 ^ depth → item < 256 ^ index_width version
+item_below One depth item le lt = let powers : 2 ^ depth ≤ 2 ^ 32 = pow-le-pow_right {n = 2} (omega arith) le in omega arith
+item_below Two depth item le lt = let powers : 2 ^ depth ≤ 2 ^ 48 = pow-le-pow_right {n = 2} (omega arith) le in omega arith
+
+-- more of a legal stream
+pub spelled_fair : (version : Version) (depth : ℕ) (us more : List Update) → depth ≤ deepest version → list_all (has_spelling version) us ≡ true → All (IsFair depth) more → list_all (has_spelling version) (us ++ more) ≡ true
+spelled_fair version depth us [] most all fair = ap (list_all (has_spelling version)) (append-nil us) ∙ all
+spelled_fair version depth us (u ∷ more) most all fair =
+    let here = All-head (IsFair depth) u more fair in
+    let one = and_from _ _ (and_from _ _ (lt-ltb u.item (256 ^ index_width version) (item_below version depth u.item most here.item)) (ap not (is_zero-false u.delta here.delta))) (le-leb (nat_abs u.delta) (2 ^ 63) (omega (arith, here.size))) in
+    ap (list_all (has_spelling version)) (sym (append_assoc us (u ∷ []) more))
+    ∙ spelled_fair version depth (us ++ u ∷ []) more most (spelled_more version us u all one) (All-tail (IsFair depth) u more fair)
+
 pub frame_fits : (version : Version) (us : List Update) → 0 < length us → length us ≤ most_rows → list_all (has_spelling version) us ≡ true → IsTrue (fits version (messages.Updates (record { items = us })))
 unfolding fits
 frame_fits version us some most spelled =
     let count : (nat_le 1 (length us) && nat_le (length us) most_rows) ≡ true = grind (arith, nat_tests) in
     and_from _ _ (and_from _ _ (and_from _ _ count (rows_have_room version us spelled)) refl) (rows_hold version us spelled)
-
--- an item of a depth that a version goes to has room in its bytes
-pub item_below : (version : Version) (depth item : ℕ) → depth ≤ deepest version → item < 2 ^ depth → item < 256 ^ index_width version
-item_below One depth item le lt = let powers : 2 ^ depth ≤ 2 ^ 32 = pow-le-pow_right {n = 2} (omega arith) le in omega arith
-item_below Two depth item le lt = let powers : 2 ^ depth ≤ 2 ^ 48 = pow-le-pow_right {n = 2} (omega arith) le in omega arith
 
 pub open_fits : (version : Version) (depth : ℕ) → 1 ≤ depth → depth ≤ deepest version → IsTrue (fits version (messages.Open (number_of version) depth))
 unfolding fits has_room all_hold

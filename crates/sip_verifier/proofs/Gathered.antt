@@ -1,30 +1,40 @@
 -- How far a stream was read, sent and added to the seats, and where the call may stop.
-use Rattle.std.proofs.Common.{◌≡◌, ℕ, List, [], ◌∷◌, ◌++◌, length, inr, refl, sym, ap, ◌∙◌, subst, arith, length-append}
+use Rattle.std.proofs.Common.{◌≡◌, ℕ, ◌<◌, ◌^◌, List, [], ◌∷◌, ◌++◌, length, inr, refl, sym, ap, ◌∙◌, subst, arith, length-append, inl, append_assoc, append-nil, All}
+use Rattle.std.specs.Io.KnownBytes.{Consumes}
+use Rattle.std.proofs.lemmas.Bool.{cases_Bool}
 use Rattle.std.proofs.lemmas.List.{nil_from_length}
+use Rattle.std.proofs.lemmas.List.Elements.{All-cons, All-head, All-nil, All-tail}
+use Rattle.sip_wire.specs.Table.{most_rows}
 use Rattle.std.specs.Prelude.{Some, None, Ok, Err}
 use Rattle.std.specs.declared.option.Option.{Option}
 use Rattle.sip_ports.specs.declared.port.PortStop.{PortStop}
 use Rattle.sip_ports.specs.declared.port.PortStop.TheVariants as ports
 use Rattle.sip_ports.specs.declared.port.TalkEvent.{TalkEvent}
 use Rattle.sip_ports.specs.Ports.{GoesOn}
+use Rattle.sip_vector.specs.declared.update.Side.{Side}
 use Rattle.sip_vector.specs.declared.update.Update.{Update}
+use Rattle.sip_vector.specs.Streams.{IsLegal}
 use Rattle.sip_stream.specs.declared.fault.StreamFault.{StreamFault}
 use Rattle.sip_stream.specs.declared.fault.StreamFault.TheVariants as faults
-use Rattle.sip_stream.specs.Reading.{Reading, IsAfter, Reads}
+use Rattle.sip_stream.specs.Reading.{Reading, IsAfter, IsFair, HasRead, Reads}
 use Rattle.sip_stream.specs.Layouts.{layout_of}
 use Rattle.sip_stream.specs.Records.{Records, records, records_from, pieces_of}
 use Rattle.sip_stream.proofs.Copies.{read_front}
-use Rattle.sip_stream.proofs.RecordsRead.{records_end}
+use Rattle.sip_stream.proofs.RecordsRead.{came_front, records_end}
 use Rattle.sip_verifier.specs.Tasks.{version_of}
 use Rattle.sip_verifier.specs.declared.task.Task.{Task}
-use Rattle.sip_verifier.specs.inside.Drawing.{HasDrawn}
+use Rattle.sip_verifier.specs.inside.Drawing.{AreOf, HasDrawn}
 use Rattle.sip_verifier.specs.Draws.{blocks}
 use Rattle.sip_verifier.specs.inside.Ending.{status_of_link, status_of_stream}
 use Rattle.sip_replies.specs.Talks.{IsPrefix}
 use Rattle.sip_verifier.specs.Gathering.{legal, before_end, IsGathered, IsCut, IsCutBefore, HasSeed, Gathers}
+use Rattle.sip_verifier.specs.Feeding.{fills, waiting_with}
+use Rattle.sip_verifier.specs.inside.Passing.{taken_with}
+use Rattle.sip_verifier.specs.QuerySeats.{HaveRoom}
 use Rattle.sip_verifier.specs.Seats.{AreSeats, Seating}
 use Rattle.sip_verifier.specs.inside.Sending.{IsSentBut, IsStopped, IsStoppedAtEnd}
 use Rattle.sip_verifier.specs.Talks.{whole_frames, opening_sent, stream_sent}
+use Rattle.sip_verifier.proofs.SeatTotals.{all_front, legal_room}
 use Rattle.sip_verifier.proofs.StreamSending.{stopped}
 use Rattle.sip_verifier.proofs.StreamSent.{IsPrefix-trans, frames_front, stream_sent-front, whole_frames-waiting}
 
@@ -37,6 +47,59 @@ pub record IsUnderway (task : Task) (bytes : List ℕ) (at_blocks : List (List �
   pub ahead : records task.depth task.form bytes ≡ records_from task.depth task.form stream rest
   pub said : IsSentBut (version_of task) task.depth start now stream waiting
   pub stand : AreSeats task.depth task.queries.items at_blocks said.sent seats
+
+-- The same without a word of what the ports tell: the records read so far are a legal stream, and the seats stand for all of it
+-- but what waits.
+pub record IsFollowed (task : Task) (reader : Reading) (seats : Seating) (waiting : List Update) : Type 0 where
+  pub sent : List Update
+  pub after : IsAfter reader (sent ++ waiting)
+  pub stand : AreOf task sent seats
+
+-- so there is room for what waits
+pub followed_room : (task : Task) (reader : Reading) (seats : Seating) (waiting : List Update) → IsFollowed task reader seats waiting → reader.depth ≡ task.depth
+    → (side : Side) → HaveRoom seats.seats waiting side
+followed_room task reader seats waiting so depth =
+    let legal = subst (λ d. IsLegal d (so.sent ++ waiting)) depth so.after.legal in
+    let below = all_front (λ (u : Update). u.item < 2 ^ task.depth) so.sent waiting legal.items in
+    legal_room task.depth task.queries.items so.stand.at_blocks so.sent waiting seats so.stand.stand below legal
+
+-- what the seats take of one more record, and what waits then
+taken_and_waiting : (waiting : List Update) (u : Update) → taken_with waiting u ++ waiting_with waiting u ≡ waiting ++ u ∷ []
+taken_and_waiting waiting u = elim (cases_Bool (fills waiting)) [
+  | inl full ↦ rw full (append-nil (waiting ++ u ∷ []))
+  | inr not ↦ rw not refl
+]
+
+-- one more record was read
+pub followed_one : (task : Task) (reader reader' : Reading) (seats : Seating) (waiting : List Update) (u : Update) (so : IsFollowed task reader seats waiting)
+    → IsAfter reader' ((so.sent ++ waiting) ++ u ∷ []) → IsFollowed task reader' seats (waiting ++ u ∷ [])
+followed_one task reader reader' seats waiting u so after =
+    record { sent = so.sent; after = subst (IsAfter reader') (append_assoc so.sent waiting (u ∷ [])) after; stand = so.stand }
+
+-- and passed on
+pub followed_on : (task : Task) (reader reader' : Reading) (seats seats' : Seating) (waiting : List Update) (u : Update) (so : IsFollowed task reader seats waiting)
+    → IsAfter reader' ((so.sent ++ waiting) ++ u ∷ []) → AreSeats task.depth task.queries.items so.stand.at_blocks (so.sent ++ taken_with waiting u) seats'
+    → IsFollowed task reader' seats' (waiting_with waiting u)
+followed_on task reader reader' seats seats' waiting u so after stand = record {
+  sent = so.sent ++ taken_with waiting u;
+  after = subst (IsAfter reader')
+      (append_assoc so.sent waiting (u ∷ []) ∙ ap (λ l. so.sent ++ l) (sym (taken_and_waiting waiting u)) ∙ sym (append_assoc so.sent (taken_with waiting u) (waiting_with waiting u))) after;
+  stand = record { at_blocks = so.stand.at_blocks; stand = stand };
+}
+
+-- more records that the source held were read
+pub followed_many : (task : Task) (reader reader' : Reading) (seats : Seating) (waiting waiting' us : List Update) (taken : List ℕ) (so : IsFollowed task reader seats waiting)
+    → HasRead reader reader' taken us → waiting' ≡ waiting ++ us → IsFollowed task reader' seats waiting'
+followed_many task reader reader' seats waiting waiting' us taken so had grown = record {
+  sent = so.sent;
+  after = subst (IsAfter reader') (append_assoc so.sent waiting us ∙ ap (λ l. so.sent ++ l) (sym grown)) (had.after (so.sent ++ waiting) so.after);
+  stand = so.stand;
+}
+
+-- the items of records that were read together
+pub fair_items : (depth : ℕ) (us : List Update) → All (IsFair depth) us → All (λ (u : Update). u.item < 2 ^ depth) us
+fair_items depth [] fair = All-nil (λ (u : Update). u.item < 2 ^ depth)
+fair_items depth (u ∷ us) fair = All-cons (λ (v : Update). v.item < 2 ^ depth) u us (All-head (IsFair depth) u us fair).item (fair_items depth us (All-tail (IsFair depth) u us fair))
 
 module _ (task : Task) (bytes seed : List ℕ) (start : Option (List TalkEvent)) (first : Seating) (has : HasDrawn task seed first) where
   abbrev at_blocks : List (List ℕ)
@@ -65,6 +128,29 @@ module _ (task : Task) (bytes seed : List ℕ) (start : Option (List TalkEvent))
     said = said;
     stand = stand;
   }
+
+  -- after more records that the source held
+  pub goes_on_many : (left left' : Option (List ℕ)) (now : Option (List TalkEvent)) (reader reader' : Reading) (seats : Seating) (waiting waiting' us : List Update) (taken : List ℕ)
+      → IsUnderway task bytes at_blocks left start now reader seats waiting → reader.depth ≡ task.depth → reader.form ≡ task.form → HasRead reader reader' taken us → Consumes left left' taken → waiting' ≡ waiting ++ us → length waiting' < most_rows
+      → IsUnderway task bytes at_blocks left' start now reader' seats waiting'
+  goes_on_many left left' now reader reader' seats waiting waiting' us taken so depth form had took grown few =
+      let came = came_front left left' so.rest taken so.to_come took in
+      let same = rw (depth, form) at (had.same so.stream came.0 so.after) in
+      record {
+        rest = came.0;
+        to_come = came.1;
+        stream = so.stream ++ us;
+        after = had.after so.stream so.after;
+        ahead = so.ahead ∙ ap (records_from task.depth task.form so.stream) came.2 ∙ same;
+        said = record {
+          sent = so.said.sent;
+          whole = so.said.whole;
+          talk = so.said.talk;
+          order = ap (λ l. l ++ us) so.said.order ∙ append_assoc so.said.sent waiting us ∙ ap (λ l. so.said.sent ++ l) (sym grown);
+          few = few;
+        };
+        stand = so.stand;
+      }
 
   -- the records so far are a front of the legal ones
   is_front : (stream : List Update) (rest : List ℕ) → records task.depth task.form bytes ≡ records_from task.depth task.form stream rest → IsPrefix stream (legal task bytes seed)

@@ -1,5 +1,8 @@
 mod Seating
 mod SeatsRaised
+pub mod SeatTotals
+pub mod WideSeats
+pub mod WideQueries
 mod FramesFit
 mod Sends
 mod DueFrames

@@ -19,6 +19,7 @@ use Rattle.sip_replies.specs.Replies.{Fault}
 use Rattle.sip_replies.specs.Talks.{IsPrefix, asked, asked_unless, ending}
 use Rattle.sip_verifier.specs.Asking.{question_of, IsAnswered, IsRejected, IsInterrupted, Asks}
 use Rattle.sip_verifier.specs.inside.Judging.{found_in, verdict_of}
+use Rattle.sip_verifier.specs.inside.Protocols.{IsProtocol}
 use Rattle.sip_verifier.specs.Questions.{Accepts, IsDue, IsFaulty, IsWaiting, said_for}
 
 -- no more are shown than there are
@@ -28,21 +29,6 @@ take-min (suc n) [] = let none : min (suc n) 0 ≡ 0 = omega arith in ap (λ (k 
 take-min (suc n) (x ∷ xs) =
     let one : min (suc n) (suc (length xs)) ≡ suc (min n (length xs)) = omega arith in
     ap (λ (k : ℕ). take k (x ∷ xs)) one ∙ ap (λ (l : List _). x ∷ l) (take-min n xs)
-
--- This is the protocol of the query's kind: what is said and what holds by it is so of the query's
--- questions.
-pub record IsProtocol (version : Version) (depth : ℕ) (stream : List Update) (query : Query) (block : List ℕ)
-    {S : Type 0} (P : Protocol S) : Type 0 where
-  pub said : (replies : List (List ℕ))
-      → asked_unless P.unasked P.rules.version query block replies
-      ≡ said_for version depth stream (question_of query block replies)
-  pub accepts : (replies : List (List ℕ)) (answer : Answer)
-      → replied.IsAccepted P block replies answer
-      → Accepts version depth stream (question_of query block replies) answer
-  pub faulty : (replies : List (List ℕ)) (fault : Fault) → replied.IsFaulty P block replies fault
-      → IsFaulty version depth stream (question_of query block replies) fault
-  pub waits : (replies : List (List ℕ)) → IsDue P block replies
-      → IsWaiting version depth stream (question_of query block replies)
 
 module _ (version : Version) (depth : ℕ) (stream : List Update) (query : Query) (block : List ℕ) (old new before now : Option (List TalkEvent)) {S : Type 0} (P : Protocol S) (is : IsProtocol version depth stream query block P) where
   asked_is : P.unasked ≡ None → (replies : List (List ℕ))

@@ -26,6 +26,8 @@ use Rattle.sip_verifier.specs.Asking.{question_of}
 use Rattle.sip_verifier.specs.Draws.{drawn, blocks}
 use Rattle.sip_verifier.specs.inside.Ending.{status_of_link}
 use Rattle.sip_replies.specs.Talks.{IsPrefix, ending}
+use Rattle.sip_verifier.specs.CauseClause.{CanBeJudged}
+use Rattle.sip_verifier.specs.Widths.{first_wide}
 use Rattle.sip_verifier.specs.Exchanges.{Exchange}
 use Rattle.sip_verifier.specs.Kinds.{KindRow, built, missing, kind_row, Holds}
 use Rattle.sip_verifier.specs.Moments.{Counts}
@@ -74,17 +76,19 @@ module _ (task : Task) (x : Exchange) where
   pub record Came (challenges : List ℕ) (done : Done task x) (rest : List TalkEvent) (part : List ℕ) : Type 0 where
     pub draws : drawn task x.seed ≡ Some challenges
     pub legal : IsLegalToEnd task x
+    pub narrow : first_wide (updates task x) task.queries.items ≡ None
     pub first : AreFirst task.queries.items (blocks task challenges) (questions_of task x done)
     pub talk : x.talk ≡ stream_sent (version_of task) task.depth (updates task x) ++ flat_map
         (said_for (version_of task) task.depth (updates task x)) (questions_of task x done) ++ rest
     pub report : x.report ≡ lines task x done ++ part
 
-  pub came : (challenges : List ℕ) (done : Done task x) (rest : List TalkEvent) (part : List ℕ) (t0 t1 t2 t3 r0 r1 r2 : Option (List TalkEvent)) → drawn task x.seed ≡ Some challenges → IsLegalToEnd task x
+  pub came : (challenges : List ℕ) (done : Done task x) (rest : List TalkEvent) (part : List ℕ) (t0 t1 t2 t3 r0 r1 r2 : Option (List TalkEvent)) → drawn task x.seed ≡ Some challenges → IsLegalToEnd task x → first_wide (updates task x) task.queries.items ≡ None
       → Adds t0 t3 x.talk → Adds r0 r2 (outs x.report) → GoesOn t0 t1 (stream_sent (version_of task) task.depth (updates task x)) → Passed (version_of task) task.depth (updates task x) task.queries.items (blocks task challenges) t1 t2 r0 r1 done
       → GoesOn t2 t3 rest → GoesOn r1 r2 (outs part) → Came challenges done rest part
-  came challenges done rest part t0 t1 t2 t3 r0 r1 r2 draws legal told wrote went passed goes writes = record {
+  came challenges done rest part t0 t1 t2 t3 r0 r1 r2 draws legal narrow told wrote went passed goes writes = record {
     draws = draws;
     legal = legal;
+    narrow = narrow;
     first = passed.first;
     talk = said_is t0 t3 _ x.talk (GoesOn-trans t0 t2 t3 _ rest (GoesOn-trans t0 t1 t2 streamed (said (questions_of task x done)) went passed.talk) goes) told;
     report = written_is r0 r2 (lines task x done ++ part) x.report
@@ -95,8 +99,8 @@ module _ (task : Task) (x : Exchange) where
     is_drawn : drawn task x.seed ≢ None
     is_drawn none = let some = c.draws in cc
 
-    good : (drawn task x.seed ≢ None) × IsLegalToEnd task x
-    good = (is_drawn, c.legal)
+    good : CanBeJudged task x
+    good = ((is_drawn, c.legal), c.narrow)
 
     reached : Reached task x (questions_of task x done) rest
     reached = record { are_questions = record { challenges = challenges; drawn = c.draws; queries = c.first.asked; blocks = c.first.at_blocks }; legal = c.legal; talk = c.talk }
@@ -287,10 +291,10 @@ module _ (task : Task) (x : Exchange) where
   -- ---- a query ended the run
 
   module _ (challenges : List ℕ) (t0 t1 t3 r0 r2 : Option (List TalkEvent)) (draws : drawn task x.seed ≡ Some challenges) (legal : IsLegalToEnd task x)
-      (told : Adds t0 t3 x.talk) (wrote : Adds r0 r2 (outs x.report)) (went : GoesOn t0 t1 (stream_sent (version_of task) task.depth (updates task x))) where
+      (narrow : first_wide (updates task x) task.queries.items ≡ None) (told : Adds t0 t3 x.talk) (wrote : Adds r0 r2 (outs x.report)) (went : GoesOn t0 t1 (stream_sent (version_of task) task.depth (updates task x))) where
     module _ {status : Status} (e : EndsWith (version_of task) task.depth (updates task x) task.queries.items (blocks task challenges) t1 t3 r0 r2 status) where
       its : {rest : List TalkEvent} {part : List ℕ} → GoesOn e.mid t3 rest → GoesOn e.half r2 (outs part) → Came challenges e.done rest part
-      its {rest = rest} {part = part} goes writes = came challenges e.done rest part t0 t1 e.mid t3 r0 e.half r2 draws legal told wrote went e.passed goes writes
+      its {rest = rest} {part = part} goes writes = came challenges e.done rest part t0 t1 e.mid t3 r0 e.half r2 draws legal narrow told wrote went e.passed goes writes
 
       its_next : {rest : List TalkEvent} {part : List ℕ} (c : Came challenges e.done rest part) → Next c e.query e.block
       its_next c = record { more = e.next_query; others = e.next_block; asks = e.asks; at = e.at }
@@ -376,13 +380,13 @@ module _ (task : Task) (x : Exchange) where
         → SendsWhole t2 t3 sent (spelling (version_of task) messages.Bye) → MatchResult r (λ u. sent ≡ Ok u) (λ status. (port : PortStop) × (sent ≡ Err port) × (status ≡ status_of_link port))
         → (sent ≡ Err port_stops.Failed → Rose before.peer now.peer) → x.unread ≡ [] → Ended task x before now (status_of r)
     at_bye before now t2 (Ok u) (Ok v) so goes on cause read =
-        let c : Came challenges so.done (outs (spelling (version_of task) messages.Bye)) [] = came challenges so.done (outs (spelling (version_of task) messages.Bye)) [] t0 t1 t2 t3 r0 r2 r2 draws legal told wrote went so.passed goes (GoesOn-refl r2) in
+        let c : Came challenges so.done (outs (spelling (version_of task) messages.Bye)) [] = came challenges so.done (outs (spelling (version_of task) messages.Bye)) [] t0 t1 t2 t3 r0 r2 r2 draws legal narrow told wrote went so.passed goes (GoesOn-refl r2) in
         at_end c so.counted refl before now (bye_is (version_of task)) read
     at_bye before now t2 (Ok u) (Err status) so goes (port, is, stops) cause read = absurd cc
     at_bye before now t2 (Err stop) (Ok v) so goes on cause read = absurd cc
     at_bye before now t2 (Err stop) (Err status) so (n, less, goes) (port, is, stops) cause read =
         let c : Came challenges so.done (outs (take n (spelling (version_of task) messages.Bye))) [] =
-        came challenges so.done (outs (take n (spelling (version_of task) messages.Bye))) [] t0 t1 t2 t3 r0 r2 r2 draws legal told wrote went so.passed goes (GoesOn-refl r2) in
+        came challenges so.done (outs (take n (spelling (version_of task) messages.Bye))) [] t0 t1 t2 t3 r0 r2 r2 draws legal narrow told wrote went so.passed goes (GoesOn-refl r2) in
         subst (Ended task x before now) (sym stops) (after_bye c so.counted refl (bye_front (version_of task) n) before now port (link_caused before now port (λ e. cause (is ∙ ap Err e))))
 
 -- the farewell's stop has its cause, and is listed

@@ -2,14 +2,17 @@
 use Rattle.std.proofs.Common.{◌≡◌, ◌≤◌, Bool, true, false, true≢false, refl, sym}
 use Rattle.std.specs.Prelude.{All, ◌||◌}
 use Rattle.sip_vector.specs.Answers.{Fits}
+use Rattle.sip_verifier.specs.declared.session.SessionStart.{SessionStart}
+use Rattle.sip_verifier.specs.declared.session.SessionStart.TheVariants as starts
 use Rattle.sip_verifier.specs.declared.status.Status.{Status}
 use Rattle.sip_verifier.specs.declared.task.Task.{Task}
 use Rattle.sip_verifier.specs.Exchanges.{Exchange, Tells}
 use Rattle.sip_verifier.specs.Moments.{Counts, Moment, IsTold}
+use Rattle.sip_verifier.specs.inside.Ending.{status_of_start}
 use Rattle.sip_verifier.specs.inside.Progress.{Ended}
 use Rattle.sip_verifier.specs.Promises.{Promises}
 use Rattle.sip_verifier.specs.RunClause.{RunClause}
-use Rattle.sip_verifier.specs.Statuses.{FaultClause, IsListed, is_accepted, stops_gathering, stops_asking}
+use Rattle.sip_verifier.specs.Statuses.{FaultClause, IsListed, is_accepted, stops_gathering, stops_starting, stops_asking}
 use Rattle.sip_verifier.specs.Tasks.{CanBeDone}
 use Rattle.sip_verifier.proofs.CompleteRuns.{completes}
 use Rattle.sip_vector.specs.Limits.{most_depth}
@@ -46,18 +49,32 @@ module _ (task : Task) (can : CanBeDone task) (some : 1 ≤ task.depth) (most : 
 
 -- ---- the list of a part is in the list of a run
 
-one_of_three : (a b c : Bool) → b ≡ true → (a || b || c) ≡ true
-one_of_three true b c is = refl
-one_of_three false true c is = refl
-one_of_three false false c is = absurd (true≢false (sym is))
+or_left : (a b : Bool) → a ≡ true → (a || b) ≡ true
+or_left true b is = refl
+or_left false b is = absurd (true≢false (sym is))
 
-last_of_three : (a b c : Bool) → c ≡ true → (a || b || c) ≡ true
-last_of_three true b c is = refl
-last_of_three false true c is = refl
-last_of_three false false c is = is
+or_right : (a b : Bool) → b ≡ true → (a || b) ≡ true
+or_right true b is = refl
+or_right false b is = is
 
 pub gathering_listed : (status : Status) → stops_gathering status ≡ true → IsListed status
-gathering_listed status is = one_of_three (is_accepted status) (stops_gathering status) (stops_asking status) is
+gathering_listed status is =
+    or_left (is_accepted status || stops_gathering status || stops_starting status) (stops_asking status)
+    (or_left (is_accepted status || stops_gathering status) (stops_starting status) (or_right (is_accepted status) (stops_gathering status) is))
+
+pub starting_listed : (status : Status) → stops_starting status ≡ true → IsListed status
+starting_listed status is =
+    or_left (is_accepted status || stops_gathering status || stops_starting status) (stops_asking status)
+    (or_right (is_accepted status || stops_gathering status) (stops_starting status) is)
 
 pub asking_listed : (status : Status) → stops_asking status ≡ true → IsListed status
-asking_listed status is = last_of_three (is_accepted status) (stops_gathering status) (stops_asking status) is
+asking_listed status is = or_right (is_accepted status || stops_gathering status || stops_starting status) (stops_asking status) is
+
+-- where there is no session the status is one of those, and needs no count
+pub start_listed : (start : SessionStart) → IsListed (status_of_start start)
+start_listed (starts.TooWide query) = refl
+start_listed starts.OutOfMemory = refl
+
+pub start_caused : (start : SessionStart) (before now : Counts) → FaultClause before now (status_of_start start)
+start_caused (starts.TooWide query) before now = tt
+start_caused starts.OutOfMemory before now = tt

@@ -1,5 +1,5 @@
 -- The general talk of a seat's query, kind by kind.
-use Rattle.std.proofs.Common.{◌≡◌, ◌≢◌, ℕ, ◌*◌, ◌%◌, ◌≤◌, Option, Some, Result, Err, List, length, take, ◌^◌, refl, sym, subst, ◌∙◌, inl, inr, arith}
+use Rattle.std.proofs.Common.{◌≡◌, ◌≢◌, ℕ, ℤ, ap, ◌*◌, ◌%◌, ◌≤◌, Option, Some, Result, Err, List, length, take, ◌^◌, refl, sym, subst, ◌∙◌, inl, inr, arith}
 use Rattle.std.specs.Prelude.{IsTrue}
 use Rattle.std.proofs.lemmas.Bool.{cases_order, leb-true}
 use Rattle.std.proofs.lemmas.Nat.{pow_below}
@@ -13,7 +13,8 @@ use Rattle.sip_vector.specs.declared.update.Side.{Side}
 use Rattle.sip_vector.specs.declared.update.Side.TheVariants.{First, Second}
 use Rattle.sip_vector.specs.declared.update.Update.{Update}
 use Rattle.sip_vector.specs.Extensions.{ext, ones}
-use Rattle.sip_vector.specs.Streams.{vector}
+use Rattle.sip_vector.specs.Streams.{int_sum, vector}
+use Rattle.sip_vector.specs.Trees.{Counted, augroot}
 use Rattle.sip_vector.proofs.Sides.{length-vector}
 use Rattle.sip_mle.specs.StandsFor.{PointStandsFor}
 use Rattle.sip_wire.specs.declared.message.Message.TheVariants as messages
@@ -32,10 +33,13 @@ use Rattle.sip_sums.specs.Questions.{Lists, lists, lists_of}
 use Rattle.sip_verifier.specs.Asking.{Asks}
 use Rattle.sip_verifier.specs.inside.Judging as judging
 use Rattle.sip_verifier.specs.inside.Judging.{found_in, verdict_of}
-use Rattle.sip_verifier.specs.QuerySeats.{RunningNumbers, Seated, root_is, point_is, points_are, RunsOn, StandsFor, is_seat}
+use Rattle.sip_verifier.specs.QuerySeats.{RunningNumbers, Seated, root_is, point_is, points_are, aug_root_is, RunsOn, StandsFor, is_seat}
 use Rattle.sip_wire.specs.Versions.{Speaks}
 use Rattle.sip_wire.proofs.Asking.{query-fits}
-use Rattle.sip_verifier.proofs.QueryAsked.{IsProtocol, asks}
+use Rattle.sip_heavy.specs.Protocol.{HeavyState, heavy_asked, heavy_protocol}
+use Rattle.sip_verifier.specs.inside.Protocols.{IsProtocol}
+use Rattle.sip_verifier.proofs.QueryAsked.{asks}
+use Rattle.sip_verifier.proofs.SeatTotals.{root_total}
 use Rattle.sip_verifier.proofs.SeatsHead.{seat-fits}
 
 -- the query of a seat has a spelling in each version in which it can be asked
@@ -48,9 +52,8 @@ seat_has_spelling version s seat speaks =
 
 -- its answer has room
 pub sub_has_room : (s : Seated) (lo hi room : ℕ) → s.query ≡ Sub lo hi
-    → IsTrue (judging.has_places room s.query) → most_answer lo hi ≤ room
-sub_has_room s lo hi room is has = leb-true (most_answer lo hi) room
-    (subst (λ (q : Query). IsTrue (judging.has_places room q)) is has)
+    → judging.most_places s.query s.running ≤ room → most_answer lo hi ≤ room
+sub_has_room s lo hi room is has = subst (λ (q : Query). judging.most_places q s.running ≤ room) is has
 
 -- its protocol is that of the stream for which its root stands
 sub_is_protocol : (version : Version) (depth : ℕ) (stream : List Update) (query : Query) (block : List ℕ)
@@ -194,3 +197,47 @@ pub inner_product : (depth : ℕ) (stream : List Update) (s : Seated) (first sec
 inner_product depth stream s first second product is keeps product_is stands =
     let runs : PointStandsFor m61_modulus s.block first (vector depth stream First) × PointStandsFor m61_modulus s.block second (vector depth stream Second) = rw (is, keeps) at stands in
     (rw is refl, rw (product_is, runs.0.same, runs.1.same) refl)
+
+-- ---- heavy hitters
+
+-- its protocol is that of the stream for which its augmented root stands
+heavy_is_protocol : (version : Version) (depth : ℕ) (stream : List Update) (query : Query) (block : List ℕ)
+    (side : Side) (at_least hash : ℕ) (sum : ℤ) → query ≡ Heavy side at_least → RunsOn depth stream query block (aug_root_is hash sum)
+    → IsProtocol version depth stream query block (heavy_protocol (heavy_asked version m61_modulus hash sum (length block) at_least))
+heavy_is_protocol version depth stream (Sub lo hi) block side at_least hash sum is stands = absurd stands
+heavy_is_protocol version depth stream (Range own lo hi) block side at_least hash sum is stands = absurd stands
+heavy_is_protocol version depth stream (F2 own) block side at_least hash sum is stands = absurd stands
+heavy_is_protocol version depth stream Inner block side at_least hash sum is stands = absurd stands
+heavy_is_protocol version depth stream (Heavy own least) block side at_least hash sum is stands =
+    let same_least : least ≡ at_least = cc in
+    let hash_is : hash ≡ (augroot m61_modulus (vector depth stream own) block).hash = ap (λ (n : Counted). n.hash) stands.same in
+    let sum_is : sum ≡ int_sum (vector depth stream own) = root_total m61_modulus block hash sum (vector depth stream own) stands in
+    let size : length block ≡ depth = same_power (length block) depth (sym stands.whole ∙ length-vector depth stream own) in
+    rw (sym same_least, hash_is, sum_is, size) (record {
+      said = λ replies. refl;
+      accepts = λ replies answer a. a;
+      faulty = λ replies fault f. f;
+      waits = λ replies w. w;
+    })
+heavy_is_protocol version depth stream (Share own num den) block side at_least hash sum is stands = absurd cc
+
+-- by the running numbers of a seat
+pub heavy_protocol_is : (version : Version) (depth : ℕ) (stream : List Update) (s : Seated) (block : List ℕ)
+    (side : Side) (at_least hash : ℕ) (sum : ℤ) → s.query ≡ Heavy side at_least → s.running ≡ aug_root_is hash sum → s.block ≡ block → StandsFor depth stream s
+    → IsProtocol version depth stream s.query block (heavy_protocol (heavy_asked version m61_modulus hash sum (length block) at_least))
+heavy_protocol_is version depth stream s block side at_least hash sum is keeps own stands =
+    heavy_is_protocol version depth stream s.query block side at_least hash sum is
+    (subst (λ (r : RunningNumbers). RunsOn depth stream s.query block r) keeps
+    (subst (λ (b : List ℕ). RunsOn depth stream s.query b s.running) own stands))
+
+pub heavy_asks : (version : Version) (depth : ℕ) (stream : List Update) (query : Query) (at_least hash : ℕ) (sum : ℤ)
+    (block at : List ℕ) (old new before now : Option (List TalkEvent)) (places : List Entry) (result : Result Said AskStop)
+    → at ≡ block → IsProtocol version depth stream query block (heavy_protocol (heavy_asked version m61_modulus hash sum (length block) at_least))
+    → Answers (heavy_protocol (heavy_asked version m61_modulus hash sum (length block) at_least)) query at old new before now
+    places result → result ≢ Err stops.KeepFault
+    → result ≢ Err stops.KeepOutOfMemory → Asks version depth stream query block old new
+    (take (found_in (length places) result) places) (verdict_of result)
+heavy_asks version depth stream query at_least hash sum block at old new before now places result same is answers kept free =
+    let P : Protocol HeavyState = heavy_protocol (heavy_asked version m61_modulus hash sum (length block) at_least) in
+    let given = subst (λ (b : List ℕ). Answers P query b old new before now places result) same answers in
+    asks version depth stream query block old new before now P is places result given kept free

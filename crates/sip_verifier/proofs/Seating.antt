@@ -5,7 +5,7 @@ use Rattle.std.proofs.lemmas.Bool.{and_from, and_parts, cases_Bool, eq-eqb, eqb-
 use Rattle.std.proofs.lemmas.List.Elements.{All-nil, All-cons, All-head, All-tail}
 use Rattle.sip_field.specs.Moduli.{m61_modulus}
 use Rattle.sip_mle.specs.StandsFor.{PointStandsFor}
-use Rattle.sip_tree.specs.StandsFor.{RootStandsFor}
+use Rattle.sip_tree.specs.StandsFor.{RootStandsFor, AugRootStandsFor}
 use Rattle.sip_vector.specs.declared.query.Query.{Query}
 use Rattle.sip_vector.specs.declared.query.Query.TheVariants.{Sub, Range, F2, Inner, Heavy, Share}
 use Rattle.sip_vector.specs.declared.update.Side.{Side}
@@ -14,7 +14,7 @@ use Rattle.sip_vector.specs.declared.update.Update.{Update}
 use Rattle.sip_vector.specs.Streams.{same_side, of_side, vector}
 use Rattle.sip_vector.specs.Weights.{numbers_after}
 use Rattle.sip_vector.proofs.TreeStreams.{vector_goes_on}
-use Rattle.sip_verifier.specs.QuerySeats.{RunningNumbers, Seated, root_is, point_is, points_are, RunsOn, can_be_asked, concerns, is_seat, keeps}
+use Rattle.sip_verifier.specs.QuerySeats.{RunningNumbers, Seated, root_is, point_is, points_are, aug_root_is, RunsOn, can_be_asked, concerns, is_seat, keeps}
 
 -- ---- what a seat is
 
@@ -35,7 +35,7 @@ same_self : (side : Side) → same_side side side ≡ true
 same_self First = refl
 same_self Second = refl
 
-same_true : (one other : Side) → same_side one other ≡ true → one ≡ other
+pub same_true : (one other : Side) → same_side one other ≡ true → one ≡ other
 same_true First First is = refl
 same_true First Second is = absurd cc
 same_true Second First is = absurd cc
@@ -135,6 +135,20 @@ module _ (depth : ℕ) (stream updates : List Update) (block : List ℕ) where
   points_further (Heavy own least) block' first second first' second' one other stands = absurd stands
   points_further (Share own num den) block' first second first' second' one other stands = absurd stands
 
+  -- or its augmented root
+  pub aug_root_further : (side : Side) (query : Query) (block' : List ℕ) (hash hash' : ℕ) (total total' : ℤ)
+      → All (λ u. u.side ≡ side) updates → IsTrue (concerns query side)
+      → ((numbers : List ℤ) → AugRootStandsFor m61_modulus block hash total numbers → AugRootStandsFor m61_modulus block' hash' total' (numbers_after numbers updates))
+      → RunsOn depth stream query block (aug_root_is hash total) → RunsOn depth (stream ++ updates) query block' (aug_root_is hash' total')
+  aug_root_further side (Sub lo hi) block' hash hash' total total' all is raised stands = absurd stands
+  aug_root_further side (Range own lo hi) block' hash hash' total total' all is raised stands = absurd stands
+  aug_root_further side (F2 own) block' hash hash' total total' all is raised stands = absurd stands
+  aug_root_further side Inner block' hash hash' total total' all is raised stands = absurd stands
+  aug_root_further side (Heavy own least) block' hash hash' total total' all is raised stands =
+      subst (AugRootStandsFor m61_modulus block' hash' total') (sym (vector_own depth stream updates side own all is)) (raised _ stands)
+  aug_root_further side (Share own num den) block' hash hash' total total' all is raised stands =
+      subst (AugRootStandsFor m61_modulus block' hash' total') (sym (vector_own depth stream updates side own all is)) (raised _ stands)
+
   -- updates that do not concern it change nothing
   pub runs_on : (side : Side) (query : Query) (running : RunningNumbers)
       → All (λ u. u.side ≡ side) updates → concerns query side ≡ false
@@ -143,17 +157,28 @@ module _ (depth : ℕ) (stream updates : List Update) (block : List ℕ) where
       subst (RootStandsFor m61_modulus block value) (sym (vector_other depth stream updates side First all other)) stands
   runs_on side (Sub lo hi) (point_is value) all other stands = absurd stands
   runs_on side (Sub lo hi) (points_are first second) all other stands = absurd stands
+  runs_on side (Sub lo hi) (aug_root_is hash total) all other stands = absurd stands
   runs_on side (Range own lo hi) (root_is value) all other stands = absurd stands
   runs_on side (Range own lo hi) (point_is value) all other stands =
       subst (PointStandsFor m61_modulus block value) (sym (vector_other depth stream updates side own all other)) stands
   runs_on side (Range own lo hi) (points_are first second) all other stands = absurd stands
+  runs_on side (Range own lo hi) (aug_root_is hash total) all other stands = absurd stands
   runs_on side (F2 own) (root_is value) all other stands = absurd stands
   runs_on side (F2 own) (point_is value) all other stands =
       subst (PointStandsFor m61_modulus block value) (sym (vector_other depth stream updates side own all other)) stands
   runs_on side (F2 own) (points_are first second) all other stands = absurd stands
+  runs_on side (F2 own) (aug_root_is hash total) all other stands = absurd stands
   runs_on side Inner running all other stands = absurd cc
-  runs_on side (Heavy own least) running all other stands = absurd stands
-  runs_on side (Share own num den) running all other stands = absurd stands
+  runs_on side (Heavy own least) (root_is value) all other stands = absurd stands
+  runs_on side (Heavy own least) (point_is value) all other stands = absurd stands
+  runs_on side (Heavy own least) (points_are first second) all other stands = absurd stands
+  runs_on side (Heavy own least) (aug_root_is hash total) all other stands =
+      subst (AugRootStandsFor m61_modulus block hash total) (sym (vector_other depth stream updates side own all other)) stands
+  runs_on side (Share own num den) (root_is value) all other stands = absurd stands
+  runs_on side (Share own num den) (point_is value) all other stands = absurd stands
+  runs_on side (Share own num den) (points_are first second) all other stands = absurd stands
+  runs_on side (Share own num den) (aug_root_is hash total) all other stands =
+      subst (AugRootStandsFor m61_modulus block hash total) (sym (vector_other depth stream updates side own all other)) stands
 
 -- streams with the same vectors have the same running numbers
 pub same_runs : (depth : ℕ) (one other : List Update) (block : List ℕ) (query : Query) (running : RunningNumbers)
@@ -162,15 +187,25 @@ pub same_runs : (depth : ℕ) (one other : List Update) (block : List ℕ) (quer
 same_runs depth one other block (Sub lo hi) (root_is value) same stands = subst (RootStandsFor m61_modulus block value) (same First) stands
 same_runs depth one other block (Sub lo hi) (point_is value) same stands = absurd stands
 same_runs depth one other block (Sub lo hi) (points_are first second) same stands = absurd stands
+same_runs depth one other block (Sub lo hi) (aug_root_is hash total) same stands = absurd stands
 same_runs depth one other block (Range own lo hi) (root_is value) same stands = absurd stands
 same_runs depth one other block (Range own lo hi) (point_is value) same stands = subst (PointStandsFor m61_modulus block value) (same own) stands
 same_runs depth one other block (Range own lo hi) (points_are first second) same stands = absurd stands
+same_runs depth one other block (Range own lo hi) (aug_root_is hash total) same stands = absurd stands
 same_runs depth one other block (F2 own) (root_is value) same stands = absurd stands
 same_runs depth one other block (F2 own) (point_is value) same stands = subst (PointStandsFor m61_modulus block value) (same own) stands
 same_runs depth one other block (F2 own) (points_are first second) same stands = absurd stands
+same_runs depth one other block (F2 own) (aug_root_is hash total) same stands = absurd stands
 same_runs depth one other block Inner (root_is value) same stands = absurd stands
 same_runs depth one other block Inner (point_is value) same stands = absurd stands
 same_runs depth one other block Inner (points_are first second) same stands =
     (subst (PointStandsFor m61_modulus block first) (same First) stands.0, subst (PointStandsFor m61_modulus block second) (same Second) stands.1)
-same_runs depth one other block (Heavy own least) running same stands = absurd stands
-same_runs depth one other block (Share own num den) running same stands = absurd stands
+same_runs depth one other block Inner (aug_root_is hash total) same stands = absurd stands
+same_runs depth one other block (Heavy own least) (root_is value) same stands = absurd stands
+same_runs depth one other block (Heavy own least) (point_is value) same stands = absurd stands
+same_runs depth one other block (Heavy own least) (points_are first second) same stands = absurd stands
+same_runs depth one other block (Heavy own least) (aug_root_is hash total) same stands = subst (AugRootStandsFor m61_modulus block hash total) (same own) stands
+same_runs depth one other block (Share own num den) (root_is value) same stands = absurd stands
+same_runs depth one other block (Share own num den) (point_is value) same stands = absurd stands
+same_runs depth one other block (Share own num den) (points_are first second) same stands = absurd stands
+same_runs depth one other block (Share own num den) (aug_root_is hash total) same stands = subst (AugRootStandsFor m61_modulus block hash total) (same own) stands

@@ -1,5 +1,5 @@
 -- The seats of a run before any update, one after another.
-use Rattle.std.proofs.Common.{◌≡◌, ℕ, zero, suc, ◌+◌, ◌-◌, ◌*◌, ◌/◌, ◌^◌, ◌<◌, ◌≤◌, pos, List, [], ◌∷◌, ◌++◌, length, map, All, get_or, take, drop, replicate, refl, sym, ap, ◌∙◌, subst, arith, length-take-le, length-drop, take_all}
+use Rattle.std.proofs.Common.{◌≡◌, ℕ, zero, suc, ◌+◌, ◌-◌, ◌*◌, ◌/◌, ◌^◌, ◌<◌, ◌≤◌, ℤ, pos, List, [], ◌∷◌, ◌++◌, length, map, All, get_or, take, drop, replicate, refl, sym, ap, ◌∙◌, subst, arith, length-take-le, length-drop, take_all}
 use Rattle.std.specs.Prelude.{IsTrue}
 use Rattle.std.specs.List.{list_all}
 use Rattle.std.proofs.Math.Nat.{suc-mul, mul_comm, mul-add-div, div-eq_of_lt, mul-le-mul_right}
@@ -9,15 +9,17 @@ use Rattle.std.proofs.lemmas.List.Elements.{All-push}
 use Rattle.std.proofs.lemmas.List.Folds.{list_all-append}
 use Rattle.sip_field.specs.Moduli.{m61_modulus}
 use Rattle.sip_mle.specs.StandsFor.{PointStandsFor}
-use Rattle.sip_tree.specs.StandsFor.{RootStandsFor}
+use Rattle.sip_tree.specs.StandsFor.{RootStandsFor, AugRootStandsFor}
 use Rattle.sip_vector.specs.declared.query.Query.{Query}
 use Rattle.sip_vector.specs.declared.query.Query.TheVariants.{Sub, Range, F2, Inner, Heavy, Share}
 use Rattle.sip_vector.specs.declared.update.Side.{Side}
 use Rattle.sip_vector.specs.declared.update.Side.TheVariants.{First, Second}
+use Rattle.sip_vector.specs.Answers.{Fits}
+use Rattle.sip_vector.specs.Limits.{most_share}
 use Rattle.sip_vector.specs.Pieces.{pieces, cut}
 use Rattle.sip_vector.specs.Streams.{vector}
 use Rattle.sip_vector.proofs.Sides.{vector-nil}
-use Rattle.sip_verifier.specs.QuerySeats.{Seated, root_is, point_is, points_are, RunsOn, StandsFor, can_be_asked, is_seat, keeps}
+use Rattle.sip_verifier.specs.QuerySeats.{Seated, root_is, point_is, points_are, aug_root_is, RunsOn, StandsFor, can_be_asked, does_fit, is_seat, keeps}
 use Rattle.sip_verifier.specs.Tasks.{CanBeAsked}
 
 -- ---- one seat
@@ -62,14 +64,35 @@ module _ (depth : ℕ) (block : List ℕ) (size : length block ≡ depth) where
   new_points (Heavy side least) first second kept one other = absurd cc
   new_points (Share side num den) first second kept one other = absurd cc
 
+  aug_root_of_none : (hash : ℕ) (total : ℤ) (side : Side)
+      → AugRootStandsFor m61_modulus block hash total (replicate (2 ^ length block) (pos 0))
+      → AugRootStandsFor m61_modulus block hash total (vector depth [] side)
+  aug_root_of_none hash total side stands = rw (vector-nil depth side)
+      (subst (λ n. AugRootStandsFor m61_modulus block hash total (replicate (2 ^ n) (pos 0))) size stands)
+
+  pub new_aug_root : (query : Query) (hash : ℕ) (total : ℤ) → IsTrue (keeps query (aug_root_is hash total))
+      → AugRootStandsFor m61_modulus block hash total (replicate (2 ^ length block) (pos 0))
+      → RunsOn depth [] query block (aug_root_is hash total)
+  new_aug_root (Sub lo hi) hash total kept stands = absurd cc
+  new_aug_root (Range side lo hi) hash total kept stands = absurd cc
+  new_aug_root (F2 side) hash total kept stands = absurd cc
+  new_aug_root Inner hash total kept stands = absurd cc
+  new_aug_root (Heavy side least) hash total kept stands = aug_root_of_none hash total side stands
+  new_aug_root (Share side num den) hash total kept stands = aug_root_of_none hash total side stands
+
+-- a query that fits passes the test
+fits-does : (depth : ℕ) (query : Query) → Fits depth query → IsTrue (does_fit depth query)
+fits-does depth (Sub lo hi) fits = and_from _ _ (le-leb lo hi fits.0) (lt-ltb hi (2 ^ depth) fits.1)
+fits-does depth (Range side lo hi) fits = and_from _ _ (le-leb lo hi fits.0) (lt-ltb hi (2 ^ depth) fits.1)
+fits-does depth (F2 side) fits = refl
+fits-does depth Inner fits = refl
+fits-does depth (Heavy side least) fits = and_from _ _ (le-leb 1 least fits.0) (lt-ltb least (2 ^ 63) fits.1)
+fits-does depth (Share side num den) fits =
+    and_from _ _ (le-leb 1 num fits.0) (and_from _ _ (le-leb num den fits.1) (le-leb den most_share fits.2))
+
 -- a query that can be asked can be that of a seat
 pub asked-can : (depth : ℕ) (query : Query) → CanBeAsked depth query → IsTrue (can_be_asked depth query)
-asked-can depth (Sub lo hi) can = and_from _ _ (le-leb lo hi can.1.0) (lt-ltb hi (2 ^ depth) can.1.1)
-asked-can depth (Range side lo hi) can = and_from _ _ (le-leb lo hi can.1.0) (lt-ltb hi (2 ^ depth) can.1.1)
-asked-can depth (F2 side) can = refl
-asked-can depth Inner can = refl
-asked-can depth (Heavy side least) can = absurd (let no = can.0 in cc)
-asked-can depth (Share side num den) can = absurd (let no = can.0 in cc)
+asked-can depth query can = and_from _ _ can.0 (fits-does depth query can.1)
 
 -- ---- blocks
 

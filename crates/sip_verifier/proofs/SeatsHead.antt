@@ -1,6 +1,6 @@
 -- The head of a transcript, seat by seat.
 use Rattle.std.proofs.Common.{◌≡◌, ℕ, zero, suc, ◌+◌, ◌^◌, ◌<◌, ◌≤◌, List, [], ◌∷◌, ◌++◌, length, map, get_or, take, drop, refl, sym, ap, ◌∙◌, subst, arith, append_assoc, append-nil, take_all}
-use Rattle.std.specs.Prelude.{nat_le, nat_lt, IsTrue, All}
+use Rattle.std.specs.Prelude.{◌&&◌, nat_le, nat_lt, IsTrue, All}
 use Rattle.std.specs.List.{list_all, flat_map, zip}
 use Rattle.std.proofs.lemmas.Bool.{and_from, and_parts, leb-true, ltb-true}
 use Rattle.std.proofs.lemmas.List.{get_or-map, length-map, take_more, take-append-drop}
@@ -11,11 +11,12 @@ use Rattle.sip_vector.specs.declared.query.Query.{Query}
 use Rattle.sip_vector.specs.declared.query.Query.TheVariants.{Sub, Range, F2, Inner, Heavy, Share}
 use Rattle.sip_vector.specs.declared.update.Update.{Update}
 use Rattle.sip_vector.specs.Answers.{Fits}
-use Rattle.sip_vector.specs.Limits.{most_depth}
+use Rattle.sip_vector.specs.Built.{is_built}
+use Rattle.sip_vector.specs.Limits.{most_depth, most_share}
 use Rattle.sip_wire.specs.Transcript.{head_bytes, ask_bytes}
 use Rattle.sip_wire.specs.Versions.{Speaks, deepest, needed, speaks}
 use Rattle.sip_wire.proofs.Asking.{needed-speaks}
-use Rattle.sip_verifier.specs.QuerySeats.{Seated, is_seat, can_be_asked}
+use Rattle.sip_verifier.specs.QuerySeats.{Seated, is_seat, can_be_asked, does_fit}
 use Rattle.sip_verifier.specs.Seats.{AreSeats, Seating}
 use Rattle.sip_verifier.specs.Transcripts.{head_of}
 use Rattle.sip_verifier.proofs.Seating.{seat_parts}
@@ -42,13 +43,19 @@ seat-at depth k [] d all lt = absurd (omega (arith, lt))
 seat-at depth zero (x ∷ seats) d all lt = (and_parts (is_seat depth x) (list_all (is_seat depth) seats) all).0
 seat-at depth (suc k) (x ∷ seats) d all lt = seat-at depth k seats d (and_parts (is_seat depth x) (list_all (is_seat depth) seats) all).1 (omega (arith, lt))
 
+does-fit : (depth : ℕ) (query : Query) → IsTrue (does_fit depth query) → Fits depth query
+does-fit depth (Sub lo hi) does = let both = and_parts (nat_le lo hi) (nat_lt hi (2 ^ depth)) does in (leb-true lo hi both.0, ltb-true hi (2 ^ depth) both.1)
+does-fit depth (Range side lo hi) does = let both = and_parts (nat_le lo hi) (nat_lt hi (2 ^ depth)) does in (leb-true lo hi both.0, ltb-true hi (2 ^ depth) both.1)
+does-fit depth (F2 side) does = tt
+does-fit depth Inner does = tt
+does-fit depth (Heavy side least) does = let both = and_parts (nat_le 1 least) (nat_lt least (2 ^ 63)) does in (leb-true 1 least both.0, ltb-true least (2 ^ 63) both.1)
+does-fit depth (Share side num den) does =
+    let both = and_parts (nat_le 1 num) (nat_le num den && nat_le den most_share) does in
+    let rest = and_parts (nat_le num den) (nat_le den most_share) both.1 in
+    (leb-true 1 num both.0, leb-true num den rest.0, leb-true den most_share rest.1)
+
 pub fits-asked : (depth : ℕ) (query : Query) → IsTrue (can_be_asked depth query) → Fits depth query
-fits-asked depth (Sub lo hi) can = let both = and_parts (nat_le lo hi) (nat_lt hi (2 ^ depth)) can in (leb-true lo hi both.0, ltb-true hi (2 ^ depth) both.1)
-fits-asked depth (Range side lo hi) can = let both = and_parts (nat_le lo hi) (nat_lt hi (2 ^ depth)) can in (leb-true lo hi both.0, ltb-true hi (2 ^ depth) both.1)
-fits-asked depth (F2 side) can = tt
-fits-asked depth Inner can = tt
-fits-asked depth (Heavy side least) can = absurd (let no = can in cc)
-fits-asked depth (Share side num den) can = absurd (let no = can in cc)
+fits-asked depth query can = does-fit depth query (and_parts (is_built query) (does_fit depth query) can).1
 
 pub seat-fits : (depth : ℕ) (s : Seated) (block : List ℕ) → IsTrue (is_seat depth s) → block ≡ s.block → Fits (length block) s.query
 seat-fits depth s block is same =

@@ -1,20 +1,21 @@
 -- The promises where a run ends before its first query.
-use Rattle.std.proofs.Common.{◌≡◌, ◌≢◌, Err, Option, None, List, [], ◌++◌, refl, sym, ap, subst, ◌∙◌, inl, inr, append-nil}
+use Rattle.std.proofs.Common.{◌≡◌, ◌≢◌, ℕ, Err, Option, None, Some, List, [], ◌++◌, refl, sym, ap, subst, ◌∙◌, inl, inr, append-nil}
 use Rattle.sip_wire.specs.declared.version.Version.{Version}
 use Rattle.sip_ports.specs.declared.port.TalkEvent.{TalkEvent}
 use Rattle.sip_verifier.specs.Tasks.{version_of}
-use Rattle.sip_verifier.specs.Seats.{Seating}
+use Rattle.sip_verifier.specs.Seats.{AreSeats, Seating}
+use Rattle.sip_stream.proofs.LegalRecords.{records_legal}
 use Rattle.sip_verifier.specs.declared.session.SessionStart.{SessionStart}
 use Rattle.sip_verifier.specs.declared.session.SessionStart.TheVariants as starts
 use Rattle.sip_verifier.specs.declared.status.Port.TheVariants as ports
 use Rattle.sip_verifier.specs.declared.status.Status.{Status}
 use Rattle.sip_verifier.specs.declared.status.Status.TheVariants as statuses
 use Rattle.sip_verifier.specs.declared.task.Task.{Task}
-use Rattle.sip_verifier.specs.Draws.{drawn}
+use Rattle.sip_verifier.specs.Draws.{drawn, blocks}
 use Rattle.sip_verifier.specs.inside.Ending.{status_of_start}
 use Rattle.sip_replies.specs.Talks.{IsPrefix}
 use Rattle.sip_verifier.specs.Exchanges.{Exchange}
-use Rattle.sip_verifier.specs.Gathering.{Refuses, HasSeed, IsCut}
+use Rattle.sip_verifier.specs.Gathering.{Refuses, HasSeed, IsCut, IsGathered}
 use Rattle.sip_verifier.specs.Moments.{Counts}
 use Rattle.sip_verifier.specs.inside.Progress.{Ended}
 use Rattle.sip_verifier.specs.Sittings.{Starts}
@@ -23,6 +24,8 @@ use Rattle.sip_verifier.specs.Talks.{stream_sent}
 use Rattle.sip_verifier.specs.TalkClause.{IsUnderWay, before_end}
 use Rattle.sip_verifier.specs.Questions.{updates, IsLegalToEnd, farewell, AreQuestions}
 use Rattle.sip_verifier.specs.VerdictClause.{NoneLeft}
+use Rattle.sip_verifier.specs.Widths.{first_wide, first_wide_seat}
+use Rattle.sip_verifier.proofs.WideSeats.{first_is}
 use Rattle.sip_verifier.proofs.RunTalks.{Adds, said_is, nothing_new, front_before}
 use Rattle.sip_verifier.proofs.StreamSent.{IsPrefix-trans, stream_sent-front}
 
@@ -106,14 +109,29 @@ module _ (task : Task) (x : Exchange) where
   after_gather before now _ old new told blank refuses cause = absurd refuses
 
   -- there is no memory for the session
-  pub after_stream : (before now : Counts) → HasSeed task x.stream x.seed → IsLegalToEnd task x → x.talk ≡ streamed → x.report ≡ [] → Ended task x before now statuses.OutOfMemory
+  after_stream : (before now : Counts) → HasSeed task x.stream x.seed → IsLegalToEnd task x → x.talk ≡ streamed → x.report ≡ [] → Ended task x before now statuses.OutOfMemory
   after_stream before now seed legal talk blank = record {
     verdict = inl (none_in_stream (fronts talk ([], sym (append-nil _))) blank);
     talk = inl (in_stream seed (fronts talk ([], sym (append-nil _))) (λ not. absurd (not legal)));
     cause = tt;
   }
 
--- a session is not made only where there is no memory
-pub starts_short : (version : Version) (seats : Seating) (start : SessionStart) → Starts version seats (Err start) → status_of_start start ≡ statuses.OutOfMemory
-starts_short version seats (starts.TooWide query) none = absurd none
-starts_short version seats starts.OutOfMemory none = refl
+  -- the first query whose answer may be too wide
+  too_wide : (before now : Counts) (query : ℕ) → HasSeed task x.stream x.seed → IsLegalToEnd task x → x.talk ≡ streamed → x.report ≡ []
+      → first_wide (updates task x) task.queries.items ≡ Some query → Ended task x before now (statuses.TooWide query)
+  too_wide before now query seed legal talk blank is = record { verdict = blank; talk = talk; cause = ((is_drawn seed, legal), is) }
+
+  -- there is no session
+  pub after_start : (before now : Counts) (at_blocks : List (List ℕ)) (version : Version) (seats : Seating) (start : SessionStart)
+      → AreSeats task.depth task.queries.items at_blocks (updates task x) seats → Starts version seats (Err start)
+      → HasSeed task x.stream x.seed → IsLegalToEnd task x → x.talk ≡ streamed → x.report ≡ [] → Ended task x before now (status_of_start start)
+  after_start before now at_blocks version seats (starts.TooWide query) are is seed legal talk blank =
+      let below = (records_legal task.depth task.form x.stream).items in
+      too_wide before now query seed legal talk blank (sym (first_is task.depth task.queries.items at_blocks (updates task x) seats are below) ∙ is)
+  after_start before now at_blocks version seats starts.OutOfMemory are is seed legal talk blank = after_stream before now seed legal talk blank
+
+-- no answer may be too wide where none may by the seats
+pub narrow_seats : (task : Task) (x : Exchange) {left : Option (List ℕ)} {old new : Option (List TalkEvent)} {seats : Seating}
+    → IsGathered task x.stream x.seed left old new seats → first_wide_seat seats.seats ≡ None → first_wide (updates task x) task.queries.items ≡ None
+narrow_seats task x {seats = seats} gathered none =
+    sym (first_is task.depth task.queries.items (blocks task gathered.challenges) (updates task x) seats gathered.stand (records_legal task.depth task.form x.stream).items) ∙ none

@@ -1,13 +1,14 @@
 -- Causes.
 --
--- A verdict comes only where the seed gives challenges and the stream is legal to its end; a bad
+-- A verdict comes only where the seed gives challenges, the stream is legal to its end and no query
+-- is too wide; a query is too wide only where it is the first one of a good input that is; a bad
 -- stream only where the seed gives challenges and the stream is not legal to its end, with the
 -- number and the fault of the first record that is not legal; a bad seed only where the seed has
 -- fewer than 32 bytes, and a spent one only where its 32 bytes do not give the challenges. One of
--- these four holds, so its answer comes, unless a port failed or memory ran out. A fault comes only
+-- these five holds, so its answer comes, unless a port failed or memory ran out. A fault comes only
 -- where the count of faults of that very port rose in this call, and where the steps before it had
 -- passed: faults of the link and of the stream only where the seed gives challenges, faults of the
--- report only where the stream is legal to its end too. Want of memory is free. No other answer
+-- report only where the stream is legal to its end and no query is too wide. Want of memory is free. No other answer
 -- comes.
 use Rattle.std.specs.Prelude.{◌≡◌, ◌≢◌, ◌<◌, ◌≤◌, length, Some, None}
 use Rattle.sip_stream.specs.Records.{records}
@@ -20,18 +21,25 @@ use Rattle.sip_verifier.specs.Exchanges.{Exchange}
 use Rattle.sip_verifier.specs.Moments.{Counts}
 use Rattle.sip_verifier.specs.Statuses.{FaultClause}
 use Rattle.sip_verifier.specs.Questions.{IsLegalToEnd, updates}
+use Rattle.sip_verifier.specs.Widths.{first_wide}
 
 module _ (task : Task) (x : Exchange) where
   -- the seed gives challenges, and the stream is legal to its end
   abbrev pub HasGoodInput : Type 0
   HasGoodInput = (drawn task x.seed ≢ None) × IsLegalToEnd task x
 
+  -- that, and no query's answer may be too wide
+  abbrev pub CanBeJudged : Type 0
+  CanBeJudged = HasGoodInput × (first_wide (updates task x) task.queries.items ≡ None)
+
   abbrev pub CauseClause : Counts → Counts → Status → Type 0
-  CauseClause before now statuses.Accepted = HasGoodInput
-  CauseClause before now (statuses.Rejected query round reason) = HasGoodInput
+  CauseClause before now statuses.Accepted = CanBeJudged
+  CauseClause before now (statuses.Rejected query round reason) = CanBeJudged
   CauseClause before now (statuses.BadStream at why) =
       (drawn task x.seed ≢ None) × (at ≡ length (updates task x))
       × ((records task.depth task.form x.stream).fault ≡ Some why)
+  CauseClause before now (statuses.TooWide query) =
+      HasGoodInput × (first_wide (updates task x) task.queries.items ≡ Some query)
   CauseClause before now statuses.BadSeed = length x.seed < 32
   CauseClause before now statuses.SeedSpent = (32 ≤ length x.seed) × (drawn task x.seed ≡ None)
   CauseClause before now (statuses.ReadFault ports.First) =
@@ -39,7 +47,7 @@ module _ (task : Task) (x : Exchange) where
   CauseClause before now (statuses.ReadFault port) =
       FaultClause before now (statuses.ReadFault port)
   CauseClause before now (statuses.WriteFault port) =
-      HasGoodInput × FaultClause before now (statuses.WriteFault port)
+      CanBeJudged × FaultClause before now (statuses.WriteFault port)
   CauseClause before now statuses.PeerFault =
       (drawn task x.seed ≢ None) × FaultClause before now statuses.PeerFault
   CauseClause before now statuses.OutOfMemory = Unit {0}

@@ -1,7 +1,8 @@
 -- Completeness.
 --
 -- Take a seed that gives challenges, a legal stream, and queries whose check stands here and whose
--- answers have no more entries than may be sent. Let the link give the bytes of honest replies at
+-- answers have no more entries than may be sent; where heavy hitters are asked for, let no entry of
+-- their side be negative. Let the link give the bytes of honest replies at
 -- the run's blocks, or a front of them, and not end. If no port's count of faults rises, then each
 -- query is accepted and the report has the stream's own answers; or memory ran out.
 use Rattle.std.specs.Prelude.{◌≡◌, ◌≢◌, ◌⊎◌, ℕ, List, [], flat_map, Some, All}

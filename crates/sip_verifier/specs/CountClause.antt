@@ -2,8 +2,8 @@
 --
 -- However a helper replies to a query, by what was revealed to it, it has a wrong answer accepted
 -- at no more than c·d·p^(d - 1) of the p^d blocks of challenges, d being the depth, p the modulus,
--- and c what the kind of the query has: 1 for a sub-vector, and 2 for a range sum, a second moment
--- and an inner product. The report is a front of the lines of answers to the run's first queries in
+-- and c what the kind of the query has: 1 for a sub-vector, 2 for a range sum, a second moment and
+-- an inner product, and 3 for heavy hitters, of a side without a negative entry. The report is a front of the lines of answers to the run's first queries in
 -- order, and perhaps of the line of a rejection behind them. Where an answer in these lines is not
 -- the one that the stream's own vectors give, the run's block for that query is among those few,
 -- for every helper that replies to this block as the talk shows.
@@ -39,14 +39,14 @@ bound_of depth kind = kind.chances * depth
 -- no helper has a wrong answer to this query accepted at more blocks than c·d·p^(d - 1)
 abbrev pub FewFor : Version → ℕ → List Update → Query → Type 0
 FewFor version depth stream query = OfKind version depth stream query (λ kind.
-    (strategy : Strategy) → IsOfBytes strategy
+    kind.CanBeCounted → (strategy : Strategy) → IsOfBytes strategy
     → fooled m61_modulus depth (accepts_in kind) kind.is_right strategy
     ≤ bound_of depth kind * m61_modulus ^ (depth - 1))
 
 -- what a call that writes this answer for a question promises of a helper that lies
 abbrev pub CountsFor : Version → ℕ → List Update → Question → Answer → Type 0
 CountsFor version depth stream q written = OfKind version depth stream q.query (λ kind.
-    FewAndCounted m61_modulus depth (bound_of depth kind)
+    kind.CanBeCounted → FewAndCounted m61_modulus depth (bound_of depth kind)
     (accepts_in kind) kind.is_right q.block q.replies (Some written)
     (answer depth stream q.query))
 

@@ -1,26 +1,33 @@
 -- The kinds of query: how the replies to one are read, when a helper that lies can win, and what an
 -- honest one replies.
-use Rattle.std.specs.Prelude.{◌≤◌, ℕ, ℤ, Bool, ⊤, List, length}
+use Rattle.std.specs.Prelude.{◌≡◌, ◌≤◌, ℕ, ℤ, Bool, false, nat_le, ⊤, List, [], length, if◌then◌else◌}
 use Rattle.sip_field.specs.Moduli.{m61_modulus}
 use Rattle.sip_vector.specs.declared.query.Query.{Query}
 use Rattle.sip_vector.specs.declared.query.Query.TheVariants.{Sub, Range, F2, Inner, Heavy, Share}
+use Rattle.sip_vector.specs.declared.update.Side.{Side}
 use Rattle.sip_vector.specs.declared.update.Side.TheVariants.{First, Second}
 use Rattle.sip_vector.specs.declared.update.Update.{Update}
 use Rattle.sip_vector.specs.Extensions.{ones}
-use Rattle.sip_vector.specs.Streams.{vector}
+use Rattle.sip_vector.specs.Streams.{int_sum, total, vector, IsStrict}
 use Rattle.sip_vector.specs.Trees.{root}
 use Rattle.sip_vector.specs.Vectors.{nonzero_within}
 use Rattle.sip_wire.specs.declared.version.Version.{Version}
 use Rattle.sip_replies.specs.Protocols.{Protocol}
+use Rattle.sip_heavy.specs.Counting as heavy
+use Rattle.sip_heavy.specs.Counting.{heavy_over}
+use Rattle.sip_heavy.specs.Honest as honest_heavy
+use Rattle.sip_heavy.specs.Protocol.{HeavyState, count_of}
 use Rattle.sip_subvec.specs.AcceptsSub.{Stated}
 use Rattle.sip_subvec.specs.Counting.{is_right}
 use Rattle.sip_subvec.specs.Honest.{honest_replies}
 use Rattle.sip_subvec.specs.Protocol.{sub_asked, sub_protocol}
 use Rattle.sip_subvec.specs.Replies.{most_entries}
-use Rattle.sip_sums.specs.AcceptsSum.{product_at, total}
+use Rattle.sip_sums.specs.AcceptsSum as sums_of
+use Rattle.sip_sums.specs.AcceptsSum.{product_at}
 use Rattle.sip_sums.specs.Counting as sums
 use Rattle.sip_sums.specs.Honest as honest_sums
 use Rattle.sip_sums.specs.Protocol.{SumState, sum_asked, sum_protocol}
+use Rattle.sip_verifier.specs.Widths.{is_wide}
 
 -- what is known of a query, by its kind
 pub record Kind : Type 1 where
@@ -32,7 +39,9 @@ pub record Kind : Type 1 where
   pub chances : ℕ
   -- the replies say the stream's own answer
   pub is_right : List (List ℕ) → Bool
-  -- the answer has no more entries than may be sent
+  -- what the count asks of the stream
+  pub CanBeCounted : Type 0
+  -- what an honest helper asks of it: that, and that the answer has no more entries than may be sent
   pub HasFew : Type 0
   -- what an honest helper replies at these challenges
   pub honest : List ℕ → List (List ℕ)
@@ -45,6 +54,7 @@ sub_kind version numbers lo hi = record {
       (root m61_modulus numbers block) lo hi block);
   chances = 1;
   is_right = is_right version lo hi numbers;
+  CanBeCounted = ⊤;
   HasFew = length (nonzero_within lo hi numbers) ≤ most_entries;
   honest = honest_replies version m61_modulus numbers lo hi;
 }
@@ -56,9 +66,25 @@ sum_kind version depth first second = record {
   protocol = λ block. sum_protocol (sum_asked version m61_modulus
       (product_at m61_modulus first second block));
   chances = 2;
-  is_right = sums.is_right version m61_modulus (total first second);
+  is_right = sums.is_right version m61_modulus (sums_of.total first second);
+  CanBeCounted = ⊤;
   HasFew = ⊤;
   honest = honest_sums.honest_replies version m61_modulus depth first second;
+}
+
+-- The entries of a side that are at least this. No entry may be negative: else a helper could hide
+-- one behind a negative one.
+abbrev pub heavy_kind : Version → ℕ → List Update → Side → ℕ → Kind
+heavy_kind version depth stream side at_least = record {
+  State = HeavyState;
+  protocol = heavy_over version m61_modulus depth at_least (vector depth stream side);
+  chances = 3;
+  is_right = heavy.is_right version m61_modulus depth at_least (vector depth stream side);
+  CanBeCounted = IsStrict depth stream side;
+  HasFew = IsStrict depth stream side × (is_wide at_least (total stream side) ≡ false);
+  honest = λ block. if nat_le at_least (count_of (int_sum (vector depth stream side)))
+      then honest_heavy.honest_replies version m61_modulus (vector depth stream side) at_least block
+      else [];
 }
 
 -- whether a query's check stands here
@@ -76,7 +102,8 @@ kind_row version depth stream (F2 side) =
     built (sum_kind version depth (vector depth stream side) (vector depth stream side))
 kind_row version depth stream Inner =
     built (sum_kind version depth (vector depth stream First) (vector depth stream Second))
-kind_row version depth stream (Heavy side at_least) = missing
+kind_row version depth stream (Heavy side at_least) =
+    built (heavy_kind version depth stream side at_least)
 kind_row version depth stream (Share side num den) = missing
 
 -- this holds of the kind in a row; of a check that doesn't stand here nothing holds

@@ -1,14 +1,17 @@
 -- A query's seat: its challenges, its running numbers, and which streams these stand for.
-use Rattle.std.specs.Prelude.{ℕ, ◌^◌, ◌==◌, Bool, true, false, ◌&&◌, nat_le, nat_lt, List, length}
+use Rattle.std.specs.Prelude.{◌≡◌, ℕ, ◌^◌, ◌==◌, ◌≤◌, Bool, true, false, ◌&&◌, nat_le, nat_lt, ℤ, nat_abs, List, length, take, All, IsTrue}
 use Rattle.sip_field.specs.Moduli.{m61_modulus}
 use Rattle.sip_mle.specs.StandsFor.{PointStandsFor}
-use Rattle.sip_tree.specs.StandsFor.{RootStandsFor}
+use Rattle.sip_tree.specs.Blocks.{total_after}
+use Rattle.sip_tree.specs.StandsFor.{RootStandsFor, AugRootStandsFor}
 use Rattle.sip_vector.specs.declared.query.Query.{Query}
 use Rattle.sip_vector.specs.declared.query.Query.TheVariants.{Sub, Range, F2, Inner, Heavy, Share}
 use Rattle.sip_vector.specs.declared.update.Side.{Side}
 use Rattle.sip_vector.specs.declared.update.Side.TheVariants.{First, Second}
 use Rattle.sip_vector.specs.declared.update.Update.{Update}
-use Rattle.sip_vector.specs.Streams.{same_side, vector}
+use Rattle.sip_vector.specs.Built.{is_built}
+use Rattle.sip_vector.specs.Limits.{most_share}
+use Rattle.sip_vector.specs.Streams.{same_side, of_side, most_weight, vector}
 
 -- the running numbers of a seat, by what they are
 pub data RunningNumbers : Type 0 where
@@ -18,6 +21,8 @@ pub data RunningNumbers : Type 0 where
   point_is : ℕ → RunningNumbers
   -- the extensions of both sides' vectors
   points_are : ℕ → ℕ → RunningNumbers
+  -- the hash of the augmented root of a side's vector, and that vector's sum
+  aug_root_is : ℕ → ℤ → RunningNumbers
 
 -- what is seen of a seat: its query, a block of challenges, and what it keeps of a stream
 pub record Seated : Type 0 where
@@ -25,14 +30,18 @@ pub record Seated : Type 0 where
   pub block : List ℕ
   pub running : RunningNumbers
 
+-- the query fits the depth
+abbrev pub does_fit : ℕ → Query → Bool
+does_fit depth (Sub lo hi) = nat_le lo hi && nat_lt hi (2 ^ depth)
+does_fit depth (Range side lo hi) = nat_le lo hi && nat_lt hi (2 ^ depth)
+does_fit depth (F2 side) = true
+does_fit depth Inner = true
+does_fit depth (Heavy side at_least) = nat_le 1 at_least && nat_lt at_least (2 ^ 63)
+does_fit depth (Share side num den) = nat_le 1 num && (nat_le num den && nat_le den most_share)
+
 -- the query is of a kind whose check stands here, and fits the depth
 abbrev pub can_be_asked : ℕ → Query → Bool
-can_be_asked depth (Sub lo hi) = nat_le lo hi && nat_lt hi (2 ^ depth)
-can_be_asked depth (Range side lo hi) = nat_le lo hi && nat_lt hi (2 ^ depth)
-can_be_asked depth (F2 side) = true
-can_be_asked depth Inner = true
-can_be_asked depth (Heavy side at_least) = false
-can_be_asked depth (Share side num den) = false
+can_be_asked depth query = is_built query && does_fit depth query
 
 -- the running numbers are those that a query of this kind needs
 abbrev pub keeps : Query → RunningNumbers → Bool
@@ -40,6 +49,8 @@ keeps (Sub lo hi) (root_is value) = true
 keeps (Range side lo hi) (point_is value) = true
 keeps (F2 side) (point_is value) = true
 keeps Inner (points_are first second) = true
+keeps (Heavy side at_least) (aug_root_is hash total) = true
+keeps (Share side num den) (aug_root_is hash total) = true
 keeps _ running = false
 
 -- there is a challenge for each level, and the running numbers are those of the query's kind
@@ -67,7 +78,29 @@ RunsOn depth stream (F2 side) block (point_is value) =
 RunsOn depth stream Inner block (points_are first second) =
     PointStandsFor m61_modulus block first (vector depth stream First)
     × PointStandsFor m61_modulus block second (vector depth stream Second)
+RunsOn depth stream (Heavy side at_least) block (aug_root_is hash total) =
+    AugRootStandsFor m61_modulus block hash total (vector depth stream side)
+RunsOn depth stream (Share side num den) block (aug_root_is hash total) =
+    AugRootStandsFor m61_modulus block hash total (vector depth stream side)
 RunsOn depth stream _ block running = ⊥
 
 abbrev pub StandsFor : ℕ → List Update → Seated → Type 0
 StandsFor depth stream s = RunsOn depth stream s.query s.block s.running
+
+-- ---- room for more updates
+
+-- a sum that is kept stays within the greatest weight behind each of these updates
+abbrev pub HasRoom : RunningNumbers → List Update → Type 0
+HasRoom running updates = (hash : ℕ) (total : ℤ) → running ≡ aug_root_is hash total
+    → (k : ℕ) → k ≤ length updates → nat_abs (total_after total (take k updates)) ≤ most_weight
+
+-- the query is for heavy hitters of this side
+abbrev pub is_heavy_of : Query → Side → Bool
+is_heavy_of (Heavy own at_least) side = same_side side own
+is_heavy_of (Share own num den) side = same_side side own
+is_heavy_of _ side = false
+
+-- so does the sum of each seat for heavy hitters of a side, behind this side's updates
+abbrev pub HaveRoom : List Seated → List Update → Side → Type 0
+HaveRoom seats updates side =
+    All (λ s. IsTrue (is_heavy_of s.query side) → HasRoom s.running (of_side updates side)) seats

@@ -1,5 +1,5 @@
 -- What is seen of a session.
-use Rattle.std.specs.Prelude.{◌≡◌, ℕ, Bool, true, false, List, [], Result, Ok, Err}
+use Rattle.std.specs.Prelude.{◌≡◌, ℕ, Bool, true, false, List, [], Some, None, Result, Ok, Err}
 use Rattle.sip_vector.specs.declared.update.Entry.{Entry}
 use Rattle.sip_wire.specs.declared.version.Version.{Version}
 use Rattle.sip_verifier.specs.declared.session.SessionFault.{SessionFault}
@@ -9,6 +9,7 @@ use Rattle.sip_verifier.specs.declared.session.Verdict.{Verdict}
 use Rattle.sip_verifier.specs.declared.session.Verdict.TheVariants as verdicts
 use Rattle.sip_verifier.specs.QuerySeats.{Seated}
 use Rattle.sip_verifier.specs.Seats.{Seating}
+use Rattle.sip_verifier.specs.Widths.{first_wide_seat}
 
 -- The version of the talk, the depth, the seats whose queries were not asked yet, the entries of
 -- the last answer of pairs, and whether the session is over before its time: a call failed, or
@@ -26,11 +27,11 @@ is_over (Ok (verdicts.Rejected round reason)) = true
 is_over (Ok _) = false
 is_over (Err _) = true
 
--- A session has all seats to ask and shows no entries yet, or there is no memory for it. No query
--- whose answer could be too wide stands here yet.
+-- A session has all seats to ask and shows no entries yet; or this query is the first whose answer
+-- may be too wide; or there is no memory for it.
 abbrev pub Starts : Version → Seating → Result Sitting SessionStart → Type 0
 Starts version seats (Ok s) =
     (s.version ≡ version) × (s.depth ≡ seats.depth) × (s.left ≡ seats.seats) × (s.entries ≡ [])
-    × (s.spent ≡ false)
-Starts version seats (Err (starts.TooWide query)) = ⊥
+    × (s.spent ≡ false) × (first_wide_seat seats.seats ≡ None)
+Starts version seats (Err (starts.TooWide query)) = first_wide_seat seats.seats ≡ Some query
 Starts version seats (Err starts.OutOfMemory) = Unit {0}

@@ -33,6 +33,12 @@ stops_gathering statuses.PeerFault = true
 stops_gathering statuses.OutOfMemory = true
 stops_gathering _ = false
 
+-- the run stopped between its stream and its first query
+abbrev pub stops_starting : Status → Bool
+stops_starting (statuses.TooWide _) = true
+stops_starting statuses.OutOfMemory = true
+stops_starting _ = false
+
 -- the run stopped at a query
 abbrev pub stops_asking : Status → Bool
 stops_asking (statuses.Rejected _ _ _) = true
@@ -43,7 +49,9 @@ stops_asking _ = false
 
 -- the statuses that a run may answer
 abbrev pub IsListed : Status → Type 0
-IsListed status = IsTrue (is_accepted status || stops_gathering status || stops_asking status)
+IsListed status =
+    IsTrue (is_accepted status || stops_gathering status || stops_starting status
+    || stops_asking status)
 
 -- a call that stops does so with one of these statuses, and a fault of a port has its cause between
 -- these counts

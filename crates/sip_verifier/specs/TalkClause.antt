@@ -4,7 +4,8 @@
 -- have a fault, it is the talk up to the last byte that the fault needed, followed by the end of
 -- the link exactly where that is the fault. With an illegal stream it ends before the end of the
 -- stream is sent: the opening, and a frame for each 512 legal records. Where reading the stream
--- failed, it ends before that too. With bad words or a bad seed, or where reading the seed failed,
+-- failed, it ends before that too. Where a query is too wide, it ends with the end of the stream.
+-- With bad words or a bad seed, or where reading the seed failed,
 -- nothing is said. With any other answer it is a front of that same talk: so each reply was taken
 -- and passed its tests before the next challenge leaves, and the last challenge never leaves; and
 -- the line of an accepted query was written before anything is said after its last reply. Where the
@@ -74,6 +75,8 @@ module _ (task : Task) (x : Exchange) where
   TalkClause (statuses.BadStream at why) = x.talk ≡ before_end
   TalkClause statuses.BadSeed = x.talk ≡ []
   TalkClause statuses.SeedSpent = x.talk ≡ []
+  TalkClause (statuses.TooWide query) =
+      x.talk ≡ stream_sent (version_of task) task.depth (updates task x)
   TalkClause (statuses.ReadFault ports.First) = IsUnderWay × IsPrefix x.talk before_end
   TalkClause (statuses.ReadFault ports.Second) = x.talk ≡ []
   TalkClause (statuses.WriteFault ports.Report) = Stopped

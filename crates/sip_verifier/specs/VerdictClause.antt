@@ -95,6 +95,7 @@ module _ (task : Task) (x : Exchange) where
   VerdictClause (statuses.BadStream at why) = x.report ≡ []
   VerdictClause statuses.BadSeed = x.report ≡ []
   VerdictClause statuses.SeedSpent = x.report ≡ []
+  VerdictClause (statuses.TooWide query) = x.report ≡ []
   VerdictClause (statuses.ReadFault port) = x.report ≡ []
   VerdictClause (statuses.WriteFault ports.Report) = CutInLine
   VerdictClause statuses.PeerFault = NoneLeft

@@ -1,6 +1,6 @@
 //! The query of a seat, asked of the helper by the check of its kind.
 
-ghost use Rattle.std.specs.Prelude.{◌≡◌, ◌≢◌, ◌≤◌, ℕ, List, Some, length, take, IsTrue};
+ghost use Rattle.std.specs.Prelude.{◌≡◌, ◌≢◌, ◌≤◌, ◌*◌, ◌/◌, IsSomeAnd, ℕ, List, Some, length, take, IsTrue};
 ghost use Rattle.sip_field.specs.Elements.{m61_number};
 ghost use Rattle.sip_field.specs.Moduli.{m61_modulus};
 ghost use Rattle.sip_ports.specs.Ports.{Lasts, Rose};
@@ -9,36 +9,46 @@ ghost use Rattle.sip_sums.specs.AcceptsSum.{product_at};
 ghost use Rattle.sip_sums.specs.Questions.{Lists, lists_of};
 ghost use Rattle.sip_wire.specs.Versions.{Speaks};
 ghost use Rattle.sip_verifier.specs.Asking.{Asks};
-ghost use Rattle.sip_verifier.specs.inside.Judging.{found_in, has_places, verdict_of};
+ghost use Rattle.sip_verifier.specs.inside.Judging.{found_in, most_nodes, most_places, verdict_of};
+ghost use Rattle.sip_verifier.specs.inside.Protocols.{IsProtocol};
+ghost use Rattle.sip_heavy.specs.Protocol.{count_of, heavy_asked, heavy_protocol};
+ghost use Rattle.std.specs.Option.{option_map};
 ghost use Rattle.sip_verifier.specs.QuerySeats.{StandsFor, is_seat};
 
 use crate::seat::{QuerySeat, Running};
 use crate::session::{SessionFault, Verdict};
 use sip_field::{Field, M61};
+use sip_heavy::{HeavyAsking, HeavySpace};
 use sip_mle::interval_at;
 use sip_ports::{Link, NullSink};
 use sip_replies::{AskStop, Said, ask};
 use sip_subvec::SubAsking;
 use sip_sums::SumAsking;
+use sip_tree::AugRoot;
 use sip_vector::{CAP, Entry, Query};
 use sip_wire::{Frame, Version};
 
 /// Asks the query of a seat, takes the replies and checks them. The pairs of an answer are written to the front of `entries`.
+#[inline(never)]
 pub(crate) fn ask_seat<L: Link>(
     version: Version,
     seat: &QuerySeat,
     entries: &mut [Entry],
     frame: &mut Frame,
+    space: &mut Option<HeavySpace>,
     link: &mut L,
 ) -> Result<Said, AskStop>
     requires seat { IsTrue (is_seat (length seat.now.block) seat.now) }
     requires speaks { Speaks version (length seat.now.block) seat.now.query }
-    requires room { IsTrue (has_places (length entries.old) seat.now.query) }
+    requires room { most_places seat.now.query seat.now.running ≤ length entries.old }
+    requires space { IsSomeAnd space.old
+        (λ s. most_nodes seat.now.query seat.now.running ≤ s.nodes) }
     ensures asks { (depth : ℕ) (stream : List AnyUpdate) → StandsFor depth stream seat.now
         → Asks version depth stream seat.now.query seat.now.block
         (L.talk link.old) (L.talk link.new)
         (take (found_in (length entries.new) result) entries.new) (verdict_of result) }
     ensures places { length entries.new ≡ length entries.old }
+    ensures space { option_map (λ s. s.nodes) space.new ≡ option_map (λ s. s.nodes) space.old }
     ensures lasts { Lasts L.faults L.wants L.is_sure link.old link.new }
     ensures cause { result ≡ Err AskStop.PeerFault → Rose (L.faults link.old) (L.faults link.new) }
     ensures memory { result ≡ Err AskStop.OutOfMemory → Rose (L.wants link.old) (L.wants link.new) }
@@ -69,11 +79,60 @@ pub(crate) fn ask_seat<L: Link>(
             let product = points.first.value().times(points.second);
             ask_sum(version, seat, product, entries, frame, link)
         }
+        (Query::Heavy { at_least, .. }, Running::AugRoot(root)) => {
+            ask_heavy(version, seat, root, *at_least, entries, frame, space, link)
+        }
         _ => unreachable!(),
     }
 }
 
+// Asks the query of a seat for the entries of at least `at_least` in the vector that has this root.
+fn ask_heavy<L: Link>(
+    version: Version,
+    seat: &QuerySeat,
+    root: &AugRoot<M61, CAP>,
+    at_least: u64,
+    entries: &mut [Entry],
+    frame: &mut Frame,
+    space: &mut Option<HeavySpace>,
+    link: &mut L,
+) -> Result<Said, AskStop>
+    requires seat { IsTrue (is_seat (length seat.now.block) seat.now) }
+    requires speaks { Speaks version (length seat.now.block) seat.now.query }
+    requires least { 1 ≤ at_least }
+    requires room { 2 * (count_of root.now.total / at_least) ≤ length entries.old }
+    requires space { IsSomeAnd space.old
+        (λ s. 2 * (count_of root.now.total / at_least) ≤ s.nodes) }
+    ensures asks { (depth : ℕ) (stream : List AnyUpdate)
+        → IsProtocol version depth stream seat.now.query root.now.seat (heavy_protocol
+        (heavy_asked version m61_modulus root.now.hash root.now.total (length root.now.seat)
+        at_least))
+        → Asks version depth stream seat.now.query root.now.seat
+        (L.talk link.old) (L.talk link.new)
+        (take (found_in (length entries.new) result) entries.new) (verdict_of result) }
+    ensures places { length entries.new ≡ length entries.old }
+    ensures space { option_map (λ s. s.nodes) space.new ≡ option_map (λ s. s.nodes) space.old }
+    ensures lasts { Lasts L.faults L.wants L.is_sure link.old link.new }
+    ensures cause { result ≡ Err AskStop.PeerFault → Rose (L.faults link.old) (L.faults link.new) }
+    ensures memory { result ≡ Err AskStop.OutOfMemory → Rose (L.wants link.old) (L.wants link.new) }
+    ensures no_keep { result ≢ Err AskStop.KeepFault }
+    ensures no_keep_memory { result ≢ Err AskStop.KeepOutOfMemory }
+{
+    let Some(lent) = space.take() else {
+        unreachable!()
+    };
+    let mut check = HeavyAsking::start(root, at_least, lent);
+    // No talk is kept yet.
+    let mut keep = NullSink::new();
+    let asked = ask(
+        &mut check, version, seat.query, entries, frame, link, &mut keep,
+    );
+    *space = Some(check.into_space());
+    asked
+}
+
 // Asks the query of a seat for a sum, where the extensions of the lists that it is over have this product.
+#[inline(never)]
 fn ask_sum<L: Link>(
     version: Version,
     seat: &QuerySeat,

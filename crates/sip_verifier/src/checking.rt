@@ -1,24 +1,28 @@
 //! A whole run of the verifier.
 
-ghost use Rattle.std.specs.Prelude.{◌≡◌, ◌<◌, ◌≤◌, ℕ, List, false, length, map, drop, All, OnOk};
-ghost use Rattle.sip_ports.specs.Ports.{Lasts};
+ghost use Rattle.std.specs.Prelude.{◌≡◌, ◌<◌, ◌≤◌, ℕ, List, Ok, Err, false, length, map, drop, All, MatchResult, OnOk};
+ghost use Rattle.sip_ports.specs.Ports.{HasCause, Lasts, SendsWhole};
 ghost use Rattle.sip_vector.specs.declared.update.Update.{Update as AnyUpdate};
+ghost use Rattle.sip_wire.specs.declared.message.Message.TheVariants as messages;
+ghost use Rattle.sip_wire.specs.Spelling.{spelling};
 ghost use Rattle.sip_wire.specs.Table.{most_queries};
+ghost use Rattle.sip_wire.specs.Versions.{Speaks};
 ghost use Rattle.sip_verifier.specs.Exchanges.{TakesAtMost};
 ghost use Rattle.sip_verifier.specs.Moments.{counts, moment};
 ghost use Rattle.sip_verifier.specs.NextSeat.{IsNext};
 ghost use Rattle.sip_verifier.specs.inside.Progress.{Checks, ChecksAll, status_of};
 ghost use Rattle.sip_verifier.specs.QuerySeats.{Seated, StandsFor};
 ghost use Rattle.sip_verifier.specs.RunClause.{RunClause};
+ghost use Rattle.sip_verifier.specs.Sittings.{Starts};
 ghost use Rattle.sip_verifier.specs.Statuses.{Stops, stops_asking};
 ghost use Rattle.sip_verifier.specs.Tasks.{CanBeDone};
 
 use crate::ending::{on_link, on_report, status_of_fault, status_of_start};
 use crate::report::{write_number, write_pairs, write_rejection};
-use crate::{Session, Status, Task, Verdict, gather};
-use sip_ports::{Link, Sink, Source};
+use crate::{Seats, Session, SessionStart, Status, Task, Verdict, gather};
+use sip_ports::{Link, PortStop, Sink, Source};
 use sip_vector::{Depth, Query};
-use sip_wire::{Message, encode};
+use sip_wire::{Message, Version, encode};
 use std::alloc::Global;
 
 /// Asks the next query, which has this number, and writes the line of its verdict.
@@ -63,6 +67,7 @@ fn check_query<L: Link, K: Sink, C: Sink>(
 }
 
 /// Asks all queries in order and writes the line of each verdict, up to the first stop.
+#[inline(never)]
 fn check_all<L: Link, K: Sink, C: Sink>(
     session: &mut Session,
     queries: &[Query],
@@ -94,6 +99,30 @@ fn check_all<L: Link, K: Sink, C: Sink>(
     Ok(())
 }
 
+/// The session of these seats, on the heap: the stack has the seats no longer than until then.
+#[inline(never)]
+fn begin(alloc: Global, version: Version, seats: Seats) -> Result<Box<Session>, SessionStart>
+    requires { All (λ s. Speaks version seats.depth s.query) seats.seats }
+    ensures { MatchResult result (λ session. Starts version seats (Ok session.value))
+        (λ start. Starts version seats (Err start)) }
+{
+    let session = Session::new(alloc, version, seats)?;
+    match Box::new(alloc, session) {
+        Ok(session) => Ok(session),
+        Err(_) => Err(SessionStart::OutOfMemory),
+    }
+}
+
+/// Says that all queries were asked. The message is made in a call of its own, since it is as large as the longest frame's rows.
+#[inline(never)]
+fn say_bye<L: Link>(version: Version, peer: &mut L) -> Result<(), PortStop>
+    ensures talk { SendsWhole (L.talk peer.old) (L.talk peer.new) result
+        (spelling version messages.Bye) }
+    ensures cause { HasCause L.faults L.wants L.is_sure peer.old peer.new result }
+{
+    encode(&Message::Bye, version, peer)
+}
+
 /// All that a run does, up to its first stop.
 fn steps<A: Source, B: Source, L: Link, K: Sink, C: Sink>(
     alloc: Global,
@@ -122,12 +151,12 @@ fn steps<A: Source, B: Source, L: Link, K: Sink, C: Sink>(
     prove!(levels >= 1 && levels <= Depth::MOST);
     let version = task.version();
     let seats = gather(task, first, second, peer, keep)?;
-    let mut session = match Session::new(alloc, version, seats) {
+    let mut session = match begin(alloc, version, seats) {
         Ok(session) => session,
         Err(start) => return Err(status_of_start(start)),
     };
-    check_all(&mut session, &task.queries, peer, report, keep)?;
-    on_link(encode(&Message::Bye, version, peer))
+    check_all(&mut *session, &task.queries, peer, report, keep)?;
+    on_link(say_bye(version, peer))
 }
 
 /// Does a task: draws the challenges from `second`, reads the stream of `first` and sends it over `peer`, asks each query, judges
@@ -137,6 +166,7 @@ fn steps<A: Source, B: Source, L: Link, K: Sink, C: Sink>(
 /// stream; the time is linear in the stream and the replies, with at most `depth` multiplications for each record and query.
 ///
 /// `keep` is left alone.
+#[inline(never)]
 pub fn check_stream<A: Source, B: Source, L: Link, K: Sink, C: Sink>(
     alloc: Global,
     task: &Task,

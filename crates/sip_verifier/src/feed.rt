@@ -1,8 +1,11 @@
 //! A stream on its way to the helper.
 
-ghost use Rattle.std.specs.Prelude.{◌≡◌, ◌≢◌, ◌<◌, ◌≤◌, ◌^◌, ◌==◌, ◌++◌, ◌∷◌, [], length, pos, false, OnOk};
+ghost use Rattle.std.specs.Prelude.{◌≡◌, ◌≢◌, ◌<◌, ◌≤◌, ◌^◌, ◌==◌, ◌++◌, ◌∷◌, [], ℕ, List, length, pos, false, OnOk, IsSome};
+ghost use Rattle.std.specs.Io.KnownBytes.{Consumes};
 ghost use Rattle.std.specs.Result.{is_err};
-ghost use Rattle.sip_ports.specs.Ports.{HasCause, SendsWhole};
+ghost use Rattle.sip_ports.specs.Ports.{HasCause, Lasts, SendsWhole};
+ghost use Rattle.sip_stream.specs.Reading.{HasRead};
+ghost use Rattle.sip_vector.specs.declared.update.Update.{Update as AnyUpdate};
 ghost use Rattle.sip_wire.specs.Spelling.{spelling};
 ghost use Rattle.sip_wire.specs.Table.{most_rows};
 ghost use Rattle.sip_wire.specs.Versions.{deepest, index_width, number_of};
@@ -10,7 +13,8 @@ ghost use Rattle.sip_wire.specs.declared.message.Message.TheVariants as messages
 ghost use Rattle.sip_verifier.specs.Feeding.{due_at_end, due_with, waiting_with};
 
 use arrayvec::ArrayVec;
-use sip_ports::{Link, PortStop};
+use sip_ports::{Link, PortStop, Source};
+use sip_stream::Reader;
 use sip_vector::{Depth, Update};
 use sip_wire::{MOST_ROWS, Message, Version, encode, encode_updates};
 use std::marker::Model;
@@ -45,6 +49,7 @@ impl Model for Feed {
 
 impl Feed {
     /// Nothing waits.
+    #[inline(never)]
     pub fn new(version: Version) -> Feed
         ensures { result ≡ record { version = version; waiting = []; is_spent = false } }
     {
@@ -105,6 +110,23 @@ impl Feed {
         // The type of a delta bounds it.
         let _delta = update.delta;
         self.waiting.push(*update);
+    }
+
+    /// Takes legal records that a source holds whole, which wait for their frame, until one is missing to fill it, or the next is
+    /// not legal or not held whole.
+    pub fn take_held<S: Source>(&mut self, reader: &mut Reader, source: &mut S)
+        requires few { length self.old.waiting < most_rows }
+        requires shallow { reader.old.depth ≤ deepest self.old.version }
+        ensures took { (us : List AnyUpdate) × (taken : List ℕ)
+            × (self.new.waiting ≡ self.old.waiting ++ us) × HasRead reader.old reader.new taken us
+            × Consumes (S.left source.old) (S.left source.new) taken }
+        ensures few { length self.new.waiting < most_rows }
+        ensures version { self.new.version ≡ self.old.version }
+        ensures spent { self.new.is_spent ≡ self.old.is_spent }
+        ensures told { IsSome (S.left source.old) → IsSome (S.left source.new) }
+        ensures source { Lasts S.faults S.wants S.is_sure source.old source.new }
+    {
+        reader.read_held(source, MOST_ROWS - 1, &mut self.waiting);
     }
 
     /// Sends the updates that wait as a frame, in one write.

@@ -1,16 +1,18 @@
 //! All that a verifier does until the stream has ended.
 
-ghost use Rattle.std.specs.Prelude.{◌≡◌, ◌≢◌, ◌⊎◌, ◌<◌, ◌^◌, ◌++◌, map, ℕ, List, length, All, Some, Ok, Err, IsSome, IfOk, OnOk, MatchResult, false, pos};
+ghost use Rattle.std.specs.Prelude.{◌≡◌, ◌≢◌, ◌⊎◌, ◌<◌, ◌^◌, ◌++◌, ◌∷◌, [], map, ℕ, List, length, All, Some, Ok, Err, IsSome, IfOk, OnOk, MatchResult, false, pos};
 ghost use Rattle.sip_ports.specs.Ports.{HasCause, Lasts, Rose, SendsWhole};
 ghost use Rattle.sip_wire.specs.Table.{most_rows};
 ghost use Rattle.sip_wire.specs.Versions.{index_width};
 ghost use Rattle.sip_vector.specs.declared.query.Query.{Query as AnyQuery};
+ghost use Rattle.sip_vector.specs.declared.update.Side.{Side as AnySide};
 ghost use Rattle.sip_vector.specs.declared.update.Update.{Update as AnyUpdate};
 ghost use Rattle.sip_stream.specs.declared.fault.StreamFault.{StreamFault as AnyStreamFault};
 ghost use Rattle.sip_verifier.specs.inside.Drawing.{AreOf, Draws, HasDrawn};
 ghost use Rattle.sip_verifier.specs.inside.Ending.{status_of_stream};
 ghost use Rattle.sip_verifier.specs.Feeding.{due_with, waiting_with};
-ghost use Rattle.sip_verifier.specs.inside.Passing.{taken_with};
+ghost use Rattle.sip_verifier.specs.inside.Passing.{seated, taken_with};
+ghost use Rattle.sip_verifier.specs.QuerySeats.{HaveRoom};
 ghost use Rattle.sip_verifier.specs.Seats.{AreSeats};
 ghost use Rattle.std.specs.Result.{is_err};
 ghost use Rattle.sip_verifier.specs.Exchanges.{TakesAtMost};
@@ -26,7 +28,7 @@ use crate::ending::on_link;
 use crate::{Feed, Port, Seats, Status, Task};
 use sip_ports::{Link, PortStop, Sink, Source, read_exact_into};
 use sip_stream::{Reader, StreamFault};
-use sip_vector::Update;
+use sip_vector::{Depth, Update};
 
 /// What reading a record gave.
 fn on_stream(read: Result<Option<Update>, StreamFault>) -> Result<Option<Update>, Status>
@@ -43,10 +45,11 @@ fn on_stream(read: Result<Option<Update>, StreamFault>) -> Result<Option<Update>
 }
 
 /// Reads 32 bytes of a seed, and draws the challenges of a task from them.
+#[inline(never)]
 fn draw<B: Source>(task: &Task, second: &mut B) -> Result<Seats, Status>
     requires { CanBeDone task.now }
     ensures draws { (seed : List ℕ) → B.left second.old ≡ Some seed → Draws task.now seed result }
-    ensures seats { IfOk result (AreOf task.now) }
+    ensures seats { IfOk result (AreOf task.now []) }
     ensures fault { (first firsts peer peers report reports : ℕ) → Stops stops_gathering
         (counts first (B.faults second.old) peer report)
         (counts firsts (B.faults second.new) peers reports) result }
@@ -85,6 +88,8 @@ fn pass_on<L: Link>(
     requires delta { update.now.delta ≢ pos 0 }
     requires item { update.now.item < 2 ^ seats.old.depth }
     requires items { All (λ u. u.item < 2 ^ seats.old.depth) feed.old.waiting }
+    requires room { (side : AnySide)
+        → HaveRoom seats.old.seats (feed.old.waiting ++ update.now ∷ []) side }
     ensures talk { SendsWhole (L.talk peer.old)
         (L.talk peer.new) result (due_with feed.old.version feed.old.waiting update.now) }
     ensures version { feed.new.version ≡ feed.old.version }
@@ -110,18 +115,19 @@ fn pass_on<L: Link>(
 }
 
 /// Opens the talk, reads the stream of `first` to its end, sends it on over `peer` and adds it to the seats.
+#[inline(never)]
 fn follow<A: Source, L: Link>(
     task: &Task,
-    mut seats: Seats,
+    seats: &mut Seats,
     first: &mut A,
     peer: &mut L,
-) -> Result<Seats, Status>
-    requires { AreOf task.now seats }
+) -> Result<(), Status>
+    requires { AreOf task.now [] seats.old }
     ensures gathers { (bytes seed : List ℕ) → A.left first.old ≡ Some bytes
-        → HasDrawn task.now seed seats
+        → HasDrawn task.now seed seats.old
         → Gathers task.now bytes seed (A.left first.new) (L.talk peer.old)
-        (L.talk peer.new) result }
-    ensures seats { IfOk result (AreOf task.now) }
+        (L.talk peer.new) (seated seats.new result) }
+    ensures seats { IfOk result (λ _. (stream : List AnyUpdate) × AreOf task.now stream seats.new) }
     ensures fault { (second seconds report reports : ℕ) → Stops stops_gathering
         (counts (A.faults first.old) second (L.faults peer.old) report)
         (counts (A.faults first.new) seconds (L.faults peer.new) reports) result }
@@ -132,16 +138,19 @@ fn follow<A: Source, L: Link>(
     ensures first { Lasts A.faults A.wants A.is_sure first.old first.new }
     ensures peer { Lasts L.faults L.wants L.is_sure peer.old peer.new }
 {
+    let levels = task.depth.get();
+    prove!(levels <= Depth::MOST);
     let mut feed = Feed::new(task.version());
     on_link(feed.begin(peer, task.depth))?;
     let mut reader = Reader::new(task.depth, task.form);
     while let Some(update) = on_stream(reader.next(first))? {
-        on_link(pass_on(&update, &mut feed, &mut seats, peer))?;
+        on_link(pass_on(&update, &mut feed, seats, peer))?;
+        feed.take_held(&mut reader, first);
     }
     let rest = feed.waiting();
     seats.update_all(rest);
     on_link(feed.finish(peer))?;
-    Ok(seats)
+    Ok(())
 }
 
 /// Draws the challenges from 32 bytes of `second`, opens the talk, reads the stream of `first` to its end, sends it on over `peer`
@@ -158,6 +167,7 @@ fn follow<A: Source, L: Link>(
 /// The first in this order: `ReadFault` of `second`, `BadSeed`, `SeedSpent`; then `PeerFault` of the opening; then what comes first while the
 /// stream is read and sent: `BadStream`, `ReadFault` of `first`, `PeerFault`. `OutOfMemory` comes only where a port's
 /// count of wants rose. The end of the stream was then not sent whole.
+#[inline(never)]
 pub fn gather<A: Source, B: Source, L: Link, C: Sink>(
     task: &Task,
     first: &mut A,
@@ -187,6 +197,10 @@ pub fn gather<A: Source, B: Source, L: Link, C: Sink>(
     ensures peer { Lasts L.faults L.wants L.is_sure peer.old peer.new }
     ensures kept { keep.new ≡ keep.old }
 {
-    let seats = draw(task, second)?;
-    follow(task, seats, first, peer)
+    // The seats stay where they were drawn: they are too large to be moved about.
+    let mut drawn = draw(task, second);
+    if let Ok(seats) = &mut drawn {
+        follow(task, seats, first, peer)?;
+    }
+    drawn
 }

@@ -1,18 +1,24 @@
 //! The seat of one query.
 
-ghost use Rattle.std.specs.Prelude.{◌≡◌, ◌<◌, ◌≤◌, ◌^◌, ℕ, List, [], ◌++◌, length, All, IsTrue};
+ghost use Rattle.std.specs.Prelude.{◌≡◌, ◌*◌, ◌/◌, ◌<◌, ◌≤◌, ◌^◌, ℕ, List, [], ◌++◌, length, All, IsTrue, false, nat_abs};
 ghost use Rattle.sip_vector.specs.declared.update.Update.{Update as AnyUpdate};
 ghost use Rattle.sip_vector.specs.declared.query.Query.{Query as AnyQuery};
-ghost use Rattle.sip_verifier.specs.QuerySeats.{StandsFor, concerns, is_seat, keeps};
+ghost use Rattle.sip_verifier.specs.QuerySeats.{HasRoom, StandsFor, concerns, is_seat, keeps};
 ghost use Rattle.sip_verifier.specs.inside.Running.{RunsFor, block_of, numbers_of};
-ghost use Rattle.sip_vector.specs.Built.{is_built};
+ghost use Rattle.sip_vector.specs.Answers.{Fits};
 ghost use Rattle.sip_vector.specs.Limits.{most_depth};
+ghost use Rattle.sip_vector.specs.Streams.{most_weight};
+ghost use Rattle.sip_verifier.specs.Thresholds.{share_of};
+ghost use Rattle.sip_heavy.specs.Protocol.{count_of};
+ghost use Rattle.sip_verifier.specs.inside.Judging.{most_nodes, most_places};
+ghost use Rattle.sip_verifier.specs.Widths.{is_wide, is_wide_seat};
 ghost use Rattle.sip_verifier.specs.Tasks.{CanBeAsked};
 
 use crate::points::Points;
 use sip_field::{M61, Seat};
 use sip_mle::Point;
-use sip_tree::Root;
+use sip_subvec::MOST_ENTRIES;
+use sip_tree::{AugRoot, Root};
 use sip_vector::{CAP, Query, Side, Update};
 use std::marker::Model;
 
@@ -25,12 +31,13 @@ pub(crate) enum Running {
     Point(Point<M61, CAP>),
     /// Of an inner product: the extensions of both sides' vectors.
     Points(Points),
+    /// Of heavy hitters: the root of the augmented tree over the side's vector.
+    AugRoot(AugRoot<M61, CAP>),
 }
 
 impl Running {
     // Those of a query before any update.
     fn begin(query: &Query, block: Seat<M61, CAP>) -> Running
-        requires built { IsTrue (is_built query.now) }
         ensures block { block_of result ≡ block }
         ensures keeps { IsTrue (keeps query.now (numbers_of result)) }
         ensures runs { (depth : ℕ) → length block ≡ depth → RunsFor depth [] query.now result }
@@ -39,7 +46,7 @@ impl Running {
             Query::Sub { .. } => Running::Root(Root::new(block)),
             Query::Range { .. } | Query::F2 { .. } => Running::Point(Point::new(block)),
             Query::Inner => Running::Points(Points::new(block)),
-            Query::Heavy { .. } | Query::Share { .. } => unreachable!(),
+            Query::Heavy { .. } | Query::Share { .. } => Running::AugRoot(AugRoot::new(block)),
         }
     }
 
@@ -48,6 +55,7 @@ impl Running {
         requires shallow { length (block_of self.old) ≤ most_depth }
         requires items { All (λ u. u.item < 2 ^ length (block_of self.old)) updates.now }
         requires sides { All (λ u. u.side ≡ side) updates.now }
+        requires room { HasRoom (numbers_of self.old) updates.now }
         ensures block { block_of self.new ≡ block_of self.old }
         ensures keeps { (query : AnyQuery) → keeps query (numbers_of self.new)
             ≡ keeps query (numbers_of self.old) }
@@ -60,6 +68,7 @@ impl Running {
             Running::Root(root) => root.update_all(updates),
             Running::Point(point) => point.update_all(updates),
             Running::Points(points) => points.update_all(side, updates),
+            Running::AugRoot(root) => root.update_all(updates),
         }
     }
 }
@@ -80,6 +89,46 @@ fn concerns(query: &Query, side: Side) -> bool
         Query::Heavy { side: own, .. } | Query::Share { side: own, .. } => side == *own,
         Query::Inner => true,
     }
+}
+
+/// How many entries of at least its threshold a total may have, for an answer to be asked for.
+const MOST_HITTERS: u64 = 65_536;
+
+/// The least count that is `num`/`den` of a total, rounded up; 1 where the total is not above 0.
+pub(crate) fn share_of(total: i64, num: u32, den: u32) -> u64
+    requires total { nat_abs total ≤ most_weight }
+    requires den { 1 ≤ den }
+    ensures { result ≡ share_of num den total }
+{
+    if total < 1 {
+        return 1;
+    }
+    (u64::from(num) * total as u64 + u64::from(den) - 1) / u64::from(den)
+}
+
+// How many nodes a level of the replies may have, of a total with this threshold.
+fn nodes_of(total: i64, at_least: u64) -> usize
+    requires total { nat_abs total ≤ most_weight }
+    requires some { 1 ≤ at_least }
+    ensures { result ≡ 2 * (count_of total / at_least) }
+{
+    if total < 1 {
+        return 0;
+    }
+    2 * (total as u64 / at_least) as usize
+}
+
+// Whether a total may have more entries of at least a threshold than may be asked for.
+fn is_wide(total: i64, at_least: u64) -> bool
+    requires total { nat_abs total ≤ most_weight }
+    requires some { 1 ≤ at_least }
+    ensures { result ≡ is_wide at_least total }
+{
+    if total < 1 {
+        return false;
+    }
+    let total = total as u64;
+    at_least <= total && total / at_least > MOST_HITTERS
 }
 
 /// A query with its running numbers.
@@ -115,7 +164,6 @@ impl Default for QuerySeat {
 impl QuerySeat {
     /// The seat of a query with these challenges, before any update.
     pub(crate) fn begin(query: Query, block: Seat<M61, CAP>) -> QuerySeat
-        requires built { IsTrue (is_built query) }
         ensures query { result.query ≡ query }
         ensures block { result.block ≡ block }
         ensures stands { (depth : ℕ) → CanBeAsked depth query → length block ≡ depth
@@ -133,6 +181,52 @@ impl QuerySeat {
             Running::Root(root) => &root.seat,
             Running::Point(point) => &point.seat,
             Running::Points(points) => &points.first.seat,
+            Running::AugRoot(root) => &root.seat,
+        }
+    }
+
+    /// How many nodes a level of the replies may have, where the query is for heavy hitters.
+    pub(crate) fn most_nodes(&self) -> usize
+        requires fits { (depth : ℕ) × Fits depth self.now.query }
+        ensures { result ≡ most_nodes self.now.query self.now.running }
+    {
+        match (&self.query, &self.running) {
+            (Query::Heavy { at_least, .. }, Running::AugRoot(root)) => {
+                nodes_of(root.total(), *at_least)
+            }
+            (Query::Share { num, den, .. }, Running::AugRoot(root)) => {
+                let total = root.total();
+                nodes_of(total, share_of(total, *num, *den))
+            }
+            _ => 0,
+        }
+    }
+
+    /// How many places the pairs of an answer need, at most.
+    pub(crate) fn most_places(&self) -> usize
+        requires fits { (depth : ℕ) × Fits depth self.now.query }
+        ensures { most_places self.now.query self.now.running ≤ result }
+    {
+        match &self.query {
+            Query::Sub { lo, hi } => (hi.saturating_sub(*lo).min(MOST_ENTRIES - 1) + 1) as usize,
+            _ => self.most_nodes(),
+        }
+    }
+
+    /// Whether the answer may be too wide.
+    pub(crate) fn is_wide(&self) -> bool
+        requires fits { (depth : ℕ) × Fits depth self.now.query }
+        ensures { result ≡ is_wide_seat self.now.query self.now.running }
+    {
+        match (&self.query, &self.running) {
+            (Query::Heavy { at_least, .. }, Running::AugRoot(root)) => {
+                is_wide(root.total(), *at_least)
+            }
+            (Query::Share { num, den, .. }, Running::AugRoot(root)) => {
+                let total = root.total();
+                is_wide(total, share_of(total, *num, *den))
+            }
+            _ => false,
         }
     }
 
@@ -141,6 +235,8 @@ impl QuerySeat {
         requires shallow { length self.old.block ≤ most_depth }
         requires items { All (λ u. u.item < 2 ^ length self.old.block) updates.now }
         requires sides { All (λ u. u.side ≡ side) updates.now }
+        requires room { IsTrue (concerns self.old.query side)
+            → HasRoom self.old.running updates.now }
         ensures query { self.new.query ≡ self.old.query }
         ensures block { self.new.block ≡ self.old.block }
         ensures keeps { keeps self.old.query self.new.running
@@ -148,6 +244,7 @@ impl QuerySeat {
         ensures stands { (depth : ℕ) (stream : List AnyUpdate)
             → StandsFor depth stream self.old
             → StandsFor depth (stream ++ updates.now) self.new }
+        ensures others { concerns self.old.query side ≡ false → self.new ≡ self.old }
     {
         if concerns(&self.query, side) {
             self.running.update_all(side, updates);

@@ -6,13 +6,15 @@ ghost use Rattle.arrayvec.specs.ArrayVec.{array_vec_len};
 ghost use Rattle.sip_field.specs.Elements.{m61_number};
 ghost use Rattle.sip_ports.specs.Ports.{HasCause, SendsWhole};
 ghost use Rattle.sip_vector.specs.declared.query.Query.{Query as AnyQuery};
+ghost use Rattle.sip_vector.specs.declared.update.Side.{Side as AnySide};
 ghost use Rattle.sip_vector.specs.declared.update.Update.{Update as AnyUpdate};
 ghost use Rattle.sip_vector.specs.Limits.{most_depth};
 ghost use Rattle.sip_vector.specs.Pieces.{cut};
 ghost use Rattle.sip_vector.specs.Streams.{of_side};
 ghost use Rattle.sip_wire.specs.Table.{most_queries, most_rows};
 ghost use Rattle.sip_wire.specs.Versions.{needed};
-ghost use Rattle.sip_verifier.specs.QuerySeats.{is_seat};
+ghost use Rattle.sip_verifier.specs.QuerySeats.{HaveRoom, is_seat};
+ghost use Rattle.sip_verifier.specs.inside.Raising.{AreLeft};
 ghost use Rattle.sip_verifier.specs.Tasks.{CanBeAsked};
 
 use crate::seat::QuerySeat;
@@ -111,6 +113,7 @@ impl Seats {
     pub(crate) fn all(&self) -> &[QuerySeat]
         ensures seats { result.now ≡ self.now.seats }
         ensures some { 0 < length self.now.seats }
+        ensures most { length self.now.seats ≤ most_queries }
         ensures each { IsTrue (list_all (is_seat self.now.depth) self.now.seats) }
     {
         &self.seats
@@ -118,9 +121,11 @@ impl Seats {
 
     /// Adds an update to each running number that it concerns.
     ///
-    /// At most `depth` multiplications for each query; no memory.
+    /// The sum that a seat for heavy hitters of the update's side keeps must stay within 2^30 - 1. At most `2 * depth + 1`
+    /// multiplications for each query; no memory.
     pub fn update(&mut self, update: &Update)
-        requires { update.now.item < 2 ^ self.old.depth }
+        requires item { update.now.item < 2 ^ self.old.depth }
+        requires room { HaveRoom self.old.seats (update.now ∷ []) update.now.side }
         ensures depth { self.new.depth ≡ self.old.depth }
         ensures stands { (depth : ℕ) (queries : List AnyQuery) (blocks : List (List ℕ))
             (stream : List AnyUpdate)
@@ -134,9 +139,11 @@ impl Seats {
     ///
     /// The block is split by side once. Then an update takes, for each query that it concerns, one look-up and one multiplication
     /// for each seven levels; their tables are made once for a block, a side and a query, on the stack. No memory.
+    #[inline(never)]
     pub fn update_all(&mut self, updates: &[Update])
         requires most { length updates.now ≤ most_rows }
         requires items { All (λ u. u.item < 2 ^ self.old.depth) updates.now }
+        requires room { (side : AnySide) → HaveRoom self.old.seats updates.now side }
         ensures depth { self.new.depth ≡ self.old.depth }
         ensures stands { (depth : ℕ) (queries : List AnyQuery) (blocks : List (List ℕ))
             (stream : List AnyUpdate)
@@ -154,11 +161,13 @@ impl Seats {
     fn raise_side(&mut self, side: Side, updates: &[Update], taken: &mut [Update; MOST_ROWS])
         requires most { length updates.now ≤ most_rows }
         requires items { All (λ u. u.item < 2 ^ self.old.depth) updates.now }
+        requires room { HaveRoom self.old.seats updates.now side }
         ensures depth { self.new.depth ≡ self.old.depth }
         ensures stands { (depth : ℕ) (queries : List AnyQuery) (blocks : List (List ℕ))
             (stream : List AnyUpdate)
             → AreSeats depth queries blocks stream self.old
             → AreSeats depth queries blocks (stream ++ of_side updates.now side) self.new }
+        ensures others { AreLeft side self.old.seats self.new.seats }
     {
         let count = take_side(updates, side, taken);
         self.raise(side, &taken[..count]);
@@ -168,11 +177,13 @@ impl Seats {
     fn raise(&mut self, side: Side, updates: &[Update])
         requires items { All (λ u. u.item < 2 ^ self.old.depth) updates.now }
         requires sides { All (λ u. u.side ≡ side) updates.now }
+        requires room { HaveRoom self.old.seats updates.now side }
         ensures depth { self.new.depth ≡ self.old.depth }
         ensures stands { (depth : ℕ) (queries : List AnyQuery) (blocks : List (List ℕ))
             (stream : List AnyUpdate)
             → AreSeats depth queries blocks stream self.old
             → AreSeats depth queries blocks (stream ++ updates.now) self.new }
+        ensures others { AreLeft side self.old.seats self.new.seats }
     {
         if updates.is_empty() {
             return;

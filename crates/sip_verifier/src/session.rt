@@ -9,17 +9,19 @@ ghost use Rattle.sip_vector.specs.Answers.{Fits};
 ghost use Rattle.sip_vector.specs.Streams.{IsLegal};
 ghost use Rattle.sip_wire.specs.Versions.{Speaks, deepest, speaks};
 ghost use Rattle.sip_verifier.specs.Asking.{AnswersCount, Asks};
-ghost use Rattle.sip_verifier.specs.inside.Judging.{has_places};
+ghost use Rattle.sip_verifier.specs.inside.Judging.{are_enough, lends_enough, most_nodes, most_places};
 ghost use Rattle.sip_verifier.specs.NextSeat.{IsNext};
-ghost use Rattle.sip_verifier.specs.QuerySeats.{Seated};
+ghost use Rattle.sip_verifier.specs.QuerySeats.{Seated, is_seat};
+ghost use Rattle.sip_verifier.specs.Widths.{first_wide_seat};
+ghost use Rattle.sip_wire.specs.Table.{most_queries};
 ghost use Rattle.sip_verifier.specs.Sittings.{Starts, is_over};
 
 use crate::Seats;
 use crate::asking::{ask_seat, found_in, verdict_of};
 use crate::seat::QuerySeat;
+use sip_heavy::HeavySpace;
 use sip_ports::{Link, Sink};
-use sip_subvec::MOST_ENTRIES;
-use sip_vector::{Entry, Query};
+use sip_vector::Entry;
 use sip_wire::{Frame, Reason, Version};
 use std::alloc::Global;
 use std::marker::Model;
@@ -67,12 +69,15 @@ pub struct Session {
     // Room for the entries of an answer, of which the first `found` are those of the last one.
     entries: Vec<Entry>,
     found: usize,
+    // Room for the nodes of the replies on heavy hitters, which is lent from query to query.
+    space: Option<HeavySpace>,
     is_spent: bool,
     ghost within: { asked ≤ length seats.seats },
     ghost shallow: { seats.depth ≤ deepest version },
     ghost spoken: { IsTrue (list_all (λ s. speaks version s.query) seats.seats) },
     ghost shown: { found ≤ vec_len entries },
-    ghost room: { IsTrue (list_all (λ s. has_places (vec_len entries) s.query) seats.seats) },
+    ghost room: { IsTrue (are_enough most_places (vec_len entries) seats.seats) },
+    ghost lent: { IsTrue (lends_enough space seats.seats) },
 }
 
 impl Model for Session {
@@ -90,16 +95,6 @@ impl Model for Session {
     } };
 }
 
-/// How many entries an answer to this query may have.
-fn most_entries_of(query: &Query) -> usize
-    ensures { IsTrue (has_places result query.now) }
-{
-    match query {
-        Query::Sub { lo, hi } => (hi.saturating_sub(*lo).min(MOST_ENTRIES - 1) + 1) as usize,
-        _ => 0,
-    }
-}
-
 /// The greater of two numbers.
 fn greater(one: usize, other: usize) -> usize
     ensures one { one ≤ result }
@@ -108,35 +103,61 @@ fn greater(one: usize, other: usize) -> usize
     if one < other { other } else { one }
 }
 
-/// How many entries the longest answer of these seats may have.
-fn most_entries(seats: &[QuerySeat]) -> usize
-    ensures { IsTrue (list_all (λ s. has_places result s.query) seats.now) }
+/// How many places the longest answer of these seats needs, and how many nodes a level of the replies to one may have.
+fn rooms(seats: &[QuerySeat]) -> (usize, usize)
+    requires each { (depth : ℕ) × IsTrue (list_all (is_seat depth) seats.now) }
+    ensures places { IsTrue (are_enough most_places result.0 seats.now) }
+    ensures nodes { IsTrue (are_enough most_nodes result.1 seats.now) }
 {
-    let mut most = 0;
+    let mut places = 0;
+    let mut nodes = 0;
     for seat in seats.iter() {
-        most = greater(most, most_entries_of(&seat.query));
+        places = greater(places, seat.most_places());
+        nodes = greater(nodes, seat.most_nodes());
     }
-    most
+    (places, nodes)
+}
+
+/// The number of the first of these seats, counted from 1, whose answer may be too wide.
+fn first_wide(seats: &[QuerySeat]) -> Option<u8>
+    requires most { length seats.now ≤ most_queries }
+    requires each { (depth : ℕ) × IsTrue (list_all (is_seat depth) seats.now) }
+    ensures { result ≡ first_wide_seat seats.now }
+{
+    for (index, seat) in seats.iter().enumerate() {
+        if seat.is_wide() {
+            return Some(index as u8 + 1);
+        }
+    }
+    None
 }
 
 impl Session {
     /// A session that asks the queries of these seats in order, in a version in which each can be asked.
     ///
-    /// Takes a frame of 8,709 bytes and 16 bytes for each entry that the longest answer may have, at most 65,536. After that no
-    /// call takes memory.
+    /// Takes a frame of 8,709 bytes, and 16 bytes for each entry that the longest answer may have: at most 65,536 of a sub-vector,
+    /// and 2 * floor(n / T) where heavy hitters are asked for, which takes 64 bytes more for each. After that no call takes memory.
     ///
     /// # Errors
     ///
-    /// `OutOfMemory`; the seats are then dropped.
+    /// `TooWide` exactly for the first query for heavy hitters whose total n reaches its threshold T with more than 65,536 for
+    /// floor(n / T); else `OutOfMemory`. The seats are then dropped.
+    #[inline(never)]
     pub fn new(alloc: Global, version: Version, seats: Seats) -> Result<Session, SessionStart>
         requires { All (λ s. Speaks version seats.depth s.query) seats.seats }
         ensures { Starts version seats result }
     {
+        if let Some(query) = first_wide(seats.all()) {
+            return Err(SessionStart::TooWide { query });
+        }
         let Ok(frame) = Frame::new(alloc) else {
             return Err(SessionStart::OutOfMemory);
         };
-        let room = most_entries(seats.all());
-        let Ok(entries) = vec![in alloc; Entry { index: 0, value: 0 }; room] else {
+        let (places, nodes) = rooms(seats.all());
+        let Ok(entries) = vec![in alloc; Entry { index: 0, value: 0 }; places] else {
+            return Err(SessionStart::OutOfMemory);
+        };
+        let Ok(space) = HeavySpace::reserve(alloc, nodes) else {
             return Err(SessionStart::OutOfMemory);
         };
         Ok(Session {
@@ -146,6 +167,7 @@ impl Session {
             frame,
             entries,
             found: 0,
+            space: Some(space),
             is_spent: false,
         })
     }
@@ -188,7 +210,14 @@ impl Session {
     {
         let seats = self.seats.all();
         let seat = &seats[self.asked];
-        let asked = ask_seat(self.version, seat, &mut self.entries, &mut self.frame, link);
+        let asked = ask_seat(
+            self.version,
+            seat,
+            &mut self.entries,
+            &mut self.frame,
+            &mut self.space,
+            link,
+        );
         self.asked += 1;
         self.found = found_in(self.entries.len(), &asked);
         self.is_spent = asked.is_err();

@@ -14,10 +14,9 @@ pub record HasDrawn (task : Task) (seed : List ℕ) (seats : Seating) : Type 0 w
   pub draws : drawn task seed ≡ Some challenges
   pub stand : AreSeats task.depth task.queries.items (blocks task challenges) [] seats
 
--- the seats have the task's queries, each with some block of challenges, and stand for some stream
-pub record AreOf (task : Task) (seats : Seating) : Type 0 where
+-- the seats have the task's queries, each with some block of challenges, and stand for this stream
+pub record AreOf (task : Task) (stream : List Update) (seats : Seating) : Type 0 where
   pub at_blocks : List (List ℕ)
-  pub stream : List Update
   pub stand : AreSeats task.depth task.queries.items at_blocks stream seats
 
 -- the seats are those of the seed's challenges; a seed that gives none is short, or its 32 bytes

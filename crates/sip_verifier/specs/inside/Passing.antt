@@ -1,8 +1,16 @@
--- What the seats take of one more record. (For the proof of `gather` alone.)
-use Rattle.std.specs.Prelude.{List, [], ◌∷◌, ◌++◌, if◌then◌else◌}
+-- What the seats take of one more record, and what a call that keeps them answers. (For the proof of
+-- `gather` alone.)
+use Rattle.std.specs.Prelude.{List, [], ◌∷◌, ◌++◌, Result, Ok, Err, if◌then◌else◌}
 use Rattle.sip_vector.specs.declared.update.Update.{Update}
+use Rattle.sip_verifier.specs.declared.status.Status.{Status}
 use Rattle.sip_verifier.specs.Feeding.{fills}
+use Rattle.sip_verifier.specs.Seats.{Seating}
 
 -- those that the seats take then
 abbrev pub taken_with : List Update → Update → List Update
 taken_with waiting u = if fills waiting then waiting ++ u ∷ [] else []
+
+-- the seats as a call left them, or why it stopped
+abbrev pub seated : Seating → Result Unit Status → Result Seating Status
+seated seats (Ok _) = Ok seats
+seated seats (Err status) = Err status

@@ -1,4 +1,6 @@
-ghost use Rattle.std.specs.Prelude.{◌≡◌, ◌^◌, IfOk};
+ghost use Rattle.std.specs.Prelude.{◌≡◌, ◌^◌, ℕ, List, [], ◌∷◌, IfOk};
+ghost use Rattle.sip_vector.specs.declared.query.Query.TheVariants as queries;
+ghost use Rattle.sip_verifier.specs.Seats.{AreSeats};
 
 use crate::Seats;
 use crate::seat::Running;
@@ -9,7 +11,8 @@ use std::test::Fail;
 
 // Two queries at depth 2, at the challenges (2, 10) and (3, 5).
 fn two_seats() -> Result<Seats, Fail>
-    ensures { IfOk result (λ seats. seats.depth ≡ 2) }
+    ensures { IfOk result (λ seats. (blocks : List (List ℕ))
+        × AreSeats 2 (queries.Sub 0 3 ∷ queries.Sub 1 2 ∷ []) blocks [] seats) }
 {
     let depth = Depth::new(2).ok_or("a depth")?;
     let queries = [Query::Sub { lo: 0, hi: 3 }, Query::Sub { lo: 1, hi: 2 }];
@@ -36,6 +39,7 @@ fn extensions_of(seats: &Seats, index: usize) -> Option<(u64, Option<u64>)> {
             let first = points.first.value().number();
             Some((first, Some(points.second.number())))
         }
+        Running::AugRoot(_) => None,
     }
 }
 

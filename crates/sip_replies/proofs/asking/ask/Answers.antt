@@ -67,6 +67,7 @@ loop-round-init g c =
       taken = ap (λ (p : Phase). p.taken) phase ∙ ap (λ (k : ℕ). k + 1) c.requires.begins.none ∙ omega arith;
       revealed = ap (λ (p : Phase). p.revealed + 1) phase ∙ ap (λ (k : ℕ). k + 1) c.requires.begins.same ∙ omega arith;
       within = omega (arith, some);
+      lent = c.take_reply.ensures.lent;
       places = c.take_reply.ensures.places;
       link = Lasts-trans faults wants is_sure c.args.link.now c.send_query.new.link c.take_reply.new.link (Lasts-of_HasCause faults wants is_sure c.args.link.now c.send_query.new.link c.send_query.result c.send_query.ensures.cause) c.take_reply.ensures.link;
       keep = c.take_reply.ensures.keep;
@@ -184,6 +185,7 @@ loop-round-preserved g c =
       taken = ap (λ (p : Phase). p.taken) phase ∙ ap (λ (k : ℕ). k + 1) c.loop-round.invariant.taken;
       revealed = ap (λ (p : Phase). p.revealed + 1) phase ∙ ap (λ (k : ℕ). k + 1) c.loop-round.invariant.revealed;
       within = omega (arith, c.loop-round-test.true, c.depth-depth.ensures.exact);
+      lent = c.take_reply-in-loop-round.ensures.lent ∙ c.reveal-challenge.ensures.lent ∙ c.loop-round.invariant.lent;
       places = c.take_reply-in-loop-round.ensures.places ∙ c.loop-round.invariant.places;
       link = Lasts-trans faults wants is_sure c.args.link.now c.send_reveal.new.link c.take_reply-in-loop-round.new.link
           (Lasts-trans faults wants is_sure c.args.link.now c.loop-round.link c.send_reveal.new.link c.loop-round.invariant.link
@@ -203,7 +205,7 @@ ended_so : (g : given.Over) (c : After-finish g) (asked : g.C.Check.Asked) (s : 
 ended_so g c asked s stands =
     let P = g.C.Check.protocol asked in
     let index : (g.C.Check.phase c.loop-round.check).revealed ≡ c.loop-round.round - 1 = omega (arith, c.loop-round.invariant.revealed) in
-    c.finish.ensures asked s stands
+    c.finish.ensures.says asked s stands
     ∙ ap (λ (l : List ℕ). P.finish (P.rules.learn s (slice_index l (g.C.Check.phase c.loop-round.check).revealed))) c.loop-round.invariant.block
     ∙ ap (λ (k : ℕ). P.finish (P.rules.learn s (slice_index (g.C.Check.phase c.args.check.now).block k))) index
 

@@ -12,6 +12,7 @@ invariant-loop-round g l = record {
   taken : (g.C.Check.phase l.check).taken ≡ l.round;
   revealed : (g.C.Check.phase l.check).revealed + 1 ≡ l.round;
   within : l.round ≤ length (g.C.Check.phase l.fn.check).block;
+  lent : g.C.Check.lent l.check ≡ g.C.Check.lent l.fn.check;
   places : length l.places ≡ length l.fn.places;
   link : Lasts g.L.Sink.faults g.L.Sink.wants g.L.Sink.is_sure l.fn.link l.link;
   keep : Lasts g.K.Sink.faults g.K.Sink.wants g.K.Sink.is_sure l.fn.keep l.keep;

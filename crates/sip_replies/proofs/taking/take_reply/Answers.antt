@@ -15,6 +15,7 @@ loop-check-init g c = record {
   entered = λ asked s same stands. Entered-none (g.C.Check.protocol asked).rules s (g.L.Sink.talk c.args.link.now) (g.K.Sink.talk c.args.keep.now) (λ t. g.C.Check.stands asked t c.args.check.now c.args.places.now) stands;
   stood = λ asked s stands. (s, stands);
   phase = refl;
+  lent = refl;
   places = refl;
   link = Lasts-refl g.L.Sink.faults g.L.Sink.wants g.L.Sink.is_sure c.args.link.now;
   keep = Lasts-refl g.K.Sink.faults g.K.Sink.wants g.K.Sink.is_sure c.args.keep.now;
@@ -54,6 +55,7 @@ loop-check-preserved g c = record {
       let before = c.loop-check.invariant.stood asked s stands in
       stepped ((g.C.Check.protocol asked).rules.step before.0 c.receive.new.message) (λ t. g.C.Check.stands asked t c.take.new.self c.take.new.places) _ (c.in_ok-take.ensures.took asked before.0 before.1);
   phase = subst (λ (m : More). g.C.Check.phase c.take.new.self ≡ after m (g.C.Check.phase c.loop-check.check)) c.in-Due.is c.in_ok-take.ensures.phase ∙ c.loop-check.invariant.phase;
+  lent = c.take.ensures.lent ∙ c.loop-check.invariant.lent;
   places = c.take.ensures.places ∙ c.loop-check.invariant.places;
   link = Lasts-trans g.L.Sink.faults g.L.Sink.wants g.L.Sink.is_sure c.args.link.now c.loop-check.link c.receive.new.link c.loop-check.invariant.link c.receive.ensures.link;
   keep = Lasts-trans g.K.Sink.faults g.K.Sink.wants g.K.Sink.is_sure c.args.keep.now c.loop-check.keep c.receive.new.keep c.loop-check.invariant.keep c.receive.ensures.keep;

@@ -9,6 +9,7 @@ invariant-loop-check g l = record {
       → Entered (g.C.Check.protocol asked).rules s (g.L.Sink.talk l.initial.link) (g.L.Sink.talk l.link) (g.K.Sink.talk l.initial.keep) (g.K.Sink.talk l.keep) (λ t. g.C.Check.stands asked t l.check l.places);
   stood : (asked : g.C.Check.Asked) (s : g.C.Check.State) → g.C.Check.stands asked s l.initial.check l.initial.places → (t : g.C.Check.State) × g.C.Check.stands asked t l.check l.places;
   phase : g.C.Check.phase l.check ≡ g.C.Check.phase l.initial.check;
+  lent : g.C.Check.lent l.check ≡ g.C.Check.lent l.initial.check;
   places : length l.places ≡ length l.initial.places;
   link : Lasts g.L.Sink.faults g.L.Sink.wants g.L.Sink.is_sure l.initial.link l.link;
   keep : Lasts g.K.Sink.faults g.K.Sink.wants g.K.Sink.is_sure l.initial.keep l.keep;

@@ -6,7 +6,7 @@ use Rattle.sip_replies.specs.declared.asking.AskStop.TheVariants as stops
 use Rattle.sip_field.specs.Elements.{m61_number}
 use Rattle.sip_verifier.specs.QuerySeats.{Seated}
 use Rattle.sip_verifier.specs.inside.Running.{block_of, numbers_of}
-use Rattle.sip_verifier.proofs.SeatAsked.{seat_has_spelling, sub_has_room, sub_asks, range_product, square_product, inner_product}
+use Rattle.sip_verifier.proofs.SeatAsked.{seat_has_spelling, sub_has_room, sub_asks, range_product, square_product, inner_product, heavy_protocol_is}
 use Rattle.sip_verifier.proofs.asking.ask_seat.Goals as goal
 
 pub ask-requires-clause-fits : goal.ask-requires-clause-fits
@@ -71,3 +71,12 @@ returns-in-Inner-Points-clause-asks g c = λ depth stream stands.
     (m61_number c.in-Inner-Points.points.second) _ is running
     (rw c.value-in-Inner-Points.ensures at c.times-product-in-Inner-Points.ensures) stands in
     c.ask_sum-in-Inner-Points.ensures.asks depth stream _ product.0 product.1
+
+pub returns-in-Heavy-AugRoot-clause-asks : goal.returns-in-Heavy-AugRoot-clause-asks
+returns-in-Heavy-AugRoot-clause-asks g c = λ depth stream stands.
+    let seat = c.args.seat.now in
+    let is = sym (ap (λ (s : Seated). s.query) c.seat.view_is) ∙ c.in-Heavy-AugRoot.is-0 in
+    let block = sym (ap (λ (s : Seated). s.block) c.seat.view_is) ∙ ap block_of c.in-Heavy-AugRoot.is-1 in
+    let running = sym (ap (λ (s : Seated). s.running) c.seat.view_is) ∙ ap numbers_of c.in-Heavy-AugRoot.is-1 in
+    let protocol = heavy_protocol_is c.args.version depth stream seat c.in-Heavy-AugRoot.root.seat _ c.in-Heavy-AugRoot.at_least c.in-Heavy-AugRoot.root.hash c.in-Heavy-AugRoot.root.total is running block stands in
+    rw block (c.ask_heavy.ensures.asks depth stream protocol)

@@ -1,12 +1,13 @@
 -- At each end of the steps the facts of the calls before it are handed to the lemma of that end.
-use Rattle.std.proofs.Common.{[], refl, ◌∙◌, arith}
+use Rattle.std.proofs.Common.{◌≡◌, [], ap, refl, ◌∙◌, arith, rules}
+use Rattle.sip_verifier.specs.Sittings.{Sitting}
 use Rattle.std.proofs.lemmas.Result.{err_from_is_err_and}
 use Rattle.sip_ports.proofs.TalkLemmas.{GoesOn-refl, GoesOn-trans}
-use Rattle.sip_wire.specs.Spelling.{fits, has_room, all_hold}
+use Rattle.sip_verifier.specs.Draws.{blocks}
 use Rattle.sip_verifier.specs.Tasks.{version_of}
-use Rattle.sip_verifier.proofs.RunPromises.{kept, gathering_listed, asking_listed}
+use Rattle.sip_verifier.proofs.RunPromises.{kept, gathering_listed, asking_listed, start_caused, start_listed}
 use Rattle.sip_verifier.proofs.RunTalks.{tells, said_is, refuses_moves, passed_moves, ends_moves, sends_moves, nothing_reported, some_value}
-use Rattle.sip_verifier.proofs.StreamPromises.{after_gather, after_stream, starts_short}
+use Rattle.sip_verifier.proofs.StreamPromises.{after_gather, after_start, narrow_seats}
 use Rattle.sip_verifier.proofs.QueryPromises.{after_queries, at_bye, bye_stops, all_read, rose_since}
 use Rattle.sip_verifier.proofs.QueriesChecked.{all_checked, since_before}
 use Rattle.sip_verifier.proofs.checking.steps.Goals as goal
@@ -27,20 +28,22 @@ returns-in_err-seats-clause-keeps g c =
 
 pub returns-in-Err-clause-keeps : goal.returns-in-Err-clause-keeps
 returns-in-Err-clause-keeps g c =
-    rw (c.status_of_start.ensures, starts_short (version_of c.args.task.now) c.in_ok-seats.seats c.in-Err.start c.in-Err.ensures)
+    rw c.status_of_start.ensures
     (kept c.args.task.now c.requires (omega (arith, c.get-levels.ensures.same, c.get-levels.ensures.some)) (omega (arith, c.get-levels.ensures.same, c.get-levels.ensures.most))
     (λ x t.
     let gathered = c.in_ok-seats.ensures.gathers x.stream x.seed t.stream t.seed in
-    after_stream c.args.task.now x _ _ (gathered.challenges, gathered.draws) gathered.to_end (said_is _ _ _ _ gathered.talk t.talk) (nothing_reported _ _ t.report))
+    after_start c.args.task.now x _ _ (blocks c.args.task.now gathered.challenges) c.version-version.result c.in_ok-seats.seats c.in-Err.start gathered.stand c.in-Err.ensures
+    (gathered.challenges, gathered.draws) gathered.to_end (said_is _ _ _ _ gathered.talk t.talk) (nothing_reported _ _ t.report))
     (λ is.
     let bytes = some_value _ is.first in
     let seed = some_value _ is.second in
     let gathered = c.in_ok-seats.ensures.gathers bytes.0 seed.0 bytes.1 seed.1 in
     tells _ _ is c.gather.ensures.told _ gathered.talk [] (GoesOn-refl _))
-    tt refl)
+    (start_caused c.in-Err.start _ _) (start_listed c.in-Err.start))
 
 pub returns-in_err-check_all-clause-keeps : goal.returns-in_err-check_all-clause-keeps
 returns-in_err-check_all-clause-keeps g c =
+    let lent : c.deref_mut.result.now ≡ c.in-Ok.session.value = search rules in
     let p = err_from_is_err_and c.from_residual-in_err-check_all.result c.from_residual-in_err-check_all.ensures.1 in
     let stops = c.in_err-check_all.ensures.fault _ _ _ _ in
     let fault = since_before _ _ _ _ _ _ _ _ _ c.in_err-check_all.field-0.0 c.gather.ensures.peer.later stops.1 in
@@ -48,36 +51,33 @@ returns-in_err-check_all-clause-keeps g c =
     (kept c.args.task.now c.requires (omega (arith, c.get-levels.ensures.same, c.get-levels.ensures.some)) (omega (arith, c.get-levels.ensures.same, c.get-levels.ensures.most))
     (λ x t.
     let gathered = c.in_ok-seats.ensures.gathers x.stream x.seed t.stream t.seed in
-    let all = all_checked c.args.task.now _ gathered.challenges c.in_ok-seats.seats _ _ _ _ _ _ _ _ c.in_err-check_all.was (c.in-Ok.ensures.0 ∙ c.version-version.ensures) c.in-Ok.ensures.1 c.in-Ok.ensures.2 c.deref.ensures.0 gathered.stand c.check_all.ensures.checks in
-    after_queries c.args.task.now x gathered.challenges _ _ _ _ _ gathered.draws gathered.to_end t.talk t.report gathered.talk _ _ c.in_err-check_all.field-0.0 all fault)
+    let all = all_checked c.args.task.now _ gathered.challenges c.in_ok-seats.seats _ _ _ _ _ _ _ _ c.in_err-check_all.was (ap (λ (s : Sitting). s.version) lent ∙ c.in-Ok.ensures.0 ∙ c.version-version.ensures) (ap (λ (s : Sitting). s.depth) lent ∙ c.in-Ok.ensures.1) (ap (λ (s : Sitting). s.left) lent ∙ c.in-Ok.ensures.2) c.deref.ensures.0 gathered.stand c.check_all.ensures.checks in
+    after_queries c.args.task.now x gathered.challenges _ _ _ _ _ gathered.draws gathered.to_end (narrow_seats c.args.task.now x gathered c.in-Ok.ensures.5) t.talk t.report gathered.talk _ _ c.in_err-check_all.field-0.0 all fault)
     (λ is.
     let bytes = some_value _ is.first in
     let seed = some_value _ is.second in
     let gathered = c.in_ok-seats.ensures.gathers bytes.0 seed.0 bytes.1 seed.1 in
-    let all = all_checked c.args.task.now _ gathered.challenges c.in_ok-seats.seats _ _ _ _ _ _ _ _ c.in_err-check_all.was (c.in-Ok.ensures.0 ∙ c.version-version.ensures) c.in-Ok.ensures.1 c.in-Ok.ensures.2 c.deref.ensures.0 gathered.stand c.check_all.ensures.checks in
+    let all = all_checked c.args.task.now _ gathered.challenges c.in_ok-seats.seats _ _ _ _ _ _ _ _ c.in_err-check_all.was (ap (λ (s : Sitting). s.version) lent ∙ c.in-Ok.ensures.0 ∙ c.version-version.ensures) (ap (λ (s : Sitting). s.depth) lent ∙ c.in-Ok.ensures.1) (ap (λ (s : Sitting). s.left) lent ∙ c.in-Ok.ensures.2) c.deref.ensures.0 gathered.stand c.check_all.ensures.checks in
     let went = ends_moves (version_of c.args.task.now) _ _ _ _ _ _ _ _ c.in_err-check_all.field-0.0 all in
     tells _ _ is c.gather.ensures.told _ (GoesOn-trans _ _ _ _ _ gathered.talk went.0.1) went.1.0 went.1.1)
     fault (asking_listed c.in_err-check_all.field-0.0 stops.0))
 
-pub encode-requires : goal.encode-requires
-unfolding fits has_room all_hold
-encode-requires g c = refl
-
 pub returns-clause-keeps : goal.returns-clause-keeps
 returns-clause-keeps g c =
-    let stops = bye_stops _ _ c.encode.result c.on_link.result c.on_link.ensures (λ e. rose_since _ _ _ _ c.gather.ensures.peer.later c.check_all.ensures.peer.later (c.encode.ensures.cause.failed e)) in
+    let lent : c.deref_mut.result.now ≡ c.in-Ok.session.value = search rules in
+    let stops = bye_stops _ _ c.say_bye.result c.on_link.result c.on_link.ensures (λ e. rose_since _ _ _ _ c.gather.ensures.peer.later c.check_all.ensures.peer.later (c.say_bye.ensures.cause.failed e)) in
     kept c.args.task.now c.requires (omega (arith, c.get-levels.ensures.same, c.get-levels.ensures.some)) (omega (arith, c.get-levels.ensures.same, c.get-levels.ensures.most))
     (λ x t.
     let gathered = c.in_ok-seats.ensures.gathers x.stream x.seed t.stream t.seed in
-    let all = all_checked c.args.task.now _ gathered.challenges c.in_ok-seats.seats _ _ _ _ _ _ _ _ c.in_ok-check_all.was (c.in-Ok.ensures.0 ∙ c.version-version.ensures) c.in-Ok.ensures.1 c.in-Ok.ensures.2 c.deref.ensures.0 gathered.stand c.check_all.ensures.checks in
-    at_bye c.args.task.now x gathered.challenges _ _ _ _ _ gathered.draws gathered.to_end t.talk t.report gathered.talk _ _ _ c.encode.result c.on_link.result all (rw c.version-version.ensures at c.encode.ensures.talk) c.on_link.ensures
-    (λ e. rose_since _ _ _ _ c.gather.ensures.peer.later c.check_all.ensures.peer.later (c.encode.ensures.cause.failed e)) (all_read t.unread gathered.read))
+    let all = all_checked c.args.task.now _ gathered.challenges c.in_ok-seats.seats _ _ _ _ _ _ _ _ c.in_ok-check_all.was (ap (λ (s : Sitting). s.version) lent ∙ c.in-Ok.ensures.0 ∙ c.version-version.ensures) (ap (λ (s : Sitting). s.depth) lent ∙ c.in-Ok.ensures.1) (ap (λ (s : Sitting). s.left) lent ∙ c.in-Ok.ensures.2) c.deref.ensures.0 gathered.stand c.check_all.ensures.checks in
+    at_bye c.args.task.now x gathered.challenges _ _ _ _ _ gathered.draws gathered.to_end (narrow_seats c.args.task.now x gathered c.in-Ok.ensures.5) t.talk t.report gathered.talk _ _ _ c.say_bye.result c.on_link.result all (rw c.version-version.ensures at c.say_bye.ensures.talk) c.on_link.ensures
+    (λ e. rose_since _ _ _ _ c.gather.ensures.peer.later c.check_all.ensures.peer.later (c.say_bye.ensures.cause.failed e)) (all_read t.unread gathered.read))
     (λ is.
     let bytes = some_value _ is.first in
     let seed = some_value _ is.second in
     let gathered = c.in_ok-seats.ensures.gathers bytes.0 seed.0 bytes.1 seed.1 in
-    let all = all_checked c.args.task.now _ gathered.challenges c.in_ok-seats.seats _ _ _ _ _ _ _ _ c.in_ok-check_all.was (c.in-Ok.ensures.0 ∙ c.version-version.ensures) c.in-Ok.ensures.1 c.in-Ok.ensures.2 c.deref.ensures.0 gathered.stand c.check_all.ensures.checks in
+    let all = all_checked c.args.task.now _ gathered.challenges c.in_ok-seats.seats _ _ _ _ _ _ _ _ c.in_ok-check_all.was (ap (λ (s : Sitting). s.version) lent ∙ c.in-Ok.ensures.0 ∙ c.version-version.ensures) (ap (λ (s : Sitting). s.depth) lent ∙ c.in-Ok.ensures.1) (ap (λ (s : Sitting). s.left) lent ∙ c.in-Ok.ensures.2) c.deref.ensures.0 gathered.stand c.check_all.ensures.checks in
     let passed = passed_moves (version_of c.args.task.now) _ _ _ _ _ _ _ _ _ all in
-    let went = sends_moves _ _ c.encode.result _ c.encode.ensures.talk in
+    let went = sends_moves _ _ c.say_bye.result _ c.say_bye.ensures.talk in
     tells _ _ is c.gather.ensures.told _ (GoesOn-trans _ _ _ _ _ (GoesOn-trans _ _ _ _ _ gathered.talk passed.0.1) went.1) passed.1.0 passed.1.1)
     stops.0 stops.1

@@ -5,10 +5,10 @@ use Rattle.sip_ports.specs.Ports.{Lasts}
 use Rattle.sip_stream.specs.Reading.{room}
 use Rattle.sip_vector.specs.declared.update.Update.{Update}
 use Rattle.sip_wire.specs.Table.{most_rows}
-use Rattle.sip_verifier.specs.inside.Drawing.{AreOf, HasDrawn}
+use Rattle.sip_verifier.specs.inside.Drawing.{HasDrawn}
 use Rattle.sip_verifier.specs.Tasks.{version_of}
 use Rattle.sip_verifier.specs.Draws.{blocks}
-use Rattle.sip_verifier.proofs.Gathered.{IsUnderway}
+use Rattle.sip_verifier.proofs.Gathered.{IsFollowed, IsUnderway}
 use Rattle.sip_verifier.proofs.gathering.follow.Given as goal
 
 abbrev pub invariant-loop-update : goal.invariant-loop-update
@@ -18,7 +18,7 @@ invariant-loop-update g l = record {
   version : l.feed.version ≡ version_of l.fn.task;
   few : length l.feed.waiting < most_rows;
   items : All (λ (u : Update). u.item < 2 ^ l.fn.task.depth) l.feed.waiting;
-  seats : AreOf l.fn.task l.seats;
+  seats : IsFollowed l.fn.task l.reader l.seats l.feed.waiting;
   levels : l.seats.depth ≡ l.fn.task.depth;
   depth : l.reader.depth ≡ l.fn.task.depth;
   form : l.reader.form ≡ l.fn.task.form;

@@ -1,7 +1,10 @@
 -- The seats took the frame's updates where there was one.
-use Rattle.std.proofs.Common.{◌+◌, length, length-append, ◌≡◌, true, [], ◌∷◌, ◌++◌, ◌∙◌, ap, sym, subst, rules}
+use Rattle.std.proofs.Common.{List, ◌+◌, length, length-append, ◌≡◌, true, [], ◌∷◌, ◌++◌, ◌∙◌, ap, sym, subst, rules}
 use Rattle.std.proofs.lemmas.Bool.{eq-eqb}
 use Rattle.std.specs.Prelude.{if◌then◌else◌}
+use Rattle.sip_vector.specs.declared.update.Side.{Side}
+use Rattle.sip_vector.specs.declared.update.Update.{Update}
+use Rattle.sip_verifier.specs.QuerySeats.{HaveRoom}
 use Rattle.sip_verifier.specs.Seats.{AreSeats}
 use Rattle.sip_verifier.specs.Feeding.{fills}
 use Rattle.sip_verifier.specs.inside.Passing.{taken_with}
@@ -17,3 +20,8 @@ returns-clause-stands g c = λ depth queries blocks stream are.
     let taken : taken_with waiting u ≡ waiting ++ u ∷ [] = ap (λ b. if b then waiting ++ u ∷ [] else []) full in
     let block : c.waiting.result.now ≡ waiting ++ u ∷ [] = search rules in
     subst (λ l. AreSeats depth queries blocks (stream ++ l) c.update_all.new.self) (block ∙ sym taken) (c.update_all.ensures.stands depth queries blocks stream are)
+
+pub update_all-requires-clause-room : goal.update_all-requires-clause-room
+update_all-requires-clause-room g c =
+    let block : c.waiting.result.now ≡ c.args.feed.now.waiting ++ c.args.update.now ∷ [] = search rules in
+    subst (λ (l : List Update). (side : Side) → HaveRoom c.args.seats.now.seats l side) (sym block) c.requires.room

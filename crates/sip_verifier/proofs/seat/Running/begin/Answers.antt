@@ -1,8 +1,8 @@
 -- The running numbers of zeros stand for the stream of none.
 use Rattle.std.proofs.Common.{◌∙◌, IsTrue, length, sym, ap, rules}
 use Rattle.sip_field.specs.Elements.{m61_number}
-use Rattle.sip_verifier.specs.QuerySeats.{keeps, root_is, point_is, points_are}
-use Rattle.sip_verifier.proofs.SeatsGiven.{new_root, new_point, new_points}
+use Rattle.sip_verifier.specs.QuerySeats.{keeps, root_is, point_is, points_are, aug_root_is}
+use Rattle.sip_verifier.proofs.SeatsGiven.{new_root, new_point, new_points, new_aug_root}
 use Rattle.sip_verifier.proofs.seat.Running.begin.Goals as goal
 
 pub returns-in-Sub-clause-runs : goal.returns-in-Sub-clause-runs
@@ -20,3 +20,8 @@ pub returns-in-Range-clause-runs : goal.returns-in-Range-clause-runs
 returns-in-Range-clause-runs c = λ depth size.
     let kept : IsTrue (keeps c.args.query.now (point_is c.new-in-Range.result.value)) = search rules in
     record { runs = new_point depth c.new-in-Range.result.seat (ap length c.new-in-Range.ensures.seat ∙ size) c.args.query.now _ kept (rw (sym c.new-in-Range.ensures.seat) at c.new-in-Range.ensures.stands) }
+
+pub returns-in-Heavy-clause-runs : goal.returns-in-Heavy-clause-runs
+returns-in-Heavy-clause-runs c = λ depth size.
+    let kept : IsTrue (keeps c.args.query.now (aug_root_is c.new-in-Heavy.result.hash c.new-in-Heavy.result.total)) = search rules in
+    record { runs = new_aug_root depth c.new-in-Heavy.result.seat (ap length c.new-in-Heavy.ensures.seat ∙ size) c.args.query.now _ _ kept (rw (sym c.new-in-Heavy.ensures.seat) at c.new-in-Heavy.ensures.stands) }

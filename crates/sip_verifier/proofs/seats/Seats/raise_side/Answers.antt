@@ -1,10 +1,11 @@
 -- What is gathered are the updates of the side.
-use Rattle.std.proofs.Common.{◌≡◌, ◌<◌, ◌^◌, ◌++◌, List, All, sym, subst}
+use Rattle.std.proofs.Common.{◌≡◌, ◌<◌, ◌^◌, ◌++◌, IsTrue, List, All, sym, ap, ◌∙◌, subst}
 use Rattle.std.proofs.lemmas.List.Elements.{All-filter}
 use Rattle.sip_vector.specs.declared.update.Update.{Update}
-use Rattle.sip_vector.specs.Streams.{same_side}
+use Rattle.sip_vector.specs.Streams.{same_side, of_side}
+use Rattle.sip_verifier.specs.QuerySeats.{HasRoom, Seated, is_heavy_of}
 use Rattle.sip_verifier.specs.Seats.{AreSeats}
-use Rattle.sip_verifier.proofs.Seating.{all_own}
+use Rattle.sip_verifier.proofs.Seating.{all_own, of_own}
 use Rattle.sip_verifier.proofs.seats.Seats.raise_side.Goals as goal
 
 pub raise-requires-clause-items : goal.raise-requires-clause-items
@@ -22,3 +23,9 @@ pub returns-clause-stands : goal.returns-clause-stands
 returns-clause-stands c = λ depth queries blocks stream are.
     subst (λ (l : List Update). AreSeats depth queries blocks (stream ++ l) c.raise.new.self)
     c.take_side-count.ensures.taken (c.raise.ensures.stands depth queries blocks stream are)
+
+pub raise-requires-clause-room : goal.raise-requires-clause-room
+raise-requires-clause-room c =
+    let side = c.args.side in
+    let own = ap (λ (l : List Update). of_side l side) c.take_side-count.ensures.taken ∙ of_own (of_side c.args.updates.now side) side (all_own c.args.updates.now side) in
+    subst (λ (l : List Update). All (λ (s : Seated). IsTrue (is_heavy_of s.query side) → HasRoom s.running l) c.args.self.now.seats) (sym own) c.requires.room

@@ -8,6 +8,6 @@ invariant_of-result c = (
   omega arith,
   (
     all-shallow c.args.version c.args.seats.depth c.args.seats.seats c.requires c.all.ensures.some,
-    (all-coded c.args.version c.args.seats.depth c.args.seats.seats c.requires, (search rules, (search rules, tt))),
+    (all-coded c.args.version c.args.seats.depth c.args.seats.seats c.requires, (search rules, (search rules, (search rules, tt)))),
   ),
 )

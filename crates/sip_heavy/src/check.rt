@@ -1,0 +1,510 @@
+//! The verifier's check of heavy hitters, level by level in reserved space.
+
+ghost use Rattle.std.specs.Prelude.{◌≡◌, ℕ, ◌+◌, ◌-◌, ◌*◌, ◌/◌, ◌%◌, ◌^◌, ◌<◌, ◌≤◌, ◌==◌, ◌&&◌, ◌||◌, not, true, false, nat_lt, nat_le, nat_abs, pos, ◌≤ℤ◌, slice_index, List, [], ◌∷◌, ◌++◌, length, drop, is_err, IfOk};
+ghost use Rattle.std.specs.List.{list_all};
+ghost use Rattle.sip_heavy.specs.AcceptsHeavy.{Asked, are_pairs, end_test, is_empty, leaf_node, merged, nodes_above, pair_counts, top_test};
+ghost use Rattle.sip_heavy.specs.Checking.{Advances, AnswersAs, Begun, Given, HasTaken, Kept, asked_of, begins_with, folded, is_above, keeping, node_test, Takes, nothing, passing, passing_all, with_node};
+
+use crate::level::{are_heavy, are_pairs, are_within, fold_pairs, move_below, put_heavy};
+use crate::space::HeavySpace;
+use sip_field::Field;
+use sip_tree::AugRoot;
+use sip_vector::Entry;
+use sip_wire::{Node, Reason};
+use std::marker::Model;
+
+/// The check of the replies to one query for heavy hitters: the entries of at least a threshold.
+///
+/// It keeps the root and its challenges, the nodes of one level, those known of it from the level
+/// below, and what was found at the lowest: three lists in the space that it was lent. None of them
+/// grows beyond its room. Received nodes are merged with the known ones as they come, and at a
+/// level's end its pairs become the known nodes of the level above.
+///
+/// The calls come in the order of a talk: each `leaf`, then `level_end`; for each level above a
+/// `reveal`, each `node`, and `level_end`; at last `finish`. A refusal spends the check.
+#[derive(Drop)]
+pub struct HeavyCheck<F: Field, const CAP: usize> {
+    at_least: u64,
+    // The side's total.
+    total: u64,
+    // The greatest number of nodes of a level.
+    most: usize,
+    // The number of levels whose end was given.
+    level: usize,
+    // The number of challenges that were revealed.
+    revealed: usize,
+    // The nodes that are known from the level below.
+    known: Vec<Node>,
+    // The nodes of the level so far: those received, and the known ones before the last of these.
+    nodes: Vec<Node>,
+    // How many of the known nodes are among these.
+    passed: usize,
+    // The index of the last node received in this reply.
+    last: Option<u64>,
+    found: Vec<Entry>,
+    // How many nodes each list has room for.
+    room: usize,
+    spent: bool,
+    // The last field: its size depends on CAP, and those before it have short proofs so.
+    root: AugRoot<F, CAP>,
+}
+
+impl<F: Field, const CAP: usize> Model for HeavyCheck<F, CAP> {
+    ghost use Rattle.std.specs.Prelude.{◌≡◌, ◌≤◌, length, vec_capacity};
+    ghost use Rattle.sip_heavy.specs.Checking.{Kept, IsSound};
+
+    ghost Value = { Kept };
+
+    ghost view = { λ c. record {
+      challenges = c.root.seat;
+      hash = c.root.hash;
+      total = c.total;
+      at_least = c.at_least;
+      most = c.most;
+      level = c.level;
+      revealed = c.revealed;
+      passed = c.passed;
+      last = c.last;
+      known = c.known.items;
+      nodes = c.nodes.items;
+      found = c.found.items;
+      room = c.room;
+      spent = c.spent;
+    } };
+
+    ghost invariant = { λ c. IsSound (record {
+      challenges = c.root.seat;
+      hash = c.root.hash;
+      total = c.total;
+      at_least = c.at_least;
+      most = c.most;
+      level = c.level;
+      revealed = c.revealed;
+      passed = c.passed;
+      last = c.last;
+      known = c.known.items;
+      nodes = c.nodes.items;
+      found = c.found.items;
+      room = c.room;
+      spent = c.spent;
+    }) × (c.room ≤ vec_capacity c.known) × (c.room ≤ vec_capacity c.nodes)
+        × (c.room ≤ vec_capacity c.found) };
+}
+
+impl<F: Field, const CAP: usize> HeavyCheck<F, CAP> {
+    /// The check of the entries of at least `at_least` in the vector that has this root, in space
+    /// that is lent for it.
+    ///
+    /// No `times`: one copy of the challenges.
+    pub fn start(root: &AugRoot<F, CAP>, at_least: u64, space: HeavySpace) -> HeavyCheck<F, CAP>
+        requires least { 1 ≤ at_least }
+        requires total { pos at_least ≤ℤ root.now.total }
+        requires room { 2 * (nat_abs root.now.total / at_least) ≤ space.nodes }
+        ensures taken { let asked : Asked = record {
+          depth = length root.now.seat;
+          at_least = at_least;
+          total = nat_abs root.now.total;
+        } in
+            HasTaken F.MODULUS asked root.now.hash root.now.seat nothing result }
+        ensures begun { Begun root.now.seat space.nodes result }
+    {
+        HeavyCheck::begin(root, at_least, root.total.unsigned_abs(), space)
+    }
+
+    // The same, for a side whose total is taken to be this one. It may be below `at_least`.
+    pub(crate) fn begin(
+        root: &AugRoot<F, CAP>,
+        at_least: u64,
+        total: u64,
+        space: HeavySpace,
+    ) -> HeavyCheck<F, CAP>
+        requires least { 1 ≤ at_least }
+        requires small { total < 2 ^ 61 }
+        requires room { 2 * (total / at_least) ≤ space.nodes }
+        ensures taken { let asked : Asked = record {
+          depth = length root.now.seat;
+          at_least = at_least;
+          total = total;
+        } in
+            HasTaken F.MODULUS asked root.now.hash root.now.seat nothing result }
+        ensures begun { Begun root.now.seat space.nodes result }
+    {
+        let HeavySpace {
+            nodes: room,
+            mut known,
+            mut level,
+            mut found,
+        } = space;
+        known.clear();
+        level.clear();
+        found.clear();
+        HeavyCheck {
+            at_least,
+            total,
+            most: 2 * (total / at_least) as usize,
+            level: 0,
+            revealed: 0,
+            known,
+            nodes: level,
+            passed: 0,
+            last: None,
+            found,
+            room,
+            spent: false,
+            root: copy_of(root),
+        }
+    }
+
+    /// Takes a leaf of reply 0: `Reason::BadOrder` where its item is not above the one before or is
+    /// outside the level, and else `Reason::TooMany` where the level has no more room.
+    ///
+    /// No `times`, and constant time.
+    pub fn leaf(&mut self, item: u64, count: u64) -> Result<(), Reason>
+        requires unspent { self.old.spent ≡ false }
+        requires lowest { self.old.level ≡ 0 }
+        requires small { count < F.MODULUS }
+        ensures answers { Takes F.MODULUS self.old (leaf_node item count ∷ []) self.new result }
+        ensures advances { Advances self.old self.new 0 0 }
+        ensures spent { self.new.spent ≡ is_err result }
+    {
+        let taken = self.take(Node {
+            index: item,
+            hash: count,
+            count,
+        });
+        self.spent = taken.is_err();
+        taken
+    }
+
+    /// Takes a received node of a level above the lowest: `Reason::BadOrder` where its index is not
+    /// above the one before, or is outside the level, or known; else `Reason::TooMany` where the
+    /// level has no more room; else `Reason::HeavySibling` where its count is at least the
+    /// threshold.
+    ///
+    /// No `times`. Each known node that is below the index and not passed before is passed: over a
+    /// level, the time is linear in its nodes.
+    pub fn node(&mut self, index: u64, hash: F, count: u64) -> Result<(), Reason>
+        requires unspent { self.old.spent ≡ false }
+        requires above { 0 < self.old.level }
+        requires small { count < F.MODULUS }
+        ensures answers { Takes F.MODULUS self.old
+            (record { index = index; hash = F.number hash; count = count } ∷ []) self.new result }
+        ensures advances { Advances self.old self.new 0 0 }
+        ensures spent { self.new.spent ≡ is_err result }
+    {
+        let taken = self.take(Node {
+            index,
+            hash: hash.number(),
+            count,
+        });
+        self.spent = taken.is_err();
+        taken
+    }
+
+    /// Ends the reply of a level: `Reason::Pairs` where a node has no sibling, or the last level no
+    /// node; else `Reason::LightParent` where a pair's count is below the threshold; else
+    /// `Reason::Total` where one is above the total.
+    ///
+    /// Three `times` a pair, which make the known nodes of the level above.
+    pub fn level_end(&mut self) -> Result<(), Reason>
+        requires unspent { self.old.spent ≡ false }
+        requires left { self.old.level < length self.old.challenges }
+        ensures answers { (q : Asked) (root : ℕ) (challenges : List ℕ) (g : Given)
+            → HasTaken F.MODULUS q root challenges g self.old
+            → AnswersAs (end_test q self.old.level (merged self.old.known g.received))
+            (λ _. HasTaken F.MODULUS q root challenges
+            (record { ended = g.ended ++ g.received ∷ []; received = [] }) self.new) result }
+        ensures advances { IfOk result (λ _. Advances self.old self.new 1 0) }
+        ensures known { (q : Asked) (root : ℕ) (challenges : List ℕ) (g : Given)
+            → HasTaken F.MODULUS q root challenges g self.old
+            → IfOk result (λ _. self.new.known ≡ nodes_above F.MODULUS
+            (slice_index self.old.challenges self.old.level)
+            (merged self.old.known g.received)) }
+        ensures room { self.new.room ≡ self.old.room }
+        ensures spent { self.new.spent ≡ is_err result }
+    {
+        self.pass_all();
+        if let Err(reason) = self.test_level() {
+            self.spent = true;
+            return Err(reason);
+        }
+        self.keep_heavy();
+        self.fold_level();
+        Ok(())
+    }
+
+    /// The next challenge, in the order from `r_1` on: the one that reply `j` waits for is `r_j`.
+    /// The last one, `r_d`, is never revealed.
+    ///
+    /// No `times`.
+    pub fn reveal(&mut self) -> F
+        requires unspent { self.old.spent ≡ false }
+        requires given { self.old.level ≡ self.old.revealed + 1 }
+        requires left { self.old.level < length self.old.challenges }
+        ensures challenge { F.number result ≡ slice_index self.old.challenges self.old.revealed }
+        ensures revealed { self.new ≡ record self.old { revealed = self.old.revealed + 1 } }
+        ensures taken { (q : Asked) (root : ℕ) (challenges : List ℕ) (g : Given)
+            → HasTaken F.MODULUS q root challenges g self.old
+            → HasTaken F.MODULUS q root challenges g self.new }
+    {
+        self.revealed += 1;
+        self.root.seat.at(self.revealed)
+    }
+
+    /// Ends the check: `Reason::Total` where the count of the top node is not the total, and else
+    /// `Reason::Root` where its hash is not the root.
+    ///
+    /// No `times`.
+    pub fn finish(&mut self) -> Result<(), Reason>
+        requires unspent { self.old.spent ≡ false }
+        requires whole { self.old.level ≡ length self.old.challenges }
+        ensures answers { (q : Asked) (root : ℕ) (challenges : List ℕ) (g : Given)
+            → HasTaken F.MODULUS q root challenges g self.old
+            → result ≡ top_test q root self.old.known }
+        ensures spent { self.new ≡ record self.old { spent = is_err result } }
+        ensures taken { (q : Asked) (root : ℕ) (challenges : List ℕ) (g : Given)
+            → HasTaken F.MODULUS q root challenges g self.old
+            → HasTaken F.MODULUS q root challenges g self.new }
+    {
+        let tested = self.test_top();
+        self.spent = tested.is_err();
+        tested
+    }
+
+    /// Gives the space back, with as much room as it was lent with, and with what was found. Any
+    /// call may stand before this one, also one that refused.
+    pub fn into_space(self) -> HeavySpace
+        ensures nodes { result.nodes ≡ self.room }
+        ensures found { result.found ≡ self.found }
+    {
+        HeavySpace {
+            nodes: self.room,
+            known: self.known,
+            level: self.nodes,
+            found: self.found,
+        }
+    }
+
+    /// Whether a call refused: then only this call and `into_space` may follow.
+    pub fn spent(&self) -> bool
+        ensures { result ≡ self.now.spent }
+    {
+        self.spent
+    }
+
+    // Whether the total reaches the threshold.
+    pub(crate) fn reaches(&self) -> bool
+        ensures { result ≡ nat_le self.now.at_least self.now.total }
+    {
+        self.total >= self.at_least
+    }
+
+    // Whether the nodes that come next are leaves.
+    pub(crate) fn is_lowest(&self) -> bool
+        ensures { result ≡ (self.now.level == 0) }
+    {
+        self.level == 0
+    }
+
+    // What was found.
+    pub(crate) fn found(&self) -> &[Entry]
+        ensures found { result.now ≡ self.now.found }
+        ensures few { length self.now.found ≤ self.now.most }
+    {
+        &self.found
+    }
+
+    // The number of challenges.
+    pub(crate) fn depth(&self) -> usize
+        ensures exact { result ≡ length self.now.challenges }
+        ensures fits { result ≤ CAP }
+    {
+        self.root.seat.depth()
+    }
+
+    // The tests of the top node.
+    fn test_top(&self) -> Result<(), Reason>
+        ensures { result ≡ top_test (asked_of self.now) self.now.hash self.now.known }
+    {
+        match self.known.first() {
+            None => Err(Reason::Pairs),
+            Some(top) if top.count != self.total => Err(Reason::Total),
+            Some(top) if top.hash != self.root.hash => Err(Reason::Root),
+            Some(_) => Ok(()),
+        }
+    }
+
+    // Takes a node behind those received before it.
+    fn take(&mut self, node: Node) -> Result<(), Reason>
+        requires { node.count < 2 ^ 61 }
+        ensures tested { result ≡ node_test (passing self.old node.index) node }
+        ensures taken { IfOk result (λ _. self.new
+            ≡ with_node (passing self.old node.index) node) }
+        ensures advances { Advances self.old self.new 0 0 }
+    {
+        self.pass_below(node.index);
+        self.test_node(node)?;
+        self.push(node);
+        Ok(())
+    }
+
+    // Whether a node may come, the known nodes below its index being passed.
+    fn test_node(&self, node: Node) -> Result<(), Reason>
+        ensures { result ≡ node_test self.now node }
+    {
+        if !self.is_in_order(node.index) || self.is_known(node.index) {
+            return Err(Reason::BadOrder);
+        }
+        if self.count() >= self.most {
+            return Err(Reason::TooMany);
+        }
+        if self.level > 0 && node.count >= self.at_least {
+            return Err(Reason::HeavySibling);
+        }
+        Ok(())
+    }
+
+    // Adds a node, for which there is room.
+    fn push(&mut self, node: Node)
+        requires small { node.count < 2 ^ 61 }
+        requires room { length self.old.nodes + (length self.old.known - self.old.passed)
+            < self.old.most }
+        ensures { self.new ≡ with_node self.old node }
+    {
+        self.nodes.push(node).unwrap();
+        self.last = Some(node.index);
+    }
+
+    // Whether an index is in the level and above the last one.
+    fn is_in_order(&self, index: u64) -> bool
+        ensures { result ≡ (is_above self.now.last index
+            && nat_lt index (2 ^ (length self.now.challenges - self.now.level))) }
+    {
+        let depth = self.root.seat.depth();
+        is_above(self.last, index) && is_within(index, depth - self.level)
+    }
+
+    // Passes the known nodes below an index.
+    fn pass_below(&mut self, index: u64)
+        ensures { self.new ≡ passing self.old index }
+    {
+        let count = move_below(&self.known[self.passed..], &mut self.nodes, index);
+        self.passed += count;
+    }
+
+    // Passes the known nodes that are left.
+    fn pass_all(&mut self)
+        ensures { self.new ≡ passing_all self.old }
+    {
+        self.nodes
+            .extend_from_slice(&self.known[self.passed..])
+            .unwrap();
+        self.passed = self.known.len();
+    }
+
+    // The tests of the level's nodes, all known nodes being among them.
+    fn test_level(&self) -> Result<(), Reason>
+        requires { self.now.level < length self.now.challenges }
+        ensures { result ≡ end_test (asked_of self.now) self.now.level self.now.nodes }
+    {
+        if !self.is_whole() {
+            return Err(Reason::Pairs);
+        }
+        if !are_heavy(&self.nodes, self.at_least) {
+            return Err(Reason::LightParent);
+        }
+        if !are_within(&self.nodes, self.total) {
+            return Err(Reason::Total);
+        }
+        Ok(())
+    }
+
+    // Whether the level is made of pairs, and has one if it is the last.
+    fn is_whole(&self) -> bool
+        requires { self.now.level < length self.now.challenges }
+        ensures { result ≡ (are_pairs self.now.nodes
+            && (nat_lt (self.now.level + 1) (length self.now.challenges)
+            || not (is_empty self.now.nodes))) }
+    {
+        let left = self.root.seat.depth() - self.level;
+        are_pairs(&self.nodes) && (left > 1 || !self.nodes.is_empty())
+    }
+
+    // Keeps the heavy leaves, at the end of the lowest level.
+    fn keep_heavy(&mut self)
+        ensures { self.new ≡ keeping self.old }
+    {
+        if self.level == 0 {
+            self.found.clear();
+            put_heavy(&self.nodes, self.at_least, &mut self.found);
+        }
+    }
+
+    // Goes to the known nodes of the level above.
+    fn fold_level(&mut self)
+        requires left { self.old.level < length self.old.challenges }
+        requires within { list_all (λ c. nat_le c self.old.total) (pair_counts self.old.nodes)
+            ≡ true }
+        ensures { self.new ≡ folded F.MODULUS self.old }
+    {
+        let depth = self.root.seat.depth();
+        prove!(self.level < depth);
+        self.level += 1;
+        let r = self.root.seat.at(self.level);
+        self.known.clear();
+        fold_pairs(&self.nodes, r, &mut self.known);
+        self.nodes.clear();
+        self.passed = 0;
+        self.last = None;
+    }
+
+    // Whether the next known node has this index.
+    fn is_known(&self, index: u64) -> bool
+        ensures { result ≡ begins_with index (drop self.now.passed self.now.known) }
+    {
+        match self.known.get(self.passed) {
+            Some(node) => node.index == index,
+            None => false,
+        }
+    }
+
+    // The number of known and received nodes.
+    fn count(&self) -> usize
+        ensures { result ≡ length self.now.nodes + (length self.now.known - self.now.passed) }
+    {
+        self.nodes.len() + (self.known.len() - self.passed)
+    }
+}
+
+// Whether an index is above the last one, where there is one.
+fn is_above(last: Option<u64>, index: u64) -> bool
+    ensures { result ≡ is_above last index }
+{
+    match last {
+        Some(last) => last < index,
+        None => true,
+    }
+}
+
+// Whether an index is in a level of 2^levels nodes.
+fn is_within(index: u64, levels: usize) -> bool
+    ensures { result ≡ nat_lt index (2 ^ levels) }
+{
+    levels >= 64 || index >> levels == 0
+}
+
+// The same root, once more.
+fn copy_of<F: Field, const CAP: usize>(root: &AugRoot<F, CAP>) -> AugRoot<F, CAP>
+    ensures seat { result.seat ≡ root.now.seat }
+    ensures hash { result.hash ≡ root.now.hash }
+    ensures total { result.total ≡ root.now.total }
+{
+    AugRoot {
+        seat: root.seat.clone().unwrap(),
+        hash: root.hash,
+        total: root.total,
+    }
+}
+
+#[cfg(test)]
+mod tests;

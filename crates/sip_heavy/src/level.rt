@@ -1,0 +1,128 @@
+//! The nodes of a level: what the check does with lists of them.
+ghost use Rattle.std.specs.Prelude.{◌≡◌, ℕ, ◌+◌, ◌*◌, ◌/◌, ◌%◌, ◌^◌, ◌<◌, ◌≤◌, ◌++◌, All, length, nat_le, pos, vec_len, vec_capacity};
+ghost use Rattle.std.specs.List.{list_all};
+ghost use Rattle.sip_heavy.specs.AcceptsHeavy as heavy;
+
+use sip_field::Field;
+use sip_vector::Entry;
+use sip_wire::Node;
+
+// Moves the nodes before the first one that is not below an index to the end of a list, which has
+// room for all of them. How many these are.
+pub(crate) fn move_below(known: &[Node], level: &mut Vec<Node>, index: u64) -> usize
+    requires room { vec_len level.old + length known.now ≤ vec_capacity level.old }
+    ensures moved { level.new.items ≡ level.old.items ++ heavy.nodes_below index known.now }
+    ensures count { result ≡ length (heavy.nodes_below index known.now) }
+    ensures capacity { vec_capacity level.old ≤ vec_capacity level.new }
+{
+    let mut count = 0;
+    for node in known {
+        if node.index >= index {
+            break;
+        }
+        level.push(*node).unwrap();
+        count += 1;
+    }
+    count
+}
+
+// Whether a level is made of pairs of siblings.
+pub(crate) fn are_pairs(nodes: &[Node]) -> bool
+    ensures { result ≡ heavy.are_pairs nodes.now }
+{
+    let mut rest = nodes;
+    while let [left, right, more @ ..] = rest {
+        if left.index % 2 != 0 || right.index != left.index + 1 {
+            return false;
+        }
+        rest = more;
+    }
+    rest.is_empty()
+}
+
+// Whether each pair's count is at least this.
+pub(crate) fn are_heavy(nodes: &[Node], at_least: u64) -> bool
+    requires { All (λ x. x.count < 2 ^ 61) nodes.now }
+    ensures { result ≡ list_all (nat_le at_least) (heavy.pair_counts nodes.now) }
+{
+    let mut rest = nodes;
+    while let [left, right, more @ ..] = rest {
+        if left.count + right.count < at_least {
+            return false;
+        }
+        rest = more;
+    }
+    true
+}
+
+// Whether each pair's count is at most this.
+pub(crate) fn are_within(nodes: &[Node], total: u64) -> bool
+    requires { All (λ x. x.count < 2 ^ 61) nodes.now }
+    ensures { result ≡ list_all (λ c. nat_le c total) (heavy.pair_counts nodes.now) }
+{
+    let mut rest = nodes;
+    while let [left, right, more @ ..] = rest {
+        if left.count + right.count > total {
+            return false;
+        }
+        rest = more;
+    }
+    true
+}
+
+// The node above a pair. Three `times`.
+pub(crate) fn joined<F: Field>(r: F, left: Node, right: Node) -> Node
+    requires left { left.count < 2 ^ 61 }
+    requires right { right.count < 2 ^ 61 }
+    ensures { result ≡ heavy.joined F.MODULUS (F.number r) left right }
+{
+    let of_right = F::of(right.hash).plus(r.times(F::of(right.count)));
+    let inner = F::of(left.count).plus(r.times(of_right));
+    let hash = F::of(left.hash).plus(r.times(inner));
+    Node {
+        index: left.index / 2,
+        hash: hash.number(),
+        count: left.count + right.count,
+    }
+}
+
+// Writes the nodes above all pairs to the end of a list, which has room for them.
+pub(crate) fn fold_pairs<F: Field>(nodes: &[Node], r: F, above: &mut Vec<Node>)
+    requires room { vec_len above.old + length nodes.now ≤ vec_capacity above.old }
+    requires counts { All (λ x. x.count < 2 ^ 61) nodes.now }
+    ensures above { above.new.items
+        ≡ above.old.items ++ heavy.nodes_above F.MODULUS (F.number r) nodes.now }
+    ensures capacity { vec_capacity above.old ≤ vec_capacity above.new }
+{
+    let mut rest = nodes;
+    while let [left, right, more @ ..] = rest {
+        above.push(joined(r, *left, *right)).unwrap();
+        rest = more;
+    }
+}
+
+// Puts the entries of the nodes with a count of at least this behind others, in a list that has
+// room for them.
+pub(crate) fn put_heavy(nodes: &[Node], at_least: u64, found: &mut Vec<Entry>)
+    requires room { vec_len found.old + length nodes.now ≤ vec_capacity found.old }
+    requires small { All (λ x. x.count < 2 ^ 61) nodes.now }
+    ensures found { found.new.items ≡ found.old.items ++ heavy.heavy_entries at_least nodes.now }
+    ensures capacity { vec_capacity found.old ≤ vec_capacity found.new }
+{
+    for node in nodes {
+        if node.count >= at_least {
+            found.push(entry_of(node)).unwrap();
+        }
+    }
+}
+
+// A leaf as an entry.
+fn entry_of(leaf: &Node) -> Entry
+    requires { leaf.now.count < 2 ^ 61 }
+    ensures { result ≡ record { index = leaf.now.index; value = pos leaf.now.count } }
+{
+    Entry {
+        index: leaf.index,
+        value: leaf.count as i64,
+    }
+}

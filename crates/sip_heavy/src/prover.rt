@@ -1,0 +1,122 @@
+//! The honest side of a check: what is shown of each level.
+
+ghost use Rattle.std.specs.Prelude.{◌≡◌, ◌*◌, ◌^◌, ◌<◌, ◌≤◌, ◌↔◌, pos, ◌≤ℤ◌, nat_le, All, filter, length, slice_get, IfOk};
+ghost use Rattle.std.specs.Option.{option_map};
+ghost use Rattle.sip_vector.specs.Limits.{most_depth};
+ghost use Rattle.sip_heavy.specs.Honest.{begun, learnt, its_nodes, node_of};
+
+use crate::spots::{first_shown, fold_spots, leaves_of};
+use sip_field::{Field, OutOfMemory};
+use sip_vector::Vector;
+use sip_wire::Node;
+use std::alloc::Global;
+use std::marker::{Model, PhantomData};
+
+/// A node of a level, or a leaf: its index, its hash and its count.
+#[derive(Clone, Copy, Debug, PartialEq, Eq)]
+pub struct HeavyNode<F> {
+    pub index: u64,
+    pub hash: F,
+    pub count: u64,
+}
+
+/// What an honest helper keeps to show the entries of a vector that are at least a threshold.
+///
+/// A contract sees the level of the augmented tree that the challenges so far lead to, as the list of all its nodes (Cormode,
+/// Thaler, Yi, PVLDB 5(1), section 6.1). Only the m nodes that are not zero take memory, 24 bytes each; no call goes over the
+/// others, and `learn` folds them in place.
+#[derive(Drop)]
+pub struct HeavyProver<F: Field> {
+    at_least: u64,
+    // Whether the level is the lowest.
+    is_leaf: bool,
+    levels_left: u8,
+    spots: Vec<Node>,
+    field: PhantomData<F>,
+}
+
+impl<F: Field> Model for HeavyProver<F> {
+    ghost use Rattle.std.specs.Prelude.{◌^◌};
+    ghost use Rattle.sip_heavy.specs.Honest.{Proving};
+    ghost use Rattle.sip_heavy.specs.Spots.{whole_level, IsKept};
+
+    ghost Value = { Proving };
+
+    ghost view = { λ s. record {
+      at_least = s.at_least;
+      is_leaf = s.is_leaf;
+      level = whole_level (2 ^ s.levels_left) 0 s.spots.items;
+    } };
+
+    ghost invariant = { λ s. IsKept F.MODULUS s.at_least s.levels_left s.spots.items };
+}
+
+impl<F: Field> HeavyProver<F> {
+    /// Begins at the leaves over a vector without negative numbers. It takes memory for the entries that are not 0; no later
+    /// call takes any. O(m), and slower where additions are pending in the vector.
+    pub fn start(
+        alloc: Global,
+        vector: &Vector,
+        at_least: u64,
+    ) -> Result<HeavyProver<F>, OutOfMemory>
+        requires strict { All (λ a. pos 0 ≤ℤ a) vector.now.numbers }
+        requires some { 1 ≤ at_least }
+        ensures begun { IfOk result (λ prover. prover
+            ≡ begun F.MODULUS vector.now.numbers at_least) }
+        ensures length { IfOk result (λ prover. length prover.level ≡ 2 ^ vector.now.depth) }
+    {
+        let spots = leaves_of::<F>(alloc, vector)?;
+        // The proof wants the bound of the numbers.
+        let _ = vector.weight();
+        Ok(HeavyProver {
+            at_least,
+            is_leaf: true,
+            levels_left: vector.depth().get(),
+            spots,
+            field: PhantomData,
+        })
+    }
+
+    /// How many levels are left below the root, the present one among them: each has nodes to show and a challenge to learn.
+    pub fn levels_left(&self) -> u8
+        ensures exact { length self.now.level ≡ 2 ^ result }
+        ensures some { (0 < result) ↔ (2 ≤ length self.now.level) }
+        ensures most { result ≤ most_depth }
+    {
+        self.levels_left
+    }
+
+    /// The first node that is shown of the level, at `from` or after it; `None` where there is none, as at the root.
+    ///
+    /// A search of O(log m), and a walk over the nodes up to the one that is found, without memory. So a level costs O(m), and a
+    /// search for each node that is shown.
+    pub fn next_node(&self, from: u64) -> Option<HeavyNode<F>>
+        ensures { option_map (node_of F.number) result
+            ≡ slice_get (filter (λ x. nat_le from x.index) (its_nodes self.now)) 0 }
+    {
+        if self.levels_left == 0 {
+            return None;
+        }
+        let start = self.spots.partition_point(|spot| spot.index / 2 < from / 2);
+        let node = first_shown(&self.spots[start..], self.at_least, self.is_leaf, from)?;
+        Some(HeavyNode {
+            index: node.index,
+            hash: F::of(node.hash),
+            count: node.count,
+        })
+    }
+
+    /// Goes to the level above by its challenge. O(m), three `times` for each node above, without memory.
+    pub fn learn(&mut self, r: F)
+        requires { 2 ≤ length self.old.level }
+        ensures learnt { self.new ≡ learnt F.MODULUS self.old (F.number r) }
+        ensures half { 2 * length self.new.level ≡ length self.old.level }
+    {
+        fold_spots(&mut self.spots, r);
+        self.is_leaf = false;
+        self.levels_left -= 1;
+    }
+}
+
+#[cfg(test)]
+mod tests;
