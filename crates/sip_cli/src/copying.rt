@@ -14,6 +14,7 @@ use sip_vector::Depth;
 use sip_verifier::{Port, Status};
 
 /// Writes the legal records of a stream, which is read in one form, to the report in another.
+#[inline(never)]
 pub(crate) fn copy_stream<A: Source, K: Sink>(
     depth: Depth,
     from: Form,

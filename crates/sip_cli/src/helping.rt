@@ -14,6 +14,7 @@ use sip_verifier::Status;
 use std::alloc::Global;
 
 /// Serves one talk.
+#[inline(never)]
 pub(crate) fn help<L: Link>(alloc: Global, peer: &mut L) -> Status
     ensures help { HelpClause (L.talk peer.old) (L.talk peer.new) result }
     ensures said { (said : List AnyTalkEvent) × GoesOn (L.talk peer.old) (L.talk peer.new) said }

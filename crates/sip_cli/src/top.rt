@@ -1,7 +1,7 @@
 //! The top call.
 
-ghost use Rattle.std.specs.Prelude.{◌≡◌, ◌↔◌, ℕ};
-ghost use Rattle.sip_ports.specs.Ports.{Lasts};
+ghost use Rattle.std.specs.Prelude.{◌≡◌, ◌↔◌, ◌⊎◌, ℕ};
+ghost use Rattle.sip_ports.specs.Ports.{Lasts, Rose};
 ghost use Rattle.sip_verifier.specs.declared.task.Task.{Task as AnyTask};
 ghost use Rattle.sip_verifier.specs.Exchanges.{TakesAtMost};
 ghost use Rattle.sip_verifier.specs.Moments.{moment};
@@ -37,6 +37,9 @@ fn obey<A: Source, B: Source, L: Link, K: Sink, C: Sink>(
         (L.talk peer.new) (L.faults peer.new) (K.talk report.new) (K.faults report.new))
         result }
     ensures copies_apart { IsCopy command.now → (second.new ≡ second.old) × (peer.new ≡ peer.old) }
+    ensures copies_want { IsCopy command.now → result ≡ Status.OutOfMemory
+        → Rose (A.wants first.old) (A.wants first.new)
+        ⊎ Rose (K.wants report.old) (K.wants report.new) }
     ensures helps_apart { command.now ≡ Command.Help → (first.new ≡ first.old)
         × (second.new ≡ second.old) × (report.new ≡ report.old) }
     ensures first { Lasts A.faults A.wants A.is_sure first.old first.new }
@@ -93,6 +96,11 @@ pub fn run<A: Source, B: Source, L: Link, K: Sink, C: Sink>(
     // Copies and helpers leave the other ports alone.
     ensures copies_apart { (command : AnyCommand) → Spells words.now command → IsCopy command
         → (second.new ≡ second.old) × (peer.new ≡ peer.old) }
+    // Copies take no memory, so they want it only where a port of theirs did.
+    ensures copies_want { (command : AnyCommand) → Spells words.now command → IsCopy command
+        → result ≡ Status.OutOfMemory
+        → Rose (A.wants first.old) (A.wants first.new)
+        ⊎ Rose (K.wants report.old) (K.wants report.new) }
     ensures helps_apart { Spells words.now Command.Help → (first.new ≡ first.old)
         × (second.new ≡ second.old) × (report.new ≡ report.old) }
 

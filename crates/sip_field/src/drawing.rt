@@ -35,6 +35,7 @@ pub fn draw_one<R: Rng>(rng: &mut R) -> Result<M61, SeedSpent>
 /// The first `count` challenges that `ChaCha20Rng::from_seed(seed)` gives, in order.
 ///
 /// `SeedSpent` where one of these draws is.
+#[inline(never)]
 pub fn draw_challenges<const CAP: usize>(
     seed: [u8; 32],
     count: usize,

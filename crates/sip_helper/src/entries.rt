@@ -39,6 +39,7 @@ fn next_rows(vector: &Vector, from: u64, hi: u64, rows: &mut ArrayVec<Entry, MOS
 }
 
 /// Sends the entries from `lo` to `hi` that are not 0, in full frames and a last one of the rest. It takes no memory.
+#[inline(never)]
 pub(crate) fn put_entries<K: Sink>(
     version: Version,
     vector: &Vector,

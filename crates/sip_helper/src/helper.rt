@@ -230,6 +230,7 @@ impl HelperCore {
     /// Sends the reply that is owed, one write a frame. It takes no memory.
     ///
     /// After an `Err` a part of the reply was sent, and not all; the helper is spent then.
+    #[inline(never)]
     pub fn answer<K: Sink>(&mut self, out: &mut K) -> Result<(), PortStop>
         requires owes { IsTrue (owes self.old) }
         requires live { self.old.spent ≡ false }

@@ -19,6 +19,7 @@ pub(crate) const TOO_MANY: u8 = 2;
 pub(crate) const OUT_OF_TURN: u8 = 4;
 
 /// Sends a refusal.
+#[inline(never)]
 pub(crate) fn put_refusal<K: Sink>(version: Version, code: u8, out: &mut K) -> Result<(), PortStop>
     requires some { 1 ≤ code }
     requires most { code ≤ most_refusal }

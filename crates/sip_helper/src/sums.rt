@@ -110,6 +110,7 @@ impl Prover for SumsProver {
         self.prover.learn(M61::of(challenge));
     }
 
+    #[inline(never)]
     fn put_reply<K: Sink>(
         &self,
         version: Version,

@@ -1,5 +1,6 @@
 ghost use Rattle.std.specs.Prelude.{◌≡◌, ◌≤◌, IfOk};
 
+use arrayvec::ArrayVec;
 use sip_ports::{MemorySource, ReaderSource, Source};
 use sip_stream::{Form, Reader, StreamFault, Why};
 use sip_vector::{Depth, Side, Update};
@@ -99,6 +100,42 @@ fn ends(
     let whole = read_all(alloc, levels, form, bytes, 10_000)?.1;
     let held = read_held(alloc, levels, form, bytes)?.1;
     Ok(pieces == want && whole == want && held == want)
+}
+
+// A record of binary form is held that is not legal behind three that are, and the front of one more.
+#[test]
+fn held_records_are_read_together(rt: HostRuntime) -> Result<(), Fail> {
+    let alloc = rt.alloc();
+    let records = [(0, 5, 1), (1, 6, -2), (0, 7, 3), (0, 16, 1)];
+    for form in [Form::Binary, Form::Wide] {
+        let mut bytes = b"x".to_vec(alloc)?;
+        bytes.extend_from_slice(&stream(alloc, form, &records)?)?;
+        bytes.push(0)?;
+        let mut source = ReaderSource::new(Some(bytes.as_slice()));
+        let first = source.read(&mut [0; 1]);
+        let mut reader = Reader::new(depth(4)?, form);
+        let mut block: ArrayVec<Update, 8> = ArrayVec::new();
+        reader.read_held(&mut source, 2, &mut block);
+        let two = block.len();
+        reader.read_held(&mut source, 8, &mut block);
+        let three = [
+            update(Side::First, 5, 1),
+            update(Side::Second, 6, -2),
+            update(Side::First, 7, 3),
+        ];
+        assert!(rt; first == Ok(1) && two == 2 && block.as_slice() == three.as_slice());
+        if reader.spent() {
+            return Err("a block ends no reader")?;
+        }
+        let next = reader.next(&mut source);
+        assert!(rt;
+            next == Err(StreamFault::Bad {
+                at: 3,
+                why: Why::BadItem
+            })
+        );
+    }
+    Ok(())
 }
 
 #[test]

@@ -26,6 +26,10 @@ small_step n d i small digit = let more : 10 ^ (i + 1) ≡ 10 * 10 ^ i = rw add-
 pub small_fits : (n i : ℕ) → n < 10 ^ i → i < 38 → n < 10 ^ 37
 small_fits n i small short = let le : i ≤ 37 = omega arith in let most : 10 ^ i ≤ 10 ^ 37 = pow-le-pow_right (omega arith) le in omega arith
 
+-- up to 19 digits fit
+pub few_fit : (n i : ℕ) → n < 10 ^ i → i < 19 → n < 10 ^ 18
+few_fit n i small short = let le : i ≤ 18 = omega arith in let most : 10 ^ i ≤ 10 ^ 18 = pow-le-pow_right (omega arith) le in omega arith
+
 abbrev chosen : List ℕ → Bool → Option ℕ
 chosen text is = cond is (Some (digits_value 10 text)) None
 

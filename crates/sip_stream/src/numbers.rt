@@ -6,6 +6,9 @@ ghost use Rattle.sip_stream.specs.Lines.{decimal_at, delta_at, item_at, numbers_
 /// The most digits of a number below 2^64.
 const LONGEST: usize = 20;
 
+/// The most digits of a number that fits a word for sure.
+const FEW: usize = 19;
+
 /// The three numbers that a line says.
 #[derive(Clone, Copy, Debug, PartialEq, Eq)]
 pub(crate) struct Numbers {
@@ -31,12 +34,34 @@ pub(crate) fn split_at(text: &[u8], mark: u8) -> Option<(&[u8], &[u8])>
     None
 }
 
+/// The number that at most 19 decimal digits write, without a leading zero but for 0 itself: it fits a word.
+fn few_digits(text: &[u8]) -> Option<u64>
+    requires { length text.now ≤ 19 }
+    ensures { result ≡ decimal_at text.now }
+{
+    if text.is_empty() || (text[0] == b'0' && text.len() > 1) {
+        return None;
+    }
+    let mut number: u64 = 0;
+    for index in 0..text.len() {
+        if !text[index].is_ascii_digit() {
+            return None;
+        }
+        number = number * 10 + (text[index] - b'0') as u64;
+    }
+    Some(number)
+}
+
 /// The number that decimal digits write, without a leading zero but for 0 itself. It has at most 38 digits, so it fits.
 fn digits(text: &[u8]) -> Option<u128>
     requires { length text.now ≤ 38 }
     ensures { result ≡ decimal_at text.now }
 {
-    if text.is_empty() || (text[0] == b'0' && text.len() > 1) {
+    // Two words are multiplied more slowly than one.
+    if text.len() <= FEW {
+        return Some(few_digits(text)? as u128);
+    }
+    if text[0] == b'0' {
         return None;
     }
     let mut number: u128 = 0;

@@ -49,7 +49,6 @@ impl Model for Feed {
 
 impl Feed {
     /// Nothing waits.
-    #[inline(never)]
     pub fn new(version: Version) -> Feed
         ensures { result ≡ record { version = version; waiting = []; is_spent = false } }
     {
@@ -65,6 +64,7 @@ impl Feed {
     /// # Errors
     ///
     /// Those of the link, which a front of the opening has then reached that is shorter than it. The feed is then spent.
+    #[inline(never)]
     pub fn begin<L: Link>(&mut self, link: &mut L, depth: Depth) -> Result<(), PortStop>
         requires unspent { self.old.is_spent ≡ false }
         requires shallow { depth ≤ deepest self.old.version }
@@ -134,6 +134,7 @@ impl Feed {
     /// # Errors
     ///
     /// Those of the link, which a front of the frame has then reached that is shorter than it. The feed is then spent.
+    #[inline(never)]
     pub fn send<L: Link>(&mut self, link: &mut L) -> Result<(), PortStop>
         requires unspent { self.old.is_spent ≡ false }
         requires some { 0 < length self.old.waiting }
@@ -183,6 +184,7 @@ impl Feed {
     ///
     /// Those of the link, which a front of these bytes has then reached that is shorter than they are. The feed is then
     /// spent.
+    #[inline(never)]
     pub fn finish<L: Link>(&mut self, link: &mut L) -> Result<(), PortStop>
         requires { self.old.is_spent ≡ false }
         ensures talk { SendsWhole (L.talk link.old)

@@ -73,6 +73,7 @@ impl Seats {
     /// # Errors
     ///
     /// `SeedSpent` exactly where eight words of the generator in turn give no challenge.
+    #[inline(never)]
     pub fn draw(seed: &[u8; 32], depth: Depth, queries: &[Query]) -> Result<Seats, SeedSpent>
         requires some { 0 < length queries.now }
         requires most { length queries.now ≤ most_queries }
@@ -85,6 +86,7 @@ impl Seats {
     }
 
     /// The seats with these challenges, `depth` for each query in order, before any update.
+    #[inline(never)]
     pub fn given(depth: Depth, queries: &[Query], challenges: &[M61]) -> Seats
         requires some { 0 < length queries.now }
         requires most { length queries.now ≤ most_queries }

@@ -14,6 +14,9 @@ returns-in-Ok-clause-keeps g c = known_by (λ command spells. command_once _ _ c
 pub returns-in-Ok-clause-copies_apart : goal.returns-in-Ok-clause-copies_apart
 returns-in-Ok-clause-copies_apart g c = λ command spells is. c.obey.ensures.copies_apart (subst IsCopy (sym (command_once _ _ command c.in-Ok.ensures.command spells)) is)
 
+pub returns-in-Ok-clause-copies_want : goal.returns-in-Ok-clause-copies_want
+returns-in-Ok-clause-copies_want g c = λ command spells is. c.obey.ensures.copies_want (subst IsCopy (sym (command_once _ _ command c.in-Ok.ensures.command spells)) is)
+
 pub returns-in-Ok-clause-helps_apart : goal.returns-in-Ok-clause-helps_apart
 returns-in-Ok-clause-helps_apart g c = λ spells. c.obey.ensures.helps_apart (command_once _ _ Help c.in-Ok.ensures.command spells)
 

@@ -37,8 +37,11 @@ loop-update-preserved g c =
     record {
       within = search rules;
       few = search rules;
-      took = (had.0 ++ u ∷ [], c.push.ensures.items ∙ ap (λ l. l ++ u ∷ []) had.1 ∙ append_assoc c.args.block.now.items had.0 (u ∷ []),
-      subst (λ l. HasRead old c.add.new.self l (had.0 ++ u ∷ [])) (sym (take-add used size bytes))
-      (HasRead-one g.row.WIDTH old c.loop-update.reader c.add.new.self (take used bytes) piece had.0 u c.requires.layout had.2 len said
-      (λ before is. sym (c.fault.ensures.first before is) ∙ none) has c.add.ensures.after c.add.ensures.heavier c.add.ensures.depth c.add.ensures.form c.add.ensures.spent));
+      took = (
+        had.0 ++ u ∷ [],
+        c.push.ensures.items ∙ ap (λ l. l ++ u ∷ []) had.1 ∙ append_assoc c.args.block.now.items had.0 (u ∷ []),
+        subst (λ l. HasRead old c.add.new.self l (had.0 ++ u ∷ [])) (sym (take-add used size bytes))
+            (HasRead-one g.row.WIDTH old c.loop-update.reader c.add.new.self (take used bytes) piece had.0 u c.requires.layout had.2 len said
+            (λ before is. sym (c.fault.ensures.first before is) ∙ none) has c.add.ensures.after c.add.ensures.heavier c.add.ensures.depth c.add.ensures.form c.add.ensures.spent),
+      );
     }
