@@ -1,6 +1,6 @@
 -- How the product of two lines is added to a polynomial, step by step.
-use Rattle.std.proofs.Common.{◌≡◌, ℕ, ◌+◌, ◌*◌, ◌%◌, ap, ◌∙◌, arith}
-use Rattle.std.proofs.Math.Nat.{add-mod-mod}
+use Rattle.std.proofs.Common.{◌≡◌, ℕ, ◌+◌, ◌-◌, ◌*◌, ◌%◌, ◌<◌, sym, ap, ◌∙◌, arith}
+use Rattle.std.proofs.Math.Nat.{add-mod-mod, add-mod_right, mod-eq_of_lt}
 use Rattle.sip_field.specs.Residue.{difference_mod}
 use Rattle.sip_sums.specs.AcceptsSum.{Coefficients}
 use Rattle.sip_sums.specs.Pairs.{neighbours, with_product}
@@ -53,3 +53,16 @@ module _ (p : ℕ) (c : Coefficients) (u w x y d e : ℕ) (slope : d ≡ differe
   pub with_product-is : (k j : ℕ) → made p s0 s1 s2 ≡ with_product p c (neighbours k u w) (neighbours j x y)
   with_product-is k j =
       made-same p s0 s1 s2 _ _ _ (of_s0 ∙ ap (λ n. (c.c0 + n) % p) of_constant ∙ add-mod-mod c.c0 (u * x) p) linear_added squares_added
+
+module _ (p : ℕ) (c : Coefficients) (some : 0 < p) (reduced : c.c2 < p) where
+  no_slope : difference_mod p 1 1 ≡ 0
+  no_slope = ap (λ n. n % p) (let e : 1 + (p - 1) ≡ 0 + p = omega (arith, some) in e) ∙ add-mod_right 0 p ∙ mod-eq_of_lt some
+
+  -- a pair with one that is 1 throughout
+  pub with_line-is : (u w x y d s0 s1 k j : ℕ) → x ≡ 1 → y ≡ 1 → d ≡ difference_mod p w u → s0 ≡ (c.c0 + u) % p → s1 ≡ (c.c1 + d) % p
+      → made p s0 s1 c.c2 ≡ with_product p c (neighbours k u w) (neighbours j x y)
+  with_line-is u w x y d s0 s1 k j is_x is_y slope of_s0 of_s1 =
+      rw (is_x, is_y, no_slope)
+      (made-same p s0 s1 c.c2 _ _ _ (of_s0 ∙ ap (λ n. (c.c0 + n) % p) (let e : u ≡ u * 1 = omega arith in e))
+      (of_s1 ∙ ap (λ n. (c.c1 + n) % p) (slope ∙ (let e : difference_mod p w u ≡ u * 0 + 1 * difference_mod p w u = omega arith in e)))
+      (sym (ap (λ n. n % p) (let e : c.c2 + difference_mod p w u * 0 ≡ c.c2 = omega arith in e) ∙ mod-eq_of_lt reduced)))

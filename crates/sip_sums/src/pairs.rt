@@ -39,7 +39,8 @@ pub(crate) fn polynomial_of_products<F: Field>(first: &Level<F>, second: &Level<
     products(first.nonzero(), second.nonzero())
 }
 
-/// The round polynomial of a list and an interval. O(m) for m entries of the list that are not 0, four `times` a pair.
+/// The round polynomial of a list and an interval. O(m) for m entries of the list that are not 0, four `times` for the pairs at the
+/// interval's ends.
 pub(crate) fn polynomial_within<F: Field>(level: &Level<F>, interval: &IntervalFold<F>) -> Poly<F>
     requires some { 2 ≤ length level.now }
     requires same { length interval.now ≡ length level.now }
@@ -99,7 +100,7 @@ fn within<F: Field>(spots: &[Spot<F>], interval: &IntervalFold<F>) -> Poly<F>
     let mut sums = zero();
     let mut rest = spots;
     while let Some((pair, behind)) = next_pair(rest) {
-        sums = with_product(sums, pair, pair_of(interval, pair.index));
+        sums = with_weighed(sums, pair, pair_of(interval, pair.index));
         rest = behind;
     }
     sums
@@ -162,6 +163,35 @@ fn zero<F: Field>() -> Poly<F>
         c0: zero,
         c1: zero,
         c2: zero,
+    }
+}
+
+// Adds the product of the line through a pair with that of an interval's pair, which is 1 throughout but at the interval's ends.
+fn with_weighed<F: Field>(sums: Poly<F>, pair: Pair<F>, weights: Pair<F>) -> Poly<F>
+    ensures { coefficients_of F.number result ≡ with_product F.MODULUS
+        (coefficients_of F.number sums) (neighbours_of F.number pair)
+        (neighbours_of F.number weights) }
+{
+    if weights.left.number() == 1 && weights.right.number() == 1 {
+        with_line(sums, pair, weights)
+    } else {
+        with_product(sums, pair, weights)
+    }
+}
+
+// The same where the interval's line is 1.
+#[tactic(auto, using(sip_field::proofs::Residues::residues))]
+fn with_line<F: Field>(sums: Poly<F>, pair: Pair<F>, weights: Pair<F>) -> Poly<F>
+    requires left { F.number weights.left ≡ 1 }
+    requires right { F.number weights.right ≡ 1 }
+    ensures { coefficients_of F.number result ≡ with_product F.MODULUS
+        (coefficients_of F.number sums) (neighbours_of F.number pair)
+        (neighbours_of F.number weights) }
+{
+    Poly {
+        c0: sums.c0.plus(pair.left),
+        c1: sums.c1.plus(pair.right.minus(pair.left)),
+        c2: sums.c2,
     }
 }
 

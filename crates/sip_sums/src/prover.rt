@@ -140,7 +140,7 @@ impl<F: Field> SumProver<F> {
     /// The polynomial of the present round.
     ///
     /// O(m) for the entries of both folded lists that are not 0, without memory: three `times` for each pair of neighbours of a
-    /// sum of squares, and else four for a pair in both lists.
+    /// sum of squares, four for a pair in both lists, and for a range four at each of its ends.
     pub fn poly(&self) -> Poly<F>
         requires { 2 ≤ length self.now.first }
         ensures { coefficients_of F.number result ≡ its_polynomial F.MODULUS self.now }

@@ -4,6 +4,7 @@ use std::process::Abort;
 use std::test::Fail;
 
 const MOST_WEIGHT: u64 = (1 << 30) - 1;
+
 const ITEMS: u64 = 1 << Depth::MOST;
 
 // More than two merges want, of which the second is of two long lists.

@@ -1,6 +1,6 @@
 //! The nodes of one height over a vector, kept by those that are not 0.
 
-ghost use Rattle.std.specs.Prelude.{◌≡◌, ◌*◌, ◌^◌, ◌<◌, ◌≤◌, ◌↔◌, pos, length, map, drop, slice_get, slice_index, IfOk, IsTrue};
+ghost use Rattle.std.specs.Prelude.{ℕ, ◌≡◌, ◌*◌, ◌^◌, ◌<◌, ◌≤◌, ◌↔◌, pos, length, map, drop, slice_get, slice_index, IfOk, IsTrue};
 ghost use Rattle.std.specs.Option.{option_map};
 ghost use Rattle.sip_field.specs.Residue.{residue};
 ghost use Rattle.sip_vector.specs.Trees.{up};
@@ -10,7 +10,7 @@ ghost use Rattle.sip_vector.specs.Sparse.{IsSparse, dense};
 ghost use Rattle.sip_vector.specs.Streams.{most_weight};
 ghost use Rattle.sip_vector.specs.Vectors.{numbers_of};
 ghost use Rattle.sip_vector.specs.inside.Gathered.{as_pair, abs_sum};
-ghost use Rattle.sip_vector.specs.Levels.{index_and_residue, nonzero_from, level_above, residue_above, before, begins_with_pair, folded};
+ghost use Rattle.sip_vector.specs.Levels.{index_and_residue, nonzero_from, level_above, residue_above, above_one, before, begins_with_pair, folded};
 
 use crate::{Depth, Entry, Vector};
 use sip_field::{Field, OutOfMemory};
@@ -218,12 +218,22 @@ fn spot_above<F: Field>(spots: &[Spot<F>], rule: Rule, r: F) -> (Spot<F>, usize)
         let value = rule.above(r, first.value, spots[1].value);
         return (Spot { index, value }, 2);
     }
-    if first.index % 2 == 0 {
-        let value = rule.above(r, first.value, F::of(0));
-        return (Spot { index, value }, 1);
-    }
-    let value = rule.above(r, F::of(0), first.value);
+    let (left, right) = with_zero(first);
+    let value = rule.above(r, left, right);
     (Spot { index, value }, 1)
+}
+
+// A spot's value on its side, and 0 on the other. There is no branch on the side, which is as good as random.
+fn with_zero<F: Field>(spot: Spot<F>) -> (F, F)
+    ensures { (join : ℕ → ℕ → ℕ) → join (F.number result.0) (F.number result.1)
+        ≡ above_one join (index_and_residue F.number spot) }
+{
+    let zero = F::of(0);
+    if spot.index % 2 == 0 {
+        (spot.value, zero)
+    } else {
+        (zero, spot.value)
+    }
 }
 
 // Whether the first two spots lie below one node.
