@@ -1,0 +1,5 @@
+pub mod CauseLemmas
+pub mod GivingLemmas
+pub mod HonestLemmas
+pub mod KeepsLemmas
+pub mod PartLemmas

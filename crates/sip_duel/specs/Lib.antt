@@ -1,0 +1,5 @@
+pub mod Helping
+pub mod Receiving
+pub mod Story
+pub mod Taking
+pub mod Told

@@ -1,0 +1,311 @@
+//! A link to a boxed helper.
+
+ghost use Rattle.std.specs.Prelude.{◌≡◌, ◌≢◌, ◌<◌, [], length, vec_len, vec_capacity, Some, None, Option, IsTrue, IfOk, ⊤};
+ghost use Rattle.std.specs.Option.{option_and_then};
+ghost use Rattle.std.specs.Io.{ReadsAtMost, WritesAtMost};
+ghost use Rattle.sip_ports.specs.Memory.{sink_bytes, sink_is_sure};
+ghost use Rattle.sip_ports.specs.Ports.{Hears, Sends};
+ghost use Rattle.sip_duel.specs.Receiving.{StopsOnlyByWant};
+ghost use Rattle.sip_wire.specs.Spelling.{fits};
+ghost use Rattle.sip_wire.specs.declared.version.Version.TheVariants.{Two};
+ghost use Rattle.sip_helper.specs.Turns.{fresh};
+ghost use Rattle.sip_duel.specs.Helping.{Hears as Heeds, Replies};
+ghost use Rattle.sip_duel.specs.Story.{Asked, Keeps, KeepsBy};
+ghost use Rattle.sip_duel.specs.declared.kept.Mood.TheVariants as moods;
+
+use crate::kept::{Kept, Mood};
+use crate::part::Taken;
+use crate::wants::Wants;
+use crate::{Helper, More};
+use sip_field::OutOfMemory;
+use sip_ports::{Link, MemorySink, PortStop, Sink, TalkEvent};
+use sip_wire::Message;
+use std::alloc::Global;
+
+/// Hands a message over.
+fn tell(helper: &mut Box<dyn Helper>, message: &Message)
+    requires { IsTrue (fits Two message.now) }
+    ensures { Heeds (honest_state helper.old) message.now (honest_state helper.new) }
+{
+    helper.hear(message);
+}
+
+/// Has the reply that is due appended.
+fn reply(helper: &mut Box<dyn Helper>, out: &mut MemorySink) -> Result<More, OutOfMemory>
+    requires { sink_is_sure out.old }
+    ensures sure { sink_is_sure out.new }
+    ensures replies { Replies (honest_state helper.old) (honest_state helper.new)
+        (sink_bytes out.old) (sink_bytes out.new) result }
+{
+    helper.answer(out)
+}
+
+/// Asks a helper for its next reply, where nothing is left to give. Where it has ended, the end is to be told at once.
+fn ask(helper: &mut Box<dyn Helper>, kept: &mut Kept) -> Result<More, OutOfMemory>
+    requires opened { kept.old.mood ≡ moods.Open }
+    requires none { kept.old.at ≡ length (sink_bytes kept.old.out) }
+    ensures talk { kept.new.talk ≡ kept.old.talk }
+    ensures at { kept.new.at ≡ kept.old.at }
+    ensures some { Asked kept.old kept.new result }
+    ensures keeps { Keeps (honest_state helper.old) kept.old
+        → KeepsBy (honest_state helper.new) kept.new result }
+{
+    match reply(helper, &mut kept.out) {
+        Ok(more) => Ok(more),
+        Err(e) => {
+            kept.mood = Mood::Failed;
+            Err(e)
+        }
+    }
+}
+
+/// Closes a helper, and drops it.
+fn let_go(helper: Box<dyn Helper>) {
+    let mut helper = helper;
+    helper.close();
+}
+
+/// A link to a helper that its maker boxed.
+///
+/// It reads the frames that are sent, in version 1 up to an opening and in the version of the opening behind it, and hands each
+/// whole one to the helper. It asks the helper only in a receive into a buffer with room, at most once in that call, and only
+/// where all that was appended is given. It ends where the helper does, where the bytes that are sent are no frame, or where it
+/// is closed. Where memory is refused to the helper, each later receive answers that.
+#[derive(Drop)]
+pub struct HelperLink {
+    helper: Option<Box<dyn Helper>>,
+    kept: Kept,
+    wants: Wants,
+}
+
+impl HelperLink {
+    /// A link to this helper, on which nothing has happened. Where memory is refused the helper is closed and dropped.
+    pub fn new(alloc: Global, helper: Box<dyn Helper>) -> Result<HelperLink, OutOfMemory>
+        ensures talk { IfOk result (λ link. link.kept.talk.items ≡ []) }
+        ensures promise { honest_state helper ≡ Some fresh
+            → IfOk result (λ link. Keeps (option_and_then honest_state link.helper) link.kept) }
+    {
+        match Kept::new(alloc) {
+            Ok(kept) => Ok(HelperLink {
+                helper: Some(helper),
+                kept,
+                wants: Wants::none(),
+            }),
+            Err(_) => {
+                let_go(helper);
+                Err(OutOfMemory)
+            }
+        }
+    }
+
+    /// All that has happened on it.
+    pub fn talk(&self) -> &[TalkEvent]
+        ensures { result.now ≡ self.now.kept.talk.items }
+    {
+        &self.kept.talk
+    }
+
+    /// Closes the helper and drops it, once. The talk stays.
+    pub fn close_and_drop(&mut self)
+        ensures talk { self.new.kept.talk ≡ self.old.kept.talk }
+        ensures gone { self.new.helper ≡ None }
+        ensures shut { self.new.kept.mood ≢ moods.Open }
+    {
+        if let Mood::Open = self.kept.mood {
+            self.kept.mood = Mood::Over;
+        }
+        if let Some(helper) = self.helper.take() {
+            let_go(helper);
+        }
+    }
+
+    /// Hands a message over, where the helper is still there.
+    fn hear(&mut self, message: &Message)
+        requires { IsTrue (fits Two message.now) }
+        ensures kept { self.new.kept ≡ self.old.kept }
+        ensures wants { self.new.wants ≡ self.old.wants }
+        ensures hears { Heeds (option_and_then honest_state self.old.helper) message.now
+            (option_and_then honest_state self.new.helper) }
+    {
+        if let Some(helper) = &mut self.helper {
+            tell(helper, message);
+        }
+    }
+
+    /// Sends what the frame still takes of these bytes, where the helper may hear it.
+    fn send(&mut self, buf: &[u8]) -> Result<usize, PortStop>
+        requires opened { self.old.kept.mood ≡ moods.Open }
+        requires some { 0 < length buf.now }
+        ensures bound { WritesAtMost result buf.now }
+        ensures takes { IfOk result (λ n. 0 < n) }
+        ensures talk { Sends (Some self.old.kept.talk.items) (Some self.new.kept.talk.items)
+            result buf.now }
+        ensures wants { StopsOnlyByWant self.old.wants.count self.new.wants.count result }
+        ensures keeps { Keeps (option_and_then honest_state self.old.helper) self.old.kept
+            → Keeps (option_and_then honest_state self.new.helper) self.new.kept }
+    {
+        let count = self.kept.part.room().min(buf.len());
+        match self.kept.put(&buf[..count]) {
+            Ok(Taken::Part) => Ok(count),
+            Ok(Taken::Whole(message)) => {
+                self.hear(&message);
+                Ok(count)
+            }
+            Ok(Taken::NoFrame) => {
+                self.kept.mood = Mood::Over;
+                Ok(count)
+            }
+            Err(_) => Err(self.wants.refused()),
+        }
+    }
+
+    /// Sends bytes that no one hears any more.
+    fn send_past(&mut self, buf: &[u8]) -> Result<usize, PortStop>
+        requires shut { self.old.kept.mood ≢ moods.Open }
+        ensures bound { WritesAtMost result buf.now }
+        ensures takes { 0 < length buf.now → IfOk result (λ n. 0 < n) }
+        ensures talk { Sends (Some self.old.kept.talk.items) (Some self.new.kept.talk.items)
+            result buf.now }
+        ensures wants { StopsOnlyByWant self.old.wants.count self.new.wants.count result }
+        ensures keeps { Keeps (option_and_then honest_state self.old.helper) self.old.kept
+            → Keeps (option_and_then honest_state self.new.helper) self.new.kept }
+    {
+        match self.kept.put_past(buf) {
+            Ok(()) => Ok(buf.len()),
+            Err(_) => Err(self.wants.refused()),
+        }
+    }
+
+    /// Asks the helper, where nothing is left to give.
+    fn fill(&mut self) -> Result<More, OutOfMemory>
+        requires opened { self.old.kept.mood ≡ moods.Open }
+        requires none { self.old.kept.at ≡ length (sink_bytes self.old.kept.out) }
+        ensures talk { self.new.kept.talk ≡ self.old.kept.talk }
+        ensures at { self.new.kept.at ≡ self.old.kept.at }
+        ensures wants { self.new.wants ≡ self.old.wants }
+        ensures some { Asked self.old.kept self.new.kept result }
+        ensures keeps { Keeps (option_and_then honest_state self.old.helper) self.old.kept
+            → KeepsBy (option_and_then honest_state self.new.helper) self.new.kept result }
+    {
+        match &mut self.helper {
+            Some(helper) => ask(helper, &mut self.kept),
+            None => Ok(More::Ended),
+        }
+    }
+
+    /// Gives what is left, as far as there is room.
+    fn give(&mut self, buf: &mut [u8]) -> Result<usize, PortStop>
+        requires well { self.old.kept.mood ≢ moods.Failed }
+        requires some { self.old.kept.at < length (sink_bytes self.old.kept.out) }
+        requires room { 0 < length buf.old }
+        ensures bound { ReadsAtMost result buf.new }
+        ensures some { IfOk result (λ n. 0 < n) }
+        ensures talk { Hears (Some self.old.kept.talk.items) (Some self.new.kept.talk.items)
+            result buf.new }
+        ensures out { self.new.kept.out ≡ self.old.kept.out }
+        ensures mood { self.new.kept.mood ≡ self.old.kept.mood }
+        ensures wants { StopsOnlyByWant self.old.wants.count self.new.wants.count result }
+        ensures keeps { Keeps (option_and_then honest_state self.old.helper) self.old.kept
+            → Keeps (option_and_then honest_state self.new.helper) self.new.kept }
+    {
+        match self.kept.give(buf) {
+            Ok(count) => Ok(count),
+            Err(_) => Err(self.wants.refused()),
+        }
+    }
+
+    /// Receives where the link has ended: what is left, and then the end.
+    fn recv_over(&mut self, buf: &mut [u8]) -> Result<usize, PortStop>
+        requires over { self.old.kept.mood ≡ moods.Over }
+        requires room { 0 < length buf.old }
+        ensures bound { ReadsAtMost result buf.new }
+        ensures talk { Hears (Some self.old.kept.talk.items) (Some self.new.kept.talk.items)
+            result buf.new }
+        ensures wants { StopsOnlyByWant self.old.wants.count self.new.wants.count result }
+        ensures keeps { Keeps (option_and_then honest_state self.old.helper) self.old.kept
+            → Keeps (option_and_then honest_state self.new.helper) self.new.kept }
+    {
+        if self.kept.at < self.kept.out.bytes().len() {
+            return self.give(buf);
+        }
+        match self.kept.end_again() {
+            Ok(()) => Ok(0),
+            Err(_) => Err(self.wants.refused()),
+        }
+    }
+
+    /// Receives where the helper may be asked, and there is room to tell one more event.
+    fn recv_open(&mut self, buf: &mut [u8]) -> Result<usize, PortStop>
+        requires opened { self.old.kept.mood ≡ moods.Open }
+        requires space { vec_len self.old.kept.talk < vec_capacity self.old.kept.talk }
+        requires room { 0 < length buf.old }
+        ensures bound { ReadsAtMost result buf.new }
+        ensures talk { Hears (Some self.old.kept.talk.items) (Some self.new.kept.talk.items)
+            result buf.new }
+        ensures wants { StopsOnlyByWant self.old.wants.count self.new.wants.count result }
+        ensures keeps { Keeps (option_and_then honest_state self.old.helper) self.old.kept
+            → Keeps (option_and_then honest_state self.new.helper) self.new.kept }
+    {
+        if self.kept.at < self.kept.out.bytes().len() {
+            return self.give(buf);
+        }
+        match self.fill() {
+            Ok(More::Goes) => self.give(buf),
+            Ok(More::Ended) => {
+                self.kept.end();
+                Ok(0)
+            }
+            Err(_) => Err(self.wants.refused()),
+        }
+    }
+}
+
+impl Sink for HelperLink {
+    ghost use Rattle.std.specs.Prelude.{Some, ◌≡◌, refl, ◌<◌, ◌^◌};
+    ghost use Rattle.std.proofs.Common.{rules};
+    ghost use Rattle.std.specs.Option.{option_and_then};
+    ghost use Rattle.sip_duel.specs.Story.{Keeps};
+
+    ghost talk = { λ l. Some l.kept.talk.items };
+
+    ghost faults = { λ _. 0 };
+
+    ghost wants = { λ l. l.wants.count };
+
+    ghost is_sure = { λ l. Keeps
+        (option_and_then (λ b. (Helper-box b).honest_state b.value) l.helper) l.kept };
+
+    ghost faults_fit = { λ _. Prim.search rules };
+
+    ghost wants_fit = { λ l. l.wants.fits };
+
+    ghost sure_counts = { λ _ _. refl };
+
+    fn write(&mut self, buf: &[u8]) -> Result<usize, PortStop> {
+        if buf.is_empty() {
+            return Ok(0);
+        }
+        match self.kept.mood {
+            Mood::Open => self.send(buf),
+            _ => self.send_past(buf),
+        }
+    }
+}
+
+impl Link for HelperLink {
+    fn recv(&mut self, buf: &mut [u8]) -> Result<usize, PortStop> {
+        if buf.is_empty() {
+            return Ok(0);
+        }
+        match self.kept.mood {
+            Mood::Failed => Err(self.wants.refused()),
+            Mood::Over => self.recv_over(buf),
+            Mood::Open => {
+                if self.kept.reserve().is_err() {
+                    return Err(self.wants.refused());
+                }
+                self.recv_open(buf)
+            }
+        }
+    }
+}
