@@ -17,3 +17,6 @@ pub use honest::Honest;
 pub use link::HelperLink;
 pub use mute::Mute;
 pub use skewed::Skewed;
+
+#[cfg(test)]
+mod tests;
