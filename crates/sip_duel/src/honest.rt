@@ -2,8 +2,10 @@
 
 ghost use Rattle.std.specs.Prelude.{◌≡◌, ◌≢◌, false, Option, Some, None, IsTrue};
 ghost use Rattle.sip_ports.specs.Memory.{sink_bytes, sink_is_sure};
+ghost use Rattle.sip_wire.specs.Spelling.{fits};
+ghost use Rattle.sip_wire.specs.declared.version.Version.TheVariants.{Two};
 ghost use Rattle.sip_helper.specs.Turns.{HelperState};
-ghost use Rattle.sip_duel.specs.Helping.{Replies};
+ghost use Rattle.sip_duel.specs.Helping.{IsRefusal, Replies};
 ghost use Rattle.sip_duel.specs.declared.honest.Standing.TheVariants as standings;
 
 use crate::{Helper, More};
@@ -58,11 +60,12 @@ impl Honest {
 }
 
 /// Appends the refusal of a message out of turn.
-fn refuse(version: Version, out: &mut MemorySink) -> Result<More, OutOfMemory>
+pub(crate) fn refuse(version: Version, out: &mut MemorySink) -> Result<More, OutOfMemory>
     requires { sink_is_sure out.old }
     ensures sure { sink_is_sure out.new }
     ensures replies { (new : Option HelperState)
         → Replies None new (sink_bytes out.old) (sink_bytes out.new) result }
+    ensures refusal { IsRefusal version (sink_bytes out.old) (sink_bytes out.new) result }
 {
     match encode(&Message::Refuse { code: 4 }, version, out) {
         Ok(()) => Ok(More::Goes),
@@ -71,11 +74,20 @@ fn refuse(version: Version, out: &mut MemorySink) -> Result<More, OutOfMemory>
 }
 
 impl Helper for Honest {
+    ghost use Rattle.std.specs.Prelude.{◌≡◌, Ok, false};
+    ghost use Rattle.sip_helper.specs.Turns.{is_allowed};
+    ghost use Rattle.sip_duel.specs.Helping.{Hears, Replies, IsRefusal};
     ghost use Rattle.sip_duel.specs.Told.{told};
 
     ghost honest_state = { told };
 
-    fn hear(&mut self, message: &Message) {
+    fn hear(&mut self, message: &Message)
+        requires { IsTrue (fits Two message.now) }
+        ensures hears { Hears (told self.old) message.now (told self.new) }
+        ensures stray { self.old.standing ≡ standings.InTurn
+            → is_allowed self.old.core message.now ≡ false
+            → self.new.standing ≡ standings.Stray }
+    {
         if let Standing::InTurn = self.standing {
             if self.core.hear(message).is_err() {
                 self.standing = Standing::Stray;
@@ -83,7 +95,18 @@ impl Helper for Honest {
         }
     }
 
-    fn answer(&mut self, out: &mut MemorySink) -> Result<More, OutOfMemory> {
+    fn answer(&mut self, out: &mut MemorySink) -> Result<More, OutOfMemory>
+        requires { sink_is_sure out.old }
+        ensures sure { sink_is_sure out.new }
+        ensures replies { Replies (told self.old) (told self.new)
+            (sink_bytes out.old) (sink_bytes out.new) result }
+        ensures refuses { self.old.standing ≡ standings.Stray
+            → IsRefusal self.old.core.version (sink_bytes out.old) (sink_bytes out.new) result }
+        ensures once { self.old.standing ≡ standings.Stray
+            → self.new.standing ≡ standings.Over }
+        ensures over { self.old.standing ≡ standings.Over
+            → (result ≡ Ok More.Ended) × (out.new ≡ out.old) }
+    {
         match self.standing {
             Standing::InTurn => {
                 if !self.core.owes() {

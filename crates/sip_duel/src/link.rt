@@ -1,11 +1,11 @@
 //! A link to a boxed helper.
 
-ghost use Rattle.std.specs.Prelude.{◌≡◌, ◌≢◌, ◌<◌, [], length, vec_len, vec_capacity, Some, None, Option, IsTrue, IfOk, ⊤};
+ghost use Rattle.std.specs.Prelude.{◌≡◌, ◌≢◌, ◌<◌, Ok, [], length, take, vec_len, vec_capacity, Some, None, Option, IsTrue, IfOk, ⊤};
 ghost use Rattle.std.specs.Option.{option_and_then};
 ghost use Rattle.std.specs.Io.{ReadsAtMost, WritesAtMost};
 ghost use Rattle.sip_ports.specs.Memory.{sink_bytes, sink_is_sure};
-ghost use Rattle.sip_ports.specs.Ports.{Hears, Sends};
-ghost use Rattle.sip_duel.specs.Receiving.{StopsOnlyByWant};
+ghost use Rattle.sip_ports.specs.Ports.{Hears, Sends, heard};
+ghost use Rattle.sip_duel.specs.Receiving.{Receives, StopsOnlyByWant};
 ghost use Rattle.sip_wire.specs.Spelling.{fits};
 ghost use Rattle.sip_wire.specs.declared.version.Version.TheVariants.{Two};
 ghost use Rattle.sip_helper.specs.Turns.{fresh};
@@ -98,9 +98,11 @@ impl HelperLink {
         }
     }
 
-    /// All that has happened on it.
+    /// All that has happened on it. What was received is the front of what the helper appended.
     pub fn talk(&self) -> &[TalkEvent]
-        ensures { result.now ≡ self.now.kept.talk.items }
+        ensures events { result.now ≡ self.now.kept.talk.items }
+        ensures given { heard result.now
+            ≡ take self.now.kept.at (sink_bytes self.now.kept.out) }
     {
         &self.kept.talk
     }
@@ -218,6 +220,7 @@ impl HelperLink {
     fn recv_over(&mut self, buf: &mut [u8]) -> Result<usize, PortStop>
         requires over { self.old.kept.mood ≡ moods.Over }
         requires room { 0 < length buf.old }
+        ensures receives { Receives self.old.kept self.new.kept result }
         ensures bound { ReadsAtMost result buf.new }
         ensures talk { Hears (Some self.old.kept.talk.items) (Some self.new.kept.talk.items)
             result buf.new }
@@ -239,6 +242,7 @@ impl HelperLink {
         requires opened { self.old.kept.mood ≡ moods.Open }
         requires space { vec_len self.old.kept.talk < vec_capacity self.old.kept.talk }
         requires room { 0 < length buf.old }
+        ensures receives { Receives self.old.kept self.new.kept result }
         ensures bound { ReadsAtMost result buf.new }
         ensures talk { Hears (Some self.old.kept.talk.items) (Some self.new.kept.talk.items)
             result buf.new }
@@ -246,7 +250,8 @@ impl HelperLink {
         ensures keeps { Keeps (option_and_then honest_state self.old.helper) self.old.kept
             → Keeps (option_and_then honest_state self.new.helper) self.new.kept }
     {
-        if self.kept.at < self.kept.out.bytes().len() {
+        let had = self.kept.out.bytes().len();
+        if self.kept.at < had {
             return self.give(buf);
         }
         match self.fill() {
@@ -256,6 +261,33 @@ impl HelperLink {
                 Ok(0)
             }
             Err(_) => Err(self.wants.refused()),
+        }
+    }
+
+    /// Receives, as [`Link::recv`] does, and says all that is known of it: the helper is asked only where all that it appended is
+    /// given, and the end is found exactly where that is so and the link has ended.
+    pub fn receive(&mut self, buf: &mut [u8]) -> Result<usize, PortStop>
+        ensures receives { 0 < length buf.old → Receives self.old.kept self.new.kept result }
+        ensures empty { length buf.old ≡ 0 → (result ≡ Ok 0) × (self.new ≡ self.old) }
+        ensures bound { ReadsAtMost result buf.new }
+        ensures talk { Hears (Some self.old.kept.talk.items) (Some self.new.kept.talk.items)
+            result buf.new }
+        ensures wants { StopsOnlyByWant self.old.wants.count self.new.wants.count result }
+        ensures keeps { Keeps (option_and_then honest_state self.old.helper) self.old.kept
+            → Keeps (option_and_then honest_state self.new.helper) self.new.kept }
+    {
+        if buf.is_empty() {
+            return Ok(0);
+        }
+        match self.kept.mood {
+            Mood::Failed => Err(self.wants.refused()),
+            Mood::Over => self.recv_over(buf),
+            Mood::Open => {
+                if self.kept.reserve().is_err() {
+                    return Err(self.wants.refused());
+                }
+                self.recv_open(buf)
+            }
         }
     }
 }
@@ -294,18 +326,6 @@ impl Sink for HelperLink {
 
 impl Link for HelperLink {
     fn recv(&mut self, buf: &mut [u8]) -> Result<usize, PortStop> {
-        if buf.is_empty() {
-            return Ok(0);
-        }
-        match self.kept.mood {
-            Mood::Failed => Err(self.wants.refused()),
-            Mood::Over => self.recv_over(buf),
-            Mood::Open => {
-                if self.kept.reserve().is_err() {
-                    return Err(self.wants.refused());
-                }
-                self.recv_open(buf)
-            }
-        }
+        self.receive(buf)
     }
 }

@@ -27,7 +27,10 @@ fn version_behind(version: Version, message: &Message) -> Version
     ensures { result ≡ version_after version message.now }
 {
     match message {
-        Message::Open { version: number, .. } => match Version::of(*number) {
+        Message::Open {
+            version: number,
+            ..
+        } => match Version::of(*number) {
             Some(opened) => opened,
             None => Version::One,
         },

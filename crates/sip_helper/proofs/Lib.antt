@@ -11,3 +11,4 @@ pub mod SumReplies
 pub mod Talks
 pub mod Turning
 pub mod Seen
+pub mod OwedReplies

@@ -2,6 +2,7 @@ pub mod KindRows
 pub mod Kinds
 pub mod Serving
 pub mod Statuses
+pub mod Streams
 pub mod Vectors
 pub mod SubVectors
 pub mod Sums
