@@ -1,7 +1,7 @@
 //! Laws: honest replies are accepted, and what they state is the answer. These functions do nothing: each contract is a fact
 //! that holds.
 
-ghost use Rattle.std.specs.Prelude.{◌≡◌, ℕ, ◌<◌, ◌≤◌, ℤ, pos, ◌≤ℤ◌, All, IsTrue, List, [], ◌∷◌, ◌++◌, length, Ok};
+ghost use Rattle.std.specs.Prelude.{◌≡◌, ℕ, ◌+◌, ◌<◌, ◌≤◌, nat_le, ℤ, pos, ◌≤ℤ◌, All, IsTrue, List, [], ◌∷◌, ◌++◌, length, filter, slice_get, Some, None, Ok};
 ghost use Rattle.sip_field.specs.Moduli.{m61_modulus};
 ghost use Rattle.sip_vector.specs.declared.query.Query.TheVariants as queries;
 ghost use Rattle.sip_vector.specs.declared.update.Side.{Side as AnySide};
@@ -10,13 +10,14 @@ ghost use Rattle.sip_vector.specs.Answers.{answer, pairs};
 ghost use Rattle.sip_vector.specs.Examples.{four};
 ghost use Rattle.sip_vector.specs.Streams.{int_sum, total, vector, IsLegal, IsStrict};
 ghost use Rattle.sip_vector.specs.Trees.{augroot};
+ghost use Rattle.sip_wire.specs.declared.message.Node.{Node};
 ghost use Rattle.sip_wire.specs.Spelling.{fits};
 ghost use Rattle.sip_wire.specs.Versions.{deepest};
 ghost use Rattle.sip_wire.specs.declared.version.Version.{Version};
 ghost use Rattle.sip_wire.specs.declared.version.Version.TheVariants.{One, Two};
 ghost use Rattle.sip_replies.specs.Replies.{IsAccepted, IsUnfinished};
 ghost use Rattle.sip_heavy.specs.AcceptsHeavy.{verdict};
-ghost use Rattle.sip_heavy.specs.Honest.{begun, learnt, proving, honest_lists, honest_messages, honest_reply, honest_replies, heavy_of, CanBeFound, CanBeSent};
+ghost use Rattle.sip_heavy.specs.Honest.{Proving, begun, learnt, proving, its_nodes, honest_lists, honest_messages, honest_reply, honest_replies, heavy_of, CanBeFound, CanBeSent};
 ghost use Rattle.sip_heavy.specs.HonestExamples.{level_end, reply_0, reply_1};
 ghost use Rattle.sip_heavy.specs.Protocol.{heavy_asked, heavy_protocol, heavy_rules};
 
@@ -26,6 +27,18 @@ pub fn provers_go_up()
         → proving p numbers t [] ≡ begun p numbers t }
     ensures learnt { (p : ℕ) (numbers : List ℤ) (t : ℕ) (prefix : List ℕ) (r : ℕ)
         → proving p numbers t (prefix ++ r ∷ []) ≡ learnt p (proving p numbers t prefix) r }
+{}
+
+/// The first node that is shown of a level, and then those after it, are all of them: so a walk finds each.
+pub fn walks_find_each_node()
+    ensures all { (s : Proving) → filter (λ x. nat_le 0 x.index) (its_nodes s) ≡ its_nodes s }
+    ensures next { (s : Proving) (from : ℕ) (x : Node)
+        → slice_get (filter (λ y. nat_le from y.index) (its_nodes s)) 0 ≡ Some x
+        → filter (λ y. nat_le from y.index) (its_nodes s)
+        ≡ x ∷ filter (λ y. nat_le (x.index + 1) y.index) (its_nodes s) }
+    ensures last { (s : Proving) (from : ℕ)
+        → slice_get (filter (λ y. nat_le from y.index) (its_nodes s)) 0 ≡ None
+        → filter (λ y. nat_le from y.index) (its_nodes s) ≡ [] }
 {}
 
 /// What can be sent has a spelling: each honest message, in its version.
