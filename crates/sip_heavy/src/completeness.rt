@@ -17,7 +17,7 @@ ghost use Rattle.sip_wire.specs.declared.version.Version.{Version};
 ghost use Rattle.sip_wire.specs.declared.version.Version.TheVariants.{One, Two};
 ghost use Rattle.sip_replies.specs.Replies.{IsAccepted, IsUnfinished};
 ghost use Rattle.sip_heavy.specs.AcceptsHeavy.{verdict};
-ghost use Rattle.sip_heavy.specs.Honest.{Proving, begun, learnt, proving, its_nodes, honest_lists, honest_messages, honest_reply, honest_replies, heavy_of, CanBeFound, CanBeSent};
+ghost use Rattle.sip_heavy.specs.Honest.{Proving, begun, learnt, proving, its_nodes, honest_lists, honest_messages, honest_reply, honest_replies, heavy_of, CanBeCounted, CanBeSent};
 ghost use Rattle.sip_heavy.specs.HonestExamples.{level_end, reply_0, reply_1};
 ghost use Rattle.sip_heavy.specs.Protocol.{heavy_asked, heavy_protocol, heavy_rules};
 
@@ -44,14 +44,14 @@ pub fn walks_find_each_node()
 /// What can be sent has a spelling: each honest message, in its version.
 pub fn honest_messages_have_spellings()
     ensures { (version : Version) (p depth t n : ℕ) (numbers : List ℤ)
-        → CanBeSent version p depth t n numbers → (revealed : List ℕ)
+        → CanBeSent version p depth n numbers → (revealed : List ℕ)
         → All (λ m. IsTrue (fits version m)) (honest_messages p numbers t revealed) }
 {}
 
 /// The honest nodes, level by level, are accepted against the root of the vector, and what they state is its heavy entries.
 pub fn honest_lists_are_accepted()
     ensures { (p depth t n : ℕ) (numbers : List ℤ) (challenges : List ℕ)
-        → CanBeFound p depth t n numbers → length challenges ≡ depth
+        → CanBeCounted p depth n numbers → 1 ≤ t → t ≤ n → length challenges ≡ depth
         → verdict p (record { depth = depth; at_least = t; total = n })
         (augroot p numbers challenges).hash challenges
         (honest_lists p (begun p numbers t) challenges)
@@ -62,7 +62,8 @@ pub fn honest_lists_are_accepted()
 /// state is its heavy entries.
 pub fn honest_replies_are_accepted()
     ensures { (version : Version) (p depth t n : ℕ) (numbers : List ℤ) (challenges : List ℕ)
-        → CanBeSent version p depth t n numbers → length challenges ≡ depth
+        → CanBeSent version p depth n numbers → 1 ≤ t → t ≤ n
+        → length challenges ≡ depth
         → IsAccepted
         (heavy_protocol (heavy_asked version p (augroot p numbers challenges).hash
         (int_sum numbers) depth t))
@@ -74,13 +75,13 @@ pub fn honest_replies_are_accepted()
 /// of it was taken.
 pub fn honest_replies_have_no_fault()
     ensures whole { (version : Version) (p depth t n : ℕ) (numbers : List ℤ)
-        (revealed more : List ℕ) → CanBeSent version p depth t n numbers
+        (revealed more : List ℕ) → CanBeSent version p depth n numbers → 1 ≤ t → t ≤ n
         → length (revealed ++ more) ≤ depth
         → IsUnfinished
         (heavy_rules version p (record { depth = depth; at_least = t; total = n }))
         (revealed ++ more) (honest_replies version p numbers t revealed) }
     ensures front { (version : Version) (p depth t n : ℕ) (numbers : List ℤ)
-        → CanBeSent version p depth t n numbers
+        → CanBeSent version p depth n numbers → 1 ≤ t → t ≤ n
         → (revealed : List ℕ) (r : ℕ) (more front rest : List ℕ)
         → length (revealed ++ r ∷ more) ≤ depth
         → honest_reply version p numbers t revealed ≡ front ++ rest
@@ -99,12 +100,12 @@ pub fn nothing_is_asked_below()
         challenges [] (pairs (heavy_of t numbers)) }
 {}
 
-/// What is sent about a legal stream is its answer: where no entry of the side is negative, and its total reaches the threshold.
+/// What is sent about a legal stream is its answer: where no entry of the side is negative.
 pub fn legal_streams_are_answered()
-    ensures sent { (version : Version) (depth t n : ℕ) (stream : List AnyUpdate) (side : AnySide)
+    ensures sent { (version : Version) (depth n : ℕ) (stream : List AnyUpdate) (side : AnySide)
         → IsLegal depth stream → IsStrict depth stream side → 1 ≤ depth
-        → depth ≤ deepest version → 1 ≤ t → total stream side ≡ pos n → t ≤ n
-        → CanBeSent version m61_modulus depth t n (vector depth stream side) }
+        → depth ≤ deepest version → total stream side ≡ pos n
+        → CanBeSent version m61_modulus depth n (vector depth stream side) }
     ensures total { (depth : ℕ) (stream : List AnyUpdate) (side : AnySide)
         → IsLegal depth stream → total stream side ≡ int_sum (vector depth stream side) }
     ensures answer { (depth t : ℕ) (stream : List AnyUpdate) (side : AnySide)
