@@ -20,7 +20,7 @@ ghost use Rattle.sip_heavy.specs.Protocol.{HeavyAsked, HeavyState, heavy_protoco
 ghost use Rattle.sip_heavy.specs.Stating.{AreFrames, IsFrame, States, as_answer, nodes_of, stated_nodes, stated_replies, then_ended, then_read};
 ghost use Rattle.sip_heavy.specs.Rising.{Rises};
 ghost use Rattle.sip_heavy.specs.Honest.{whole_level, spots_above, honest_from, shown_spots};
-ghost use Rattle.sip_heavy.specs.AcceptsHeavy.{end_test, merged, nodes_above, with_nodes};
+ghost use Rattle.sip_heavy.specs.AcceptsHeavy.{Asked, end_test, known_after, merged, nodes_above, with_nodes};
 ghost use Rattle.sip_heavy.specs.Examples.{fault, leaf, node, pair, verdict_of};
 ghost use Rattle.sip_wire.specs.declared.message.Reason.TheVariants as reasons;
 
@@ -60,6 +60,16 @@ pub fn faults_of_the_nodes()
     ensures root { verdict_of 4 (pair ∷ (node 0 8 3 ∷ []) ∷ []) ≡ fault 2 reasons.Root }
     ensures wrong_leaves { verdict_of 4 ([] ∷ (node 0 9 3 ∷ node 1 0 3 ∷ []) ∷ [])
         ≡ fault 2 reasons.Total }
+{}
+
+/// After a reply for each level that passes, one node is known, and it stands at index 0: it is the
+/// node that the tests behind the last reply look at.
+pub fn one_node_is_known_in_the_end()
+    ensures { (p : ℕ) (q : Asked) (challenges : List ℕ) (replies : List (List AnyNode))
+        (known : List AnyNode) → length challenges ≡ q.depth → 0 < length challenges
+        → length replies ≡ length challenges
+        → known_after p q 0 [] challenges replies ≡ Ok known
+        → (top : AnyNode) × (known ≡ top ∷ []) × (top.index ≡ 0) }
 {}
 
 /// The protocol of the replies, which goes state by state, is the check over lists of nodes by
