@@ -36,7 +36,7 @@ by_not false e = refl
 by_not true e = absurd cc
 
 -- received nodes rise, and are new
-received_rise : (q : Asked) (level : ℕ) (known before : List Node) (least : ℕ) (xs all : List Node) → ((i : ℕ) → list_all (λ b. nat_lt b.index i) before ≡ true → least ≤ i)
+pub received_rise : (q : Asked) (level : ℕ) (known before : List Node) (least : ℕ) (xs all : List Node) → ((i : ℕ) → list_all (λ b. nat_lt b.index i) before ≡ true → least ≤ i)
     → with_nodes q level known before xs ≡ Ok all → Rises least (width q level) xs × AreNew (width q level) known xs
 received_rise q level known before least [] all above passed = (tt, tt)
 received_rise q level known before least (x ∷ xs) all above passed =
@@ -102,7 +102,7 @@ rises_append n least x (k ∷ ks) xs rises all le below later =
     let parts = and_parts (nat_lt k.index x.index) (list_all (λ y. nat_lt y.index x.index) ks) all in
     (rises.0, rises.1, rises_append n (suc k.index) x ks xs rises.2 parts.1 (ltb-true k.index x.index parts.0) below later)
 
-merged_rises : (n least : ℕ) (known xs : List Node) → Rises least n known → Rises least n xs → AreNew n known xs → Rises least n (merged known xs)
+pub merged_rises : (n least : ℕ) (known xs : List Node) → Rises least n known → Rises least n xs → AreNew n known xs → Rises least n (merged known xs)
 merged_rises n least known [] rises received new = rises
 merged_rises n least known (x ∷ xs) rises received new =
     rises_append n least x (nodes_below x.index known) (merged (nodes_from x.index known) xs) (rises_below x.index n least known rises) (all_below x.index known) received.0 received.1
@@ -110,7 +110,7 @@ merged_rises n least known (x ∷ xs) rises received new =
 
 -- ---- the level above rises
 
-above_rises : (p r n least : ℕ) (xs : List Node) → are_pairs xs ≡ true → Rises least (2 * n) xs → Rises (least / 2) n (nodes_above p r xs)
+pub above_rises : (p r n least : ℕ) (xs : List Node) → are_pairs xs ≡ true → Rises least (2 * n) xs → Rises (least / 2) n (nodes_above p r xs)
 above_rises p r n least [] pairs rises = tt
 above_rises p r n least (l ∷ []) pairs rises = tt
 above_rises p r n least (l ∷ h ∷ xs) pairs rises =
@@ -126,7 +126,7 @@ above_rises p r n least (l ∷ h ∷ xs) pairs rises =
 
 -- ---- one reply more
 
-two_parts : {A B E : Type 0} (r : Result A E) (f : A → Result B E) (y : B) → (r >>= f) ≡ Ok y → (x : A) × ((r ≡ Ok x) × (f x ≡ Ok y))
+pub two_parts : {A B E : Type 0} (r : Result A E) (f : A → Result B E) (y : B) → (r >>= f) ≡ Ok y → (x : A) × ((r ≡ Ok x) × (f x ≡ Ok y))
 two_parts (Ok x) f y e = (x, (refl, e))
 two_parts (Err err) f y e = absurd cc
 
