@@ -1,8 +1,10 @@
 -- What stated replies come to, by bytes and by lists of nodes.
-use Rattle.std.proofs.Common.{◌≡◌, ℕ, ◌+◌, true, false, Result, Ok, Err, List, [], ◌∷◌, length, refl, sym, ap, ◌∙◌, arith, inl, inr}
+use Rattle.std.proofs.Common.{◌≡◌, ℕ, ◌+◌, ◌&&◌, true, false, is_ok, Result, Ok, Err, List, [], ◌∷◌, length, refl, sym, ap, ◌∙◌, arith, inl, inr}
 use Rattle.std.specs.Prelude.{◌==◌, if◌then◌else◌}
 use Rattle.std.specs.List.{flat_map}
 use Rattle.std.proofs.lemmas.Bool.{cases_Bool, ne_eqb}
+use Rattle.std.proofs.lemmas.List.{length-map}
+use Rattle.sip_vector.specs.declared.update.Entry.{Entry}
 use Rattle.sip_vector.specs.Answers.{Answer, pairs}
 use Rattle.sip_vector.specs.Steps.{◌>>=◌}
 use Rattle.sip_wire.specs.declared.message.Message.{Message}
@@ -10,11 +12,11 @@ use Rattle.sip_wire.specs.declared.message.Node.{Node}
 use Rattle.sip_wire.specs.declared.message.Reason.{Reason}
 use Rattle.sip_wire.specs.declared.version.Version.{Version}
 use Rattle.sip_replies.specs.Protocols.{Rules}
-use Rattle.sip_replies.specs.Replies.{Fault, in_round, run_from, verdict}
+use Rattle.sip_replies.specs.Replies.{Fault, accepts, in_round, run_from, verdict}
 use Rattle.sip_heavy.specs.AcceptsHeavy.{Asked, end_test, heavy_entries, known_after, leaves_of, level_nodes, merged, nodes_above, top_test, with_nodes}
 use Rattle.sip_heavy.specs.AcceptsHeavy as heavy
-use Rattle.sip_heavy.specs.Protocol.{HeavyAsked, HeavyState, ended, heavy_finish, heavy_protocol, heavy_rules, learns}
-use Rattle.sip_heavy.specs.Stating.{AreFrames, as_answer, nodes_of, stated_nodes, stated_replies}
+use Rattle.sip_heavy.specs.Protocol.{HeavyAsked, HeavyState, ended, heavy_finish, heavy_protocol, heavy_rules, learns, reaches}
+use Rattle.sip_heavy.specs.Stating.{AreFrames, as_answer, nodes_of, stated_nodes, stated_replies, stated_reply}
 use Rattle.sip_heavy.proofs.StatedFrames.{level_says, reply_is, taken_all}
 
 -- a level before anything of it was received
@@ -97,3 +99,21 @@ module _ (asked : HeavyAsked) where
   are_judged challenges replies depth are same =
       replies_from 0 (length challenges) challenges [] [] replies are same (λ e. refl)
       ∙ ap (λ d. ended_lists d (leaves_of (stated_nodes replies)) (known_after p q 0 [] challenges (stated_nodes replies))) (sym depth)
+
+  ok_same : (w : Result (List Entry) Fault) → is_ok (as_answer w) ≡ is_ok w
+  ok_same (Ok es) = refl
+  ok_same (Err fault) = refl
+
+  -- so they are accepted where the lists are
+  pub are_accepted : (challenges : List ℕ) (replies : List (List Message)) → q.depth ≡ length challenges → reaches q ≡ true → AreFrames version 0 replies → length replies ≡ length challenges
+      → accepts (heavy_protocol asked) challenges (stated_replies version replies) ≡ heavy.accepts p q asked.root challenges (stated_nodes replies)
+  are_accepted challenges replies depth reached are same =
+      let bytes = stated_replies version replies in
+      let lists = stated_nodes replies in
+      let long : length bytes ≡ length lists = length-map replies (stated_reply version) ∙ sym (length-map replies (flat_map nodes_of)) in
+      let ok : is_ok (verdict (heavy_protocol asked) challenges bytes) ≡ is_ok (heavy.verdict p q asked.root challenges lists) =
+      ap is_ok (are_judged challenges replies depth are same) ∙ ok_same (heavy.verdict p q asked.root challenges lists) in
+      rw reached (
+      ap (λ n. (n == length challenges) && is_ok (verdict (heavy_protocol asked) challenges bytes)) long
+      ∙ ap (λ b. (length lists == length challenges) && b) ok
+      )

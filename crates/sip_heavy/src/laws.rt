@@ -13,7 +13,7 @@ ghost use Rattle.sip_wire.specs.Spelling.{spelling};
 ghost use Rattle.sip_wire.specs.declared.message.Message.{Message as AnyMessage};
 ghost use Rattle.sip_wire.specs.declared.message.Message.TheVariants as messages;
 ghost use Rattle.sip_wire.specs.declared.message.Node.{Node as AnyNode};
-ghost use Rattle.sip_replies.specs.Replies.{IsAccepted, read_reply, verdict};
+ghost use Rattle.sip_replies.specs.Replies.{IsAccepted, accepts, read_reply, verdict};
 ghost use Rattle.sip_heavy.specs.AcceptsHeavy as heavy;
 ghost use Rattle.sip_heavy.specs.Protocol.{HeavyAsked, HeavyState, heavy_protocol, heavy_rules, reaches};
 ghost use Rattle.sip_heavy.specs.Stating.{AreFrames, IsFrame, States, as_answer, nodes_of, stated_nodes, stated_replies, then_ended, then_read};
@@ -74,12 +74,18 @@ pub fn one_node_is_known_in_the_end()
 /// them, the bytes come to what the nodes of these frames do, however they are cut into frames: to
 /// the heavy leaves, or to the first fault.
 pub fn bytes_come_to_what_nodes_do()
-    ensures { (asked : HeavyAsked) (challenges : List ℕ) (replies : List (List AnyMessage))
+    ensures judged { (asked : HeavyAsked) (challenges : List ℕ) (replies : List (List AnyMessage))
         → asked.query.depth ≡ length challenges → AreFrames asked.version 0 replies
         → length replies ≡ length challenges
         → verdict (heavy_protocol asked) challenges (stated_replies asked.version replies)
         ≡ as_answer (heavy.verdict asked.modulus asked.query asked.root challenges
         (stated_nodes replies)) }
+    ensures accepted { (asked : HeavyAsked) (challenges : List ℕ)
+        (replies : List (List AnyMessage)) → asked.query.depth ≡ length challenges
+        → reaches asked.query ≡ true → AreFrames asked.version 0 replies
+        → length replies ≡ length challenges
+        → accepts (heavy_protocol asked) challenges (stated_replies asked.version replies)
+        ≡ heavy.accepts asked.modulus asked.query asked.root challenges (stated_nodes replies) }
 {}
 
 /// Accepted replies are the bytes of frames of nodes, by level, with the end of a level behind
