@@ -1,11 +1,10 @@
 -- Each message of an honest helper has a spelling in its version.
-use Rattle.std.proofs.Common.{◌≡◌, ℕ, zero, suc, ◌+◌, ◌*◌, ◌/◌, ◌^◌, ◌<◌, ◌≤◌, Bool, true, false, List, [], ◌∷◌, ◌++◌, length, take, drop, map, fold, All, ℤ, nat_abs, refl, sym, ap, subst, ◌∙◌, arith}
+use Rattle.std.proofs.Common.{◌≡◌, ℕ, zero, suc, ◌+◌, ◌*◌, ◌/◌, ◌^◌, ◌<◌, ◌≤◌, Bool, true, false, List, [], ◌∷◌, length, take, drop, map, fold, All, ℤ, nat_abs, sym, ap, ◌∙◌, arith}
 use Rattle.std.specs.Prelude.{IsTrue}
 use Rattle.std.proofs.lemmas.List.{length-drop, length-take, length-map}
 use Rattle.std.proofs.lemmas.List.Elements.{All-nil, All-cons, All-append, All-take, All-drop}
-use Rattle.sip_field.specs.Moduli.{m61_modulus}
 use Rattle.sip_vector.specs.Pieces.{pieces}
-use Rattle.sip_vector.specs.Trees.{Counted, leaf, up3, augtree}
+use Rattle.sip_vector.specs.Trees.{Counted, leaf, up3}
 use Rattle.sip_wire.specs.declared.message.Leaf.{Leaf}
 use Rattle.sip_wire.specs.declared.message.Message.{Message}
 use Rattle.sip_wire.specs.declared.message.Message.TheVariants as messages
@@ -14,7 +13,7 @@ use Rattle.sip_wire.specs.declared.version.Version.{Version}
 use Rattle.sip_wire.specs.Spelling.{fits}
 use Rattle.sip_wire.specs.Versions.{index_width}
 use Rattle.sip_heavy.specs.Honest.{Proving, proving, its_nodes, leaf_of, leaf_frames, node_frames, opening_frames, shown_from, honest_messages, CanBeSent}
-use Rattle.sip_heavy.proofs.HeavyPairs.{counts, AreCounts, above_are, count_sum, abs_sum}
+use Rattle.sip_heavy.proofs.HeavyPairs.{counts, AreCounts, above_are, abs_sum}
 use Rattle.sip_heavy.proofs.HonestFrames.{AreHashed, IsLeafRow, IsNodeRow, leaves_fit, nodes_fit, end_fits, leaf_rows, room_below, shown_rows, above_hashed, leaves_hashed}
 use Rattle.sip_heavy.proofs.HonestLists.{leaves_are, leaves_sum}
 

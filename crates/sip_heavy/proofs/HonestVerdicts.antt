@@ -1,7 +1,6 @@
 -- The honest replies to a query are accepted, and have no fault while they come.
-use Rattle.std.proofs.Common.{◌≡◌, ℕ, zero, suc, ◌+◌, ◌-◌, ◌^◌, ◌<◌, ◌≤◌, Bool, true, false, ◌==◌, if◌then◌else◌, Option, Some, None, Result, Ok, Err, List, [], ◌∷◌, ◌++◌, length, get_or, take, filter, map, fold, ℤ, pos, refl, sym, ap, subst, ◌∙◌, arith, append-nil, append_assoc, length-append}
+use Rattle.std.proofs.Common.{◌≡◌, ℕ, ◌+◌, ◌-◌, ◌^◌, ◌<◌, ◌≤◌, Bool, true, false, ◌==◌, if◌then◌else◌, Option, Some, None, Result, Ok, Err, List, [], ◌∷◌, ◌++◌, length, get_or, take, filter, map, fold, ℤ, pos, refl, sym, ap, subst, ◌∙◌, arith, append-nil, append_assoc, length-append}
 use Rattle.std.specs.Prelude.{nat_le}
-use Rattle.std.specs.List.{flat_map}
 use Rattle.std.proofs.lemmas.Bool.{le-leb}
 use Rattle.std.proofs.lemmas.List.{length-map}
 use Rattle.std.proofs.lemmas.List.FromFn.{length-map-range_with_len}
@@ -14,14 +13,14 @@ use Rattle.sip_wire.specs.declared.message.Reason.{Reason}
 use Rattle.sip_wire.specs.declared.version.Version.{Version}
 use Rattle.sip_wire.specs.Versions.{deepest}
 use Rattle.sip_replies.specs.Protocols.{Rules, Protocol}
-use Rattle.sip_replies.specs.Replies.{Fault, read_reply, run, verdict, IsStated, IsAccepted, IsUnfinished}
+use Rattle.sip_replies.specs.Replies.{read_reply, run, verdict, IsStated, IsAccepted, IsUnfinished}
 use Rattle.sip_replies.proofs.Fronts.{reply_front}
 use Rattle.sip_replies.proofs.Running.{run-fault}
 use Rattle.sip_replies.proofs.Turns.{closed_next}
 use Rattle.sip_heavy.specs.AcceptsHeavy.{Asked, top_test, heavy_entries}
-use Rattle.sip_heavy.specs.Honest.{Proving, begun, learnt, proving, shown_from, honest_messages, honest_reply, honest_replies, CanBeSent, heavy_of}
+use Rattle.sip_heavy.specs.Honest.{learnt, proving, shown_from, honest_messages, honest_reply, honest_replies, CanBeSent, heavy_of}
 use Rattle.sip_heavy.specs.Protocol.{HeavyState, HeavyAsked, heavy_rules, heavy_asked, heavy_protocol}
-use Rattle.sip_heavy.proofs.HeavyPairs.{counts, numbered, children, is_heavy}
+use Rattle.sip_heavy.proofs.HeavyPairs.{counts, numbered, is_heavy}
 use Rattle.sip_heavy.proofs.HonestFrames.{leaves_hashed, leaves_are_leaves}
 use Rattle.sip_heavy.proofs.HonestLists.{CanBeFound, found_by, leaves_are, top_is, top_passes, stated, total_is}
 use Rattle.sip_heavy.proofs.HonestReplies.{walk, fronts_walk, walk_snoc, proving-push, Stands, at, arrives, later, reply_of, replies_of, runs}

@@ -1,5 +1,5 @@
-use Rattle.std.proofs.Common.{◌≡◌, ◌≤◌, ◌/◌, ◌^◌, ◌<◌, ◌%◌, ℕ, zero, suc, drop, length, slice_get, Some, refl, sym, ap, subst, ◌∙◌, rules, tests, arith}
-use Rattle.std.specs.Prelude.{nat_lt, nat_le, filter}
+use Rattle.std.proofs.Common.{◌≡◌, ◌≤◌, ◌/◌, ◌^◌, ◌<◌, ℕ, zero, suc, drop, length, slice_get, Some, refl, sym, ap, ◌∙◌, rules, tests, arith}
+use Rattle.std.specs.Prelude.{nat_lt}
 use Rattle.std.specs.Option.{option_map}
 use Rattle.std.proofs.Math.Nat.{mod-eq_of_lt}
 use Rattle.std.proofs.lemmas.List.{take_rest}
@@ -7,7 +7,7 @@ use Rattle.std.proofs.lemmas.List.Elements.{All-drop}
 use Rattle.std.proofs.lemmas.List.Sorted.{IsPartitionPoint-from_clause, IsPartitionedBy-ltb}
 use Rattle.sip_wire.specs.declared.message.Node.{Node}
 use Rattle.sip_heavy.specs.Honest.{Proving, its_nodes, node_of}
-use Rattle.sip_heavy.specs.Spots.{from_on, shown_spots}
+use Rattle.sip_heavy.specs.Spots.{from_on}
 use Rattle.sip_heavy.proofs.Kept.{kept_small, first_of_level, shown_of_root, first_hash}
 use Rattle.sip_heavy.proofs.Shown.{halves_rise}
 use Rattle.sip_heavy.proofs.ShownWalks.{first_inside, nodes_rise}
