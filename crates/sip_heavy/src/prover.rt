@@ -22,9 +22,9 @@ pub struct HeavyNode<F> {
 
 /// What an honest helper keeps to show the entries of a vector that are at least a threshold.
 ///
-/// A contract sees the level of the augmented tree that the challenges so far lead to, as the list of all its nodes (Cormode,
-/// Thaler, Yi, PVLDB 5(1), section 6.1). Only the m nodes that are not zero take memory, 24 bytes each; no call goes over the
-/// others, and `learn` folds them in place.
+/// A contract sees the level of the augmented tree that the challenges so far lead to, as the list of all its nodes. Only the m
+/// nodes that are not zero take memory, 24 bytes each; no call goes over the others, and `learn` folds them in place. The idea
+/// of a tree whose nodes also count is that of Cormode, Thaler and Yi (PVLDB 5(1)).
 #[derive(Drop)]
 pub struct HeavyProver<F: Field> {
     at_least: u64,
