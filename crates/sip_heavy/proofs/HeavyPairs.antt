@@ -1,5 +1,5 @@
 -- The children of the heavy nodes above a level: in pairs, few, and heavy together.
-use Rattle.std.proofs.Common.{◌≡◌, ℕ, zero, suc, ◌+◌, ◌-◌, ◌*◌, ◌/◌, ◌%◌, ◌<◌, ◌≤◌, Bool, true, false, not, ◌==◌, ◌&&◌, ◌||◌, List, [], ◌∷◌, ◌++◌, length, filter, ℤ, pos, ◌+ℤ◌, nat_abs, refl, sym, ap, subst, ◌∙◌, inl, inr, arith, leb}
+use Rattle.std.proofs.Common.{◌≡◌, ℕ, zero, suc, ◌+◌, ◌*◌, ◌/◌, ◌%◌, ◌≤◌, Bool, true, false, not, ◌||◌, List, [], ◌∷◌, length, filter, ℤ, pos, ◌+ℤ◌, nat_abs, refl, sym, ap, subst, ◌∙◌, inl, inr, arith}
 use Rattle.std.specs.Prelude.{nat_lt, nat_le}
 use Rattle.std.specs.List.{list_all}
 use Rattle.std.proofs.lemmas.Bool.{cases_Bool, eq-eqb, leb-true, le-leb}
@@ -8,7 +8,7 @@ use Rattle.std.proofs.lemmas.Nat.{le-div}
 use Rattle.sip_vector.specs.Trees.{Counted, parent, up3}
 use Rattle.sip_wire.specs.declared.message.Node.{Node}
 use Rattle.sip_heavy.specs.AcceptsHeavy.{are_pairs, pair_counts, counted, joined, nodes_above}
-use Rattle.sip_heavy.specs.Honest.{node_at, shown, shown_pair, shown_from}
+use Rattle.sip_heavy.specs.Honest.{node_at, shown_from}
 use Rattle.sip_heavy.specs.Rising.{Rises}
 use Rattle.sip_heavy.proofs.Cuts.{ltb_tells}
 use Rattle.sip_heavy.proofs.Shown.{rises_more}

@@ -1,5 +1,5 @@
 -- The frames of an honest helper have a spelling.
-use Rattle.std.proofs.Common.{◌≡◌, ℕ, suc, ◌+◌, ◌^◌, ◌<◌, ◌≤◌, ◌%◌, Bool, true, false, ◌&&◌, ◌||◌, List, [], ◌∷◌, ◌++◌, length, map, All, ℤ, pos, negsuc, nat_abs, refl, sym, ap, ◌∙◌, inl, inr, arith}
+use Rattle.std.proofs.Common.{◌≡◌, ℕ, ◌+◌, ◌^◌, ◌<◌, ◌≤◌, Bool, true, ◌&&◌, ◌||◌, List, [], ◌∷◌, ◌++◌, length, map, All, ℤ, pos, negsuc, nat_abs, refl, sym, ap, inl, inr, arith}
 use Rattle.std.specs.Prelude.{IsTrue, nat_lt, nat_le, ◌≤ℤ◌}
 use Rattle.std.specs.List.{flat_map}
 use Rattle.std.proofs.Math.Nat.{mod-eq_of_lt, mod-lt, pow-le-pow_right}
@@ -19,7 +19,7 @@ use Rattle.sip_wire.specs.Spelling.{fits, has_room, all_hold, leaf_numbers, node
 use Rattle.sip_wire.specs.Table.{repeat, leaf_fields, node_fields}
 use Rattle.sip_wire.specs.Versions.{index_width, deepest}
 use Rattle.sip_heavy.specs.AcceptsHeavy.{leaf_node}
-use Rattle.sip_heavy.specs.Honest.{node_at, shown, shown_pair, shown_from, leaf_of}
+use Rattle.sip_heavy.specs.Honest.{node_at, shown, shown_from, leaf_of}
 use Rattle.sip_heavy.specs.Protocol.{leaf_nodes}
 use Rattle.sip_heavy.proofs.HeavyPairs.{counts}
 

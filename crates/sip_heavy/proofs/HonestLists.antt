@@ -1,25 +1,46 @@
 -- The honest nodes, level by level, pass all tests and lead to the true root.
-use Rattle.std.proofs.Common.{◌≡◌, ℕ, zero, suc, ◌+◌, ◌-◌, ◌*◌, ◌/◌, ◌%◌, ◌^◌, ◌<◌, ◌≤◌, Bool, true, false, not, ◌==◌, ◌&&◌, ◌||◌, List, [], ◌∷◌, ◌++◌, length, get_or, filter, map, fold, All, ℤ, pos, negsuc, ◌+ℤ◌, nat_abs, Ok, refl, sym, ap, subst, ◌∙◌, inl, inr, arith}
+use Rattle.std.proofs.Common.{◌≡◌, ℕ, zero, suc, ◌+◌, ◌-◌, ◌*◌, ◌^◌, ◌<◌, ◌≤◌, Bool, true, false, not, ◌==◌, ◌||◌, List, [], ◌∷◌, length, get_or, filter, map, fold, All, ℤ, pos, negsuc, ◌+ℤ◌, nat_abs, Ok, refl, sym, ap, subst, ◌∙◌, inl, inr, arith}
 use Rattle.std.specs.Prelude.{nat_lt, nat_le, int_le, ◌≤ℤ◌}
 use Rattle.std.specs.List.{list_all, enumerate_from}
-use Rattle.std.proofs.Math.Nat.{pow-succ', mod-eq_of_lt}
+use Rattle.std.proofs.Math.Nat.{pow-succ'}
 use Rattle.std.proofs.lemmas.Bool.{cases_Bool, eq-eqb, ne_eqb, lt-ltb, le-leb}
 use Rattle.std.proofs.lemmas.Bool.Decides.{leb_tells}
-use Rattle.std.proofs.lemmas.Nat.{pow_pos}
 use Rattle.std.proofs.lemmas.List.{length-map}
 use Rattle.std.proofs.lemmas.List.Elements.{All-head, All-tail}
 use Rattle.sip_vector.specs.declared.update.Entry.{Entry}
-use Rattle.sip_vector.specs.Answers.{entries}
 use Rattle.sip_vector.specs.Streams.{int_sum}
-use Rattle.sip_vector.specs.Trees.{Counted, parent, leaf, up3, augroot}
+use Rattle.sip_vector.specs.Trees.{Counted, leaf, up3, augroot}
 use Rattle.sip_vector.proofs.Filters.{as_entry}
 use Rattle.sip_vector.proofs.TreeCounted.{length-up3}
 use Rattle.sip_wire.specs.declared.message.Node.{Node}
-use Rattle.sip_heavy.specs.AcceptsHeavy.{Asked, most_nodes, width, merged, with_nodes, end_test, level_nodes, nodes_above, known_after, top_test, verdict, heavy_entries, leaves_of, are_pairs, pair_counts, is_empty}
-use Rattle.sip_heavy.specs.Honest.{Proving, begun, learnt, its_nodes, node_at, shown_from, honest_lists, CanBeFound, heavy_of}
+use Rattle.sip_heavy.specs.AcceptsHeavy.{Asked, width, merged, with_nodes, end_test, level_nodes, nodes_above, known_after, top_test, verdict, heavy_entries, leaves_of, is_empty}
+use Rattle.sip_heavy.specs.Honest.{Proving, begun, shown_from, honest_lists, CanBeCounted, heavy_of}
 use Rattle.sip_heavy.specs.Rising.{Rises}
 use Rattle.sip_heavy.proofs.Cuts.{ltb_tells, merge_back, filter_rises, cut_apart, cut_long, cut_passes, all_pass}
-use Rattle.sip_heavy.proofs.HeavyPairs.{counts, AreCounts, numbered, children, children_rise, children_pair, children_heavy, children_within, children_few, is_sent, sent_is, is_heavy, heavy_is, above_is, above_counts, above_are, count_sum}
+use Rattle.sip_heavy.proofs.HeavyPairs.{counts, AreCounts, numbered, children, children_rise, children_pair, children_heavy, children_within, children_few, is_sent, sent_is, is_heavy, heavy_is, above_is, above_counts, above_are}
+
+-- a threshold of at least 1 that the sum of a vector reaches
+pub record CanBeFound (p depth t n : ℕ) (numbers : List ℤ) : Type 0 where
+  pub modulus : 0 < p
+  pub levels : 1 ≤ depth
+  pub size : length numbers ≡ 2 ^ depth
+  pub strict : All (λ a. pos 0 ≤ℤ a) numbers
+  pub total : int_sum numbers ≡ pos n
+  pub light : n < p
+  pub some : 1 ≤ t
+  pub reached : t ≤ n
+
+pub found_by : (p depth t n : ℕ) (numbers : List ℤ) → CanBeCounted p depth n numbers → 1 ≤ t → t ≤ n → CanBeFound p depth t n numbers
+found_by p depth t n numbers can some reached = record {
+  modulus = can.modulus;
+  levels = can.levels;
+  size = can.size;
+  strict = can.strict;
+  total = can.total;
+  light = can.light;
+  some = some;
+  reached = reached;
+}
 
 abbrev at : ℕ → Bool → List Counted → Proving
 at t is_leaf level = record { at_least = t; is_leaf = is_leaf; level = level }

@@ -1,31 +1,27 @@
 -- All honest replies: what they state, and that it is accepted.
-use Rattle.std.proofs.Common.{◌≡◌, ℕ, zero, suc, ◌+◌, ◌-◌, ◌^◌, ◌<◌, ◌≤◌, Bool, true, false, not, ◌==◌, if◌then◌else◌, Result, Ok, Err, List, [], ◌∷◌, ◌++◌, length, take, drop, filter, map, fold, All, ℤ, pos, nat_abs, get_or, refl, sym, ap, subst, ◌∙◌, arith, append-nil}
-use Rattle.std.specs.Prelude.{IsTrue}
+use Rattle.std.proofs.Common.{◌≡◌, ℕ, zero, suc, ◌+◌, ◌-◌, ◌^◌, ◌<◌, ◌≤◌, Bool, true, false, ◌==◌, if◌then◌else◌, Result, Ok, List, [], ◌∷◌, ◌++◌, length, take, drop, filter, map, All, ℤ, refl, sym, ap, ◌∙◌, arith, append-nil}
 use Rattle.std.specs.List.{range_with_len, flat_map}
 use Rattle.std.proofs.Math.Nat.{pow-le-pow_right}
-use Rattle.std.proofs.lemmas.Bool.{ne_eqb, le-leb}
-use Rattle.std.proofs.lemmas.List.{append_assoc, length-append, length-map, take_at}
-use Rattle.std.proofs.lemmas.List.FromFn.{length-map-range_with_len}
+use Rattle.std.proofs.lemmas.Bool.{ne_eqb}
+use Rattle.std.proofs.lemmas.List.{append_assoc, length-append, take_at}
 use Rattle.std.proofs.lemmas.List.Sums.{fold-append}
 use Rattle.sip_field.specs.Moduli.{m61_modulus}
-use Rattle.sip_vector.specs.Answers.{Answer, pairs}
 use Rattle.sip_vector.specs.Steps.{◌>>=◌}
-use Rattle.sip_vector.specs.Streams.{int_sum}
-use Rattle.sip_vector.specs.Trees.{Counted, leaf, up3, augtree, augroot}
+use Rattle.sip_vector.specs.Trees.{Counted, leaf, up3, augtree}
 use Rattle.sip_wire.specs.declared.message.Node.{Node}
 use Rattle.sip_wire.specs.declared.message.Message.TheVariants as messages
 use Rattle.sip_wire.specs.declared.message.Reason.{Reason}
 use Rattle.sip_wire.specs.declared.version.Version.{Version}
 use Rattle.sip_wire.specs.Spelling.{spelling}
-use Rattle.sip_wire.specs.Versions.{index_width, deepest}
+use Rattle.sip_wire.specs.Versions.{deepest}
 use Rattle.sip_replies.specs.Protocols.{Rules}
-use Rattle.sip_replies.specs.Replies.{Fault, in_round, learnt as learnt_by, read_reply, run_from, run, verdict, IsAccepted, IsUnfinished}
-use Rattle.sip_heavy.specs.AcceptsHeavy.{Asked, merged, with_nodes, end_test, nodes_above, top_test, heavy_entries}
-use Rattle.sip_heavy.specs.Honest.{Proving, begun, learnt, is_first, proving, its_nodes, shown_from, opening_frames, honest_messages, honest_reply, honest_replies, CanBeFound, CanBeSent, heavy_of}
-use Rattle.sip_heavy.specs.Protocol.{HeavyState, leaf_nodes, ended, heavy_rules, heavy_asked, heavy_protocol}
-use Rattle.sip_heavy.proofs.HeavyPairs.{counts, AreCounts, numbered, children, is_sent, is_heavy, heavy_is, above_is, above_counts, above_are}
-use Rattle.sip_heavy.proofs.HonestFrames.{AreHashed, AreLeaves, IsNodeRow, room_below, shown_rows, above_hashed, leaves_hashed, leaves_are_leaves, leaves_back}
-use Rattle.sip_heavy.proofs.HonestLists.{known_of, two_halves, received_pass, all_merge, ends_well, above_long, half_size, leaves_are, leaves_sum, none_known, top_is, top_passes, stated, total_is}
+use Rattle.sip_replies.specs.Replies.{in_round, learnt as learnt_by, read_reply, run_from}
+use Rattle.sip_heavy.specs.AcceptsHeavy.{Asked, merged, with_nodes, end_test}
+use Rattle.sip_heavy.specs.Honest.{Proving, learnt, is_first, proving, shown_from, opening_frames}
+use Rattle.sip_heavy.specs.Protocol.{HeavyState, heavy_rules}
+use Rattle.sip_heavy.proofs.HeavyPairs.{counts, AreCounts, numbered, children, is_heavy, heavy_is, above_is, above_counts, above_are}
+use Rattle.sip_heavy.proofs.HonestFrames.{AreHashed, AreLeaves, IsNodeRow, room_below, shown_rows, above_hashed, leaves_back}
+use Rattle.sip_heavy.proofs.HonestLists.{known_of, received_pass, all_merge, ends_well, above_long, half_size, none_known}
 use Rattle.sip_heavy.proofs.HonestReading.{leaves_read, nodes_read}
 
 -- ---- reply by reply

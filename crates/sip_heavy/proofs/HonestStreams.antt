@@ -1,5 +1,5 @@
 -- The heavy entries of a legal stream's vector can be sent, and below the threshold there are none.
-use Rattle.std.proofs.Common.{◌≡◌, ℕ, suc, ◌+◌, ◌^◌, ◌<◌, ◌≤◌, Bool, true, false, inl, inr, if◌then◌else◌, Option, Some, None, List, [], ◌∷◌, length, map, filter, All, ℤ, pos, nat_abs, refl, sym, ap, subst, ◌∙◌, arith}
+use Rattle.std.proofs.Common.{◌≡◌, ℕ, suc, ◌<◌, ◌≤◌, Bool, true, false, inl, inr, if◌then◌else◌, Option, Some, None, List, [], ◌∷◌, map, All, ℤ, pos, nat_abs, refl, sym, ap, subst, ◌∙◌, arith}
 use Rattle.std.specs.Prelude.{nat_le, sum_by, ◌≤ℤ◌}
 use Rattle.std.proofs.lemmas.Bool.Decides.{leb_tells}
 use Rattle.std.proofs.lemmas.Int.{ints}
@@ -14,11 +14,10 @@ use Rattle.sip_vector.specs.Trees.{Counted, leaf}
 use Rattle.sip_vector.proofs.Sides.{length-vector, total-is}
 use Rattle.sip_wire.specs.declared.version.Version.{Version}
 use Rattle.sip_wire.specs.Versions.{deepest}
-use Rattle.sip_replies.specs.Protocols.{Protocol}
 use Rattle.sip_replies.specs.Replies.{IsStated, IsAccepted}
 use Rattle.sip_heavy.specs.AcceptsHeavy.{heavy_entries}
-use Rattle.sip_heavy.specs.Honest.{CanBeFound, CanBeSent, heavy_of}
-use Rattle.sip_heavy.specs.Protocol.{HeavyState, heavy_asked, heavy_protocol}
+use Rattle.sip_heavy.specs.Honest.{CanBeSent, heavy_of}
+use Rattle.sip_heavy.specs.Protocol.{heavy_asked, heavy_protocol}
 use Rattle.sip_heavy.proofs.HeavyPairs.{counts, numbered}
 use Rattle.sip_heavy.proofs.HonestLists.{leaves_sum, heavy_numbers}
 
@@ -30,20 +29,18 @@ side_light : (depth : ℕ) (stream : List Update) (side : Side) → IsLegal dept
 side_light depth stream First legal = legal.first
 side_light depth stream Second legal = legal.second
 
-pub legal_sent : (version : Version) (depth t n : ℕ) (stream : List Update) (side : Side) → IsLegal depth stream → IsStrict depth stream side → 1 ≤ depth → depth ≤ deepest version → 1 ≤ t
-    → total stream side ≡ pos n → t ≤ n → CanBeSent version m61_modulus depth t n (vector depth stream side)
-legal_sent version depth t n stream side legal strict levels shallow some is reached =
+pub legal_sent : (version : Version) (depth n : ℕ) (stream : List Update) (side : Side) → IsLegal depth stream → IsStrict depth stream side → 1 ≤ depth → depth ≤ deepest version
+    → total stream side ≡ pos n → CanBeSent version m61_modulus depth n (vector depth stream side)
+legal_sent version depth n stream side legal strict levels shallow is =
     let few : n ≤ most_weight = omega (arith, ap nat_abs is, sum_light (of_side stream side), side_light depth stream side legal) in
     record {
-      found = record {
+      counted = record {
         modulus = omega arith;
         levels = levels;
         size = length-vector depth stream side;
         strict = strict;
         total = sym (total-is depth stream side legal.items) ∙ is;
         light = omega (arith, few);
-        some = some;
-        reached = reached;
       };
       elements = omega arith;
       shallow = shallow;

@@ -1,5 +1,5 @@
 -- The leaves that a prover begins with stand for the lowest level.
-use Rattle.std.proofs.Common.{◌≡◌, ◌≢◌, ℕ, zero, suc, ◌+◌, ◌%◌, ◌^◌, ◌<◌, ◌≤◌, Bool, true, false, not, ◌==◌, List, [], ◌∷◌, length, map, filter, All, ℤ, pos, negsuc, nat_abs, sum_by, refl, sym, ap, subst, ◌∙◌, inl, inr, arith}
+use Rattle.std.proofs.Common.{◌≡◌, ℕ, suc, ◌+◌, ◌%◌, ◌<◌, ◌≤◌, true, false, not, ◌==◌, List, [], ◌∷◌, length, map, filter, All, ℤ, pos, negsuc, nat_abs, sum_by, refl, sym, ap, subst, ◌∙◌, inl, inr, arith}
 use Rattle.std.specs.Prelude.{◌≤ℤ◌}
 use Rattle.std.specs.List.{enumerate_from}
 use Rattle.std.proofs.Math.Nat.{mod-eq_of_lt}
@@ -10,7 +10,6 @@ use Rattle.sip_field.specs.Residue.{residue}
 use Rattle.sip_vector.specs.declared.update.Entry.{Entry}
 use Rattle.sip_vector.specs.Answers.{is_zero}
 use Rattle.sip_vector.specs.Trees.{leaf}
-use Rattle.sip_vector.specs.Vectors.{nonzero}
 use Rattle.sip_vector.proofs.Filters.{as_entry}
 use Rattle.sip_vector.proofs.Kept.{is_zero_tells}
 use Rattle.sip_vector.proofs.TreeResidues.{residue_below}

@@ -126,7 +126,7 @@ above_rises p r n least (l ∷ h ∷ xs) pairs rises =
 
 -- ---- one reply more
 
-two_parts : {A B E : Type 0} (r : Result A E) (f : A → Result B E) (y : B) → (r >>= f) ≡ Ok y → (x : A) × ((r ≡ Ok x) × (f x ≡ Ok y))
+pub two_parts : {A B E : Type 0} (r : Result A E) (f : A → Result B E) (y : B) → (r >>= f) ≡ Ok y → (x : A) × ((r ≡ Ok x) × (f x ≡ Ok y))
 two_parts (Ok x) f y e = (x, (refl, e))
 two_parts (Err err) f y e = absurd cc
 

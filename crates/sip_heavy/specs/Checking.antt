@@ -11,11 +11,9 @@ use Rattle.sip_heavy.specs.AcceptsHeavy.{Asked, most_nodes, width, nodes_below, 
 
 -- ---- room
 
--- the room for nodes, and what is in it
+-- for how many nodes there is room in each list, and what the last check found
 pub record Space : Type 0 where
   pub nodes : ℕ
-  pub known : List Node
-  pub level : List Node
   pub found : List Entry
 
 -- ---- a check

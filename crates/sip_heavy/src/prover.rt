@@ -1,6 +1,6 @@
 //! The honest side of a check: what is shown of each level.
 
-ghost use Rattle.std.specs.Prelude.{◌≡◌, ◌*◌, ◌^◌, ◌<◌, ◌≤◌, ◌↔◌, pos, ◌≤ℤ◌, nat_le, All, filter, length, slice_get, IfOk};
+ghost use Rattle.std.specs.Prelude.{◌≡◌, ◌*◌, ◌^◌, ◌<◌, ◌≤◌, ◌↔◌, pos, ◌≤ℤ◌, nat_le, All, filter, length, slice_get, IfOk, IfSome};
 ghost use Rattle.std.specs.Option.{option_map};
 ghost use Rattle.sip_vector.specs.Limits.{most_depth};
 ghost use Rattle.sip_heavy.specs.Honest.{begun, learnt, its_nodes, node_of};
@@ -22,9 +22,9 @@ pub struct HeavyNode<F> {
 
 /// What an honest helper keeps to show the entries of a vector that are at least a threshold.
 ///
-/// A contract sees the level of the augmented tree that the challenges so far lead to, as the list of all its nodes (Cormode,
-/// Thaler, Yi, PVLDB 5(1), section 6.1). Only the m nodes that are not zero take memory, 24 bytes each; no call goes over the
-/// others, and `learn` folds them in place.
+/// A contract sees the level of the augmented tree that the challenges so far lead to, as the list of all its nodes. Only the m
+/// nodes that are not zero take memory, 24 bytes each; no call goes over the others, and `learn` folds them in place. The idea
+/// of a tree whose nodes also count is that of Cormode, Thaler and Yi (PVLDB 5(1)).
 #[derive(Drop)]
 pub struct HeavyProver<F: Field> {
     at_least: u64,
@@ -91,8 +91,9 @@ impl<F: Field> HeavyProver<F> {
     /// A search of O(log m), and a walk over the nodes up to the one that is found, without memory. So a level costs O(m), and a
     /// search for each node that is shown.
     pub fn next_node(&self, from: u64) -> Option<HeavyNode<F>>
-        ensures { option_map (node_of F.number) result
+        ensures first { option_map (node_of F.number) result
             ≡ slice_get (filter (λ x. nat_le from x.index) (its_nodes self.now)) 0 }
+        ensures within { IfSome result (λ node. node.index < length self.now.level) }
     {
         if self.levels_left == 0 {
             return None;

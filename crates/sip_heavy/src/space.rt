@@ -27,12 +27,7 @@ impl Model for HeavySpace {
 
     ghost Value = { Space };
 
-    ghost view = { λ s. record {
-      nodes = s.nodes;
-      known = s.known.items;
-      level = s.level.items;
-      found = s.found.items;
-    } };
+    ghost view = { λ s. record { nodes = s.nodes; found = s.found.items } };
 
     ghost invariant = { λ s. (s.nodes ≤ vec_capacity s.known) × (s.nodes ≤ vec_capacity s.level)
         × (s.nodes ≤ vec_capacity s.found) };

@@ -1,4 +1,4 @@
-use Rattle.std.proofs.Common.{◌≡◌, pos, All, sym, subst, ◌∙◌}
+use Rattle.std.proofs.Common.{pos, All, sym, subst, ◌∙◌}
 use Rattle.std.specs.Prelude.{◌≤ℤ◌}
 use Rattle.sip_heavy.proofs.Leaves.{kept_strict}
 use Rattle.sip_heavy.proofs.spots.leaves_of.Goals as goal

@@ -1,9 +1,5 @@
-use Rattle.std.proofs.Common.{◌≡◌, ◌^◌, ◌<◌, ◌≤◌, ◌+◌, ℕ, length, map, true, sym, ap, subst, ◌∙◌, arith}
-use Rattle.std.specs.Prelude.{sum_by, nat_abs}
+use Rattle.std.proofs.Common.{◌≡◌, ◌^◌, ◌<◌, ℕ, length, map, true, sym, ap, subst, ◌∙◌, arith}
 use Rattle.sip_vector.specs.Vectors.{nonzero}
-use Rattle.sip_wire.specs.declared.message.Node.{Node}
-use Rattle.sip_heavy.specs.Honest.{Proving}
-use Rattle.sip_heavy.specs.Rising.{Rises}
 use Rattle.sip_heavy.specs.Spots.{whole_level, leaf_of_entry, IsKept}
 use Rattle.sip_heavy.proofs.Kept.{whole_long}
 use Rattle.sip_heavy.proofs.Leaves.{leaves_rise, leaves_hashed, leaves_light, leaves_stand}
