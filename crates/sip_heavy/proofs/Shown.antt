@@ -10,7 +10,8 @@ use Rattle.std.proofs.lemmas.List.Elements.{filter-append, All-nil, All-cons, Al
 use Rattle.std.proofs.lemmas.List.Sums.{sum_by-cons}
 use Rattle.sip_wire.specs.declared.message.Node.{Node}
 use Rattle.sip_heavy.specs.AcceptsHeavy.{joined}
-use Rattle.sip_heavy.specs.Honest.{shown, shown_pair, left_of, right_of, spots_above, shown_spots, from_on}
+use Rattle.sip_heavy.specs.Honest.{shown, shown_pair}
+use Rattle.sip_heavy.specs.Spots.{left_of, right_of, spots_above, shown_spots, from_on}
 use Rattle.sip_heavy.specs.Rising.{Rises}
 
 -- ---- nodes before an index are not shown after it
@@ -135,7 +136,8 @@ above_index p r x = elim (eqb_tells (x.index % 2) 0) [
   | inr s ↦ rw s.0 (omega (arith, s.1))
 ]
 
-rises_more : (n a b : ℕ) (xs : List Node) → a ≤ b → Rises b n xs → Rises a n xs
+-- an earlier index will do
+pub rises_more : (n a b : ℕ) (xs : List Node) → a ≤ b → Rises b n xs → Rises a n xs
 rises_more n a b [] le rises = tt
 rises_more n a b (x ∷ xs) le rises = (omega (arith, rises.0), rises.1, rises.2)
 

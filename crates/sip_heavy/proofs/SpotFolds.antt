@@ -2,7 +2,7 @@
 use Rattle.std.proofs.Common.{◌≡◌, ℕ, ◌+◌, ◌<◌, ◌≤◌, List, [], ◌∷◌, ◌++◌, length, take, drop, set, sym, ◌∙◌, arith, append_assoc}
 use Rattle.std.proofs.lemmas.List.{take_more_set, drop-set-lt, drop-drop, drop_all, append-nil}
 use Rattle.sip_wire.specs.declared.message.Node.{Node}
-use Rattle.sip_heavy.specs.Honest.{spots_above}
+use Rattle.sip_heavy.specs.Spots.{spots_above}
 
 pub left_behind : (spots : List Node) (written read count : ℕ) (x : Node) → written ≤ read → 1 ≤ count → drop (read + count) (set spots written x) ≡ drop count (drop read spots)
 left_behind spots written read count x le some =

@@ -8,7 +8,8 @@ use Rattle.std.proofs.lemmas.List.{append-nil}
 use Rattle.sip_vector.specs.Trees.{parent, up3}
 use Rattle.sip_wire.specs.declared.message.Node.{Node}
 use Rattle.sip_heavy.specs.AcceptsHeavy.{counted, joined}
-use Rattle.sip_heavy.specs.Honest.{left_of, right_of, node_at, shown_pair, shown_spots, honest_from, spots_above, nothing, place, behind_place, whole_level}
+use Rattle.sip_heavy.specs.Honest.{node_at, shown_pair, shown_from}
+use Rattle.sip_heavy.specs.Spots.{left_of, right_of, shown_spots, spots_above, nothing, place, behind_place, whole_level}
 use Rattle.sip_heavy.specs.Rising.{Rises}
 
 -- nothing stands above nothing
@@ -99,6 +100,7 @@ rises_behind n i (x ∷ xs) rises = elim (eqb_tells x.index i) [
 
 -- the list of the level above stands for the level above
 pub whole_above : (p r : ℕ) → 0 < p → (m k n : ℕ) (xs : List Node) → Rises (k + k) n xs → up3 p (whole_level (m + m) (k + k) xs) r ≡ whole_level m k (spots_above p r xs)
+unfolding whole_level
 whole_above p r some zero k n xs rises = refl
 whole_above p r some (suc m) k n xs rises =
     let e : suc m + suc m ≡ suc (suc (m + m)) = omega arith in
@@ -166,10 +168,11 @@ module _ (t : ℕ) (is_leaf : Bool) (some : 1 ≤ t) where
           rw (off, at, other, odd, back, node_is (suc (k + k)) x is) refl
 
   -- what is shown of the list is what is shown of the level
-  pub honest_is : (m k : ℕ) (xs : List Node) → Rises (k + k) (k + k + (m + m)) xs → honest_from t is_leaf (k + k) (whole_level (m + m) (k + k) xs) ≡ shown_spots t is_leaf xs
-  honest_is zero k [] rises = refl
-  honest_is zero k (x ∷ xs) rises = absurd (omega (arith, rises.0, rises.1))
-  honest_is (suc m) k xs rises =
+  pub shown_is : (m k : ℕ) (xs : List Node) → Rises (k + k) (k + k + (m + m)) xs → shown_from t is_leaf (k + k) (whole_level (m + m) (k + k) xs) ≡ shown_spots t is_leaf xs
+  unfolding whole_level
+  shown_is zero k [] rises = refl
+  shown_is zero k (x ∷ xs) rises = absurd (omega (arith, rises.0, rises.1))
+  shown_is (suc m) k xs rises =
       let e : suc m + suc m ≡ suc (suc (m + m)) = omega arith in
       let i : suc k + suc k ≡ suc (suc (k + k)) = omega arith in
       let one : k + k + 1 ≡ suc (k + k) = omega arith in
@@ -181,6 +184,6 @@ module _ (t : ℕ) (is_leaf : Bool) (some : 1 ≤ t) where
       let rest : Rises (suc k + suc k) (suc k + suc k + (m + m)) left = subst (λ b. Rises (suc k + suc k) b left) ends (subst (λ j. Rises j n left) (sym i) later) in
       rw (e, one, two) (
       ap (λ ys. shown_pair t is_leaf (node_at (k + k) (place (k + k) xs)) (node_at (suc (k + k)) (place (suc (k + k)) (behind_place (k + k) xs))) ++ ys)
-      (subst (λ j. honest_from t is_leaf j (whole_level (m + m) j left) ≡ shown_spots t is_leaf left) i (honest_is m (suc k) left rest))
+      (subst (λ j. shown_from t is_leaf j (whole_level (m + m) j left) ≡ shown_spots t is_leaf left) i (shown_is m (suc k) left rest))
       ∙ sym (first_shown k n xs rises)
       )

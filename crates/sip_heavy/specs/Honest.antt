@@ -1,91 +1,144 @@
--- The leaves and nodes that an honest helper shows: off the true level, and off the list of its nodes that are not zero.
-use Rattle.std.specs.Prelude.{ℕ, zero, suc, ◌+◌, ◌-◌, ◌/◌, ◌%◌, ◌==◌, Bool, false, ◌||◌, nat_lt, nat_le, pos, nat_abs, List, [], ◌∷◌, ◌++◌, filter, if◌then◌else◌}
-use Rattle.sip_vector.specs.Trees.{Counted}
+-- What an honest helper knows and shows of the heavy entries of a vector.
+--
+-- Reply 0 has the leaves that are both children of a node with a count of at least T. Each later
+-- reply has the children, with a count below T, of the nodes with a count of at least T of the
+-- level above, which the next challenge gives. A child with a count of at least T is not shown
+-- there: the reply before says what it is.
+use Rattle.std.specs.Prelude.{◌≡◌, ℕ, ◌+◌, ◌^◌, ◌<◌, ◌≤◌, Bool, true, false, ◌||◌, nat_lt, nat_le, ℤ, pos, ◌≤ℤ◌, int_le, nat_abs, List, [], ◌∷◌, ◌++◌, All, length, map, filter, fold, take, if◌then◌else◌}
+use Rattle.std.specs.List.{range_with_len, flat_map}
+use Rattle.sip_field.specs.Moduli.{m61_modulus}
+use Rattle.sip_vector.specs.declared.update.Entry.{Entry}
+use Rattle.sip_vector.specs.Answers.{entries}
+use Rattle.sip_vector.specs.Pieces.{cut}
+use Rattle.sip_vector.specs.Streams.{int_sum}
+use Rattle.sip_vector.specs.Trees.{Counted, leaf, up3, augtree}
+use Rattle.sip_wire.specs.declared.message.Leaf.{Leaf}
+use Rattle.sip_wire.specs.declared.message.Message.{Message}
+use Rattle.sip_wire.specs.declared.message.Message.TheVariants as messages
 use Rattle.sip_wire.specs.declared.message.Node.{Node}
-use Rattle.sip_heavy.specs.AcceptsHeavy.{counted, joined}
+use Rattle.sip_wire.specs.declared.version.Version.{Version}
+use Rattle.sip_wire.specs.Spelling.{spelling}
+use Rattle.sip_wire.specs.Table.{most_rows, most_nodes}
+use Rattle.sip_wire.specs.Versions.{deepest}
+use Rattle.sip_heavy.specs.declared.prover.HeavyNode.{HeavyNode}
 
--- ---- by whole levels
+-- ---- what is shown of a level
 
 abbrev pub node_at : ℕ → Counted → Node
 node_at i x = record { index = i; hash = x.hash; count = nat_abs x.count }
 
--- a child of a heavy node is shown, but not where its count says that it is known
+-- a child of a heavy node is shown, but above the leaves only where it is light
 abbrev pub shown : ℕ → Bool → Node → List Node
 shown t is_leaf x = if is_leaf || nat_lt x.count t then x ∷ [] else []
 
--- both children of one node
+-- both children of one node, where it is heavy
 abbrev pub shown_pair : ℕ → Bool → Node → Node → List Node
-shown_pair t is_leaf l h = if nat_le t (l.count + h.count) then shown t is_leaf l ++ shown t is_leaf h else []
+shown_pair t is_leaf l h =
+    if nat_le t (l.count + h.count) then shown t is_leaf l ++ shown t is_leaf h else []
 
--- what is shown of a level, whose first node has this index
-abbrev pub honest_from : ℕ → Bool → ℕ → List Counted → List Node
-honest_from t is_leaf i (l ∷ h ∷ level) = shown_pair t is_leaf (node_at i l) (node_at (i + 1) h) ++ honest_from t is_leaf (i + 2) level
-honest_from t is_leaf i (l ∷ []) = []
-honest_from t is_leaf i [] = []
+-- what is shown of a level whose first node has this index
+abbrev pub shown_from : ℕ → Bool → ℕ → List Counted → List Node
+shown_from t is_leaf i (l ∷ h ∷ level) =
+    shown_pair t is_leaf (node_at i l) (node_at (i + 1) h) ++ shown_from t is_leaf (i + 2) level
+shown_from t is_leaf i (l ∷ []) = []
+shown_from t is_leaf i [] = []
 
--- ---- by the nodes that are not zero
+-- ---- levels
 
--- the pair that begins a list of nodes: its children, one of which may be zero, and the nodes behind it
-abbrev pub zero_at : ℕ → Node
-zero_at i = record { index = i; hash = 0; count = 0 }
-
-abbrev pub left_of : Node → Node
-left_of x = if x.index % 2 == 0 then x else zero_at (x.index - 1)
-
-abbrev pub right_of : Node → Node
-right_of x = if x.index % 2 == 0 then zero_at (x.index + 1) else x
-
--- the first two of these lie below one node
-abbrev pub is_pair : Node → Node → Bool
-is_pair x y = x.index / 2 == y.index / 2
-
--- the list of the level above
-abbrev pub spots_above : ℕ → ℕ → List Node → List Node
-spots_above p r [] = []
-spots_above p r (x ∷ []) = joined p r (left_of x) (right_of x) ∷ []
-spots_above p r (x ∷ y ∷ more) =
-    if is_pair x y
-    then joined p r x y ∷ spots_above p r more
-    else joined p r (left_of x) (right_of x) ∷ spots_above p r (y ∷ more)
-
--- what is shown of a level
-abbrev pub shown_spots : ℕ → Bool → List Node → List Node
-shown_spots t is_leaf [] = []
-shown_spots t is_leaf (x ∷ []) = shown_pair t is_leaf (left_of x) (right_of x)
-shown_spots t is_leaf (x ∷ y ∷ more) =
-    if is_pair x y
-    then shown_pair t is_leaf x y ++ shown_spots t is_leaf more
-    else (shown_pair t is_leaf (left_of x) (right_of x) ++ shown_spots t is_leaf (y ∷ more))
-
--- the first of these at an index or after it
-abbrev pub from_on : ℕ → List Node → List Node
-from_on i xs = filter (λ x. nat_le i x.index) xs
-
--- ---- a prover
-
+-- a level of the augmented tree, whether it is the lowest, and the least count of a heavy node
 pub record Proving : Type 0 where
   pub at_least : ℕ
   pub is_leaf : Bool
-  pub spots : List Node
+  pub level : List Counted
 
+-- the leaves over a vector's numbers
+abbrev pub begun : ℕ → List ℤ → ℕ → Proving
+begun p numbers t = record { at_least = t; is_leaf = true; level = map (leaf p) numbers }
+
+-- the level above
 abbrev pub learnt : ℕ → Proving → ℕ → Proving
-learnt p s r = record { at_least = s.at_least; is_leaf = false; spots = spots_above p r s.spots }
+learnt p s r = record { at_least = s.at_least; is_leaf = false; level = up3 p s.level r }
 
--- ---- the whole level
+-- no challenge is revealed
+abbrev pub is_first : List ℕ → Bool
+is_first [] = true
+is_first (r ∷ prefix) = false
 
-abbrev pub nothing : Counted
-nothing = record { hash = 0; count = pos 0 }
+-- the level that these challenges lead to
+abbrev pub proving : ℕ → List ℤ → ℕ → List ℕ → Proving
+proving p numbers t prefix = record {
+  at_least = t;
+  is_leaf = is_first prefix;
+  level = augtree p numbers prefix;
+}
 
--- what stands at an index, where the nodes begin there or later, and the nodes behind it
-abbrev pub place : ℕ → List Node → Counted
-place i [] = nothing
-place i (x ∷ xs) = if x.index == i then counted x else nothing
+-- what is shown of a prover's level
+abbrev pub its_nodes : Proving → List Node
+its_nodes s = shown_from s.at_least s.is_leaf 0 s.level
 
-abbrev pub behind_place : ℕ → List Node → List Node
-behind_place i [] = []
-behind_place i (x ∷ xs) = if x.index == i then xs else (x ∷ xs)
+-- a node as the wire has it, where `number` gives the residue of a value
+abbrev pub node_of : {F : Type 0} → (F → ℕ) → HeavyNode F → Node
+node_of number x = record { index = x.index; hash = number x.hash; count = x.count }
 
--- n places from an index on, zero where no node stands
-abbrev pub whole_level : ℕ → ℕ → List Node → List Counted
-whole_level zero i xs = []
-whole_level (suc n) i xs = place i xs ∷ whole_level n (suc i) (behind_place i xs)
+-- ---- replies
+
+-- a leaf's hash is its count, so that the wire leaves it out
+abbrev pub leaf_of : Node → Leaf
+leaf_of x = record { item = x.index; count = x.count }
+
+-- leaves by 512, the last frame the rest
+abbrev pub leaf_frames : List Node → List Message
+leaf_frames nodes =
+    map (λ piece. messages.Leaves (record { items = piece })) (cut most_rows (map leaf_of nodes))
+
+-- nodes by 256, the last frame the rest
+abbrev pub node_frames : List Node → List Message
+node_frames nodes = map (λ piece. messages.Nodes (record { items = piece })) (cut most_nodes nodes)
+
+-- the frames before the end of the level
+abbrev pub opening_frames : Proving → List Message
+opening_frames s = if s.is_leaf then leaf_frames (its_nodes s) else node_frames (its_nodes s)
+
+-- the messages that are due once these challenges are revealed
+unfoldable pub honest_messages : ℕ → List ℤ → ℕ → List ℕ → List Message
+honest_messages p numbers t prefix =
+    opening_frames (proving p numbers t prefix) ++ messages.LevelEnd ∷ []
+
+-- their bytes
+abbrev pub honest_reply : Version → ℕ → List ℤ → ℕ → List ℕ → List ℕ
+honest_reply version p numbers t prefix =
+    flat_map (spelling version) (honest_messages p numbers t prefix)
+
+-- all replies: reply j is the one due once the first j challenges are revealed
+abbrev pub honest_replies : Version → ℕ → List ℤ → ℕ → List ℕ → List (List ℕ)
+honest_replies version p numbers t challenges =
+    map (λ j. honest_reply version p numbers t (take j challenges))
+    (range_with_len 0 (length challenges))
+
+-- the nodes of the replies that follow, by level, for these challenges
+abbrev pub honest_lists : ℕ → Proving → List ℕ → List (List Node)
+honest_lists p s [] = []
+honest_lists p s (r ∷ challenges) = its_nodes s ∷ honest_lists p (learnt p s r) challenges
+
+-- The heavy entries of a vector can be found: no number is negative, and their sum, which is n,
+-- reaches the threshold and is itself a residue.
+pub record CanBeFound (p depth t n : ℕ) (numbers : List ℤ) : Type 0 where
+  pub modulus : 0 < p
+  pub levels : 1 ≤ depth
+  pub size : length numbers ≡ 2 ^ depth
+  pub strict : All (λ a. pos 0 ≤ℤ a) numbers
+  pub total : int_sum numbers ≡ pos n
+  pub light : n < p
+  pub some : 1 ≤ t
+  pub reached : t ≤ n
+
+-- the entries of at least t
+abbrev pub heavy_of : ℕ → List ℤ → List Entry
+heavy_of t numbers = filter (λ e. int_le (pos t) e.value) (entries numbers)
+
+-- They can be sent: the version has items of the vector's depth, and messages have room for the
+-- field.
+pub record CanBeSent (version : Version) (p depth t n : ℕ) (numbers : List ℤ) : Type 0 where
+  pub found : CanBeFound p depth t n numbers
+  pub elements : p ≤ m61_modulus
+  pub shallow : depth ≤ deepest version

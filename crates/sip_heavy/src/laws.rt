@@ -2,14 +2,10 @@
 //! holds.
 #![tactic(auto, unfolding(crate::specs::AcceptsHeavy::verdict, crate::specs::AcceptsHeavy::known_after))]
 
-ghost use Rattle.std.specs.Prelude.{Bool as AnyBool};
-ghost use Rattle.std.specs.Prelude.{◌≡◌, ℕ, ◌+◌, ◌<◌, ◌≤◌, List, [], ◌∷◌, Ok, pos};
+ghost use Rattle.std.specs.Prelude.{◌≡◌, [], ◌∷◌, Ok, pos};
 ghost use Rattle.sip_field.specs.Moduli.{m61_modulus};
 ghost use Rattle.sip_vector.specs.Examples.{four};
-ghost use Rattle.sip_vector.specs.Trees.{augroot, up3};
-ghost use Rattle.sip_wire.specs.declared.message.Node.{Node as AnyNode};
-ghost use Rattle.sip_heavy.specs.Rising.{Rises};
-ghost use Rattle.sip_heavy.specs.Honest.{whole_level, spots_above, honest_from, shown_spots};
+ghost use Rattle.sip_vector.specs.Trees.{augroot};
 ghost use Rattle.sip_heavy.specs.AcceptsHeavy.{merged, nodes_above};
 ghost use Rattle.sip_heavy.specs.Examples.{fault, leaf, node, pair, verdict_of};
 ghost use Rattle.sip_wire.specs.declared.message.Reason.TheVariants as reasons;
@@ -50,13 +46,4 @@ pub fn faults_of_the_nodes()
     ensures root { verdict_of 4 (pair ∷ (node 0 8 3 ∷ []) ∷ []) ≡ fault 2 reasons.Root }
     ensures wrong_leaves { verdict_of 4 ([] ∷ (node 0 9 3 ∷ node 1 0 3 ∷ []) ∷ [])
         ≡ fault 2 reasons.Total }
-{}
-
-/// The rising list of the nodes that are not zero stands for a whole level: what is folded from it
-/// is the level above, and what is shown of it is what is shown of the level.
-pub fn lists_stand_for_levels()
-    ensures above { (p r m : ℕ) (spots : List AnyNode) → 0 < p → Rises 0 (m + m) spots
-        → up3 p (whole_level (m + m) 0 spots) r ≡ whole_level m 0 (spots_above p r spots) }
-    ensures shown { (t m : ℕ) (is_leaf : AnyBool) (spots : List AnyNode) → 1 ≤ t → Rises 0 (m + m) spots
-        → honest_from t is_leaf 0 (whole_level (m + m) 0 spots) ≡ shown_spots t is_leaf spots }
 {}

@@ -6,12 +6,18 @@ mod check;
 pub mod counting;
 pub mod laws;
 mod level;
-mod prover;
 mod space;
 
 pub use asking::HeavyAsking;
 pub use check::HeavyCheck;
 pub use space::HeavySpace;
+
+// The honest side.
+pub mod completeness;
+mod prover;
+mod spots;
+
+pub use prover::{HeavyNode, HeavyProver};
 
 #[cfg(test)]
 mod counting_tests;

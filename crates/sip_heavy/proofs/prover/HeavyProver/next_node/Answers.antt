@@ -1,17 +1,44 @@
-use Rattle.std.proofs.Common.{◌/◌, ◌^◌, ◌<◌, slice_get, ap, ◌∙◌, rules, tests}
-use Rattle.std.specs.Prelude.{nat_lt}
+use Rattle.std.proofs.Common.{◌≡◌, ◌≤◌, ◌/◌, ◌^◌, ◌<◌, ◌%◌, ℕ, zero, suc, drop, length, slice_get, Some, refl, sym, ap, subst, ◌∙◌, rules, tests, arith}
+use Rattle.std.specs.Prelude.{nat_lt, nat_le, filter}
+use Rattle.std.specs.Option.{option_map}
+use Rattle.std.proofs.Math.Nat.{mod-eq_of_lt}
 use Rattle.std.proofs.lemmas.List.{take_rest}
 use Rattle.std.proofs.lemmas.List.Elements.{All-drop}
 use Rattle.std.proofs.lemmas.List.Sorted.{IsPartitionPoint-from_clause, IsPartitionedBy-ltb}
 use Rattle.sip_wire.specs.declared.message.Node.{Node}
-use Rattle.sip_heavy.specs.Honest.{Proving, from_on, shown_spots}
-use Rattle.sip_heavy.proofs.Shown.{all_in, halves_rise, skipped_at}
+use Rattle.sip_heavy.specs.Honest.{Proving, its_nodes, node_of}
+use Rattle.sip_heavy.specs.Spots.{from_on, shown_spots}
+use Rattle.sip_heavy.proofs.Kept.{kept_small, first_of_level, shown_of_root, first_hash}
+use Rattle.sip_heavy.proofs.Shown.{halves_rise}
 use Rattle.sip_heavy.proofs.prover.HeavyProver.next_node.Goals as goal
+
+pub returns-then-self-eq0 : goal.returns-then-self-eq0
+returns-then-self-eq0 g c =
+    let s = c.self.inside in
+    sym (ap (λ (k : Proving). slice_get (from_on c.args.from (its_nodes k)) 0) (sym c.self.view_is) ∙ ap (λ xs. slice_get (from_on c.args.from xs) 0) (shown_of_root s.at_least s.levels_left s.is_leaf s.spots.items c.if-self-eq0.true))
 
 pub first_shown-requires-clause-small : goal.first_shown-requires-clause-small
 first_shown-requires-clause-small g c =
     let spots = c.self.inside.spots.items in
-    rw (c.deref-2.ensures.value, take_rest spots c.partition_point-start.result) (All-drop (λ x. x.index < 2 ^ 32) c.partition_point-start.result spots (all_in (2 ^ 32) 0 spots c.self.invariant.0))
+    rw (c.deref-2.ensures.value, take_rest spots c.partition_point-start.result) (All-drop (λ x. x.index < 2 ^ 48) c.partition_point-start.result spots (kept_small g.F.Field.MODULUS c.self.inside.at_least c.self.inside.levels_left spots c.self.invariant))
+
+some_left : (n : ℕ) → (n ≡ 0 → ⊥) → 1 ≤ n
+some_left zero off = absurd (off refl)
+some_left (suc n) off = omega arith
+
+pub returns-in_err-node : goal.returns-in_err-node
+returns-in_err-node g c =
+    let s = c.self.inside in
+    let spots = s.spots.items in
+    let from = c.args.from in
+    let start = c.partition_point-start.result in
+    let level : 1 ≤ s.levels_left = some_left s.levels_left c.if-self-eq0.false in
+    let parts = IsPartitionPoint-from_clause (λ (y : Node). nat_lt (y.index / 2) (from / 2)) spots start (rw c.deref.ensures.value at c.partition_point-start.ensures.partitioned)
+    (IsPartitionedBy-ltb (λ (y : Node). y.index / 2) spots (from / 2) (λ i j d le lt. halves_rise spots 0 (2 ^ s.levels_left) i j d c.self.invariant.rises le lt)) (λ a r f called. search (rules, tests)) in
+    let found = rw (c.deref-2.ensures.value, take_rest spots start) at c.first_shown.ensures in
+    let first = found ∙ first_of_level g.F.Field.MODULUS s.at_least s.levels_left s.is_leaf from start spots c.self.invariant level parts
+    ∙ ap (λ (k : Proving). slice_get (from_on from (its_nodes k)) 0) c.self.view_is in
+    ap (option_map (node_of g.F.Field.number)) c.from_residual.ensures ∙ sym c.in_err-node.was ∙ first
 
 pub returns : goal.returns
 returns g c =
@@ -19,8 +46,15 @@ returns g c =
     let spots = s.spots.items in
     let from = c.args.from in
     let start = c.partition_point-start.result in
+    let level : 1 ≤ s.levels_left = some_left s.levels_left c.if-self-eq0.false in
     let parts = IsPartitionPoint-from_clause (λ (y : Node). nat_lt (y.index / 2) (from / 2)) spots start (rw c.deref.ensures.value at c.partition_point-start.ensures.partitioned)
-    (IsPartitionedBy-ltb (λ (y : Node). y.index / 2) spots (from / 2) (λ i j d le lt. halves_rise spots 0 (2 ^ 32) i j d c.self.invariant.0 le lt)) (λ a r f called. search (rules, tests)) in
-    let shown = rw (c.deref-2.ensures.value, take_rest spots start) at c.first_shown.ensures in
-    shown ∙ ap (λ xs. slice_get xs 0) (skipped_at s.at_least s.is_leaf from start spots parts)
-    ∙ ap (λ (k : Proving). slice_get (from_on from (shown_spots k.at_least k.is_leaf k.spots)) 0) c.self.view_is
+    (IsPartitionedBy-ltb (λ (y : Node). y.index / 2) spots (from / 2) (λ i j d le lt. halves_rise spots 0 (2 ^ s.levels_left) i j d c.self.invariant.rises le lt)) (λ a r f called. search (rules, tests)) in
+    let found = rw (c.deref-2.ensures.value, take_rest spots start) at c.first_shown.ensures in
+    let first = found ∙ first_of_level g.F.Field.MODULUS s.at_least s.levels_left s.is_leaf from start spots c.self.invariant level parts
+    ∙ ap (λ (k : Proving). slice_get (from_on from (its_nodes k)) 0) c.self.view_is in
+    let node = c.in_ok-node.node in
+    let p : ℕ = g.F.Field.MODULUS in
+    let shown = sym found ∙ c.in_ok-node.was in
+    let below : node.hash < p = first_hash p s.at_least s.is_leaf (omega (arith, g.met.F.Field.at_least)) from (drop start spots) node (All-drop (λ x. x.hash < p) start spots c.self.invariant.hashes) shown in
+    let hash : g.F.Field.number c.of.result ≡ node.hash = c.of.ensures ∙ mod-eq_of_lt below in
+    ap (λ (h : ℕ). Some (let x : Node = record { index = node.index; hash = h; count = node.count } in x)) hash ∙ sym c.in_ok-node.was ∙ first

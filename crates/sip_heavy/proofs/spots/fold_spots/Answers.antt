@@ -2,9 +2,9 @@ use Rattle.std.proofs.Common.{◌∷◌, ◌^◌, ◌<◌, drop, vec_len, ◌∙
 use Rattle.std.proofs.lemmas.List.{take_rest}
 use Rattle.std.proofs.lemmas.List.Elements.{All-drop, All-same}
 use Rattle.sip_wire.specs.declared.message.Node.{Node}
-use Rattle.sip_heavy.specs.Honest.{spots_above}
+use Rattle.sip_heavy.specs.Spots.{spots_above}
 use Rattle.sip_heavy.proofs.SpotFolds.{fold_more, left_behind}
-use Rattle.sip_heavy.proofs.prover.fold_spots.Goals as goal
+use Rattle.sip_heavy.proofs.spots.fold_spots.Goals as goal
 
 pub loop-read-preserved : goal.loop-read-preserved
 loop-read-preserved g c =
@@ -19,7 +19,7 @@ loop-read-preserved g c =
     record {
       before = omega (arith, c.loop-read.invariant.before, c.first_pair-pair.ensures.some);
       within = omega (arith, c.first_pair-pair.ensures.within, c.deref.ensures.len, c.loop-read.invariant.within, last);
-      small = All-same (λ x. x.index < 2 ^ 32) _ _ behind (All-drop (λ x. x.index < 2 ^ 32) count (drop read spots) c.loop-read.invariant.small);
+      small = All-same (λ x. x.index < 2 ^ 48) _ _ behind (All-drop (λ x. x.index < 2 ^ 48) count (drop read spots) c.loop-read.invariant.small);
       light = All-same (λ x. x.count < 2 ^ 61) _ _ behind (All-drop (λ x. x.count < 2 ^ 61) count (drop read spots) c.loop-read.invariant.light);
       above =
           fold_more p r spots c.loop-read.written read count c.joined.result _ c.loop-read.invariant.before (omega (arith, last)) c.first_pair-pair.ensures.some

@@ -1,0 +1,178 @@
+-- The frames of an honest helper have a spelling.
+use Rattle.std.proofs.Common.{◌≡◌, ℕ, suc, ◌+◌, ◌^◌, ◌<◌, ◌≤◌, ◌%◌, Bool, true, false, ◌&&◌, ◌||◌, List, [], ◌∷◌, ◌++◌, length, map, All, ℤ, pos, negsuc, nat_abs, refl, sym, ap, ◌∙◌, inl, inr, arith}
+use Rattle.std.specs.Prelude.{IsTrue, nat_lt, nat_le, ◌≤ℤ◌}
+use Rattle.std.specs.List.{flat_map}
+use Rattle.std.proofs.Math.Nat.{mod-eq_of_lt, mod-lt, pow-le-pow_right}
+use Rattle.std.proofs.lemmas.Bool.{and_from, cases_Bool, lt-ltb}
+use Rattle.std.proofs.lemmas.Bool.Decides.{nat_tests}
+use Rattle.std.proofs.lemmas.List.Elements.{All-nil, All-cons, All-head, All-tail, All-append}
+use Rattle.sip_field.specs.Moduli.{m61_modulus}
+use Rattle.sip_field.specs.Residue.{residue}
+use Rattle.sip_vector.specs.Trees.{Counted, leaf, up3}
+use Rattle.sip_vector.proofs.TreeResidues.{residue_below}
+use Rattle.sip_wire.specs.declared.message.Leaf.{Leaf}
+use Rattle.sip_wire.specs.declared.message.Message.TheVariants as messages
+use Rattle.sip_wire.specs.declared.message.Node.{Node}
+use Rattle.sip_wire.specs.declared.version.Version.{Version}
+use Rattle.sip_wire.specs.declared.version.Version.TheVariants.{One, Two}
+use Rattle.sip_wire.specs.Spelling.{fits, has_room, all_hold, leaf_numbers, node_numbers}
+use Rattle.sip_wire.specs.Table.{repeat, leaf_fields, node_fields}
+use Rattle.sip_wire.specs.Versions.{index_width, deepest}
+use Rattle.sip_heavy.specs.AcceptsHeavy.{leaf_node}
+use Rattle.sip_heavy.specs.Honest.{node_at, shown, shown_pair, shown_from, leaf_of}
+use Rattle.sip_heavy.specs.Protocol.{leaf_nodes}
+use Rattle.sip_heavy.proofs.HeavyPairs.{counts}
+
+-- the indices of a level that is not too deep have room in a frame
+pub room_below : (version : Version) (depth : ℕ) → depth ≤ deepest version → 2 ^ depth ≤ 256 ^ index_width version
+room_below One depth shallow =
+    let powers : 2 ^ depth ≤ 2 ^ 32 = pow-le-pow_right {n = 2} (omega arith) shallow in
+    omega arith
+room_below Two depth shallow =
+    let powers : 2 ^ depth ≤ 2 ^ 48 = pow-le-pow_right {n = 2} (omega arith) shallow in
+    omega arith
+
+-- ---- rows
+
+-- a leaf that a frame of this version may have
+pub record IsLeafRow (version : Version) (l : Leaf) : Type 0 where
+  pub item : l.item < 256 ^ index_width version
+  pub count : l.count < m61_modulus
+
+-- a node that it may have
+pub record IsNodeRow (version : Version) (x : Node) : Type 0 where
+  pub index : x.index < 256 ^ index_width version
+  pub hash : x.hash < m61_modulus
+  pub count : x.count < m61_modulus
+
+element_room : (n : ℕ) → n < m61_modulus → nat_lt n (256 ^ 8) ≡ true
+element_room n h = lt-ltb n (256 ^ 8) (omega arith)
+
+-- ---- hashes
+
+-- each hash is a residue
+abbrev pub AreHashed : ℕ → List Counted → Type 0
+AreHashed p [] = Unit {0}
+AreHashed p (x ∷ xs) = (x.hash < p) × AreHashed p xs
+
+pub above_hashed : (p r : ℕ) → 0 < p → (level : List Counted) → AreHashed p (up3 p level r)
+above_hashed p r some [] = tt
+above_hashed p r some (l ∷ []) = tt
+above_hashed p r some (l ∷ h ∷ level) = (mod-lt _ some, above_hashed p r some level)
+
+pub leaves_hashed : (p : ℕ) → 0 < p → (numbers : List ℤ) → AreHashed p (map (leaf p) numbers)
+leaves_hashed p some [] = tt
+leaves_hashed p some (a ∷ numbers) = (residue_below p a some, leaves_hashed p some numbers)
+
+-- ---- frames
+
+module _ (version : Version) where
+  leaves_have_room : (ls : List Leaf) → All (IsLeafRow version) ls → has_room (repeat (length ls) (leaf_fields version)) (flat_map leaf_numbers ls) ≡ true
+  unfolding has_room
+  leaves_have_room [] h = refl
+  leaves_have_room (l ∷ ls) h =
+      let row = All-head (IsLeafRow version) l ls h in
+      and_from _ _ (lt-ltb l.item (256 ^ index_width version) row.item) (and_from _ _ (element_room l.count row.count) (leaves_have_room ls (All-tail (IsLeafRow version) l ls h)))
+
+  leaves_hold : (ls : List Leaf) → All (IsLeafRow version) ls → all_hold (repeat (length ls) (leaf_fields version)) (flat_map leaf_numbers ls) ≡ true
+  unfolding all_hold
+  leaves_hold [] h = refl
+  leaves_hold (l ∷ ls) h =
+      let row = All-head (IsLeafRow version) l ls h in
+      and_from _ _ refl (and_from _ _ (lt-ltb l.count m61_modulus row.count) (leaves_hold ls (All-tail (IsLeafRow version) l ls h)))
+
+  -- a frame of 1 to 512 leaves
+  pub leaves_fit : (ls : List Leaf) → 0 < length ls → length ls ≤ 512 → All (IsLeafRow version) ls → IsTrue (fits version (messages.Leaves (record { items = ls })))
+  unfolding fits
+  leaves_fit ls some most rows =
+      let count : (nat_le 1 (length ls) && nat_le (length ls) 512) ≡ true = grind (arith, nat_tests) in
+      and_from _ _ (and_from _ _ (and_from _ _ count (leaves_have_room ls rows)) refl) (leaves_hold ls rows)
+
+  nodes_have_room : (xs : List Node) → All (IsNodeRow version) xs → has_room (repeat (length xs) (node_fields version)) (flat_map node_numbers xs) ≡ true
+  unfolding has_room
+  nodes_have_room [] h = refl
+  nodes_have_room (x ∷ xs) h =
+      let row = All-head (IsNodeRow version) x xs h in
+      and_from _ _ (lt-ltb x.index (256 ^ index_width version) row.index)
+      (and_from _ _ (element_room x.hash row.hash) (and_from _ _ (element_room x.count row.count) (nodes_have_room xs (All-tail (IsNodeRow version) x xs h))))
+
+  nodes_hold : (xs : List Node) → All (IsNodeRow version) xs → all_hold (repeat (length xs) (node_fields version)) (flat_map node_numbers xs) ≡ true
+  unfolding all_hold
+  nodes_hold [] h = refl
+  nodes_hold (x ∷ xs) h =
+      let row = All-head (IsNodeRow version) x xs h in
+      and_from _ _ refl (and_from _ _ (lt-ltb x.hash m61_modulus row.hash) (and_from _ _ (lt-ltb x.count m61_modulus row.count) (nodes_hold xs (All-tail (IsNodeRow version) x xs h))))
+
+  -- a frame of 1 to 256 nodes
+  pub nodes_fit : (xs : List Node) → 0 < length xs → length xs ≤ 256 → All (IsNodeRow version) xs → IsTrue (fits version (messages.Nodes (record { items = xs })))
+  unfolding fits
+  nodes_fit xs some most rows =
+      let count : (nat_le 1 (length xs) && nat_le (length xs) 256) ≡ true = grind (arith, nat_tests) in
+      and_from _ _ (and_from _ _ (and_from _ _ count (nodes_have_room xs rows)) refl) (nodes_hold xs rows)
+
+  -- the end of a level
+  pub end_fits : IsTrue (fits version messages.LevelEnd)
+  unfolding fits has_room all_hold
+  end_fits = refl
+
+  -- ---- what is shown
+
+  module _ (t : ℕ) (is_leaf : Bool) (p n : ℕ) (elements : p ≤ m61_modulus) (light : n < m61_modulus) where
+    one_row : (x : Node) → IsNodeRow version x → All (IsNodeRow version) (shown t is_leaf x)
+    one_row x row = elim (cases_Bool (is_leaf || nat_lt x.count t)) [
+      | inl s ↦ rw s (All-cons (IsNodeRow version) x [] row (All-nil (IsNodeRow version)))
+      | inr s ↦ rw s (All-nil (IsNodeRow version))
+    ]
+
+    -- each node that is shown may stand in a frame
+    pub shown_rows : (i : ℕ) (level : List Counted) → i + length level ≤ 256 ^ index_width version → AreHashed p level → counts level ≤ n → All (IsNodeRow version) (shown_from t is_leaf i level)
+    shown_rows i [] within hashed sum = All-nil (IsNodeRow version)
+    shown_rows i (l ∷ []) within hashed sum = All-nil (IsNodeRow version)
+    shown_rows i (l ∷ h ∷ level) within hashed sum =
+        let left : IsNodeRow version (node_at i l) = record { index = omega (arith, within); hash = omega (arith, hashed.0, elements); count = omega (arith, sum, light) } in
+        let right : IsNodeRow version (node_at (i + 1) h) = record { index = omega (arith, within); hash = omega (arith, hashed.1.0, elements); count = omega (arith, sum, light) } in
+        let rest = shown_rows (i + 2) level (omega (arith, within)) hashed.1.1 (omega (arith, sum)) in
+        elim (cases_Bool (nat_le t (nat_abs l.count + nat_abs h.count))) [
+          | inl s ↦
+              rw s (All-append (IsNodeRow version) (shown t is_leaf (node_at i l) ++ shown t is_leaf (node_at (i + 1) h)) (shown_from t is_leaf (i + 2) level)
+              (All-append (IsNodeRow version) (shown t is_leaf (node_at i l)) (shown t is_leaf (node_at (i + 1) h)) (one_row (node_at i l) left) (one_row (node_at (i + 1) h) right)) rest)
+          | inr s ↦ rw s rest
+        ]
+
+  -- leaves are rows where they are as nodes
+  pub leaf_rows : (xs : List Node) → All (IsNodeRow version) xs → All (IsLeafRow version) (map leaf_of xs)
+  leaf_rows [] rows = All-nil (IsLeafRow version)
+  leaf_rows (x ∷ xs) rows =
+      let row = All-head (IsNodeRow version) x xs rows in
+      let its : IsLeafRow version (leaf_of x) = record { item = row.index; count = row.count } in
+      All-cons (IsLeafRow version) (leaf_of x) (map leaf_of xs) its (leaf_rows xs (All-tail (IsNodeRow version) x xs rows))
+
+-- ---- leaves as nodes
+
+-- each hash is the count
+abbrev pub AreLeaves : List Counted → Type 0
+AreLeaves [] = Unit {0}
+AreLeaves (x ∷ xs) = (x.hash ≡ nat_abs x.count) × AreLeaves xs
+
+leaf_hash : (p : ℕ) (a : ℤ) → pos 0 ≤ℤ a → nat_abs a < p → residue p a ≡ nat_abs a
+leaf_hash p (pos n) some less = mod-eq_of_lt less
+leaf_hash p (negsuc n) some less = absurd some.le
+
+pub leaves_are_leaves : (p : ℕ) (numbers : List ℤ) → All (λ a. pos 0 ≤ℤ a) numbers → counts (map (leaf p) numbers) < p → AreLeaves (map (leaf p) numbers)
+leaves_are_leaves p [] strict less = tt
+leaves_are_leaves p (a ∷ numbers) strict less =
+    (leaf_hash p a (All-head (λ b. pos 0 ≤ℤ b) a numbers strict) (omega (arith, less)), leaves_are_leaves p numbers (All-tail (λ b. pos 0 ≤ℤ b) a numbers strict) (omega (arith, less)))
+
+back : (i : ℕ) (x : Counted) → x.hash ≡ nat_abs x.count → leaf_node i (nat_abs x.count) ≡ node_at i x
+back i x is = ap (λ (h : ℕ). let y : Node = record { index = i; hash = h; count = nat_abs x.count } in y) (sym is)
+
+-- what the wire leaves out of a leaf comes back
+pub leaves_back : (t i : ℕ) (level : List Counted) → AreLeaves level → leaf_nodes (map leaf_of (shown_from t true i level)) ≡ shown_from t true i level
+leaves_back t i [] are = refl
+leaves_back t i (l ∷ []) are = refl
+leaves_back t i (l ∷ h ∷ level) are =
+    let rest = leaves_back t (i + 2) level are.1.1 in
+    elim (cases_Bool (nat_le t (nat_abs l.count + nat_abs h.count))) [
+      | inl s ↦ rw (s, back i l are.0, back (i + 1) h are.1.0) (ap (λ xs. node_at i l ∷ node_at (i + 1) h ∷ xs) rest)
+      | inr s ↦ rw s rest
+    ]

@@ -1,0 +1,202 @@
+-- The honest nodes, level by level, pass all tests and lead to the true root.
+use Rattle.std.proofs.Common.{◌≡◌, ℕ, zero, suc, ◌+◌, ◌-◌, ◌*◌, ◌/◌, ◌%◌, ◌^◌, ◌<◌, ◌≤◌, Bool, true, false, not, ◌==◌, ◌&&◌, ◌||◌, List, [], ◌∷◌, ◌++◌, length, get_or, filter, map, fold, All, ℤ, pos, negsuc, ◌+ℤ◌, nat_abs, Ok, refl, sym, ap, subst, ◌∙◌, inl, inr, arith}
+use Rattle.std.specs.Prelude.{nat_lt, nat_le, int_le, ◌≤ℤ◌}
+use Rattle.std.specs.List.{list_all, enumerate_from}
+use Rattle.std.proofs.Math.Nat.{pow-succ', mod-eq_of_lt}
+use Rattle.std.proofs.lemmas.Bool.{cases_Bool, eq-eqb, ne_eqb, lt-ltb, le-leb}
+use Rattle.std.proofs.lemmas.Bool.Decides.{leb_tells}
+use Rattle.std.proofs.lemmas.Nat.{pow_pos}
+use Rattle.std.proofs.lemmas.List.{length-map}
+use Rattle.std.proofs.lemmas.List.Elements.{All-head, All-tail}
+use Rattle.sip_vector.specs.declared.update.Entry.{Entry}
+use Rattle.sip_vector.specs.Answers.{entries}
+use Rattle.sip_vector.specs.Streams.{int_sum}
+use Rattle.sip_vector.specs.Trees.{Counted, parent, leaf, up3, augroot}
+use Rattle.sip_vector.proofs.Filters.{as_entry}
+use Rattle.sip_vector.proofs.TreeCounted.{length-up3}
+use Rattle.sip_wire.specs.declared.message.Node.{Node}
+use Rattle.sip_heavy.specs.AcceptsHeavy.{Asked, most_nodes, width, merged, with_nodes, end_test, level_nodes, nodes_above, known_after, top_test, verdict, heavy_entries, leaves_of, are_pairs, pair_counts, is_empty}
+use Rattle.sip_heavy.specs.Honest.{Proving, begun, learnt, its_nodes, node_at, shown_from, honest_lists, CanBeFound, heavy_of}
+use Rattle.sip_heavy.specs.Rising.{Rises}
+use Rattle.sip_heavy.proofs.Cuts.{ltb_tells, merge_back, filter_rises, cut_apart, cut_long, cut_passes, all_pass}
+use Rattle.sip_heavy.proofs.HeavyPairs.{counts, AreCounts, numbered, children, children_rise, children_pair, children_heavy, children_within, children_few, is_sent, sent_is, is_heavy, heavy_is, above_is, above_counts, above_are, count_sum}
+
+abbrev at : ℕ → Bool → List Counted → Proving
+at t is_leaf level = record { at_least = t; is_leaf = is_leaf; level = level }
+
+-- what is known of a level: its children that are not sent
+abbrev pub known_of : ℕ → Bool → List Counted → List Node
+known_of t is_leaf level = filter (λ x. not (is_sent t is_leaf x)) (children t 0 level)
+
+-- ---- one level
+
+pub two_halves : (n : ℕ) → 1 ≤ n → 2 ^ n ≡ 2 ^ (n - 1) + 2 ^ (n - 1)
+two_halves zero some = absurd (omega arith)
+two_halves (suc n) some = let one : suc n - 1 ≡ n = omega arith in rw one (pow-succ' 2 n ∙ (let twice : 2 * 2 ^ n ≡ 2 ^ n + 2 ^ n = omega arith in twice))
+
+-- a level of one pair shows it
+some_shown : (t n : ℕ) (level : List Counted) → length level ≡ 2 → counts level ≡ n → t ≤ n → is_empty (children t 0 level) ≡ false
+some_shown t n [] size sum reached = absurd (omega (arith, size))
+some_shown t n (l ∷ []) size sum reached = absurd (omega (arith, size))
+some_shown t n (l ∷ h ∷ []) size sum reached = rw (le-leb t (nat_abs l.count + nat_abs h.count) (omega (arith, sum, reached))) refl
+some_shown t n (l ∷ h ∷ x ∷ level) size sum reached = absurd (omega (arith, size))
+
+module _ (q : Asked) (j : ℕ) (is_leaf : Bool) (level : List Counted) (first : is_leaf ≡ (j == 0)) (below : j < q.depth)
+         (sum : counts level ≡ q.total) (size : length level ≡ width q j) (some : 1 ≤ q.at_least) (reached : q.at_least ≤ q.total) where
+  pub received_pass : with_nodes q j (known_of q.at_least is_leaf level) [] (shown_from q.at_least is_leaf 0 level) ≡ Ok (shown_from q.at_least is_leaf 0 level)
+  received_pass =
+      let t : ℕ = q.at_least in
+      let nodes = children t 0 level in
+      let rises : Rises 0 (width q j) nodes = children_rise t 0 (width q j) level (omega (arith, size)) in
+      let few = children_few t 0 q.total level some (omega (arith, sum)) in
+      let long = cut_long (is_sent t is_leaf) nodes in
+      let light : list_all (λ x. j == 0 || nat_lt x.count t) (filter (is_sent t is_leaf) nodes) ≡ true = subst (λ b. list_all (λ x. b || nat_lt x.count t) (filter (is_sent t is_leaf) nodes) ≡ true) first (cut_passes (is_sent t is_leaf) nodes) in
+      rw (sent_is t is_leaf 0 level) (all_pass q j (known_of t is_leaf level) 0 [] (filter (is_sent t is_leaf) nodes) refl (filter_rises (is_sent t is_leaf) 0 (width q j) nodes rises) (cut_apart (is_sent t is_leaf) 0 (width q j) nodes rises) light (omega (arith, few, long)))
+
+  pub all_merge : merged (known_of q.at_least is_leaf level) (shown_from q.at_least is_leaf 0 level) ≡ children q.at_least 0 level
+  all_merge =
+      let nodes = children q.at_least 0 level in
+      rw (sent_is q.at_least is_leaf 0 level) (merge_back (is_sent q.at_least is_leaf) 0 (width q j) nodes (children_rise q.at_least 0 (width q j) level (omega (arith, size))))
+
+  not_bare : (nat_lt (j + 1) q.depth || not (is_empty (children q.at_least 0 level))) ≡ true
+  not_bare = elim (ltb_tells (j + 1) q.depth) [
+    | inl s ↦ rw s.0 refl
+    | inr s ↦
+        let last : q.depth - j ≡ 1 = omega (arith, below, s.1) in
+        let two : length level ≡ 2 = size ∙ ap (λ n. 2 ^ n) last in
+        rw (s.0, some_shown q.at_least q.total level two sum reached) refl
+  ]
+
+  pub ends_well : end_test q j (children q.at_least 0 level) ≡ Ok tt
+  ends_well = rw (children_pair q.at_least 0 level refl, not_bare, children_heavy q.at_least 0 level, children_within q.at_least 0 q.total level (omega (arith, sum))) refl
+
+  pub level_passes : level_nodes q j (known_of q.at_least is_leaf level) (shown_from q.at_least is_leaf 0 level) ≡ Ok (children q.at_least 0 level)
+  level_passes = rw (received_pass, all_merge, ends_well) refl
+
+-- ---- all levels
+
+pub above_long : (p r n : ℕ) (level : List Counted) → length level ≡ 2 ^ suc n → length (up3 p level r) ≡ 2 ^ n
+above_long p r n level size = length-up3 p r level (2 ^ n) (size ∙ pow-succ' 2 n)
+
+pub half_size : (n : ℕ) (level : List Counted) → length level ≡ 2 ^ suc n → length level ≡ 2 ^ n + 2 ^ n
+half_size n level size = size ∙ pow-succ' 2 n ∙ (let twice : 2 * 2 ^ n ≡ 2 ^ n + 2 ^ n = omega arith in twice)
+
+left_levels : (d j n : ℕ) → j + suc n ≡ d → d - j ≡ suc n
+left_levels d j n is = omega (arith, is)
+
+pub climbs : (p : ℕ) (q : Asked) (r : ℕ) (challenges : List ℕ) (j : ℕ) (is_leaf : Bool) (level : List Counted) → 1 ≤ q.at_least → q.at_least ≤ q.total
+    → is_leaf ≡ (j == 0) → j + suc (length challenges) ≡ q.depth → AreCounts level → counts level ≡ q.total → length level ≡ 2 ^ suc (length challenges)
+    → known_after p q j (known_of q.at_least is_leaf level) (r ∷ challenges) (honest_lists p (at q.at_least is_leaf level) (r ∷ challenges))
+    ≡ Ok (filter (is_heavy q.at_least) (numbered 0 (fold (up3 p) level (r ∷ challenges))))
+unfolding known_after
+climbs p q r [] j is_leaf level some reached first depth are sum size =
+    let t : ℕ = q.at_least in
+    let left = left_levels q.depth j 0 depth in
+    rw (level_passes q j is_leaf level first (omega (arith, depth)) sum (size ∙ ap (λ n. 2 ^ n) (sym left)) some reached)
+    (ap (λ xs. Ok xs) (above_is p r t 0 level are))
+climbs p q r (s ∷ challenges) j is_leaf level some reached first depth are sum size =
+    let t : ℕ = q.at_least in
+    let n : ℕ = length challenges in
+    let left = left_levels q.depth j (suc n) depth in
+    let above = up3 p level r in
+    let long : length above ≡ 2 ^ suc n = above_long p r (suc n) level size in
+    let known : nodes_above p r (children t 0 level) ≡ known_of t false above = above_is p r t 0 level are ∙ heavy_is t (2 ^ n) 0 above (half_size n above long) in
+    let later : false ≡ (j + 1 == 0) = sym (ne_eqb (j + 1) 0 (λ e. absurd (omega (arith, e)))) in
+    rw (level_passes q j is_leaf level first (omega (arith, depth)) sum (size ∙ ap (λ m. 2 ^ m) (sym left)) some reached, known)
+    (climbs p q s challenges (j + 1) false above some reached later (omega (arith, depth)) (above_are p r level are) (above_counts p r (2 ^ suc n) level are (half_size (suc n) level size) ∙ sum) long)
+
+-- ---- the leaves
+
+whole_number : (a : ℤ) → pos 0 ≤ℤ a → a ≡ pos (nat_abs a)
+whole_number (pos n) h = refl
+whole_number (negsuc n) h = absurd h.le
+
+pub leaves_are : (p : ℕ) (numbers : List ℤ) → All (λ a. pos 0 ≤ℤ a) numbers → AreCounts (map (leaf p) numbers)
+leaves_are p [] strict = tt
+leaves_are p (a ∷ numbers) strict = (whole_number a (All-head (λ b. pos 0 ≤ℤ b) a numbers strict), leaves_are p numbers (All-tail (λ b. pos 0 ≤ℤ b) a numbers strict))
+
+pub leaves_sum : (p : ℕ) (numbers : List ℤ) → All (λ a. pos 0 ≤ℤ a) numbers → int_sum numbers ≡ pos (counts (map (leaf p) numbers))
+leaves_sum p [] strict = refl
+leaves_sum p (a ∷ numbers) strict =
+    ap (λ z. z +ℤ int_sum numbers) (whole_number a (All-head (λ b. pos 0 ≤ℤ b) a numbers strict))
+    ∙ ap (λ z. pos (nat_abs a) +ℤ z) (leaves_sum p numbers (All-tail (λ b. pos 0 ≤ℤ b) a numbers strict))
+
+-- the heavy leaves are the heavy entries
+heavy_filtered : (t : ℕ) (xs : List Node) → heavy_entries t (filter (is_heavy t) xs) ≡ heavy_entries t xs
+heavy_filtered t [] = refl
+heavy_filtered t (x ∷ xs) = elim (leb_tells t x.count) [
+  | inl s ↦
+      let heavy : nat_lt x.count t ≡ false = elim (ltb_tells x.count t) [ inl u ↦ absurd (omega (arith, s.1, u.1)) | inr u ↦ u.0 ] in
+      rw (heavy, s.0) (ap (λ es. (let e : Entry = record { index = x.index; value = pos x.count } in e) ∷ es) (heavy_filtered t xs))
+  | inr s ↦
+      let light : nat_lt x.count t ≡ true = lt-ltb x.count t s.1 in
+      rw (light, s.0) (heavy_filtered t xs)
+]
+
+pub heavy_numbers : (p t i : ℕ) (numbers : List ℤ) → All (λ a. pos 0 ≤ℤ a) numbers
+    → heavy_entries t (numbered i (map (leaf p) numbers)) ≡ filter (λ e. int_le (pos t) e.value) (map as_entry (enumerate_from i numbers))
+heavy_numbers p t i [] strict = refl
+heavy_numbers p t i (a ∷ numbers) strict =
+    let is = whole_number a (All-head (λ b. pos 0 ≤ℤ b) a numbers strict) in
+    let one : suc i ≡ i + 1 = omega arith in
+    let rest : heavy_entries t (numbered (suc i) (map (leaf p) numbers)) ≡ filter (λ e. int_le (pos t) e.value) (map as_entry (enumerate_from (i + 1) numbers)) = rw one (heavy_numbers p t (i + 1) numbers (All-tail (λ b. pos 0 ≤ℤ b) a numbers strict)) in
+    let same : int_le (pos t) a ≡ nat_le t (nat_abs a) = ap (int_le (pos t)) is in
+    elim (cases_Bool (nat_le t (nat_abs a))) [
+      | inl s ↦ rw (same, s) (rw (sym is) (ap (λ es. as_entry (i, a) ∷ es) rest))
+      | inr s ↦ rw (same, s) rest
+    ]
+
+-- ---- the top
+
+-- one node is left, and it has the sum of all counts
+pub top_is : (p n : ℕ) (challenges : List ℕ) (level : List Counted) → length level ≡ 2 ^ length challenges → AreCounts level → counts level ≡ n
+    → (x : Counted) × (fold (up3 p) level challenges ≡ x ∷ []) × (nat_abs x.count ≡ n)
+top_is p n [] [] size are sum = absurd (omega (arith, size))
+top_is p n [] (x ∷ []) size are sum = (x, refl, omega (arith, sum))
+top_is p n [] (x ∷ y ∷ level) size are sum = absurd (omega (arith, size))
+top_is p n (r ∷ challenges) level size are sum =
+    top_is p n challenges (up3 p level r) (above_long p r (length challenges) level size) (above_are p r level are) (above_counts p r (2 ^ length challenges) level are (half_size (length challenges) level size) ∙ sum)
+
+pub none_known : (t : ℕ) (xs : List Node) → filter (λ x. not (is_sent t true x)) xs ≡ []
+none_known t [] = refl
+none_known t (x ∷ xs) = none_known t xs
+
+pub top_passes : (q : Asked) (root : ℕ) (x : Counted) (top : List Counted) → top ≡ x ∷ [] → nat_abs x.count ≡ q.total → x.hash ≡ root → q.at_least ≤ q.total
+    → top_test q root (filter (is_heavy q.at_least) (numbered 0 top)) ≡ Ok tt
+top_passes q root x top is sum same reached =
+    let heavy : nat_lt (nat_abs x.count) q.at_least ≡ false = elim (ltb_tells (nat_abs x.count) q.at_least) [ inl u ↦ absurd (omega (arith, u.1, sum, reached)) | inr u ↦ u.0 ] in
+    rw (is, heavy, eq-eqb (nat_abs x.count) q.total sum, eq-eqb x.hash root same) refl
+
+verdict_by : (p : ℕ) (q : Asked) (root : ℕ) (challenges : List ℕ) (replies : List (List Node)) (top : List Node) → known_after p q 0 [] challenges replies ≡ Ok top → top_test q root top ≡ Ok tt
+    → verdict p q root challenges replies ≡ Ok (heavy_entries q.at_least (leaves_of replies))
+unfolding verdict
+verdict_by p q root challenges replies top known test = rw (known, test) refl
+
+-- ---- the verdict
+
+module _ (p depth t n : ℕ) (numbers : List ℤ) (can : CanBeFound p depth t n numbers) where
+  abbrev pub asked : Asked
+  asked = record { depth = depth; at_least = t; total = n }
+
+  pub total_is : counts (map (leaf p) numbers) ≡ n
+  total_is = ap nat_abs (sym (leaves_sum p numbers can.strict) ∙ can.total)
+
+  pub stated : heavy_entries t (children t 0 (map (leaf p) numbers)) ≡ heavy_of t numbers
+  stated = sym (heavy_filtered t (children t 0 (map (leaf p) numbers)))
+      ∙ ap (heavy_entries t) (sym (heavy_is t (2 ^ (depth - 1)) 0 (map (leaf p) numbers) (length-map numbers (leaf p) ∙ can.size ∙ two_halves depth can.levels)))
+      ∙ heavy_filtered t (numbered 0 (map (leaf p) numbers))
+      ∙ heavy_numbers p t 0 numbers can.strict
+
+  pub lists_accepted : (challenges : List ℕ) → length challenges ≡ depth → verdict p asked (augroot p numbers challenges).hash challenges (honest_lists p (begun p numbers t) challenges) ≡ Ok (heavy_of t numbers)
+  lists_accepted [] size = absurd (omega (arith, size, can.levels))
+  lists_accepted (r ∷ challenges) size =
+      let level : List Counted = map (leaf p) numbers in
+      let cs : List ℕ = r ∷ challenges in
+      let are = leaves_are p numbers can.strict in
+      let long : length level ≡ 2 ^ suc (length challenges) = length-map numbers (leaf p) ∙ can.size ∙ ap (λ d. 2 ^ d) (sym size) in
+      let climbed = rw (none_known t (children t 0 level)) at (climbs p asked r challenges 0 true level can.some can.reached refl (omega (arith, size)) are total_is long) in
+      let top = top_is p n cs level long are total_is in
+      let same : top.0.hash ≡ (augroot p numbers cs).hash = ap (λ (xs : List Counted). (get_or xs 0 (leaf p (pos 0))).hash) (sym top.1) in
+      verdict_by p asked (augroot p numbers cs).hash cs (honest_lists p (begun p numbers t) cs) (filter (is_heavy t) (numbered 0 (fold (up3 p) level cs))) climbed
+      (top_passes asked (augroot p numbers cs).hash top.0 (fold (up3 p) level cs) top.1 top.2 same can.reached)
+      ∙ ap (λ es. Ok es) stated

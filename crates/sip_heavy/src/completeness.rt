@@ -1,0 +1,111 @@
+//! Laws: honest replies are accepted, and what they state is the answer. These functions do nothing: each contract is a fact
+//! that holds.
+
+ghost use Rattle.std.specs.Prelude.{◌≡◌, ℕ, ◌<◌, ◌≤◌, ℤ, pos, ◌≤ℤ◌, All, IsTrue, List, [], ◌∷◌, ◌++◌, length, Ok};
+ghost use Rattle.sip_field.specs.Moduli.{m61_modulus};
+ghost use Rattle.sip_vector.specs.declared.query.Query.TheVariants as queries;
+ghost use Rattle.sip_vector.specs.declared.update.Side.{Side as AnySide};
+ghost use Rattle.sip_vector.specs.declared.update.Update.{Update as AnyUpdate};
+ghost use Rattle.sip_vector.specs.Answers.{answer, pairs};
+ghost use Rattle.sip_vector.specs.Examples.{four};
+ghost use Rattle.sip_vector.specs.Streams.{int_sum, total, vector, IsLegal, IsStrict};
+ghost use Rattle.sip_vector.specs.Trees.{augroot};
+ghost use Rattle.sip_wire.specs.Spelling.{fits};
+ghost use Rattle.sip_wire.specs.Versions.{deepest};
+ghost use Rattle.sip_wire.specs.declared.version.Version.{Version};
+ghost use Rattle.sip_wire.specs.declared.version.Version.TheVariants.{One, Two};
+ghost use Rattle.sip_replies.specs.Replies.{IsAccepted, IsUnfinished};
+ghost use Rattle.sip_heavy.specs.AcceptsHeavy.{verdict};
+ghost use Rattle.sip_heavy.specs.Honest.{begun, learnt, proving, honest_lists, honest_messages, honest_reply, honest_replies, heavy_of, CanBeFound, CanBeSent};
+ghost use Rattle.sip_heavy.specs.HonestExamples.{level_end, reply_0, reply_1};
+ghost use Rattle.sip_heavy.specs.Protocol.{heavy_asked, heavy_protocol, heavy_rules};
+
+/// A prover that learns the challenges one after another comes to the levels of the augmented tree that they lead to.
+pub fn provers_go_up()
+    ensures begun { (p : ℕ) (numbers : List ℤ) (t : ℕ)
+        → proving p numbers t [] ≡ begun p numbers t }
+    ensures learnt { (p : ℕ) (numbers : List ℤ) (t : ℕ) (prefix : List ℕ) (r : ℕ)
+        → proving p numbers t (prefix ++ r ∷ []) ≡ learnt p (proving p numbers t prefix) r }
+{}
+
+/// What can be sent has a spelling: each honest message, in its version.
+pub fn honest_messages_have_spellings()
+    ensures { (version : Version) (p depth t n : ℕ) (numbers : List ℤ)
+        → CanBeSent version p depth t n numbers → (revealed : List ℕ)
+        → All (λ m. IsTrue (fits version m)) (honest_messages p numbers t revealed) }
+{}
+
+/// The honest nodes, level by level, are accepted against the root of the vector, and what they state is its heavy entries.
+pub fn honest_lists_are_accepted()
+    ensures { (p depth t n : ℕ) (numbers : List ℤ) (challenges : List ℕ)
+        → CanBeFound p depth t n numbers → length challenges ≡ depth
+        → verdict p (record { depth = depth; at_least = t; total = n })
+        (augroot p numbers challenges).hash challenges
+        (honest_lists p (begun p numbers t) challenges)
+        ≡ Ok (heavy_of t numbers) }
+{}
+
+/// The honest replies about a vector whose heavy entries can be sent are accepted against its root and its sum, and what they
+/// state is its heavy entries.
+pub fn honest_replies_are_accepted()
+    ensures { (version : Version) (p depth t n : ℕ) (numbers : List ℤ) (challenges : List ℕ)
+        → CanBeSent version p depth t n numbers → length challenges ≡ depth
+        → IsAccepted
+        (heavy_protocol (heavy_asked version p (augroot p numbers challenges).hash
+        (int_sum numbers) depth t))
+        challenges (honest_replies version p numbers t challenges)
+        (pairs (heavy_of t numbers)) }
+{}
+
+/// While honest replies come they have no fault, but that more is to come: neither where the last one is whole, nor where a front
+/// of it was taken.
+pub fn honest_replies_have_no_fault()
+    ensures whole { (version : Version) (p depth t n : ℕ) (numbers : List ℤ)
+        (revealed more : List ℕ) → CanBeSent version p depth t n numbers
+        → length (revealed ++ more) ≤ depth
+        → IsUnfinished
+        (heavy_rules version p (record { depth = depth; at_least = t; total = n }))
+        (revealed ++ more) (honest_replies version p numbers t revealed) }
+    ensures front { (version : Version) (p depth t n : ℕ) (numbers : List ℤ)
+        → CanBeSent version p depth t n numbers
+        → (revealed : List ℕ) (r : ℕ) (more front rest : List ℕ)
+        → length (revealed ++ r ∷ more) ≤ depth
+        → honest_reply version p numbers t revealed ≡ front ++ rest
+        → IsUnfinished
+        (heavy_rules version p (record { depth = depth; at_least = t; total = n }))
+        (revealed ++ r ∷ more)
+        (honest_replies version p numbers t revealed ++ front ∷ []) }
+{}
+
+/// Below the threshold nothing is asked, and the answer without a reply is right: no entry is heavy.
+pub fn nothing_is_asked_below()
+    ensures { (version : Version) (p hash depth t n : ℕ) (numbers : List ℤ) (challenges : List ℕ)
+        → All (λ a. pos 0 ≤ℤ a) numbers → int_sum numbers ≡ pos n → n < t
+        → IsAccepted
+        (heavy_protocol (heavy_asked version p hash (int_sum numbers) depth t))
+        challenges [] (pairs (heavy_of t numbers)) }
+{}
+
+/// What is sent about a legal stream is its answer: where no entry of the side is negative, and its total reaches the threshold.
+pub fn legal_streams_are_answered()
+    ensures sent { (version : Version) (depth t n : ℕ) (stream : List AnyUpdate) (side : AnySide)
+        → IsLegal depth stream → IsStrict depth stream side → 1 ≤ depth
+        → depth ≤ deepest version → 1 ≤ t → total stream side ≡ pos n → t ≤ n
+        → CanBeSent version m61_modulus depth t n (vector depth stream side) }
+    ensures total { (depth : ℕ) (stream : List AnyUpdate) (side : AnySide)
+        → IsLegal depth stream → total stream side ≡ int_sum (vector depth stream side) }
+    ensures answer { (depth t : ℕ) (stream : List AnyUpdate) (side : AnySide)
+        → answer depth stream (queries.Heavy side t)
+        ≡ pairs (heavy_of t (vector depth stream side)) }
+{}
+
+/// The honest replies about the entries of at least 4 of (3, 0, 5, 1), in both versions, and where no entry is heavy.
+#[tactic(auto, unfolding(crate::specs::Honest::honest_messages, sip_wire::specs::Spelling::spelling, sip_wire::specs::Spelling::in_bytes, sip_wire::specs::Spelling::spelled))]
+pub fn honest_replies_by_hand()
+    ensures four { honest_replies One m61_modulus four 4 (2 ∷ 10 ∷ [])
+        ≡ reply_0 One ∷ reply_1 One ∷ [] }
+    ensures wide_four { honest_replies Two m61_modulus four 4 (2 ∷ 10 ∷ [])
+        ≡ reply_0 Two ∷ reply_1 Two ∷ [] }
+    ensures none { honest_replies One m61_modulus four 10 (2 ∷ 10 ∷ [])
+        ≡ level_end ∷ level_end ∷ [] }
+{}
