@@ -36,7 +36,7 @@ use Rattle.sip_heavy.proofs.ReadNodes.{nodes_said, reply_read}
 use Rattle.sip_heavy.proofs.SaidBytes.{leaves_first}
 use Rattle.sip_heavy.proofs.TrueLevels.{sum_positive}
 
-abbrev as_entry : ℕ → ℤ → Entry
+abbrev pub as_entry : ℕ → ℤ → Entry
 as_entry i z = record { index = i; value = z }
 
 -- ---- replies that are accepted
@@ -97,12 +97,12 @@ none_fit q (x ∷ xs) all less e =
     let most : most_nodes q ≡ 0 = ap (λ n. 2 * n) (div-eq_of_lt less) in
     absurd (no_room (is_next q 0 [] [] x.index) (nat_lt 0 (most_nodes q)) true (with_nodes q 0 [] (x ∷ []) xs) all (ap (nat_lt 0) most) e)
 
-positive_is : (z : ℤ) → pos 0 ≤ℤ z → (n : ℕ) × (z ≡ pos n)
+pub positive_is : (z : ℤ) → pos 0 ≤ℤ z → (n : ℕ) × (z ≡ pos n)
 positive_is (pos n) least = (n, refl)
 positive_is (negsuc n) least = absurd (omega (arith, ints, least))
 
 -- no number is as much as a threshold above their sum
-none_heavy : (t i : ℕ) (numbers : List ℤ) → AllByRecursion (λ a. pos 0 ≤ℤ a) numbers → (n : ℕ) → int_sum numbers ≡ pos n → n < t → filter (λ e. int_le (pos t) e.value) (map (λ x. as_entry x.0 x.1) (enumerate_from i numbers)) ≡ []
+pub none_heavy : (t i : ℕ) (numbers : List ℤ) → AllByRecursion (λ a. pos 0 ≤ℤ a) numbers → (n : ℕ) → int_sum numbers ≡ pos n → n < t → filter (λ e. int_le (pos t) e.value) (map (λ x. as_entry x.0 x.1) (enumerate_from i numbers)) ≡ []
 none_heavy t i [] strict n sum less = refl
 none_heavy t i (negsuc k ∷ numbers) strict n sum less = absurd (omega (arith, ints, strict.0))
 none_heavy t i (pos k ∷ numbers) strict n sum less =

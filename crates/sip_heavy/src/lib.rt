@@ -6,6 +6,7 @@ mod check;
 pub mod counting;
 pub mod laws;
 mod level;
+pub mod shares;
 mod space;
 
 pub use asking::HeavyAsking;
