@@ -16,10 +16,33 @@ use Rattle.sip_vector.proofs.Filters.{as_entry}
 use Rattle.sip_vector.proofs.TreeCounted.{length-up3}
 use Rattle.sip_wire.specs.declared.message.Node.{Node}
 use Rattle.sip_heavy.specs.AcceptsHeavy.{Asked, most_nodes, width, merged, with_nodes, end_test, level_nodes, nodes_above, known_after, top_test, verdict, heavy_entries, leaves_of, are_pairs, pair_counts, is_empty}
-use Rattle.sip_heavy.specs.Honest.{Proving, begun, learnt, its_nodes, node_at, shown_from, honest_lists, CanBeFound, heavy_of}
+use Rattle.sip_heavy.specs.Honest.{Proving, begun, learnt, its_nodes, node_at, shown_from, honest_lists, CanBeCounted, heavy_of}
 use Rattle.sip_heavy.specs.Rising.{Rises}
 use Rattle.sip_heavy.proofs.Cuts.{ltb_tells, merge_back, filter_rises, cut_apart, cut_long, cut_passes, all_pass}
 use Rattle.sip_heavy.proofs.HeavyPairs.{counts, AreCounts, numbered, children, children_rise, children_pair, children_heavy, children_within, children_few, is_sent, sent_is, is_heavy, heavy_is, above_is, above_counts, above_are, count_sum}
+
+-- a threshold of at least 1 that the sum of a vector reaches
+pub record CanBeFound (p depth t n : ℕ) (numbers : List ℤ) : Type 0 where
+  pub modulus : 0 < p
+  pub levels : 1 ≤ depth
+  pub size : length numbers ≡ 2 ^ depth
+  pub strict : All (λ a. pos 0 ≤ℤ a) numbers
+  pub total : int_sum numbers ≡ pos n
+  pub light : n < p
+  pub some : 1 ≤ t
+  pub reached : t ≤ n
+
+pub found_by : (p depth t n : ℕ) (numbers : List ℤ) → CanBeCounted p depth n numbers → 1 ≤ t → t ≤ n → CanBeFound p depth t n numbers
+found_by p depth t n numbers can some reached = record {
+  modulus = can.modulus;
+  levels = can.levels;
+  size = can.size;
+  strict = can.strict;
+  total = can.total;
+  light = can.light;
+  some = some;
+  reached = reached;
+}
 
 abbrev at : ℕ → Bool → List Counted → Proving
 at t is_leaf level = record { at_least = t; is_leaf = is_leaf; level = level }
@@ -42,7 +65,7 @@ some_shown t n (l ∷ h ∷ []) size sum reached = rw (le-leb t (nat_abs l.count
 some_shown t n (l ∷ h ∷ x ∷ level) size sum reached = absurd (omega (arith, size))
 
 module _ (q : Asked) (j : ℕ) (is_leaf : Bool) (level : List Counted) (first : is_leaf ≡ (j == 0)) (below : j < q.depth)
-         (sum : counts level ≡ q.total) (size : length level ≡ width q j) (some : 1 ≤ q.at_least) (reached : q.at_least ≤ q.total) where
+    (sum : counts level ≡ q.total) (size : length level ≡ width q j) (some : 1 ≤ q.at_least) (reached : q.at_least ≤ q.total) where
   pub received_pass : with_nodes q j (known_of q.at_least is_leaf level) [] (shown_from q.at_least is_leaf 0 level) ≡ Ok (shown_from q.at_least is_leaf 0 level)
   received_pass =
       let t : ℕ = q.at_least in

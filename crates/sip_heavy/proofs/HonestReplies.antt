@@ -21,7 +21,7 @@ use Rattle.sip_wire.specs.Versions.{index_width, deepest}
 use Rattle.sip_replies.specs.Protocols.{Rules}
 use Rattle.sip_replies.specs.Replies.{Fault, in_round, learnt as learnt_by, read_reply, run_from, run, verdict, IsAccepted, IsUnfinished}
 use Rattle.sip_heavy.specs.AcceptsHeavy.{Asked, merged, with_nodes, end_test, nodes_above, top_test, heavy_entries}
-use Rattle.sip_heavy.specs.Honest.{Proving, begun, learnt, is_first, proving, its_nodes, shown_from, opening_frames, honest_messages, honest_reply, honest_replies, CanBeFound, CanBeSent, heavy_of}
+use Rattle.sip_heavy.specs.Honest.{Proving, begun, learnt, is_first, proving, its_nodes, shown_from, opening_frames, honest_messages, honest_reply, honest_replies, heavy_of}
 use Rattle.sip_heavy.specs.Protocol.{HeavyState, leaf_nodes, ended, heavy_rules, heavy_asked, heavy_protocol}
 use Rattle.sip_heavy.proofs.HeavyPairs.{counts, AreCounts, numbered, children, is_sent, is_heavy, heavy_is, above_is, above_counts, above_are}
 use Rattle.sip_heavy.proofs.HonestFrames.{AreHashed, AreLeaves, IsNodeRow, room_below, shown_rows, above_hashed, leaves_hashed, leaves_are_leaves, leaves_back}

@@ -1,5 +1,5 @@
 -- Each message of an honest helper has a spelling in its version.
-use Rattle.std.proofs.Common.{◌≡◌, ℕ, zero, suc, ◌+◌, ◌*◌, ◌/◌, ◌^◌, ◌<◌, ◌≤◌, Bool, true, false, List, [], ◌∷◌, ◌++◌, length, take, drop, map, fold, All, ℤ, refl, sym, ap, subst, ◌∙◌, arith}
+use Rattle.std.proofs.Common.{◌≡◌, ℕ, zero, suc, ◌+◌, ◌*◌, ◌/◌, ◌^◌, ◌<◌, ◌≤◌, Bool, true, false, List, [], ◌∷◌, ◌++◌, length, take, drop, map, fold, All, ℤ, nat_abs, refl, sym, ap, subst, ◌∙◌, arith}
 use Rattle.std.specs.Prelude.{IsTrue}
 use Rattle.std.proofs.lemmas.List.{length-drop, length-take, length-map}
 use Rattle.std.proofs.lemmas.List.Elements.{All-nil, All-cons, All-append, All-take, All-drop}
@@ -16,7 +16,7 @@ use Rattle.sip_wire.specs.Versions.{index_width}
 use Rattle.sip_heavy.specs.Honest.{Proving, proving, its_nodes, leaf_of, leaf_frames, node_frames, opening_frames, shown_from, honest_messages, CanBeSent}
 use Rattle.sip_heavy.proofs.HeavyPairs.{counts, AreCounts, above_are, count_sum, abs_sum}
 use Rattle.sip_heavy.proofs.HonestFrames.{AreHashed, IsLeafRow, IsNodeRow, leaves_fit, nodes_fit, end_fits, leaf_rows, room_below, shown_rows, above_hashed, leaves_hashed}
-use Rattle.sip_heavy.proofs.HonestLists.{leaves_are, total_is}
+use Rattle.sip_heavy.proofs.HonestLists.{leaves_are, leaves_sum}
 
 module _ (version : Version) where
   HasSpelling : Message → Type 0
@@ -80,20 +80,20 @@ room_above p n w some level (r ∷ prefix) room =
       hashed = above_hashed p r some level;
     })
 
-module _ (version : Version) (p depth t n : ℕ) (numbers : List ℤ) (can : CanBeSent version p depth t n numbers) where
+module _ (version : Version) (p depth n : ℕ) (numbers : List ℤ) (can : CanBeSent version p depth n numbers) where
   leaves_room : HasRoom p n (256 ^ index_width version) (map (leaf p) numbers)
   leaves_room = record {
-    are = leaves_are p numbers can.found.strict;
-    sum = omega (arith, total_is p depth t n numbers can.found);
-    size = omega (arith, length-map numbers (leaf p), can.found.size, room_below version depth can.shallow);
-    hashed = leaves_hashed p can.found.modulus numbers;
+    are = leaves_are p numbers can.counted.strict;
+    sum = omega (arith, ap nat_abs (sym (leaves_sum p numbers can.counted.strict) ∙ can.counted.total));
+    size = omega (arith, length-map numbers (leaf p), can.counted.size, room_below version depth can.shallow);
+    hashed = leaves_hashed p can.counted.modulus numbers;
   }
 
-  pub messages_fit : (revealed : List ℕ) → All (λ m. IsTrue (fits version m)) (honest_messages p numbers t revealed)
+  pub messages_fit : (t : ℕ) (revealed : List ℕ) → All (λ m. IsTrue (fits version m)) (honest_messages p numbers t revealed)
   unfolding honest_messages HasSpelling
-  messages_fit revealed =
+  messages_fit t revealed =
       let s = proving p numbers t revealed in
-      let room = room_above p n (256 ^ index_width version) can.found.modulus (map (leaf p) numbers) revealed leaves_room in
-      let rows = shown_rows version t s.is_leaf p n can.elements (omega (arith, can.found.light, can.elements)) 0 s.level (omega (arith, room.size)) room.hashed room.sum in
+      let room = room_above p n (256 ^ index_width version) can.counted.modulus (map (leaf p) numbers) revealed leaves_room in
+      let rows = shown_rows version t s.is_leaf p n can.elements (omega (arith, can.counted.light, can.elements)) 0 s.level (omega (arith, room.size)) room.hashed room.sum in
       All-append (HasSpelling version) (opening_frames s) (messages.LevelEnd ∷ []) (opening_fit version s rows)
       (All-cons (HasSpelling version) messages.LevelEnd [] (end_fits version) (All-nil (HasSpelling version)))

@@ -17,7 +17,7 @@ use Rattle.sip_wire.specs.Versions.{deepest}
 use Rattle.sip_replies.specs.Protocols.{Protocol}
 use Rattle.sip_replies.specs.Replies.{IsStated, IsAccepted}
 use Rattle.sip_heavy.specs.AcceptsHeavy.{heavy_entries}
-use Rattle.sip_heavy.specs.Honest.{CanBeFound, CanBeSent, heavy_of}
+use Rattle.sip_heavy.specs.Honest.{CanBeSent, heavy_of}
 use Rattle.sip_heavy.specs.Protocol.{HeavyState, heavy_asked, heavy_protocol}
 use Rattle.sip_heavy.proofs.HeavyPairs.{counts, numbered}
 use Rattle.sip_heavy.proofs.HonestLists.{leaves_sum, heavy_numbers}
@@ -30,20 +30,18 @@ side_light : (depth : ℕ) (stream : List Update) (side : Side) → IsLegal dept
 side_light depth stream First legal = legal.first
 side_light depth stream Second legal = legal.second
 
-pub legal_sent : (version : Version) (depth t n : ℕ) (stream : List Update) (side : Side) → IsLegal depth stream → IsStrict depth stream side → 1 ≤ depth → depth ≤ deepest version → 1 ≤ t
-    → total stream side ≡ pos n → t ≤ n → CanBeSent version m61_modulus depth t n (vector depth stream side)
-legal_sent version depth t n stream side legal strict levels shallow some is reached =
+pub legal_sent : (version : Version) (depth n : ℕ) (stream : List Update) (side : Side) → IsLegal depth stream → IsStrict depth stream side → 1 ≤ depth → depth ≤ deepest version
+    → total stream side ≡ pos n → CanBeSent version m61_modulus depth n (vector depth stream side)
+legal_sent version depth n stream side legal strict levels shallow is =
     let few : n ≤ most_weight = omega (arith, ap nat_abs is, sum_light (of_side stream side), side_light depth stream side legal) in
     record {
-      found = record {
+      counted = record {
         modulus = omega arith;
         levels = levels;
         size = length-vector depth stream side;
         strict = strict;
         total = sym (total-is depth stream side legal.items) ∙ is;
         light = omega (arith, few);
-        some = some;
-        reached = reached;
       };
       elements = omega arith;
       shallow = shallow;
@@ -70,8 +68,8 @@ none_asked version p hash depth t n numbers challenges strict sum less =
     (by_reach (nat_le t n) (elim (leb_tells t n) [ inl s ↦ absurd (omega (arith, s.1, less)) | inr s ↦ s.0 ]))
   where
     by_reach : (b : Bool) → b ≡ false → elim (if b then None else Some (pairs [])) as (λ (u : Option Answer). Type 0) [
-        | None ↦ IsStated (heavy_protocol (heavy_asked version p hash (pos n) depth t)) challenges [] (pairs (heavy_of t numbers))
-        | Some known ↦ (let none : List (List ℕ) = [] in none ≡ []) × (pairs (heavy_of t numbers) ≡ known)
-      ]
+      | None ↦ IsStated (heavy_protocol (heavy_asked version p hash (pos n) depth t)) challenges [] (pairs (heavy_of t numbers))
+      | Some known ↦ (let none : List (List ℕ) = [] in none ≡ []) × (pairs (heavy_of t numbers) ≡ known)
+    ]
     by_reach true e = absurd cc
     by_reach false e = (refl, ap (λ es. pairs es) (no_heavy p t n numbers strict sum less))

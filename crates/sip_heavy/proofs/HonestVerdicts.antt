@@ -5,12 +5,14 @@ use Rattle.std.specs.List.{flat_map}
 use Rattle.std.proofs.lemmas.Bool.{le-leb}
 use Rattle.std.proofs.lemmas.List.{length-map}
 use Rattle.std.proofs.lemmas.List.FromFn.{length-map-range_with_len}
+use Rattle.sip_field.specs.Moduli.{m61_modulus}
 use Rattle.sip_vector.specs.Answers.{Answer, pairs}
 use Rattle.sip_vector.specs.Streams.{int_sum}
 use Rattle.sip_vector.specs.Trees.{Counted, leaf, up3, augroot}
 use Rattle.sip_wire.specs.declared.message.Node.{Node}
 use Rattle.sip_wire.specs.declared.message.Reason.{Reason}
 use Rattle.sip_wire.specs.declared.version.Version.{Version}
+use Rattle.sip_wire.specs.Versions.{deepest}
 use Rattle.sip_replies.specs.Protocols.{Rules, Protocol}
 use Rattle.sip_replies.specs.Replies.{Fault, read_reply, run, verdict, IsStated, IsAccepted, IsUnfinished}
 use Rattle.sip_replies.proofs.Fronts.{reply_front}
@@ -21,7 +23,7 @@ use Rattle.sip_heavy.specs.Honest.{Proving, begun, learnt, proving, shown_from, 
 use Rattle.sip_heavy.specs.Protocol.{HeavyState, HeavyAsked, heavy_rules, heavy_asked, heavy_protocol}
 use Rattle.sip_heavy.proofs.HeavyPairs.{counts, numbered, children, is_heavy}
 use Rattle.sip_heavy.proofs.HonestFrames.{leaves_hashed, leaves_are_leaves}
-use Rattle.sip_heavy.proofs.HonestLists.{leaves_are, top_is, top_passes, stated, total_is}
+use Rattle.sip_heavy.proofs.HonestLists.{CanBeFound, found_by, leaves_are, top_is, top_passes, stated, total_is}
 use Rattle.sip_heavy.proofs.HonestReplies.{walk, fronts_walk, walk_snoc, proving-push, Stands, at, arrives, later, reply_of, replies_of, runs}
 
 -- ---- where all challenges lead
@@ -52,7 +54,16 @@ accepted_by P rs replies answer asks is = by_unasked P.unasked asks
 abbrev unasked_by : Bool → Option Answer
 unasked_by b = if b then None else Some (pairs [])
 
-module _ (version : Version) (p depth t n : ℕ) (numbers : List ℤ) (can : CanBeSent version p depth t n numbers) where
+-- what can be sent, for a threshold that can be found
+pub record IsAsked (version : Version) (p depth t n : ℕ) (numbers : List ℤ) : Type 0 where
+  pub found : CanBeFound p depth t n numbers
+  pub elements : p ≤ m61_modulus
+  pub shallow : depth ≤ deepest version
+
+pub asked_of : (version : Version) (p depth t n : ℕ) (numbers : List ℤ) → CanBeSent version p depth n numbers → 1 ≤ t → t ≤ n → IsAsked version p depth t n numbers
+asked_of version p depth t n numbers can some reached = record { found = found_by p depth t n numbers can.counted some reached; elements = can.elements; shallow = can.shallow }
+
+module _ (version : Version) (p depth t n : ℕ) (numbers : List ℤ) (can : IsAsked version p depth t n numbers) where
   abbrev q : Asked
   q = record { depth = depth; at_least = t; total = n }
 

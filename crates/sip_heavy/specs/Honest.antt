@@ -120,25 +120,23 @@ abbrev pub honest_lists : ℕ → Proving → List ℕ → List (List Node)
 honest_lists p s [] = []
 honest_lists p s (r ∷ challenges) = its_nodes s ∷ honest_lists p (learnt p s r) challenges
 
--- The heavy entries of a vector can be found: no number is negative, and their sum, which is n,
--- reaches the threshold and is itself a residue.
-pub record CanBeFound (p depth t n : ℕ) (numbers : List ℤ) : Type 0 where
+-- the entries of at least t
+abbrev pub heavy_of : ℕ → List ℤ → List Entry
+heavy_of t numbers = filter (λ e. int_le (pos t) e.value) (entries numbers)
+
+-- The entries of a vector can be counted: none is negative, and their sum, which is n, is itself a
+-- residue.
+pub record CanBeCounted (p depth n : ℕ) (numbers : List ℤ) : Type 0 where
   pub modulus : 0 < p
   pub levels : 1 ≤ depth
   pub size : length numbers ≡ 2 ^ depth
   pub strict : All (λ a. pos 0 ≤ℤ a) numbers
   pub total : int_sum numbers ≡ pos n
   pub light : n < p
-  pub some : 1 ≤ t
-  pub reached : t ≤ n
 
--- the entries of at least t
-abbrev pub heavy_of : ℕ → List ℤ → List Entry
-heavy_of t numbers = filter (λ e. int_le (pos t) e.value) (entries numbers)
-
--- They can be sent: the version has items of the vector's depth, and messages have room for the
--- field.
-pub record CanBeSent (version : Version) (p depth t n : ℕ) (numbers : List ℤ) : Type 0 where
-  pub found : CanBeFound p depth t n numbers
+-- The nodes over them can be sent: the version has items of the vector's depth, and messages have
+-- room for the field.
+pub record CanBeSent (version : Version) (p depth n : ℕ) (numbers : List ℤ) : Type 0 where
+  pub counted : CanBeCounted p depth n numbers
   pub elements : p ≤ m61_modulus
   pub shallow : depth ≤ deepest version

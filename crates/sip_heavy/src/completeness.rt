@@ -1,7 +1,7 @@
 //! Laws: honest replies are accepted, and what they state is the answer. These functions do nothing: each contract is a fact
 //! that holds.
 
-ghost use Rattle.std.specs.Prelude.{◌≡◌, ℕ, ◌<◌, ◌≤◌, ℤ, pos, ◌≤ℤ◌, All, IsTrue, List, [], ◌∷◌, ◌++◌, length, Ok};
+ghost use Rattle.std.specs.Prelude.{◌≡◌, ℕ, ◌+◌, ◌<◌, ◌≤◌, nat_le, ℤ, pos, ◌≤ℤ◌, All, IsTrue, List, [], ◌∷◌, ◌++◌, length, filter, slice_get, Some, None, Ok};
 ghost use Rattle.sip_field.specs.Moduli.{m61_modulus};
 ghost use Rattle.sip_vector.specs.declared.query.Query.TheVariants as queries;
 ghost use Rattle.sip_vector.specs.declared.update.Side.{Side as AnySide};
@@ -10,13 +10,14 @@ ghost use Rattle.sip_vector.specs.Answers.{answer, pairs};
 ghost use Rattle.sip_vector.specs.Examples.{four};
 ghost use Rattle.sip_vector.specs.Streams.{int_sum, total, vector, IsLegal, IsStrict};
 ghost use Rattle.sip_vector.specs.Trees.{augroot};
+ghost use Rattle.sip_wire.specs.declared.message.Node.{Node};
 ghost use Rattle.sip_wire.specs.Spelling.{fits};
 ghost use Rattle.sip_wire.specs.Versions.{deepest};
 ghost use Rattle.sip_wire.specs.declared.version.Version.{Version};
 ghost use Rattle.sip_wire.specs.declared.version.Version.TheVariants.{One, Two};
 ghost use Rattle.sip_replies.specs.Replies.{IsAccepted, IsUnfinished};
 ghost use Rattle.sip_heavy.specs.AcceptsHeavy.{verdict};
-ghost use Rattle.sip_heavy.specs.Honest.{begun, learnt, proving, honest_lists, honest_messages, honest_reply, honest_replies, heavy_of, CanBeFound, CanBeSent};
+ghost use Rattle.sip_heavy.specs.Honest.{Proving, begun, learnt, proving, its_nodes, honest_lists, honest_messages, honest_reply, honest_replies, heavy_of, CanBeCounted, CanBeSent};
 ghost use Rattle.sip_heavy.specs.HonestExamples.{level_end, reply_0, reply_1};
 ghost use Rattle.sip_heavy.specs.Protocol.{heavy_asked, heavy_protocol, heavy_rules};
 
@@ -28,17 +29,29 @@ pub fn provers_go_up()
         → proving p numbers t (prefix ++ r ∷ []) ≡ learnt p (proving p numbers t prefix) r }
 {}
 
+/// The first node that is shown of a level, and then those after it, are all of them: so a walk finds each.
+pub fn walks_find_each_node()
+    ensures all { (s : Proving) → filter (λ x. nat_le 0 x.index) (its_nodes s) ≡ its_nodes s }
+    ensures next { (s : Proving) (from : ℕ) (x : Node)
+        → slice_get (filter (λ y. nat_le from y.index) (its_nodes s)) 0 ≡ Some x
+        → filter (λ y. nat_le from y.index) (its_nodes s)
+        ≡ x ∷ filter (λ y. nat_le (x.index + 1) y.index) (its_nodes s) }
+    ensures last { (s : Proving) (from : ℕ)
+        → slice_get (filter (λ y. nat_le from y.index) (its_nodes s)) 0 ≡ None
+        → filter (λ y. nat_le from y.index) (its_nodes s) ≡ [] }
+{}
+
 /// What can be sent has a spelling: each honest message, in its version.
 pub fn honest_messages_have_spellings()
     ensures { (version : Version) (p depth t n : ℕ) (numbers : List ℤ)
-        → CanBeSent version p depth t n numbers → (revealed : List ℕ)
+        → CanBeSent version p depth n numbers → (revealed : List ℕ)
         → All (λ m. IsTrue (fits version m)) (honest_messages p numbers t revealed) }
 {}
 
 /// The honest nodes, level by level, are accepted against the root of the vector, and what they state is its heavy entries.
 pub fn honest_lists_are_accepted()
     ensures { (p depth t n : ℕ) (numbers : List ℤ) (challenges : List ℕ)
-        → CanBeFound p depth t n numbers → length challenges ≡ depth
+        → CanBeCounted p depth n numbers → 1 ≤ t → t ≤ n → length challenges ≡ depth
         → verdict p (record { depth = depth; at_least = t; total = n })
         (augroot p numbers challenges).hash challenges
         (honest_lists p (begun p numbers t) challenges)
@@ -49,7 +62,8 @@ pub fn honest_lists_are_accepted()
 /// state is its heavy entries.
 pub fn honest_replies_are_accepted()
     ensures { (version : Version) (p depth t n : ℕ) (numbers : List ℤ) (challenges : List ℕ)
-        → CanBeSent version p depth t n numbers → length challenges ≡ depth
+        → CanBeSent version p depth n numbers → 1 ≤ t → t ≤ n
+        → length challenges ≡ depth
         → IsAccepted
         (heavy_protocol (heavy_asked version p (augroot p numbers challenges).hash
         (int_sum numbers) depth t))
@@ -61,13 +75,13 @@ pub fn honest_replies_are_accepted()
 /// of it was taken.
 pub fn honest_replies_have_no_fault()
     ensures whole { (version : Version) (p depth t n : ℕ) (numbers : List ℤ)
-        (revealed more : List ℕ) → CanBeSent version p depth t n numbers
+        (revealed more : List ℕ) → CanBeSent version p depth n numbers → 1 ≤ t → t ≤ n
         → length (revealed ++ more) ≤ depth
         → IsUnfinished
         (heavy_rules version p (record { depth = depth; at_least = t; total = n }))
         (revealed ++ more) (honest_replies version p numbers t revealed) }
     ensures front { (version : Version) (p depth t n : ℕ) (numbers : List ℤ)
-        → CanBeSent version p depth t n numbers
+        → CanBeSent version p depth n numbers → 1 ≤ t → t ≤ n
         → (revealed : List ℕ) (r : ℕ) (more front rest : List ℕ)
         → length (revealed ++ r ∷ more) ≤ depth
         → honest_reply version p numbers t revealed ≡ front ++ rest
@@ -86,12 +100,12 @@ pub fn nothing_is_asked_below()
         challenges [] (pairs (heavy_of t numbers)) }
 {}
 
-/// What is sent about a legal stream is its answer: where no entry of the side is negative, and its total reaches the threshold.
+/// What is sent about a legal stream is its answer: where no entry of the side is negative.
 pub fn legal_streams_are_answered()
-    ensures sent { (version : Version) (depth t n : ℕ) (stream : List AnyUpdate) (side : AnySide)
+    ensures sent { (version : Version) (depth n : ℕ) (stream : List AnyUpdate) (side : AnySide)
         → IsLegal depth stream → IsStrict depth stream side → 1 ≤ depth
-        → depth ≤ deepest version → 1 ≤ t → total stream side ≡ pos n → t ≤ n
-        → CanBeSent version m61_modulus depth t n (vector depth stream side) }
+        → depth ≤ deepest version → total stream side ≡ pos n
+        → CanBeSent version m61_modulus depth n (vector depth stream side) }
     ensures total { (depth : ℕ) (stream : List AnyUpdate) (side : AnySide)
         → IsLegal depth stream → total stream side ≡ int_sum (vector depth stream side) }
     ensures answer { (depth t : ℕ) (stream : List AnyUpdate) (side : AnySide)

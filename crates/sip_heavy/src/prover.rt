@@ -1,6 +1,6 @@
 //! The honest side of a check: what is shown of each level.
 
-ghost use Rattle.std.specs.Prelude.{◌≡◌, ◌*◌, ◌^◌, ◌<◌, ◌≤◌, ◌↔◌, pos, ◌≤ℤ◌, nat_le, All, filter, length, slice_get, IfOk};
+ghost use Rattle.std.specs.Prelude.{◌≡◌, ◌*◌, ◌^◌, ◌<◌, ◌≤◌, ◌↔◌, pos, ◌≤ℤ◌, nat_le, All, filter, length, slice_get, IfOk, IfSome};
 ghost use Rattle.std.specs.Option.{option_map};
 ghost use Rattle.sip_vector.specs.Limits.{most_depth};
 ghost use Rattle.sip_heavy.specs.Honest.{begun, learnt, its_nodes, node_of};
@@ -91,8 +91,9 @@ impl<F: Field> HeavyProver<F> {
     /// A search of O(log m), and a walk over the nodes up to the one that is found, without memory. So a level costs O(m), and a
     /// search for each node that is shown.
     pub fn next_node(&self, from: u64) -> Option<HeavyNode<F>>
-        ensures { option_map (node_of F.number) result
+        ensures first { option_map (node_of F.number) result
             ≡ slice_get (filter (λ x. nat_le from x.index) (its_nodes self.now)) 0 }
+        ensures within { IfSome result (λ node. node.index < length self.now.level) }
     {
         if self.levels_left == 0 {
             return None;
@@ -117,3 +118,6 @@ impl<F: Field> HeavyProver<F> {
         self.levels_left -= 1;
     }
 }
+
+#[cfg(test)]
+mod tests;
