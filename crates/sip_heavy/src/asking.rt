@@ -198,3 +198,6 @@ fn write_found(found: &[Entry], places: &mut [Entry])
 {
     places[..found.len()].copy_from_slice(found);
 }
+
+#[cfg(test)]
+mod tests;

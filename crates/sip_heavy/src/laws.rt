@@ -2,11 +2,21 @@
 //! holds.
 #![tactic(auto, unfolding(crate::specs::AcceptsHeavy::verdict, crate::specs::AcceptsHeavy::known_after))]
 
-ghost use Rattle.std.specs.Prelude.{◌≡◌, [], ◌∷◌, Ok, pos};
+ghost use Rattle.std.specs.Prelude.{◌≡◌, ℕ, ◌==◌, true, List, [], ◌∷◌, ◌++◌, length, All, Ok, pos};
+ghost use Rattle.std.specs.List.{flat_map};
 ghost use Rattle.sip_field.specs.Moduli.{m61_modulus};
 ghost use Rattle.sip_vector.specs.Examples.{four};
 ghost use Rattle.sip_vector.specs.Trees.{augroot};
-ghost use Rattle.sip_heavy.specs.AcceptsHeavy.{merged, nodes_above};
+ghost use Rattle.sip_vector.specs.Answers.{Answer};
+ghost use Rattle.sip_wire.specs.Decoding.{IsBytes};
+ghost use Rattle.sip_wire.specs.Spelling.{spelling};
+ghost use Rattle.sip_wire.specs.declared.message.Message.{Message as AnyMessage};
+ghost use Rattle.sip_wire.specs.declared.message.Message.TheVariants as messages;
+ghost use Rattle.sip_replies.specs.Replies.{IsAccepted, read_reply, verdict};
+ghost use Rattle.sip_heavy.specs.AcceptsHeavy as heavy;
+ghost use Rattle.sip_heavy.specs.Protocol.{HeavyAsked, HeavyState, heavy_protocol, heavy_rules, reaches};
+ghost use Rattle.sip_heavy.specs.Stating.{AreFrames, IsFrame, States, as_answer, nodes_of, stated_nodes, stated_replies, then_ended, then_read};
+ghost use Rattle.sip_heavy.specs.AcceptsHeavy.{end_test, merged, nodes_above, with_nodes};
 ghost use Rattle.sip_heavy.specs.Examples.{fault, leaf, node, pair, verdict_of};
 ghost use Rattle.sip_wire.specs.declared.message.Reason.TheVariants as reasons;
 
@@ -46,4 +56,42 @@ pub fn faults_of_the_nodes()
     ensures root { verdict_of 4 (pair ∷ (node 0 8 3 ∷ []) ∷ []) ≡ fault 2 reasons.Root }
     ensures wrong_leaves { verdict_of 4 ([] ∷ (node 0 9 3 ∷ node 1 0 3 ∷ []) ∷ [])
         ≡ fault 2 reasons.Total }
+{}
+
+/// The protocol of the replies, which goes state by state, is the check over lists of nodes by
+/// level. For frames of nodes in each reply that have a spelling, and the end of a level behind
+/// them, the bytes come to what the nodes of these frames do, however they are cut into frames: to
+/// the heavy leaves, or to the first fault.
+pub fn bytes_come_to_what_nodes_do()
+    ensures { (asked : HeavyAsked) (challenges : List ℕ) (replies : List (List AnyMessage))
+        → asked.query.depth ≡ length challenges → AreFrames asked.version 0 replies
+        → length replies ≡ length challenges
+        → verdict (heavy_protocol asked) challenges (stated_replies asked.version replies)
+        ≡ as_answer (heavy.verdict asked.modulus asked.query asked.root challenges
+        (stated_nodes replies)) }
+{}
+
+/// Accepted replies are the bytes of frames of nodes, by level, with the end of a level behind
+/// those of each; their nodes pass all tests over lists, and the heavy leaves are the answer.
+pub fn accepted_replies_state_nodes()
+    ensures { (asked : HeavyAsked) (challenges : List ℕ) (replies : List (List ℕ))
+        (answer : Answer) → asked.query.depth ≡ length challenges
+        → reaches asked.query ≡ true → All IsBytes replies
+        → IsAccepted (heavy_protocol asked) challenges replies answer
+        → (frames : List (List AnyMessage)) × States asked challenges replies answer frames }
+{}
+
+/// A reply is read node by node, whatever follows: so nodes that fail a test show their fault at
+/// once, and the tests of a level come with its end.
+pub fn frames_are_read_one_after_another()
+    ensures nodes { (asked : HeavyAsked) (s : HeavyState) (frames : List AnyMessage)
+        (rest : List ℕ) → All (IsFrame asked.version (s.level == 0)) frames
+        → read_reply (heavy_rules asked.version asked.modulus asked.query) s
+        (flat_map (spelling asked.version) frames ++ rest)
+        ≡ then_read asked s rest (with_nodes asked.query s.level s.known s.received
+        (flat_map nodes_of frames)) }
+    ensures end { (asked : HeavyAsked) (s : HeavyState) (rest : List ℕ)
+        → read_reply (heavy_rules asked.version asked.modulus asked.query) s
+        (spelling asked.version messages.LevelEnd ++ rest)
+        ≡ then_ended s rest (end_test asked.query s.level (merged s.known s.received)) }
 {}

@@ -30,8 +30,8 @@ fn judge(check: &mut HeavyCheck<F31, 8>) -> Result<(), Reason>
     check.finish()
 }
 
-// With the leaves 4 and 0 in place of 3 and 1 the two hashes differ by (1 - r)(1 + r), up to a sign:
-// 0 where r is 1 or 30. The checks follow each other in one space.
+// With the leaves 4 and 0 in place of 3 and 1 the two hashes differ by (1 - r)(1 + r), up to a
+// sign: 0 where r is 1 or 30. The checks follow each other in one space.
 #[test]
 fn two_challenges_of_31_let_wrong_leaves_pass(rt: HostRuntime) -> Result<(), Fail> {
     let mut space = HeavySpace::reserve(rt.alloc(), 2)?;

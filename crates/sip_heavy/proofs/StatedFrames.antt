@@ -1,0 +1,178 @@
+-- How frames of nodes are read: the nodes that they state are tested, and then what follows is read.
+use Rattle.std.proofs.Common.{◌≡◌, ℕ, ◌+◌, Bool, true, false, not, ◌||◌, Result, Ok, Err, List, [], ◌∷◌, ◌++◌, length, All, refl, sym, ap, ◌∙◌, append_assoc, append-nil}
+use Rattle.std.specs.Prelude.{◌==◌, nat_lt, if◌then◌else◌}
+use Rattle.std.specs.List.{flat_map}
+use Rattle.std.proofs.lemmas.List.Concat.{flat_map-cons}
+use Rattle.std.proofs.lemmas.List.Elements.{All-head, All-tail}
+use Rattle.sip_vector.specs.Steps.{◌>>=◌, needs}
+use Rattle.sip_wire.specs.declared.kind.Place.{Place}
+use Rattle.sip_wire.specs.declared.kind.Place.TheVariants as places
+use Rattle.sip_wire.specs.declared.message.Message.{Message}
+use Rattle.sip_wire.specs.declared.message.Message.TheVariants as messages
+use Rattle.sip_wire.specs.declared.message.Node.{Node}
+use Rattle.sip_wire.specs.declared.message.Reason.{Reason}
+use Rattle.sip_wire.specs.declared.message.Reason.TheVariants as reasons
+use Rattle.sip_wire.specs.declared.version.Version.{Version}
+use Rattle.sip_wire.specs.Spelling.{fits, has_room, all_hold, kind_of, spelling}
+use Rattle.sip_wire.specs.Table.{allows}
+use Rattle.sip_wire.specs.Values.{InRange}
+use Rattle.sip_wire.proofs.ReadingLaws.{read_frame-spelling}
+use Rattle.sip_replies.specs.declared.check.More.TheVariants as mores
+use Rattle.sip_replies.specs.Protocols.{Rules}
+use Rattle.sip_replies.specs.Replies.{at_end, read_reply, step_says}
+use Rattle.sip_replies.proofs.Reading.{read_reply-step}
+use Rattle.sip_heavy.specs.AcceptsHeavy.{Asked, end_test, is_next, merged, most_nodes, with_nodes}
+use Rattle.sip_heavy.specs.Protocol.{HeavyState, end_step, ended, heavy_rules, heavy_step, nodes_step}
+use Rattle.sip_heavy.specs.Stating.{IsFrame, nodes_of, stands_in, stated_reply}
+use Rattle.sip_heavy.proofs.Taking.{with_nodes-append}
+
+-- nodes that pass are those received before, and these
+pub taken_all : (q : Asked) (level : ℕ) (known before xs all : List Node) → with_nodes q level known before xs ≡ Ok all → all ≡ before ++ xs
+taken_all q level known before [] all e = (let same : before ≡ all = cc in sym same) ∙ sym (append-nil before)
+taken_all q level known before (x ∷ xs) all e =
+    by_tests (is_next q level known before x.index) (nat_lt (length known + length before) (most_nodes q)) (level == 0 || nat_lt x.count q.at_least) (λ f. taken_all q level known (before ++ x ∷ []) xs all f) e
+  where
+    by_tests : (order room light : Bool) → (with_nodes q level known (before ++ x ∷ []) xs ≡ Ok all → all ≡ (before ++ x ∷ []) ++ xs) → (needs order reasons.BadOrder >>= λ _. needs room reasons.TooMany >>= λ _. needs light reasons.HeavySibling >>= λ _. with_nodes q level known (before ++ x ∷ []) xs) ≡ Ok all → all ≡ before ++ x ∷ xs
+    by_tests true true true later f = later f ∙ append_assoc before (x ∷ []) xs
+    by_tests true true false later f = absurd cc
+    by_tests true false light later f = absurd cc
+    by_tests false room light later f = absurd cc
+
+by_not : (b : Bool) → not b ≡ true → b ≡ false
+by_not false e = refl
+by_not true e = absurd cc
+
+-- the numbers of such a frame are in range
+frame_range : (first : Bool) (m : Message) → stands_in first m ≡ true → InRange m
+frame_range first (messages.Leaves v) stands = tt
+frame_range first (messages.Nodes v) stands = tt
+frame_range first messages.LevelEnd stands = absurd cc
+frame_range first (messages.Refuse code) stands = absurd cc
+frame_range first (messages.Open number depth) stands = absurd cc
+frame_range first (messages.Updates us) stands = absurd cc
+frame_range first messages.EndStream stands = absurd cc
+frame_range first (messages.Query asked) stands = absurd cc
+frame_range first (messages.Reveal r) stands = absurd cc
+frame_range first messages.Bye stands = absurd cc
+frame_range first (messages.Claim claim) stands = absurd cc
+frame_range first (messages.Poly a b c) stands = absurd cc
+frame_range first (messages.Entries v) stands = absurd cc
+frame_range first (messages.Siblings left right) stands = absurd cc
+
+abbrev place_in : Bool → Place
+place_in first = if first then places.Leaves else places.Nodes
+
+-- it may stand at its place
+frame_allowed : (first : Bool) (m : Message) → stands_in first m ≡ true → allows (place_in first) (kind_of m) ≡ true
+frame_allowed first (messages.Leaves v) stands = rw stands refl
+frame_allowed first (messages.Nodes v) stands = rw (by_not first stands) refl
+frame_allowed first messages.LevelEnd stands = absurd cc
+frame_allowed first (messages.Refuse code) stands = absurd cc
+frame_allowed first (messages.Open number depth) stands = absurd cc
+frame_allowed first (messages.Updates us) stands = absurd cc
+frame_allowed first messages.EndStream stands = absurd cc
+frame_allowed first (messages.Query asked) stands = absurd cc
+frame_allowed first (messages.Reveal r) stands = absurd cc
+frame_allowed first messages.Bye stands = absurd cc
+frame_allowed first (messages.Claim claim) stands = absurd cc
+frame_allowed first (messages.Poly a b c) stands = absurd cc
+frame_allowed first (messages.Entries v) stands = absurd cc
+frame_allowed first (messages.Siblings left right) stands = absurd cc
+
+-- its step is that of its nodes
+pub frame_step : (q : Asked) (s : HeavyState) (m : Message) → stands_in (s.level == 0) m ≡ true → heavy_step q s m ≡ nodes_step q s (nodes_of m)
+frame_step q s (messages.Leaves v) stands = rw stands refl
+frame_step q s (messages.Nodes v) stands = rw (by_not (s.level == 0) stands) refl
+frame_step q s messages.LevelEnd stands = absurd cc
+frame_step q s (messages.Refuse code) stands = absurd cc
+frame_step q s (messages.Open number depth) stands = absurd cc
+frame_step q s (messages.Updates us) stands = absurd cc
+frame_step q s messages.EndStream stands = absurd cc
+frame_step q s (messages.Query asked) stands = absurd cc
+frame_step q s (messages.Reveal r) stands = absurd cc
+frame_step q s messages.Bye stands = absurd cc
+frame_step q s (messages.Claim claim) stands = absurd cc
+frame_step q s (messages.Poly a b c) stands = absurd cc
+frame_step q s (messages.Entries v) stands = absurd cc
+frame_step q s (messages.Siblings left right) stands = absurd cc
+
+module _ (version : Version) (p : ℕ) (q : Asked) where
+  abbrev R : Rules HeavyState
+  R = heavy_rules version p q
+
+  abbrev with_received : HeavyState → List Node → HeavyState
+  with_received s all = record s { received = all }
+
+  -- ---- nodes
+
+  -- where nodes were tested, what follows is read
+  abbrev then_read : HeavyState → List ℕ → Result (List Node) Reason → Result HeavyState Reason
+  then_read s rest r = r >>= λ all. read_reply R (with_received s all) rest
+
+  goes_on_is : (s : HeavyState) (rest : List ℕ) (r : Result (List Node) Reason) → step_says (read_reply R) rest (r >>= λ all. Ok (mores.Due, with_received s all)) ≡ then_read s rest r
+  goes_on_is s rest (Ok all) = refl
+  goes_on_is s rest (Err reason) = refl
+
+  -- one frame
+  frame_read : (s : HeavyState) (m : Message) (rest : List ℕ) → IsFrame version (s.level == 0) m
+      → read_reply R s (spelling version m ++ rest) ≡ then_read s rest (with_nodes q s.level s.known s.received (nodes_of m))
+  frame_read s m rest is =
+      read_reply-step R s (spelling version m ++ rest) rest m (nodes_step q s (nodes_of m))
+      (read_frame-spelling version (R.place s) m rest is.0 (frame_allowed (s.level == 0) m is.1) (frame_range (s.level == 0) m is.1)) (frame_step q s m is.1)
+      ∙ goes_on_is s rest (with_nodes q s.level s.known s.received (nodes_of m))
+
+  -- frames one after another are as one
+  pub frames_read : (s : HeavyState) (frames : List Message) (rest : List ℕ) → All (IsFrame version (s.level == 0)) frames
+      → read_reply R s (flat_map (spelling version) frames ++ rest) ≡ then_read s rest (with_nodes q s.level s.known s.received (flat_map nodes_of frames))
+  frames_read s [] rest are = refl
+  frames_read s (m ∷ frames) rest are =
+      let one = All-head (IsFrame version (s.level == 0)) m frames are in
+      let more = All-tail (IsFrame version (s.level == 0)) m frames are in
+      let later = flat_map (spelling version) frames ++ rest in
+      ap (λ bytes. read_reply R s (bytes ++ rest)) (flat_map-cons (spelling version) m frames)
+      ∙ ap (read_reply R s) (append_assoc (spelling version m) (flat_map (spelling version) frames) rest)
+      ∙ frame_read s m later one
+      ∙ by_first (with_nodes q s.level s.known s.received (nodes_of m)) (λ all. frames_read (with_received s all) frames rest more)
+      ∙ ap (then_read s rest) (sym (with_nodes-append q s.level s.known s.received (nodes_of m) (flat_map nodes_of frames)) ∙ ap (with_nodes q s.level s.known s.received) (sym (flat_map-cons nodes_of m frames)))
+    where
+      by_first : (r : Result (List Node) Reason)
+          → ((all : List Node) → read_reply R (with_received s all) (flat_map (spelling version) frames ++ rest) ≡ then_read (with_received s all) rest (with_nodes q s.level s.known all (flat_map nodes_of frames)))
+          → then_read s (flat_map (spelling version) frames ++ rest) r ≡ then_read s rest (r >>= λ all. with_nodes q s.level s.known all (flat_map nodes_of frames))
+      by_first (Ok all) later = later all
+      by_first (Err reason) later = refl
+
+  -- ---- the end of a level
+
+  end_fits : fits version messages.LevelEnd ≡ true
+  unfolding fits has_room all_hold
+  end_fits = refl
+
+  end_allowed : (first : Bool) → allows (place_in first) (kind_of messages.LevelEnd) ≡ true
+  end_allowed true = refl
+  end_allowed false = refl
+
+  ends_is : (s : HeavyState) (rest : List ℕ) (r : Result (Unit {0}) Reason) → step_says (read_reply R) rest (r >>= λ _. Ok (mores.Complete, ended s)) ≡ (r >>= λ _. at_end (ended s) rest)
+  ends_is s rest (Ok u) = refl
+  ends_is s rest (Err reason) = refl
+
+  pub end_read : (s : HeavyState) (rest : List ℕ) → read_reply R s (spelling version messages.LevelEnd ++ rest) ≡ (end_test q s.level (merged s.known s.received) >>= λ _. at_end (ended s) rest)
+  end_read s rest =
+      read_reply-step R s (spelling version messages.LevelEnd ++ rest) rest messages.LevelEnd (end_step q s) (read_frame-spelling version (R.place s) messages.LevelEnd rest end_fits (end_allowed (s.level == 0)) tt) refl
+      ∙ ends_is s rest (end_test q s.level (merged s.known s.received))
+
+  -- ---- one reply
+
+  -- the tests of a level, and what it leads to
+  abbrev pub level_says : HeavyState → List Node → Result HeavyState Reason
+  level_says s xs =
+      with_nodes q s.level s.known s.received xs
+      >>= λ all. end_test q s.level (merged s.known all) >>= λ _. Ok (ended (with_received s all))
+
+  pub reply_is : (s : HeavyState) (frames : List Message) → All (IsFrame version (s.level == 0)) frames → read_reply R s (stated_reply version frames) ≡ level_says s (flat_map nodes_of frames)
+  reply_is s frames are =
+      let bytes = spelling version messages.LevelEnd in
+      frames_read s frames bytes are ∙ by_nodes (with_nodes q s.level s.known s.received (flat_map nodes_of frames))
+    where
+      by_nodes : (r : Result (List Node) Reason) → then_read s (spelling version messages.LevelEnd) r ≡ (r >>= λ all. end_test q s.level (merged s.known all) >>= λ _. Ok (ended (with_received s all)))
+      by_nodes (Ok all) = ap (read_reply R (with_received s all)) (sym (append-nil (spelling version messages.LevelEnd))) ∙ end_read (with_received s all) []
+      by_nodes (Err reason) = refl
