@@ -20,7 +20,8 @@ use Rattle.sip_replies.specs.Replies.{in_round}
 use Rattle.sip_wire.specs.declared.message.Node.{Node}
 use Rattle.sip_wire.specs.declared.message.Reason.{Reason}
 use Rattle.sip_heavy.specs.AcceptsHeavy.{Asked, width, known_after, top_test, heavy_entries, leaves_of, verdict, accepts}
-use Rattle.sip_heavy.specs.Counting.{asked_over, accepts_nodes, entries_at_least, is_same_entry, are_right}
+use Rattle.sip_heavy.specs.Counting.{asked_over, accepts_nodes, is_same_entry, are_right}
+use Rattle.sip_heavy.specs.Honest.{heavy_of}
 use Rattle.sip_heavy.specs.Rising.{Rises}
 use Rattle.sip_heavy.proofs.Levels.{received_rise, merged_none}
 use Rattle.sip_heavy.specs.TrueNodes.{Spot}
@@ -77,7 +78,7 @@ module _ (p d t : ℕ) (numbers : List ℤ) (strategy : List ℕ → Option (Lis
     there : all_there (replies strategy r) ≡ Some all
     known : known_after p q 0 [] r all ≡ Ok top
     ends : top_test q (augroot p numbers r).hash top ≡ Ok tt
-    wrong : heavy_entries t (leaves_of all) ≢ entries_at_least t numbers
+    wrong : heavy_entries t (leaves_of all) ≢ heavy_of t numbers
 
   taken_at : (r : List ℕ) → wrongly r ≡ true → Taken r
   unfolding takes_wrong verdict
@@ -97,7 +98,7 @@ module _ (p d t : ℕ) (numbers : List ℤ) (strategy : List ℕ → Option (Lis
             there = is;
             known = known.1.0;
             ends = round_ok q.depth (top_test q root known.0) ends.0 ends.1.0;
-            wrong = λ same. both_ways (are_right t numbers all) (not-true (are_right t numbers all) both.1) ((same_entries (heavy_entries t (leaves_of all)) (entries_at_least t numbers)).1 same);
+            wrong = λ same. both_ways (are_right t numbers all) (not-true (are_right t numbers all) both.1) ((same_entries (heavy_entries t (leaves_of all)) (heavy_of t numbers)).1 same);
           }
 
   -- what is taken has become clear
@@ -121,7 +122,7 @@ module _ (p d t : ℕ) (numbers : List ℤ) (strategy : List ℕ → Option (Lis
 
   -- where it is clear from the start, the leaves are right
   right_leaves : (o : Option (List Node)) (received : List Node) → o ≡ Some received → (nodes : Option (List Node)) → nodes_of q 0 [] o ≡ nodes → is_there (is_clear p truth (heavy_from t 0 numbers)) nodes ≡ true
-      → heavy_entries t received ≡ entries_at_least t numbers
+      → heavy_entries t received ≡ heavy_of t numbers
   right_leaves o received is None e start = absurd cc
   right_leaves o received is (Some nodes) e start =
       let w = nodes_from_reply q 0 [] o nodes e in

@@ -25,7 +25,8 @@ use Rattle.sip_replies.specs.Protocols.{Rules, Protocol}
 use Rattle.sip_replies.specs.Replies.{Fault, in_round, read_reply, run_from, run, IsAccepted, IsStated}
 use Rattle.sip_replies.specs.Replies as replies_of
 use Rattle.sip_heavy.specs.AcceptsHeavy.{Asked, most_nodes, is_next, with_nodes, top_test, heavy_entries, leaves_of, verdict}
-use Rattle.sip_heavy.specs.Counting.{asked_over, accepts_nodes, entries_at_least, is_same_entry, are_right, heavy_over, accepts_heavy, leaves_in, said, is_right}
+use Rattle.sip_heavy.specs.Counting.{asked_over, accepts_nodes, is_same_entry, are_right, heavy_over, accepts_heavy, leaves_in, said, is_right}
+use Rattle.sip_heavy.specs.Honest.{heavy_of}
 use Rattle.sip_heavy.specs.Protocol.{HeavyState, count_of, heavy_asked, heavy_rules, heavy_finish, reaches}
 use Rattle.sip_heavy.proofs.ClearedLevels.{two_parts}
 use Rattle.sip_heavy.proofs.AcceptedLevels.{in_round-ok}
@@ -35,7 +36,7 @@ use Rattle.sip_heavy.proofs.ReadNodes.{nodes_said, reply_read}
 use Rattle.sip_heavy.proofs.SaidBytes.{leaves_first}
 use Rattle.sip_heavy.proofs.TrueLevels.{sum_positive}
 
-abbrev as_entry : ℕ → ℤ → Entry
+abbrev pub as_entry : ℕ → ℤ → Entry
 as_entry i z = record { index = i; value = z }
 
 -- ---- replies that are accepted
@@ -96,12 +97,12 @@ none_fit q (x ∷ xs) all less e =
     let most : most_nodes q ≡ 0 = ap (λ n. 2 * n) (div-eq_of_lt less) in
     absurd (no_room (is_next q 0 [] [] x.index) (nat_lt 0 (most_nodes q)) true (with_nodes q 0 [] (x ∷ []) xs) all (ap (nat_lt 0) most) e)
 
-positive_is : (z : ℤ) → pos 0 ≤ℤ z → (n : ℕ) × (z ≡ pos n)
+pub positive_is : (z : ℤ) → pos 0 ≤ℤ z → (n : ℕ) × (z ≡ pos n)
 positive_is (pos n) least = (n, refl)
 positive_is (negsuc n) least = absurd (omega (arith, ints, least))
 
 -- no number is as much as a threshold above their sum
-none_heavy : (t i : ℕ) (numbers : List ℤ) → AllByRecursion (λ a. pos 0 ≤ℤ a) numbers → (n : ℕ) → int_sum numbers ≡ pos n → n < t → filter (λ e. int_le (pos t) e.value) (map (λ x. as_entry x.0 x.1) (enumerate_from i numbers)) ≡ []
+pub none_heavy : (t i : ℕ) (numbers : List ℤ) → AllByRecursion (λ a. pos 0 ≤ℤ a) numbers → (n : ℕ) → int_sum numbers ≡ pos n → n < t → filter (λ e. int_le (pos t) e.value) (map (λ x. as_entry x.0 x.1) (enumerate_from i numbers)) ≡ []
 none_heavy t i [] strict n sum less = refl
 none_heavy t i (negsuc k ∷ numbers) strict n sum less = absurd (omega (arith, ints, strict.0))
 none_heavy t i (pos k ∷ numbers) strict n sum less =
@@ -159,7 +160,7 @@ module _ (version : Version) (p d t : ℕ) (numbers : List ℤ) where
           let good : is_ok (verdict p q root r h.lists) ≡ true =
           ap (λ (w : Result (List Node) Fault). is_ok (w >>= λ top. in_round d (top_test q root top) >>= λ _. Ok (heavy_entries t (leaves_of h.lists)))) h.known_is
           ∙ ap (λ (w : Result (Unit {0}) Reason). is_ok (in_round d w >>= λ _. Ok (heavy_entries t (leaves_of h.lists)))) a.ends in
-          let wrong : are_right t numbers h.lists ≡ false = ap (λ xs. pointwise is_same_entry (heavy_entries t xs) (entries_at_least t numbers)) (sym leaves) ∙ not-true (is_right version p d t numbers all) both.1 in
+          let wrong : are_right t numbers h.lists ≡ false = ap (λ xs. pointwise is_same_entry (heavy_entries t xs) (heavy_of t numbers)) (sym leaves) ∙ not-true (is_right version p d t numbers all) both.1 in
           ap (is_wrong (accepts_nodes p d t numbers r) (are_right t numbers)) h.there
           ∙ and_from (accepts_nodes p d t numbers r h.lists) (not (are_right t numbers h.lists))
           (and_from (length h.lists == length r) (is_ok (verdict p q root r h.lists)) (eq-eqb (length h.lists) (length r) size) good) (not_from_false (are_right t numbers h.lists) wrong)
@@ -178,7 +179,7 @@ module _ (version : Version) (p d t : ℕ) (numbers : List ℤ) where
           let reads = reply_read version p q true R.start s b refl is in
           ap (heavy_entries t) (sym (ap (λ (u : HeavyState). u.leaves) reads.same) ∙ sym (none_fit q (nodes_said version true b) reads.all less reads.taken))
 
-  nothing_heavy : AllByRecursion (λ a. pos 0 ≤ℤ a) numbers → q.total < t → entries_at_least t numbers ≡ []
+  nothing_heavy : AllByRecursion (λ a. pos 0 ≤ℤ a) numbers → q.total < t → heavy_of t numbers ≡ []
   nothing_heavy strict less =
       let n = positive_is (int_sum numbers) (sum_positive numbers strict) in
       let count : q.total ≡ n.0 = ap count_of n.1 in
@@ -195,7 +196,7 @@ module _ (version : Version) (p d t : ℕ) (numbers : List ℤ) where
           let less : q.total < t = leb-false t q.total unasked in
           let wrong = not-true (is_right version p d t numbers all) (and_parts (accepts_heavy version p d t numbers r all) (not (is_right version p d t numbers all)) k).1 in
           both_ways (is_right version p d t numbers all) wrong
-          ((same_entries (said version p d t numbers all) (entries_at_least t numbers)).1 (said_nothing all less ∙ sym (nothing_heavy (recursion_from_All (λ a. pos 0 ≤ℤ a) numbers strict) less)))
+          ((same_entries (said version p d t numbers all) (heavy_of t numbers)).1 (said_nothing all less ∙ sym (nothing_heavy (recursion_from_All (λ a. pos 0 ≤ℤ a) numbers strict) less)))
 
   -- ---- the count
 
@@ -239,8 +240,8 @@ module _ (version : Version) (p d t : ℕ) (numbers : List ℤ) where
   ]
 
   pub written_counts : (strategy : Strategy) (block : List ℕ) (taken : List (List ℕ)) (answer : List Entry) → IsAccepted (heavy_over version p d t numbers block) block taken (pairs answer)
-      → replies strategy block ≡ map Some taken → answer ≢ entries_at_least t numbers → takes_wrong (accepts_heavy version p d t numbers) (is_right version p d t numbers) strategy block ≡ true
+      → replies strategy block ≡ map Some taken → answer ≢ heavy_of t numbers → takes_wrong (accepts_heavy version p d t numbers) (is_right version p d t numbers) strategy block ≡ true
   written_counts strategy block taken answer accepted talk wrong =
       let says = answer_said block taken answer accepted in
       takes_wrong-at (accepts_heavy version p d t numbers) (is_right version p d t numbers) strategy block taken talk says.1
-      (false_from_ne_true (is_right version p d t numbers taken) (λ k. wrong (sym says.0 ∙ (same_entries (said version p d t numbers taken) (entries_at_least t numbers)).0 k)))
+      (false_from_ne_true (is_right version p d t numbers taken) (λ k. wrong (sym says.0 ∙ (same_entries (said version p d t numbers taken) (heavy_of t numbers)).0 k)))

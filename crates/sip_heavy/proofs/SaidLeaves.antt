@@ -9,7 +9,7 @@ use Rattle.sip_vector.specs.declared.update.Entry.{Entry}
 use Rattle.sip_vector.specs.Trees.{Counted, leaf}
 use Rattle.sip_wire.specs.declared.message.Node.{Node}
 use Rattle.sip_heavy.specs.AcceptsHeavy.{heavy_entries}
-use Rattle.sip_heavy.specs.Counting.{entries_at_least}
+use Rattle.sip_heavy.specs.Honest.{heavy_of}
 use Rattle.sip_heavy.specs.Rising.{Rises}
 use Rattle.sip_heavy.specs.TrueNodes.{Spot, is_spot, are_true}
 use Rattle.sip_heavy.proofs.WrongLevels.{has, is_clear, are_heavy}
@@ -135,7 +135,7 @@ leaves_counts p numbers =
     (λ k below. let e : 0 + k ≡ k = omega arith in ap (λ j. (true_level p (map (leaf p) numbers) j).1) e ∙ ap (λ (c : Counted). nat_abs c.count) (get_or-map (leaf p) numbers k (pos 0) (leaf p (pos 0)) below))
 
 pub said_right : (p t : ℕ) (numbers : List ℤ) (nodes : List Node) → AllByRecursion (λ a. pos 0 ≤ℤ a) numbers → Rises 0 (length numbers) nodes → is_clear p (true_level p (map (leaf p) numbers)) (heavy_from t 0 numbers) nodes ≡ true
-    → heavy_entries t nodes ≡ entries_at_least t numbers
+    → heavy_entries t nodes ≡ heavy_of t numbers
 said_right p t numbers nodes strict rises clear =
     let parts = and_parts (are_true p (true_level p (map (leaf p) numbers)) nodes) (list_all (has nodes) (heavy_from t 0 numbers)) clear in
     said_from p t (true_level p (map (leaf p) numbers)) 0 (length numbers) numbers nodes (omega arith) (leaves_counts p numbers) strict rises parts.0 parts.1

@@ -1,6 +1,6 @@
 -- How many challenges a wrong list of heavy entries can be accepted at: what is counted, and what a
 -- call promises of it.
-use Rattle.std.specs.Prelude.{ℕ, ◌==◌, Bool, ◌&&◌, ℤ, pos, int_le, List, [], take, filter, Option, Result, Ok, Err, ◌*◌}
+use Rattle.std.specs.Prelude.{ℕ, ◌==◌, Bool, ◌&&◌, ℤ, List, [], take, Option, Result, Ok, Err, ◌*◌}
 use Rattle.std.specs.Ordering.{int_eq}
 use Rattle.std.specs.Cmp.Lexicographic.{pointwise}
 use Rattle.sip_field.specs.Moduli.{m61_modulus}
@@ -9,12 +9,12 @@ use Rattle.sip_replies.specs.Protocols.{Protocol}
 use Rattle.sip_replies.specs.Replies.{Fault, run}
 use Rattle.sip_replies.specs.Replies as replies_of
 use Rattle.sip_vector.specs.declared.update.Entry.{Entry}
-use Rattle.sip_vector.specs.Answers.{entries}
 use Rattle.sip_vector.specs.Streams.{int_sum}
 use Rattle.sip_vector.specs.Trees.{augroot}
 use Rattle.sip_wire.specs.declared.message.Node.{Node}
 use Rattle.sip_wire.specs.declared.version.Version.{Version}
 use Rattle.sip_heavy.specs.AcceptsHeavy.{Asked, accepts, heavy_entries, leaves_of}
+use Rattle.sip_heavy.specs.Honest.{heavy_of}
 use Rattle.sip_heavy.specs.Protocol.{HeavyState, count_of, heavy_asked, heavy_protocol, heavy_rules}
 
 -- ---- over lists of nodes
@@ -29,17 +29,13 @@ abbrev pub accepts_nodes : ℕ → ℕ → ℕ → List ℤ → List ℕ → Lis
 accepts_nodes p depth t numbers challenges replies =
     accepts p (asked_over depth t numbers) (augroot p numbers challenges).hash challenges replies
 
--- the numbers of at least t, each with its index
-abbrev pub entries_at_least : ℕ → List ℤ → List Entry
-entries_at_least t numbers = filter (λ e. int_le (pos t) e.value) (entries numbers)
-
 abbrev pub is_same_entry : Entry → Entry → Bool
 is_same_entry a b = (a.index == b.index) && int_eq a.value b.value
 
 -- the heavy leaves among what was received are those of the numbers
 abbrev pub are_right : ℕ → List ℤ → List (List Node) → Bool
 are_right t numbers replies =
-    pointwise is_same_entry (heavy_entries t (leaves_of replies)) (entries_at_least t numbers)
+    pointwise is_same_entry (heavy_entries t (leaves_of replies)) (heavy_of t numbers)
 
 -- ---- over bytes
 
@@ -69,7 +65,7 @@ said version p depth t numbers replies =
 abbrev pub is_right : Version → ℕ → ℕ → ℕ → List ℤ → List (List ℕ) → Bool
 is_right version p depth t numbers replies =
     pointwise is_same_entry (said version p depth t numbers replies)
-    (entries_at_least t numbers)
+    (heavy_of t numbers)
 
 -- ---- on a call
 
@@ -80,4 +76,4 @@ abbrev pub HeavyCountClause : Version → ℕ → ℕ → List ℤ → List ℕ 
     → Option (List Entry) → Type 0
 HeavyCountClause version d t numbers block taken written =
     FewAndCounted m61_modulus d (3 * d) (accepts_heavy version m61_modulus d t numbers)
-    (is_right version m61_modulus d t numbers) block taken written (entries_at_least t numbers)
+    (is_right version m61_modulus d t numbers) block taken written (heavy_of t numbers)

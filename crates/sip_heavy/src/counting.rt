@@ -18,7 +18,8 @@ ghost use Rattle.sip_wire.specs.declared.version.Version.{Version};
 ghost use Rattle.sip_replies.specs.Replies.{IsAccepted};
 ghost use Rattle.sip_heavy.specs.AcceptsHeavy.{are_pairs, nodes_above, pair_counts};
 ghost use Rattle.sip_heavy.specs.TrueNodes.{Spot, are_true, level_above};
-ghost use Rattle.sip_heavy.specs.Counting.{accepts_heavy, accepts_nodes, are_right, entries_at_least, heavy_over, is_right, said, HeavyCountClause};
+ghost use Rattle.sip_heavy.specs.Counting.{accepts_heavy, accepts_nodes, are_right, heavy_over, is_right, said, HeavyCountClause};
+ghost use Rattle.sip_heavy.specs.Honest.{heavy_of};
 ghost use Rattle.sip_heavy.specs.CountedExamples.{misplaced, says_first};
 
 /// Over every prime modulus, nodes in whole pairs, of which one is wrong, have right nodes above them for at most three
@@ -76,7 +77,7 @@ pub fn accepted_answers_are_counted()
 pub fn right_replies_say_the_heavy_numbers()
     ensures { (version : Version) (p d t : ℕ) (numbers : List ℤ) (all : List (List ℕ))
         → (is_right version p d t numbers all ≡ true)
-        ↔ (said version p d t numbers all ≡ entries_at_least t numbers) }
+        ↔ (said version p d t numbers all ≡ heavy_of t numbers) }
 {}
 
 /// An augmented root counts all of its numbers: so the total that a running root keeps is their sum.

@@ -65,6 +65,7 @@ mod check;
 pub mod counting;
 pub mod laws;
 mod level;
+pub mod shares;
 mod space;
 
 pub use asking::HeavyAsking;
@@ -77,5 +78,6 @@ mod prover;
 mod spots;
 
 pub use prover::{HeavyNode, HeavyProver};
+
 #[cfg(test)]
 mod counting_tests;
