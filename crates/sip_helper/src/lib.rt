@@ -36,8 +36,10 @@ mod asked;
 mod entries;
 mod heard;
 mod helper;
+mod hitters;
 mod kinds;
 pub mod laws;
+mod nodes;
 mod prover;
 mod refusal;
 mod serving;
@@ -52,5 +54,7 @@ pub use serving::serve;
 pub use status::HelpStatus;
 pub use turn::OutOfTurn;
 
+#[cfg(test)]
+mod hitter_tests;
 #[cfg(test)]
 mod tests;
