@@ -194,18 +194,14 @@ impl Watched {
         })
     }
 
-    fn helper(&self, alloc: Global, gives: bool, fails: bool) -> Result<Box<dyn Helper>, Fail> {
-        let boxed: Box<dyn Helper> = Box::new(
-            alloc,
-            Counting {
-                heard: Rc::clone(&self.heard)?,
-                asked: Rc::clone(&self.asked)?,
-                closed: Rc::clone(&self.closed)?,
-                gives,
-                fails,
-            },
-        )?;
-        Ok(boxed)
+    fn helper(&self, gives: bool, fails: bool) -> Result<Counting, Fail> {
+        Ok(Counting {
+            heard: Rc::clone(&self.heard)?,
+            asked: Rc::clone(&self.asked)?,
+            closed: Rc::clone(&self.closed)?,
+            gives,
+            fails,
+        })
     }
 
     // It was heard and asked so often, and closed and dropped once.
@@ -223,7 +219,7 @@ fn a_link_asks_when_all_is_given(rt: HostRuntime) -> Result<(), Fail> {
     let alloc = rt.alloc();
     for fails in [false, true] {
         let watched = Watched::new(alloc)?;
-        let helper = watched.helper(alloc, true, fails)?;
+        let helper: Box<dyn Helper> = Box::new(alloc, watched.helper(true, fails)?)?;
         let mut link = HelperLink::new(alloc, helper).ok().ok_or("a link")?;
         let mut buf = [0; 4];
         // The opening of version 1 at depth 2, in two pieces: it is heard once it is whole.
@@ -271,9 +267,8 @@ fn a_link_asks_when_all_is_given(rt: HostRuntime) -> Result<(), Fail> {
 fn bytes_that_are_no_frame_end_a_link(rt: HostRuntime) -> Result<(), Fail> {
     let alloc = rt.alloc();
     let watched = Watched::new(alloc)?;
-    let mut link = HelperLink::new(alloc, watched.helper(alloc, false, false)?)
-        .ok()
-        .ok_or("a link")?;
+    let helper: Box<dyn Helper> = Box::new(alloc, watched.helper(false, false)?)?;
+    let mut link = HelperLink::new(alloc, helper).ok().ok_or("a link")?;
     // A reply is no message to a helper.
     let sent = link.write(&[0x18, 0, 1]);
     assert_eq!(rt; sent, Ok(3));
@@ -291,12 +286,8 @@ fn a_run_closes_and_drops_its_helper(rt: HostRuntime) -> Result<(), Fail> {
     let alloc = rt.alloc();
     // The seed is too short: nothing is sent.
     let watched = Watched::new(alloc)?;
-    let (status, _) = played(
-        alloc,
-        &of_two_items()?,
-        watched.helper(alloc, false, false)?,
-        31,
-    )?;
+    let helper: Box<dyn Helper> = Box::new(alloc, watched.helper(false, false)?)?;
+    let (status, _) = played(alloc, &of_two_items()?, helper, 31)?;
     assert_eq!(rt; status, Status::BadSeed);
     assert!(rt; watched.is_gone(0, 0));
     // The opening, the updates, the end and the query are heard, and the first reply is asked for.
@@ -311,7 +302,7 @@ fn a_run_closes_and_drops_its_helper(rt: HostRuntime) -> Result<(), Fail> {
         (false, true, Status::OutOfMemory),
     ] {
         let watched = Watched::new(alloc)?;
-        let helper = watched.helper(alloc, gives, fails)?;
+        let helper: Box<dyn Helper> = Box::new(alloc, watched.helper(gives, fails)?)?;
         let (status, _) = played(alloc, &of_two_items()?, helper, 32)?;
         assert_eq!(rt; status, want);
         assert!(rt; watched.is_gone(4, 1));
