@@ -32,7 +32,7 @@ loop-pair-preserved g c =
     record {
       pairs = (pairs.0, pairs.1, pairs.2, rises-earlier 0 _ pairs.0 _ (omega arith) rise.2);
       sums = ap (λ d. summed p other d (pairs_of g.F.Field.number c.in-Some.behind.now))
-          (c.with_product-sums.ensures ∙ ap (with_product p (coefficients_of g.F.Field.number c.loop-pair.sums) (neighbours_of g.F.Field.number c.in-Some.pair)) c.pair_of.ensures)
+          (c.with_weighed-sums.ensures ∙ ap (with_product p (coefficients_of g.F.Field.number c.loop-pair.sums) (neighbours_of g.F.Field.number c.in-Some.pair)) c.pair_of.ensures)
           ∙ (rw c.in-Some.ensures.pairs at c.loop-pair.invariant.sums);
     }
 
