@@ -1,6 +1,5 @@
 pub mod KindRows
 pub mod Kinds
-pub mod Hitters
 pub mod Serving
 pub mod Statuses
 pub mod Streams
