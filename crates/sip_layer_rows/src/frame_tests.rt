@@ -3,7 +3,8 @@ use sip_field::{Field, M61, Seat};
 use sip_ports::{MemoryLink, MemorySink, PortStop};
 use sip_vector::{CAP, Depth, Entry, Query, Side, Update};
 use sip_wire::{
-    Frame, Leaf, Message, Node, Place, Version, WireFault, decode, encode, put_ask, put_head,
+    Frame, Leaf, Message, Node, Place, Version, WireFault, decode, encode, frame_length, put_ask,
+    put_head, read,
 };
 use std::alloc::Global;
 use std::process::Abort;
