@@ -34,7 +34,7 @@ use Rattle.sip_heavy.specs.Counting.{heavy_over}
 use Rattle.sip_heavy.specs.Honest as heavies
 use Rattle.sip_heavy.specs.Protocol.{HeavyState, count_of}
 use Rattle.sip_heavy.proofs.HonestStreams.{legal_sent, none_asked}
-use Rattle.sip_heavy.proofs.HonestVerdicts.{heavy_accepted}
+use Rattle.sip_heavy.proofs.HonestVerdicts.{asked_of, heavy_accepted}
 use Rattle.sip_verifier.specs.CompletenessClause.{honest_bytes, HasFewEntries}
 use Rattle.sip_wire.specs.Versions.{Speaks}
 use Rattle.sip_verifier.specs.Questions.{Accepts, IsFaulty}
@@ -142,7 +142,8 @@ module _ (version : Version) (depth : ℕ) (stream : List Update) (side : Side) 
 
     heavy_honest : IsStated heavy_at block shown (answer depth stream (Heavy side at_least))
     heavy_honest =
-        let can = legal_sent version depth at_least count stream side legal strict some speaks.shallow least (total-is depth stream side legal.items ∙ is_count) (leb-true at_least count reached) in
+        let sent = legal_sent version depth count stream side legal strict some speaks.shallow (total-is depth stream side legal.items ∙ is_count) in
+        let can = asked_of version m61_modulus depth at_least count numbers sent least (leb-true at_least count reached) in
         accepted_asked heavy_at block shown (answer depth stream (Heavy side at_least)) asked
         (heavy_accepted version m61_modulus depth at_least count numbers can block size)
 
