@@ -1,4 +1,5 @@
 pub mod Filling
+pub mod MadeSteps
 pub mod MadeStreams
 pub mod SpelledRecords
 pub mod SpelledLines

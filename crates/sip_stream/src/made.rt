@@ -9,17 +9,20 @@ use arrayvec::ArrayVec;
 use sip_ports::{PortStop, Source};
 use sip_vector::Depth;
 
+/// How many bytes are made at once.
+const BLOCK: usize = 4096;
+
 /// A source of the records that a generator makes from a number: about a quarter of them are of the items 0 and 1, the
 /// others of items from everywhere. They have the form `Form::made` of the depth. It tells the bytes to come, never fails
-/// and takes no memory. A read fills the buffer as far as there are bytes. After a call it holds the record under way.
+/// and takes no memory. A read fills the buffer as far as there are bytes. After a call it holds records: they are made by the block.
 #[derive(Drop)]
 pub struct MadeSource {
     depth: Depth,
-    // the state of the record under way, and how many records come after it
+    // the state of the last record that was made, and how many records come after it
     state: u64,
     more: u64,
-    // the record under way, and how many of its bytes were read
-    under_way: ArrayVec<u8, SPELLING_ROOM>,
+    // the records that were made last, and how many of their bytes were read
+    under_way: ArrayVec<u8, BLOCK>,
     at: usize,
     ghost within: { at ≤ length under_way.items },
 }
@@ -52,23 +55,26 @@ impl MadeSource {
         }
     }
 
-    // Goes on to the next record, if there is one, where the one under way was read.
+    // Makes the next records, as many as there is room for, where those that were made were read.
     fn go_on(&mut self)
         ensures same { made_left self.new ≡ made_left self.old }
         ensures under_way { self.new.at ≡ length self.new.under_way.items
             → made_left self.new ≡ [] }
     {
-        if self.at == self.under_way.len() && self.more > 0 {
+        if self.at < self.under_way.len() {
+            return;
+        }
+        self.under_way.clear();
+        self.at = 0;
+        while self.more > 0 && self.under_way.remaining_capacity() >= SPELLING_ROOM {
             self.state = next_state(self.state);
             self.more -= 1;
             let update = update_at(self.depth, self.state);
-            self.under_way.clear();
             put_update(Form::made(self.depth), &update, &mut self.under_way);
-            self.at = 0;
         }
     }
 
-    // Moves bytes of the record under way to the buffer, behind those that it has.
+    // Moves bytes of the records that were made to the buffer, behind those that it has.
     fn fill(&mut self, buf: &mut [u8], filled: usize) -> usize
         requires { filled ≤ length buf.old }
         ensures bound { filled + result ≤ length buf.old }

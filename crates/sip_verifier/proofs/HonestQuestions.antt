@@ -142,9 +142,10 @@ module _ (version : Version) (depth : ℕ) (stream : List Update) (side : Side) 
 
     heavy_honest : IsStated heavy_at block shown (answer depth stream (Heavy side at_least))
     heavy_honest =
-        let can = legal_sent version depth count stream side legal strict some speaks.shallow (total-is depth stream side legal.items ∙ is_count) in
+        let sent = legal_sent version depth count stream side legal strict some speaks.shallow (total-is depth stream side legal.items ∙ is_count) in
+        let can = asked_of version m61_modulus depth at_least count numbers sent least (leb-true at_least count reached) in
         accepted_asked heavy_at block shown (answer depth stream (Heavy side at_least)) asked
-        (heavy_accepted version m61_modulus depth at_least count numbers (asked_of version m61_modulus depth at_least count numbers can least (leb-true at_least count reached)) block size)
+        (heavy_accepted version m61_modulus depth at_least count numbers can block size)
 
     honest_is : honest_bytes version depth stream (Heavy side at_least, block) ≡ joined shown
     honest_is = ap (λ (b : Bool). joined (if b then shown else [])) reached

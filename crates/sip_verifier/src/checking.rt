@@ -1,18 +1,21 @@
 //! A whole run of the verifier.
 
-ghost use Rattle.std.specs.Prelude.{◌≡◌, ◌<◌, ◌≤◌, ℕ, List, Ok, Err, false, length, map, drop, All, MatchResult, OnOk};
+ghost use Rattle.std.specs.Prelude.{◌≡◌, ◌⊎◌, ◌<◌, ◌≤◌, ℕ, List, Ok, Err, false, length, map, drop, All, IfOk, MatchResult, OnOk};
 ghost use Rattle.sip_ports.specs.Ports.{HasCause, Lasts, SendsWhole};
 ghost use Rattle.sip_vector.specs.declared.update.Update.{Update as AnyUpdate};
 ghost use Rattle.sip_wire.specs.declared.message.Message.TheVariants as messages;
 ghost use Rattle.sip_wire.specs.Spelling.{spelling};
 ghost use Rattle.sip_wire.specs.Table.{most_queries};
 ghost use Rattle.sip_wire.specs.Versions.{Speaks};
+ghost use Rattle.sip_verifier.specs.declared.session.SessionStart.{SessionStart as AnyStart};
 ghost use Rattle.sip_verifier.specs.Exchanges.{TakesAtMost};
+ghost use Rattle.sip_verifier.specs.inside.Ending.{status_of_start};
 ghost use Rattle.sip_verifier.specs.Moments.{counts, moment};
 ghost use Rattle.sip_verifier.specs.NextSeat.{IsNext};
 ghost use Rattle.sip_verifier.specs.inside.Progress.{Checks, ChecksAll, status_of};
 ghost use Rattle.sip_verifier.specs.QuerySeats.{Seated, StandsFor};
 ghost use Rattle.sip_verifier.specs.RunClause.{RunClause};
+ghost use Rattle.sip_verifier.specs.Seats.{Seating};
 ghost use Rattle.sip_verifier.specs.Sittings.{Starts};
 ghost use Rattle.sip_verifier.specs.Statuses.{Stops, stops_asking};
 ghost use Rattle.sip_verifier.specs.Tasks.{CanBeDone};
@@ -99,8 +102,7 @@ fn check_all<L: Link, K: Sink, C: Sink>(
     Ok(())
 }
 
-/// The session of these seats, on the heap: the stack has the seats no longer than until then.
-#[inline(never)]
+/// The session of these seats, on the heap.
 fn begin(alloc: Global, version: Version, seats: Seats) -> Result<Box<Session>, SessionStart>
     requires { All (λ s. Speaks version seats.depth s.query) seats.seats }
     ensures { MatchResult result (λ session. Starts version seats (Ok session.value))
@@ -110,6 +112,31 @@ fn begin(alloc: Global, version: Version, seats: Seats) -> Result<Box<Session>, 
     match Box::new(alloc, session) {
         Ok(session) => Ok(session),
         Err(_) => Err(SessionStart::OutOfMemory),
+    }
+}
+
+/// The session of the seats that were gathered, if they were. What was gathered is taken whole: it is large, and so the stack has it
+/// once and no longer than until then.
+#[inline(never)]
+fn open(
+    alloc: Global,
+    version: Version,
+    gathered: Result<Seats, Status>,
+) -> Result<Box<Session>, Status>
+    requires { IfOk gathered (λ seats. All (λ s. Speaks version seats.depth s.query) seats.seats) }
+    ensures { MatchResult result
+        (λ session. (seats : Seating) × (gathered ≡ Ok seats)
+        × Starts version seats (Ok session.value))
+        (λ status. (gathered ≡ Err status) ⊎ (seats : Seating) × (start : AnyStart)
+        × (gathered ≡ Ok seats) × Starts version seats (Err start)
+        × (status ≡ status_of_start start)) }
+{
+    match gathered {
+        Ok(seats) => match begin(alloc, version, seats) {
+            Ok(session) => Ok(session),
+            Err(start) => Err(status_of_start(start)),
+        },
+        Err(status) => Err(status),
     }
 }
 
@@ -150,11 +177,7 @@ fn steps<A: Source, B: Source, L: Link, K: Sink, C: Sink>(
     let levels = task.depth.get();
     prove!(levels >= 1 && levels <= Depth::MOST);
     let version = task.version();
-    let seats = gather(task, first, second, peer, keep)?;
-    let mut session = match begin(alloc, version, seats) {
-        Ok(session) => session,
-        Err(start) => return Err(status_of_start(start)),
-    };
+    let mut session = open(alloc, version, gather(task, first, second, peer, keep))?;
     check_all(&mut *session, &task.queries, peer, report, keep)?;
     on_link(say_bye(version, peer))
 }

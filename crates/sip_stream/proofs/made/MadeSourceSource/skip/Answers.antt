@@ -1,4 +1,4 @@
--- The bytes that are dropped are of the record under way.
+-- The bytes that are dropped are of the records that were made.
 use Rattle.std.proofs.Common.{◌++◌, take, drop, sym, ap, ◌∙◌}
 use Rattle.sip_stream.specs.Made.{made_bytes}
 use Rattle.sip_stream.proofs.Filling.{dropped_more}
