@@ -14,3 +14,4 @@ pub mod SumReplies
 pub mod Talks
 pub mod Turning
 pub mod Seen
+pub mod OwedReplies

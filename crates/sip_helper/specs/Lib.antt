@@ -3,6 +3,7 @@ pub mod Kinds
 pub mod Hitters
 pub mod Serving
 pub mod Statuses
+pub mod Streams
 pub mod Vectors
 pub mod SubVectors
 pub mod Sums

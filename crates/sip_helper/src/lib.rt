@@ -10,6 +10,8 @@
 //! - `answer` sends the reply that is owed (`owed`) in the version of the opening, or after a fault of the sink a shorter front of
 //!   it. A reply is the honest one, or a refusal: for want of memory, or exactly where the query's row refuses it over the vectors.
 //!
+//! - Behind a stream in any pieces and a query that is not refused, the honest reply over the stream's own vectors is owed, whatever was
+//!   revealed; no reply to a challenge is a refusal, and no reply that is owed is empty (`turn_laws`).
 //! - `serve` takes turns, each of them a message that may come and then its reply, and stops at a Bye, a frame that has no spelling,
 //!   a query of a kind that is not answered, a message out of turn, the end of the link, or a fault of it; its status says at
 //!   which, and a frame's offset is exact (`Serves`). It ends, whatever comes.
@@ -48,6 +50,7 @@ mod status;
 mod sub_vector;
 mod sums;
 mod turn;
+pub mod turn_laws;
 mod vectors;
 
 pub use helper::HelperCore;
