@@ -23,7 +23,7 @@ use Rattle.sip_helper.specs.declared.heard.Heard.TheVariants.{Whole}
 use Rattle.sip_helper.specs.Kinds.{help_row}
 use Rattle.sip_helper.specs.KindRows.{HelpRow, refusal, reply_by, want_of_memory}
 use Rattle.sip_helper.specs.Streams.{challenges_heard, query_heard, stream_heard, updates_heard, vectors_of}
-use Rattle.sip_helper.specs.Turns.{HelperState, OpenQuery, after_answer, after_reply, depth_of, fresh, is_refused, owed, owed_messages, owes, reply_to, step, version_opened, with_challenge, with_updates, zero_vectors}
+use Rattle.sip_helper.specs.Turns.{HelperState, OpenQuery, after_answer, after_reply, depth_of, fresh, is_refused, owed, owes, reply_to, step, version_opened, with_challenge, with_updates, zero_vectors}
 use Rattle.sip_helper.specs.Vectors.{Vectors}
 
 -- ---- the stream
