@@ -1,9 +1,9 @@
 -- The levels of a prover of heavy hitters, and the messages of an honest reply.
-use Rattle.std.proofs.Common.{◌≡◌, ℕ, zero, suc, ◌+◌, ◌-◌, ◌*◌, ◌/◌, ◌%◌, ◌^◌, ◌<◌, ◌≤◌, Bool, true, false, Some, None, List, [], ◌∷◌, ◌++◌, length, All, ℤ, pos, negsuc, nat_abs, ◌==◌, append-nil, leb, refl, sym, ap, subst, ◌∙◌, inl, inr, arith}
+use Rattle.std.proofs.Common.{◌≡◌, ℕ, zero, suc, ◌+◌, ◌-◌, ◌*◌, ◌%◌, ◌^◌, ◌<◌, ◌≤◌, Bool, true, false, Some, None, List, [], ◌∷◌, ◌++◌, length, All, ℤ, pos, negsuc, nat_abs, append-nil, leb, refl, sym, ap, subst, ◌∙◌, inl, inr, arith}
 use Rattle.std.specs.Prelude.{IsTrue, ◌≤ℤ◌, ◌↔◌, int_le, if◌then◌else◌}
-use Rattle.std.specs.List.{flat_map, AllPass}
+use Rattle.std.specs.List.{flat_map}
 use Rattle.std.proofs.Math.Nat.{mod-eq_of_lt, le-div_iff_mul-le}
-use Rattle.std.proofs.lemmas.Bool.{cases_Bool, le-leb, ne_eqb}
+use Rattle.std.proofs.lemmas.Bool.{cases_Bool, le-leb}
 use Rattle.std.proofs.lemmas.Int.{ints}
 use Rattle.std.proofs.lemmas.List.{length_push, take_at}
 use Rattle.std.proofs.lemmas.List.Elements.{All-take, recursion_from_All}
@@ -20,7 +20,7 @@ use Rattle.sip_wire.specs.declared.message.Message.TheVariants as messages
 use Rattle.sip_wire.specs.declared.version.Version.{Version}
 use Rattle.sip_wire.specs.Spelling.{fits, spelling}
 use Rattle.sip_wire.specs.Versions.{deepest}
-use Rattle.sip_heavy.specs.Honest.{Proving, CanBeSent, begun, honest_messages, is_first, learnt, opening_frames, proving}
+use Rattle.sip_heavy.specs.Honest.{Proving, CanBeSent, begun, honest_messages, learnt, opening_frames, proving}
 use Rattle.sip_heavy.proofs.FewFooledByBytes.{positive_is}
 use Rattle.sip_heavy.proofs.HonestReplies.{proving-push}
 use Rattle.sip_heavy.proofs.HonestSpellings.{messages_fit}
@@ -126,14 +126,6 @@ one_level depth v revealed old next r s h element is above half less =
 -- a level that is reached can be folded
 pub tall : (depth : ℕ) (v : Vectors) (revealed : List ℕ) (s : HittersProver) → HasNodes depth v revealed s → length revealed < depth → 2 ≤ length s.prover.level
 tall depth v revealed s h less = omega (arith, folds_left-two (depth - length revealed) (omega (arith, less)), h.height)
-
--- it is the lowest before any challenge
-pub is_lowest : (depth : ℕ) (v : Vectors) (revealed : List ℕ) (s : HittersProver) → HasNodes depth v revealed s → s.prover.is_leaf ≡ (length revealed == 0)
-is_lowest depth v revealed s h = ap (λ (x : Proving). x.is_leaf) h.level ∙ by_list revealed
-  where
-    by_list : (l : List ℕ) → is_first l ≡ (length l == 0)
-    by_list [] = refl
-    by_list (r ∷ l) = sym (ne_eqb (length (r ∷ l)) 0 (λ e. absurd (omega (arith, e))))
 
 -- ---- replies
 

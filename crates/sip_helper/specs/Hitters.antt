@@ -7,7 +7,7 @@ use Rattle.sip_vector.specs.declared.query.Query.TheVariants as queries
 use Rattle.sip_vector.specs.declared.update.Side.{Side}
 use Rattle.sip_vector.specs.Streams.{int_sum}
 use Rattle.sip_vector.specs.Thresholds.{is_wide, share_of}
-use Rattle.sip_heavy.specs.Honest.{CanBeSent, honest_messages, proving}
+use Rattle.sip_heavy.specs.Honest.{honest_messages, proving}
 use Rattle.sip_helper.specs.declared.hitters.Least.{Least}
 use Rattle.sip_helper.specs.declared.hitters.Least.TheVariants.{Count, Share}
 use Rattle.sip_helper.specs.declared.hitters.HittersProver.{HittersProver}

@@ -1,5 +1,5 @@
 -- The tests are those of the row, and the prover begins at the leaves.
-use Rattle.std.proofs.Common.{◌≡◌, ℕ, ◌+◌, ◌^◌, ◌<◌, ◌≤◌, length, nat_abs, true, false, List, ℤ, refl, sym, ap, subst, ◌∙◌, arith, rules}
+use Rattle.std.proofs.Common.{◌≡◌, ℕ, ◌^◌, ◌<◌, nat_abs, true, false, refl, ap, ◌∙◌, arith, rules}
 use Rattle.sip_field.specs.Moduli.{m61_modulus}
 use Rattle.sip_vector.specs.Streams.{int_sum}
 use Rattle.sip_vector.specs.Thresholds.{is_wide}

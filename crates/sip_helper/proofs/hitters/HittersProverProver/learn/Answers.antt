@@ -1,5 +1,5 @@
 -- The prover goes one level up.
-use Rattle.std.proofs.Common.{length, arith}
+use Rattle.std.proofs.Common.{arith}
 use Rattle.sip_helper.proofs.HitterReplies.{one_level, tall}
 use Rattle.sip_helper.proofs.hitters.HittersProverProver.learn.Goals as goal
 

@@ -1,5 +1,5 @@
 -- The end of the level is sent behind what is shown of it.
-use Rattle.std.proofs.Common.{◌≡◌, ℕ, List, ◌++◌, Result, Err, sym, subst}
+use Rattle.std.proofs.Common.{◌++◌, Result, sym, subst}
 use Rattle.std.specs.List.{flat_map}
 use Rattle.std.proofs.lemmas.Result.{err_from_is_err_and}
 use Rattle.sip_ports.specs.declared.port.PortStop.{PortStop}
