@@ -17,11 +17,13 @@ pub loop-entry-preserved : goal.loop-entry-preserved
 loop-entry-preserved c =
     let rows = c.loop-entry.rows.items in
     let e = c.in-Some.entry in
-    let rest = nonzero_within (e.index + 1) c.args.hi c.args.vector.now.numbers in
-    (search rules, c.loop-entry.invariant.1
-    ∙ ap (λ (l : List Entry). rows ++ l) (nonzero_within-next c.loop-entry.next c.args.hi c.args.vector.now.numbers e (sym c.next_entry.ensures ∙ c.in-Some.is))
-    ∙ sym (append_assoc rows (e ∷ []) rest)
-    ∙ ap (λ (l : List Entry). l ++ rest) (sym c.push.ensures.items))
+    let rest = nonzero_within (e.index + 1) c.args.hi c.args.vector.now.numbers in (
+      search rules,
+      c.loop-entry.invariant.1
+          ∙ ap (λ (l : List Entry). rows ++ l) (nonzero_within-next c.loop-entry.next c.args.hi c.args.vector.now.numbers e (sym c.next_entry.ensures ∙ c.in-Some.is))
+          ∙ sym (append_assoc rows (e ∷ []) rest)
+          ∙ ap (λ (l : List Entry). l ++ rest) (sym c.push.ensures.items),
+    )
 
 pub returns-clause-last : goal.returns-clause-last
 returns-clause-last c = λ _. nonzero_within-last c.loop-entry.next c.args.hi c.args.vector.now.numbers (sym c.next_entry.ensures ∙ c.in_default.is)
