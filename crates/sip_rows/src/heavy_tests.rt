@@ -124,7 +124,7 @@ fn a_negative_entry_is_refused(rt: HostRuntime) -> Result<(), Fail> {
 // Nothing is heard, and what is sent has no query. A share has version 2.
 #[test]
 fn what_is_none_by_the_total_is_not_asked(rt: HostRuntime) -> Result<(), Fail> {
-    let rows = [
+    let rows: [Row<'static>; 2] = [
         Row {
             name: "9 is less than 10",
             given: Given {
