@@ -1,5 +1,5 @@
 -- At each end of the steps the facts of the calls before it are handed to the lemma of that end.
-use Rattle.std.proofs.Common.{◌≡◌, [], ap, refl, ◌∙◌, arith, rules}
+use Rattle.std.proofs.Common.{◌≡◌, [], ap, ◌∙◌, arith, rules}
 use Rattle.sip_verifier.specs.Sittings.{Sitting}
 use Rattle.std.proofs.lemmas.Result.{err_from_is_err_and}
 use Rattle.sip_ports.proofs.TalkLemmas.{GoesOn-refl, GoesOn-trans}
@@ -10,7 +10,13 @@ use Rattle.sip_verifier.proofs.RunTalks.{tells, said_is, refuses_moves, passed_m
 use Rattle.sip_verifier.proofs.StreamPromises.{after_gather, after_start, narrow_seats}
 use Rattle.sip_verifier.proofs.QueryPromises.{after_queries, at_bye, bye_stops, all_read, rose_since}
 use Rattle.sip_verifier.proofs.QueriesChecked.{all_checked, since_before}
+use Rattle.sip_verifier.proofs.SeatsHead.{seats-speak}
 use Rattle.sip_verifier.proofs.checking.steps.Goals as goal
+
+pub begin-requires : goal.begin-requires
+begin-requires g c =
+    let seated = c.in_ok-seats.ensures.seated in
+    seats-speak c.args.task.now.depth c.args.task.now.queries.items c.version-version.result c.in_ok-seats.seats (omega (arith, c.get-levels.ensures.same, c.get-levels.ensures.most)) c.version-version.ensures seated.0 seated.1
 
 pub returns-in_err-seats-clause-keeps : goal.returns-in_err-seats-clause-keeps
 returns-in_err-seats-clause-keeps g c =

@@ -116,12 +116,12 @@ loop-update-preserved g c =
           (goes_on _ bytes seed _ _ has _ _ _ _ _ _ _ _ _ _ c.in-Some.update so reads after moved.said stand) in
           goes_on_many _ bytes seed _ _ has _ _ _ _ _ _ _ _ _ _ next depth form took.3 took.4 took.2 c.take_held.ensures.few;
       seats = (let had = c.loop-update.invariant.seats in
-      let after = rw (c.in_ok-update.ensures, c.in-Some.is) at (c.next.ensures.after (had.sent ++ c.loop-update.feed.waiting) had.after) in
-      let waiting = rw c.in_ok-on_link-2.ensures at c.pass_on.ensures.waiting in
-      let on = subst (IsFollowed c.args.task.now c.next.new.self c.pass_on.new.seats) (sym waiting)
-      (followed_on c.args.task.now c.loop-update.reader c.next.new.self c.loop-update.seats c.pass_on.new.seats c.loop-update.feed.waiting c.in-Some.update had after
-      (c.pass_on.ensures.stands _ _ _ had.sent had.stand.stand)) in
-      followed_many c.args.task.now c.next.new.self _ c.pass_on.new.seats c.pass_on.new.feed.waiting _ took.0 took.1 on took.3 took.2);
+          let after = rw (c.in_ok-update.ensures, c.in-Some.is) at (c.next.ensures.after (had.sent ++ c.loop-update.feed.waiting) had.after) in
+          let waiting = rw c.in_ok-on_link-2.ensures at c.pass_on.ensures.waiting in
+          let on = subst (IsFollowed c.args.task.now c.next.new.self c.pass_on.new.seats) (sym waiting)
+          (followed_on c.args.task.now c.loop-update.reader c.next.new.self c.loop-update.seats c.pass_on.new.seats c.loop-update.feed.waiting c.in-Some.update had after
+          (c.pass_on.ensures.stands _ _ _ had.sent had.stand.stand)) in
+          followed_many c.args.task.now c.next.new.self _ c.pass_on.new.seats c.pass_on.new.feed.waiting _ took.0 took.1 on took.3 took.2);
       version = c.take_held.ensures.version ∙ c.pass_on.ensures.version ∙ c.loop-update.invariant.version;
       few = c.take_held.ensures.few;
       items = subst (All (λ (u : Update). u.item < 2 ^ task.depth)) (sym took.2) (All-append (λ (u : Update). u.item < 2 ^ task.depth) c.pass_on.new.feed.waiting took.0 passed more);
