@@ -7,7 +7,7 @@
 //!
 //! The words behind the first are those of `sip`; the first says by which designs (`plain/mod.rs`). STREAM is a file of records, or
 //! `text:` and one of lines; of a depth above 32 a file of records is `wide:` and its path. A query is `sub:LO:HI`,
-//! `range:SIDE:LO:HI`, `f2:SIDE` or `inner`.
+//! `range:SIDE:LO:HI`, `f2:SIDE`, `inner` or `heavy:SIDE:T`.
 
 mod plain;
 

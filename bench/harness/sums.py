@@ -19,13 +19,19 @@ ENDS = ("help", "verify")
 
 
 def measure(programs, settings, work):
+    return measured("sums", sums_of, programs, settings, work)
+
+
+def measured(name, asked, programs, settings, work):
+    """A table of talks about the queries that a function of the two sides and the depth gives, each with its answer and the number of
+    entries that it is about."""
     programs = programs.talks()
     records = settings.records[0]
-    table = Table(f"sums of {records} records", "ms of CPU of an end, the most memory that it has, and what the query adds", programs)
+    table = Table(f"{name} of {records} records", "ms of CPU of an end, the most memory that it has, and what the query adds", programs)
     above = []
     for depth in settings.depths:
         talks = Talks(programs["sip"], records, depth, work)
-        queries = Queries(talks.stream, depth)
+        queries = Queries(talks.stream, depth, asked)
         for _ in range(settings.rounds):
             for word in queries.words:
                 for name, program in reachable(programs, depth):
@@ -63,26 +69,30 @@ def note(table, queries, talks, programs):
     return above
 
 
+def sums_of(first, second, depth):
+    lo, hi = LEFT_OUT, (1 << depth) - LEFT_OUT - 1
+    return {
+        "f2:0": (sum(value * value for value in first.values()), len(first)),
+        "inner": (sum(value * second.get(item, 0) for item, value in first.items()), len(first) + len(second)),
+        f"range:0:{lo}:{hi}": (sum(value for item, value in first.items() if lo <= item <= hi), len(first)),
+    }
+
+
 class Queries:
     """The words that are asked about a stream, and by a calculation of their own the answers, and how many entries that are not 0
     there are of the sides that they are about."""
 
-    def __init__(self, path, depth):
+    def __init__(self, path, depth, asked):
         sides = ({}, {})
         with open(path, "rb") as stream:
             for side, item, delta in struct.iter_unpack(">BIq" if record_size(depth) == 13 else ">BQq", stream.read()):
                 sides[side][item] = sides[side].get(item, 0) + delta
         first, second = ({item: value for item, value in side.items() if value} for side in sides)
-        lo, hi = LEFT_OUT, (1 << depth) - LEFT_OUT - 1
-        span = f"range:0:{lo}:{hi}"
-        self.words = [LEAST, "f2:0", "inner", span]
-        self.entries = {"f2:0": len(first), "inner": len(first) + len(second), span: len(first)}
-        self.answers = {
-            LEAST: f"0:{first[0]}" if 0 in first else "none",
-            "f2:0": sum(value * value for value in first.values()),
-            "inner": sum(value * second.get(item, 0) for item, value in first.items()),
-            span: sum(value for item, value in first.items() if lo <= item <= hi),
-        }
+        given = asked(first, second, depth)
+        self.words = [LEAST, *given]
+        self.entries = {word: entries for word, (_, entries) in given.items()}
+        self.answers = {LEAST: f"0:{first[0]}" if 0 in first else "none"}
+        self.answers.update({word: answer for word, (answer, _) in given.items()})
 
     def talk(self, talks, name, program, word, traced=False):
         """Runs both ends, and compares the report with the answer."""

@@ -15,11 +15,15 @@ pub const CLAIM: u8 = 0x11;
 pub const POLY: u8 = 0x12;
 pub const ENTRIES: u8 = 0x13;
 pub const SIBLINGS: u8 = 0x14;
+pub const LEAVES: u8 = 0x15;
+pub const NODES: u8 = 0x16;
+pub const LEVEL_END: u8 = 0x17;
 pub const REFUSE: u8 = 0x18;
 
-/// How many rows a frame has at most, how many entries an answer, and the greatest absolute value of an entry or a
+/// How many rows and nodes a frame has at most, how many entries an answer, and the greatest absolute value of an entry or a
 /// claim.
 pub const MOST_ROWS: usize = 512;
+pub const MOST_NODES: usize = 256;
 pub const MOST_ENTRIES: usize = 65_536;
 pub const MOST_VALUE: u64 = (1 << 60) - 1;
 

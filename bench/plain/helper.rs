@@ -2,6 +2,7 @@
 
 use super::Design;
 use super::frames::*;
+use super::hitters;
 use super::questions::Question;
 use super::siblings::Tables;
 use super::streams::{Legality, NARROW, WIDE, bad, record_of};
@@ -88,6 +89,7 @@ impl Part {
 enum Asked<'a> {
     Part(Part),
     Sum(Prover<'a>),
+    Hitters(hitters::Prover),
 }
 
 fn send_poly(prover: &Prover, frame: &mut Frame, link: &mut Link) -> Result<()> {
@@ -113,6 +115,15 @@ impl<'a, D: Design> Answering<'a, D> {
                 part.send_entries(first, depth, &mut self.frame, &mut self.link)?;
                 return Ok(Asked::Part(part));
             }
+            Question::Heavy { side, at_least } => {
+                return match hitters::Prover::new(list(side), at_least) {
+                    Ok(prover) => Ok(Asked::Hitters(prover)),
+                    Err(code) => {
+                        self.link.send(&mut self.frame, REFUSE, &[&[code]])?;
+                        Err(bad("a query is refused"))
+                    }
+                };
+            }
             Question::Range { side, lo, hi } => Prover::range(depth, list(side), lo, hi),
             Question::F2 { side } => Prover::squares(depth, list(side)),
             Question::Inner => Prover::products(depth, first.list(), second.list()),
@@ -126,6 +137,7 @@ impl<'a, D: Design> Answering<'a, D> {
         match asked {
             Asked::Part(part) => part.send_siblings::<D>(&self.sides.vectors[0], &mut self.frame, &mut self.link),
             Asked::Sum(prover) => send_poly(prover, &mut self.frame, &mut self.link),
+            Asked::Hitters(prover) => prover.send(item_width(self.sides.depth), &mut self.frame, &mut self.link),
         }
     }
 
@@ -144,6 +156,7 @@ impl<'a, D: Design> Answering<'a, D> {
                     part.level += 1;
                 }
                 Asked::Sum(prover) => prover.learn::<D::Products>(r),
+                Asked::Hitters(prover) => prover.learn(r),
             }
             self.reply(&asked)?;
         }

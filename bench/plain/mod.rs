@@ -9,6 +9,7 @@ pub mod blocks;
 pub mod field;
 pub mod frames;
 pub mod helper;
+pub mod hitters;
 pub mod interval;
 pub mod lines;
 pub mod products;

@@ -10,9 +10,10 @@ pub enum Question {
     Range { side: usize, lo: u64, hi: u64 },
     F2 { side: usize },
     Inner,
+    Heavy { side: usize, at_least: u64 },
 }
 
-use Question::{F2, Inner, Range, Sub};
+use Question::{F2, Heavy, Inner, Range, Sub};
 
 impl Question {
     /// The question, unless it does not fit the depth.
@@ -22,11 +23,12 @@ impl Question {
             Range { side, lo, hi } => side < 2 && lo <= hi && hi < 1 << depth,
             F2 { side } => side < 2,
             Inner => true,
+            Heavy { side, at_least } => side < 2 && (1..1 << 63).contains(&at_least),
         };
         if fits { Ok(self) } else { Err(bad("BadNumber")) }
     }
 
-    /// The question of a word: `sub:LO:HI`, `range:SIDE:LO:HI`, `f2:SIDE` or `inner`.
+    /// The question of a word: `sub:LO:HI`, `range:SIDE:LO:HI`, `f2:SIDE`, `inner` or `heavy:SIDE:T`.
     pub fn of_word(word: &str, depth: u32) -> Result<Question> {
         let mut parts = word.split(':');
         let kind = parts.next().unwrap_or_default();
@@ -36,6 +38,7 @@ impl Question {
             ("range", &[side, lo, hi]) => Range { side: side as usize, lo, hi },
             ("f2", &[side]) => F2 { side: side as usize },
             ("inner", []) => Inner,
+            ("heavy", &[side, at_least]) => Heavy { side: side as usize, at_least },
             _ => return Err(bad("a word is no query")),
         };
         question.fitting(depth)
@@ -56,6 +59,9 @@ impl Question {
             }
             [3, side] => F2 { side: usize::from(*side) },
             [4] => Inner,
+            [5, side, at_least @ ..] if at_least.len() == 8 => {
+                Heavy { side: usize::from(*side), at_least: number(at_least) }
+            }
             _ => return Err(bad("BadCount")),
         };
         question.fitting(depth)
@@ -69,6 +75,7 @@ impl Question {
             Range { side, lo, hi } => [vec![2, side as u8], item(lo), item(hi)].concat(),
             F2 { side } => vec![3, side as u8],
             Inner => vec![4],
+            Heavy { side, at_least } => [vec![5, side as u8], at_least.to_be_bytes().to_vec()].concat(),
         }
     }
 
@@ -76,7 +83,7 @@ impl Question {
     pub fn is_about(&self, wanted: usize) -> bool {
         match *self {
             Sub { .. } => wanted == 0,
-            Range { side, .. } | F2 { side } => side == wanted,
+            Range { side, .. } | F2 { side } | Heavy { side, .. } => side == wanted,
             Inner => true,
         }
     }

@@ -4,11 +4,13 @@ use super::Design;
 use super::blocks::{self, Seat};
 use super::field::{of, of_signed, plus, times};
 use super::frames::*;
+use super::hitters;
 use super::interval::Interval;
 use super::lines::Writer;
 use super::questions::Question;
 use super::streams::{NARROW, Reader, Update, WIDE, bad};
 use super::sums::{sum_of_ends, value_at};
+use super::vector::Entry;
 use std::fs::File;
 use std::io::{Read, Result, Write, stdout};
 
@@ -18,14 +20,24 @@ const BLOCK: usize = 32;
 struct Query {
     question: Question,
     seat: Seat,
-    /// The numbers of the two sides: of side 0 the root for a sub-vector, and for a sum the extensions of those that it is about.
+    /// The numbers of the two sides: of side 0 the root for a sub-vector, for a sum the extensions of those that it is about, and
+    /// for heavy hitters the hash of the augmented root.
     numbers: [u64; 2],
+    /// The sum of the side, for heavy hitters.
+    total: i64,
 }
 
 impl Query {
     fn update<D: Design>(&mut self, side: usize, block: &[Update]) {
         if self.question.is_about(side) {
-            let update_all = if matches!(self.question, Question::Sub { .. }) { D::root } else { D::point };
+            let update_all = match self.question {
+                Question::Sub { .. } => D::root,
+                Question::Heavy { .. } => {
+                    self.total += block.iter().map(|update| update.delta).sum::<i64>();
+                    D::augroot
+                }
+                _ => D::point,
+            };
             self.numbers[side] = update_all(&self.seat, self.numbers[side], block);
         }
     }
@@ -33,7 +45,7 @@ impl Query {
     /// What the last value of a sum has to be.
     fn product(&self) -> u64 {
         match self.question {
-            Question::Sub { .. } => 0,
+            Question::Sub { .. } | Question::Heavy { .. } => 0,
             Question::Range { side, lo, hi } => times(self.numbers[side], Interval::extension(lo, hi, &self.seat)),
             Question::F2 { side } => times(self.numbers[side], self.numbers[side]),
             Question::Inner => times(self.numbers[0], self.numbers[1]),
@@ -187,19 +199,56 @@ fn hear_sum(query: &Query, frame: &mut Frame, link: &mut Link) -> Result<i64> {
     if expected == query.product() { Ok(claim) } else { Err(bad("Root")) }
 }
 
+/// Hears the replies to a query for heavy hitters, and answers them.
+fn hear_hitters(query: &Query, side: usize, at_least: u64, frame: &mut Frame, link: &mut Link) -> Result<Vec<Entry>> {
+    let depth = query.seat.len() as u32;
+    let width = item_width(depth);
+    let mut check = hitters::Check::new(hitters::Asked { depth, at_least, total: query.total as u64 });
+    for (level, &r) in query.seat.iter().enumerate() {
+        reveal(query, level, frame, link)?;
+        loop {
+            match link.receive()? {
+                (LEAVES, body) if level == 0 => check.hear(body, width)?,
+                (NODES, body) if level > 0 => check.hear(body, width)?,
+                (LEVEL_END, []) => break check.end(r)?,
+                _ => return Err(bad("BadKind")),
+            }
+        }
+    }
+    check.finish(query.numbers[side])
+}
+
+/// Writes pairs behind the word of their query.
+fn report_pairs<W: Write>(report: &mut Writer<W>, pairs: impl ExactSizeIterator<Item = (u64, i64)>) -> Result<()> {
+    if pairs.len() == 0 {
+        report.word(" none")?;
+    }
+    pairs.into_iter().try_for_each(|(item, value)| report.entry(item, value))
+}
+
 /// Asks a query, and writes what follows its word in the report.
 fn ask<W: Write>(query: &Query, link: &mut Link, report: &mut Writer<W>) -> Result<()> {
     let mut frame = Frame::default();
-    link.send(&mut frame, QUERY, &[&query.question.body(query.seat.len() as u32)])?;
-    let Question::Sub { lo, hi } = query.question else {
-        let claim = hear_sum(query, &mut frame, link)?;
-        return report.word(&format!(" {claim}"));
-    };
-    let entries = hear_part(query, (lo, hi), &mut frame, link)?;
-    if entries.is_empty() {
-        report.word(" none")?;
+    if let Question::Heavy { at_least, .. } = query.question
+        && query.total < at_least as i64
+    {
+        return report_pairs(report, [].into_iter());
     }
-    entries.iter().try_for_each(|entry| report.entry(entry.item, entry.delta))
+    link.send(&mut frame, QUERY, &[&query.question.body(query.seat.len() as u32)])?;
+    match query.question {
+        Question::Sub { lo, hi } => {
+            let entries = hear_part(query, (lo, hi), &mut frame, link)?;
+            report_pairs(report, entries.iter().map(|entry| (entry.item, entry.delta)))
+        }
+        Question::Heavy { side, at_least } => {
+            let entries = hear_hitters(query, side, at_least, &mut frame, link)?;
+            report_pairs(report, entries.iter().map(|entry| (entry.index, entry.value)))
+        }
+        _ => {
+            let claim = hear_sum(query, &mut frame, link)?;
+            report.word(&format!(" {claim}"))
+        }
+    }
 }
 
 /// The queries of these words, with challenges from a linear congruential generator.
@@ -213,7 +262,7 @@ fn queries_of(seed: &str, depth: u32, words: &[String]) -> Result<Vec<Query>> {
     };
     let query = |word: &String| {
         let question = Question::of_word(word, depth)?;
-        Ok(Query { question, seat: (0..depth).map(|_| next()).collect(), numbers: [0; 2] })
+        Ok(Query { question, seat: (0..depth).map(|_| next()).collect(), numbers: [0; 2], total: 0 })
     };
     words.iter().map(query).collect()
 }

@@ -56,13 +56,31 @@ same_ranges First Second lo hi lo' hi' low high low' high' same = let digit : 48
 same_ranges Second First lo hi lo' hi' low high low' high' same = let digit : 49 ≡ 48 = ap (λ w. get_or w 6 0) same in absurd (omega (arith, digit))
 same_ranges Second Second lo hi lo' hi' low high low' high' same = let one = same_bounds lo hi lo' hi' low high low' high' (ap (drop 8) same) in (refl, one.0, one.1)
 
--- the letter that a word begins with
-abbrev initial : List ℕ → ℕ
-initial word = get_or word 0 0
+-- two queries for heavy hitters with one word are one
+same_thresholds : (side side' : Side) (t t' : ℕ) → t < 2 ^ 64 → t' < 2 ^ 64 → query_word (Heavy side t) ≡ query_word (Heavy side' t') → (side ≡ side') × (t ≡ t')
+same_thresholds First First t t' small small' same = (refl, decimal_injective t t' small small' (ap (drop 8) same))
+same_thresholds First Second t t' small small' same = let digit : 48 ≡ 49 = ap (λ w. get_or w 6 0) same in absurd (omega (arith, digit))
+same_thresholds Second First t t' small small' same = let digit : 49 ≡ 48 = ap (λ w. get_or w 6 0) same in absurd (omega (arith, digit))
+same_thresholds Second Second t t' small small' same = (refl, decimal_injective t t' small small' (ap (drop 8) same))
 
--- words that begin with two letters are two
-unlike : (word other : List ℕ) → initial word ≢ initial other → word ≡ other → ⊥
-unlike word other apart same = apart (ap initial same)
+-- two ratios with one spelling are one
+pub same_ratios : (num den num' den' : ℕ) → num < 2 ^ 32 → den < 2 ^ 32 → num' < 2 ^ 64 → den' < 2 ^ 64 → bounds num den ≡ bounds num' den' → (num ≡ num') × (den ≡ den')
+same_ratios num den num' den' small low small' low' same = same_bounds num den num' den' (omega (arith, small)) (omega (arith, low)) small' low' same
+
+-- two shares with one word are one
+same_shares : (side side' : Side) (num den num' den' : ℕ) → num < 2 ^ 32 → den < 2 ^ 32 → num' < 2 ^ 32 → den' < 2 ^ 32 → query_word (Share side num den) ≡ query_word (Share side' num' den') → (side ≡ side') × (num ≡ num') × (den ≡ den')
+same_shares First First num den num' den' small low small' low' same = let one = same_ratios num den num' den' small low (omega (arith, small')) (omega (arith, low')) (ap (drop 8) same) in (refl, one.0, one.1)
+same_shares First Second num den num' den' small low small' low' same = let digit : 48 ≡ 49 = ap (λ w. get_or w 6 0) same in absurd (omega (arith, digit))
+same_shares Second First num den num' den' small low small' low' same = let digit : 49 ≡ 48 = ap (λ w. get_or w 6 0) same in absurd (omega (arith, digit))
+same_shares Second Second num den num' den' small low small' low' same = let one = same_ratios num den num' den' small low (omega (arith, small')) (omega (arith, low')) (ap (drop 8) same) in (refl, one.0, one.1)
+
+-- the letter that a word has behind its first, of which each kind has one of its own
+abbrev letter : List ℕ → ℕ
+letter word = get_or word 1 0
+
+-- words with two such letters are two
+unlike : (word other : List ℕ) → letter word ≢ letter other → word ≡ other → ⊥
+unlike word other apart same = apart (ap letter same)
 
 -- a word is that of one query
 pub query_word_once : (query other : Query) → IsRead query → IsRead other → query_word query ≡ query_word other → query ≡ other
@@ -72,30 +90,44 @@ query_word_once (Sub lo hi) (Sub lo' hi') (low, high) (low', high') same =
 query_word_once (Sub lo hi) (Range side' lo' hi') read also same = absurd (unlike _ _ (omega arith) same)
 query_word_once (Sub lo hi) (F2 side') read also same = absurd (unlike _ _ (omega arith) same)
 query_word_once (Sub lo hi) Inner read also same = absurd (unlike _ _ (omega arith) same)
-query_word_once (Sub lo hi) (Heavy s t) read also same = absurd also
-query_word_once (Sub lo hi) (Share s n k) read also same = absurd also
+query_word_once (Sub lo hi) (Heavy side' t') read also same = absurd (unlike _ _ (omega arith) same)
+query_word_once (Sub lo hi) (Share side' num' den') read also same = absurd (unlike _ _ (omega arith) same)
 query_word_once (Range side lo hi) (Sub lo' hi') read also same = absurd (unlike _ _ (omega arith) same)
 query_word_once (Range side lo hi) (Range side' lo' hi') (low, high) (low', high') same =
     let one = same_ranges side side' lo hi lo' hi' low high low' high' same in
     rw (one.0, one.1, one.2) refl
 query_word_once (Range side lo hi) (F2 side') read also same = absurd (unlike _ _ (omega arith) same)
 query_word_once (Range side lo hi) Inner read also same = absurd (unlike _ _ (omega arith) same)
-query_word_once (Range side lo hi) (Heavy s t) read also same = absurd also
-query_word_once (Range side lo hi) (Share s n k) read also same = absurd also
+query_word_once (Range side lo hi) (Heavy side' t') read also same = absurd (unlike _ _ (omega arith) same)
+query_word_once (Range side lo hi) (Share side' num' den') read also same = absurd (unlike _ _ (omega arith) same)
 query_word_once (F2 side) (Sub lo' hi') read also same = absurd (unlike _ _ (omega arith) same)
 query_word_once (F2 side) (Range side' lo' hi') read also same = absurd (unlike _ _ (omega arith) same)
 query_word_once (F2 side) (F2 side') read also same = rw (same_sides side side' (ap (drop 2) same)) refl
 query_word_once (F2 side) Inner read also same = absurd (unlike _ _ (omega arith) same)
-query_word_once (F2 side) (Heavy s t) read also same = absurd also
-query_word_once (F2 side) (Share s n k) read also same = absurd also
+query_word_once (F2 side) (Heavy side' t') read also same = absurd (unlike _ _ (omega arith) same)
+query_word_once (F2 side) (Share side' num' den') read also same = absurd (unlike _ _ (omega arith) same)
 query_word_once Inner (Sub lo' hi') read also same = absurd (unlike _ _ (omega arith) same)
 query_word_once Inner (Range side' lo' hi') read also same = absurd (unlike _ _ (omega arith) same)
 query_word_once Inner (F2 side') read also same = absurd (unlike _ _ (omega arith) same)
 query_word_once Inner Inner read also same = refl
-query_word_once Inner (Heavy s t) read also same = absurd also
-query_word_once Inner (Share s n k) read also same = absurd also
-query_word_once (Heavy s t) other read also same = absurd read
-query_word_once (Share s n k) other read also same = absurd read
+query_word_once Inner (Heavy side' t') read also same = absurd (unlike _ _ (omega arith) same)
+query_word_once Inner (Share side' num' den') read also same = absurd (unlike _ _ (omega arith) same)
+query_word_once (Heavy side t) (Sub lo' hi') read also same = absurd (unlike _ _ (omega arith) same)
+query_word_once (Heavy side t) (Range side' lo' hi') read also same = absurd (unlike _ _ (omega arith) same)
+query_word_once (Heavy side t) (F2 side') read also same = absurd (unlike _ _ (omega arith) same)
+query_word_once (Heavy side t) Inner read also same = absurd (unlike _ _ (omega arith) same)
+query_word_once (Heavy side t) (Heavy side' t') read also same =
+    let one = same_thresholds side side' t t' read also same in
+    rw (one.0, one.1) refl
+query_word_once (Heavy side t) (Share side' num' den') read also same = absurd (unlike _ _ (omega arith) same)
+query_word_once (Share side num den) (Sub lo' hi') read also same = absurd (unlike _ _ (omega arith) same)
+query_word_once (Share side num den) (Range side' lo' hi') read also same = absurd (unlike _ _ (omega arith) same)
+query_word_once (Share side num den) (F2 side') read also same = absurd (unlike _ _ (omega arith) same)
+query_word_once (Share side num den) Inner read also same = absurd (unlike _ _ (omega arith) same)
+query_word_once (Share side num den) (Heavy side' t') read also same = absurd (unlike _ _ (omega arith) same)
+query_word_once (Share side num den) (Share side' num' den') (small, low) (small', low') same =
+    let one = same_shares side side' num den num' den' small low small' low' same in
+    rw (one.0, one.1, one.2) refl
 
 -- the word of a query that is built and fits is read
 pub is_read : (depth : ℕ) (query : Query) → depth ≤ most_depth → IsTrue (is_built query) → Fits depth query → IsRead query
@@ -103,8 +135,8 @@ is_read depth (Sub lo hi) deep built fits = let bound = pow_mono {i = depth} {j 
 is_read depth (Range side lo hi) deep built fits = let bound = pow_mono {i = depth} {j = most_depth} deep in (omega (arith, fits.0, fits.1), omega (arith, fits.1))
 is_read depth (F2 side) deep built fits = cc
 is_read depth Inner deep built fits = cc
-is_read depth (Heavy side at_least) deep built fits = absurd cc
-is_read depth (Share side num den) deep built fits = absurd cc
+is_read depth (Heavy side at_least) deep built fits = omega (arith, fits.1)
+is_read depth (Share side num den) deep built fits = (omega (arith, fits.1, fits.2), omega (arith, fits.2))
 
 -- a word asks one query
 pub query_once : (depth : ℕ) (query other : Query) (word : List ℕ) → depth ≤ most_depth → Asks depth query word → Asks depth other word → query ≡ other

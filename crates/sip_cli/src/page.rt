@@ -28,11 +28,14 @@ USAGE
       TO      the file or FIFO that takes ours
       -       no record of the talk is kept
       DEPTH   from 1 to 48; items are the numbers below 2^DEPTH
-      QUERY   sub:LO:HI         the entries of side 0 from LO to HI that are not 0
-              range:SIDE:LO:HI  the sum of the entries of a side from LO to HI
-              f2:SIDE           the sum of the squares of the entries of a side
-              inner             the sum of the products of the entries of both sides
-              with LO up to HI, HI below 2^DEPTH, and SIDE 0 or 1
+      QUERY   sub:LO:HI           the entries of side 0 from LO to HI that are not 0
+              range:SIDE:LO:HI    the sum of the entries of a side from LO to HI
+              f2:SIDE             the sum of the squares of the entries of a side
+              inner               the sum of the products of the entries of both sides
+              heavy:SIDE:T        the entries of a side that are T or more
+              share:SIDE:NUM:DEN  the entries of a side that are NUM/DEN of its total or more
+              with LO up to HI, HI below 2^DEPTH, SIDE 0 or 1, T from 1 to 2^63 - 1, and NUM from 1 to DEN, which is up
+              to 1000000. The last two are answered where no entry of the side is below 0.
 
       sip verify log.stream today.seed from.fifo to.fifo - 20 sub:100:199 range:0:0:1048575 f2:0 inner
 
@@ -91,7 +94,7 @@ STATUS
   0  every answer was accepted and printed, a talk was served to its end, or a stream was written to its end
   1  a reply of the helper was rejected
   2  the words are no command
-  3  the stream, the seed or a frame of the verifier is not as it has to be
+  3  the stream, the seed or a frame of the verifier is not as it has to be, or more than 65536 entries could be T or more
   4  a file, the link or the output failed, or the verifier left before its farewell
   5  memory ran out
 ";

@@ -1,9 +1,12 @@
 pub mod EachKind
 pub mod EntryFrames
 pub mod Falling
+pub mod Frames
 pub mod Hearing
+pub mod HitterReplies
 pub mod LegalUpdates
 pub mod Rows
+pub mod ShownFrames
 pub mod Sending
 pub mod Standing
 pub mod SubVectors

@@ -16,13 +16,14 @@ use Rattle.sip_wire.specs.declared.message.Message.TheVariants as messages
 use Rattle.sip_wire.specs.declared.version.Version.{Version}
 use Rattle.sip_wire.specs.Spelling.{spelling}
 use Rattle.sip_wire.proofs.ReadingLaws.{length-spelling}
+use Rattle.sip_heavy.specs.Honest.{honest_messages as heavy_messages}
 use Rattle.sip_subvec.specs.Honest.{honest_messages as sub_messages}
 use Rattle.sip_sums.specs.Honest.{honest_messages as sum_messages}
 use Rattle.sip_helper.specs.declared.heard.Heard.TheVariants.{Whole}
 use Rattle.sip_helper.specs.Kinds.{help_row}
 use Rattle.sip_helper.specs.KindRows.{HelpRow, refusal, reply_by, want_of_memory}
 use Rattle.sip_helper.specs.Streams.{challenges_heard, query_heard, stream_heard, updates_heard, vectors_of}
-use Rattle.sip_helper.specs.Turns.{HelperState, OpenQuery, after_answer, after_reply, depth_of, fresh, is_refused, owed, owed_messages, owes, reply_to, step, version_opened, with_challenge, with_updates, zero_vectors}
+use Rattle.sip_helper.specs.Turns.{HelperState, OpenQuery, after_answer, after_reply, depth_of, fresh, is_refused, owed, owes, reply_to, step, version_opened, with_challenge, with_updates, zero_vectors}
 use Rattle.sip_helper.specs.Vectors.{Vectors}
 
 -- ---- the stream
@@ -155,13 +156,13 @@ one_alone code e = cc
 
 -- what a row says, a line for each kind
 row_says : (q : Query) (v : Vectors) (revealed : List ℕ) → (help_row q).honest v revealed ≢ []
-unfolding sub_messages sum_messages
+unfolding sub_messages sum_messages heavy_messages
 row_says (Sub lo hi) v revealed = ends_in_one _ _
 row_says (Range side lo hi) v revealed = ends_in_one _ _
 row_says (F2 side) v revealed = ends_in_one _ _
 row_says Inner v revealed = ends_in_one _ _
-row_says (Heavy side n) v revealed = one_alone _
-row_says (Share side n d) v revealed = one_alone _
+row_says (Heavy side n) v revealed = ends_in_one _ _
+row_says (Share side n d) v revealed = ends_in_one _ _
 
 reply_says : (refused : Option ℕ) (row : HelpRow) (v : Vectors) (revealed : List ℕ) → row.honest v revealed ≢ [] → row.refused_by v ≡ refused → reply_by row v revealed ≢ []
 reply_says (Some code) row v revealed some e = subst (λ r. elim r as (λ _. List Message) [ Some c ↦ refusal c | None ↦ row.honest v revealed ] ≢ []) (sym e) (one_alone code)

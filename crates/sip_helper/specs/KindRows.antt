@@ -4,13 +4,16 @@ use Rattle.sip_wire.specs.declared.message.Message.{Message}
 use Rattle.sip_wire.specs.declared.message.Message.TheVariants as messages
 use Rattle.sip_helper.specs.Vectors.{Vectors}
 
--- the codes of refusals: for want of memory, of an answer with too many entries, and of a message
--- out of turn
+-- the codes of refusals: for want of memory, of an answer with too many entries, of a side with a
+-- negative entry, and of a message out of turn
 abbrev pub want_of_memory : ℕ
 want_of_memory = 1
 
 abbrev pub too_many : ℕ
 too_many = 2
+
+abbrev pub not_strict : ℕ
+not_strict = 3
 
 abbrev pub out_of_turn : ℕ
 out_of_turn = 4
@@ -24,10 +27,6 @@ refusal code = messages.Refuse code ∷ []
 pub record HelpRow : Type 0 where
   pub refused_by : Vectors → Option ℕ
   pub honest : Vectors → List ℕ → List Message
-
--- a kind that is not built is always refused: its query is out of turn
-abbrev pub unbuilt : HelpRow
-unbuilt = record { refused_by = λ v. Some out_of_turn; honest = λ v revealed. refusal out_of_turn }
 
 -- the messages of a reply by a row
 abbrev pub reply_by : HelpRow → Vectors → List ℕ → List Message

@@ -1,5 +1,6 @@
 pub mod KindRows
 pub mod Kinds
+pub mod Hitters
 pub mod Serving
 pub mod Statuses
 pub mod Streams

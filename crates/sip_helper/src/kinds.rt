@@ -2,17 +2,18 @@
 
 ghost use Rattle.std.specs.Prelude.{◌≡◌};
 ghost use Rattle.sip_vector.specs.Answers.{Fits};
+ghost use Rattle.sip_helper.specs.Hitters.{heavy_query};
 ghost use Rattle.sip_helper.specs.Kinds.{HasLearnt, query_proved};
 ghost use Rattle.sip_helper.specs.inside.Starting.{StartsProver};
 ghost use Rattle.sip_helper.specs.Sums.{asked_for};
 
+use crate::hitters::{HittersProver, Least};
 use crate::prover::{NotStarted, Prover};
-use crate::refusal::OUT_OF_TURN;
 use crate::sub_vector::SubVectorProver;
 use crate::sums::{SumQuery, SumsProver};
 use crate::vectors::Vectors;
 use sip_ports::{PortStop, Sink};
-use sip_vector::Query;
+use sip_vector::{Query, Side};
 use sip_wire::Version;
 use std::alloc::Global;
 
@@ -21,11 +22,12 @@ use std::alloc::Global;
 pub(crate) enum KindProver {
     Sub(SubVectorProver),
     Sum(SumsProver),
+    Heavy(HittersProver),
 }
 
 impl KindProver {
     /// The prover of a query that fits the vectors' depth. It takes the memory that the replies
-    /// want. A kind that is not built has none: its query is out of turn.
+    /// want.
     pub(crate) fn start(
         alloc: Global,
         vectors: &Vectors,
@@ -45,7 +47,12 @@ impl KindProver {
             }
             Query::F2 { side } => KindProver::start_sum(alloc, vectors, SumQuery::F2 { side }),
             Query::Inner => KindProver::start_sum(alloc, vectors, SumQuery::Inner),
-            Query::Heavy { .. } | Query::Share { .. } => Err(NotStarted::Refused(OUT_OF_TURN)),
+            Query::Heavy { side, at_least } => {
+                KindProver::start_hitters(alloc, vectors, side, Least::Count(at_least))
+            }
+            Query::Share { side, num, den } => {
+                KindProver::start_hitters(alloc, vectors, side, Least::Share { num, den })
+            }
         }
     }
 
@@ -62,6 +69,20 @@ impl KindProver {
         let prover = SumsProver::start(alloc, vectors, query)?;
         Ok(KindProver::Sum(prover))
     }
+
+    /// The prover of a query for heavy hitters.
+    fn start_hitters(
+        alloc: Global,
+        vectors: &Vectors,
+        side: Side,
+        least: Least,
+    ) -> Result<KindProver, NotStarted>
+        requires fits { Fits vectors.now.first.depth (heavy_query side least) }
+        ensures { StartsProver query_proved HasLearnt vectors.now (heavy_query side least) result }
+    {
+        let prover = HittersProver::start(alloc, vectors, side, least)?;
+        Ok(KindProver::Heavy(prover))
+    }
 }
 
 impl Prover for KindProver {
@@ -73,6 +94,7 @@ impl Prover for KindProver {
         match self {
             KindProver::Sub(prover) => prover.learn(challenge),
             KindProver::Sum(prover) => prover.learn(challenge),
+            KindProver::Heavy(prover) => prover.learn(challenge),
         }
     }
 
@@ -86,6 +108,7 @@ impl Prover for KindProver {
         match self {
             KindProver::Sub(prover) => prover.put_reply(version, vectors, revealed, out),
             KindProver::Sum(prover) => prover.put_reply(version, vectors, revealed, out),
+            KindProver::Heavy(prover) => prover.put_reply(version, vectors, revealed, out),
         }
     }
 }

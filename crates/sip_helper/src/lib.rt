@@ -24,7 +24,8 @@
 //!
 //! What a kind of query means to a helper is a row (`specs/KindRows.antt`): which refusal applies to it
 //! over the two vectors, and the honest reply behind the challenges so far. `specs/Kinds.antt` has the
-//! row of each kind.
+//! row of each kind. Heavy hitters and shares have one, by the threshold that they come to (`specs/Hitters.antt`): a negative
+//! entry refuses before an answer that may be too wide.
 //!
 //! # How a kind is added
 //!
@@ -38,8 +39,10 @@ mod asked;
 mod entries;
 mod heard;
 mod helper;
+mod hitters;
 mod kinds;
 pub mod laws;
+mod nodes;
 mod prover;
 mod refusal;
 mod serving;

@@ -15,6 +15,9 @@ pub(crate) const WANT_OF_MEMORY: u8 = 1;
 /// The code of a refusal where the answer has more entries than one may have.
 pub(crate) const TOO_MANY: u8 = 2;
 
+/// The code of a refusal where an entry of the query's side is negative.
+pub(crate) const NOT_STRICT: u8 = 3;
+
 /// The code of the refusal of a message out of turn.
 pub(crate) const OUT_OF_TURN: u8 = 4;
 

@@ -86,8 +86,20 @@ pub const SUB_1_2_WIDE: [u8; 20] = [
     0x04, 0, 0x11, 1, 0, 0, 0, 0, 0, 0, 0, 1, 0, 0, 0, 0, 0, 0, 0, 2,
 ];
 
-// The entries of side 0 that are 3 or more, which nothing answers.
-pub const HEAVY_3: [u8; 13] = [0x04, 0, 10, 5, 0, 0, 0, 0, 0, 0, 0, 0, 3];
+// The entries of side 0 that are 4 or more.
+pub const HEAVY_4: [u8; 13] = [0x04, 0, 10, 5, 0, 0, 0, 0, 0, 0, 0, 0, 4];
+
+// The leaves (2, 5) and (3, 1).
+pub const LEAVES_5_1: [u8; 29] = [
+    0x15, 0, 0x1a, 0, 2, 0, 0, 0, 2, 0, 0, 0, 0, 0, 0, 0, 5, 0, 0, 0, 3, 0, 0, 0, 0, 0, 0, 0, 1,
+];
+
+// The node 0 above (3, 0) at the challenge 2: its hash is 3 + 3 * 2, and its count 3.
+pub const NODE_OF_3: [u8; 25] = [
+    0x16, 0, 0x16, 0, 1, 0, 0, 0, 0, 0, 0, 0, 0, 0, 0, 0, 9, 0, 0, 0, 0, 0, 0, 0, 3,
+];
+
+pub const LEVEL_END: [u8; 3] = [0x17, 0, 0];
 
 // The entries of side 0 that are half of its total or more, which version 2 alone can ask for.
 pub const HALF: [u8; 13] = [0x04, 0, 10, 6, 0, 0, 0, 0, 1, 0, 0, 0, 2];

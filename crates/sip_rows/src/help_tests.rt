@@ -156,14 +156,18 @@ fn talks_in_two_versions(rt: HostRuntime) -> Result<(), Fail> {
             ],
         ),
         ended(
-            "a share is not answered",
-            &[&OPEN_2_WIDE, &END_STREAM, &HALF],
-            Status::BadFrame { offset: 8 },
-            3,
+            "a share of nothing",
+            &[&OPEN_2_WIDE, &END_STREAM, &HALF, &REVEAL_OF_2, &BYE],
+            Status::Served,
+            0,
             &[
                 Said::In(&OPEN_2_WIDE),
                 Said::In(&END_STREAM),
                 Said::In(&HALF),
+                Said::Out(&LEVEL_END),
+                Said::In(&REVEAL_OF_2),
+                Said::Out(&LEVEL_END),
+                Said::In(&BYE),
             ],
         ),
     ];
@@ -272,28 +276,48 @@ fn talks_about_sums(rt: HostRuntime) -> Result<(), Fail> {
     Ok(())
 }
 
-// A query for heavy entries ends the talk as bytes without a spelling do, also before the stream has ended and while a query is
-// open: nothing is written then.
+// The entries of side 0, which is 3, 0, 5, 1, that are at least 4. A query for them that comes too early, or while another one is
+// open, is out of turn; a query for a share is no frame in version 1.
 #[test]
-fn heavy_entries_are_not_answered(rt: HostRuntime) -> Result<(), Fail> {
-    let rows: [Row<'static>; 3] = [
+fn talks_about_heavy_entries(rt: HostRuntime) -> Result<(), Fail> {
+    let rows: [Row<'static>; 4] = [
         ended(
-            "after the opening",
-            &[&OPEN_2, &HEAVY_3],
+            "at least 4",
+            &[
+                &OPEN_2,
+                &UPDATES_OF_THREE,
+                &THREE_RECORDS,
+                &END_STREAM,
+                &HEAVY_4,
+                &REVEAL_OF_2,
+                &BYE,
+            ],
+            Status::Served,
+            0,
+            &[
+                Said::In(&OPEN_2),
+                Said::In(&UPDATES_OF_THREE),
+                Said::In(&THREE_RECORDS),
+                Said::In(&END_STREAM),
+                Said::In(&HEAVY_4),
+                Said::Out(&LEAVES_5_1),
+                Said::Out(&LEVEL_END),
+                Said::In(&REVEAL_OF_2),
+                Said::Out(&NODE_OF_3),
+                Said::Out(&LEVEL_END),
+                Said::In(&BYE),
+            ],
+        ),
+        ended(
+            "before the stream has ended",
+            &[&OPEN_2, &HEAVY_4],
             Status::BadFrame { offset: 5 },
             3,
-            &[Said::In(&OPEN_2), Said::In(&HEAVY_3)],
+            &[Said::In(&OPEN_2), Said::In(&HEAVY_4), Said::Out(&REFUSE_4)],
         ),
         ended(
-            "after the stream",
-            &[&OPEN_2, &END_STREAM, &HEAVY_3],
-            Status::BadFrame { offset: 8 },
-            3,
-            &[Said::In(&OPEN_2), Said::In(&END_STREAM), Said::In(&HEAVY_3)],
-        ),
-        ended(
-            "behind a reply",
-            &[&OPEN_2, &END_STREAM, &SUB_0_3, &HEAVY_3],
+            "while a query is open",
+            &[&OPEN_2, &END_STREAM, &SUB_0_3, &HEAVY_4],
             Status::BadFrame { offset: 20 },
             3,
             &[
@@ -301,8 +325,16 @@ fn heavy_entries_are_not_answered(rt: HostRuntime) -> Result<(), Fail> {
                 Said::In(&END_STREAM),
                 Said::In(&SUB_0_3),
                 Said::Out(&NO_SIBLINGS),
-                Said::In(&HEAVY_3),
+                Said::In(&HEAVY_4),
+                Said::Out(&REFUSE_4),
             ],
+        ),
+        ended(
+            "a share in version 1",
+            &[&OPEN_2, &END_STREAM, &HALF],
+            Status::BadFrame { offset: 8 },
+            3,
+            &[Said::In(&OPEN_2), Said::In(&END_STREAM), Said::In(&HALF)],
         ),
     ];
     for row in &rows {

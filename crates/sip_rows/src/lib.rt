@@ -34,6 +34,12 @@ mod faulty;
 #[cfg(test)]
 mod frames;
 #[cfg(test)]
+mod heavy_fault_tests;
+#[cfg(test)]
+mod heavy_frames;
+#[cfg(test)]
+mod heavy_tests;
+#[cfg(test)]
 mod help_tests;
 #[cfg(test)]
 mod many_tests;

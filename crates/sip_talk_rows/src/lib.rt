@@ -11,6 +11,8 @@ mod event_tests;
 #[cfg(test)]
 mod helper_tests;
 #[cfg(test)]
+mod hitter_tests;
+#[cfg(test)]
 mod list_tests;
 #[cfg(test)]
 mod sum_asking_tests;

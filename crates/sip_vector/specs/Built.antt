@@ -1,5 +1,5 @@
 -- Which kinds of query this program asks and answers.
-use Rattle.std.specs.Prelude.{Bool, true, false}
+use Rattle.std.specs.Prelude.{Bool, true}
 use Rattle.sip_vector.specs.declared.query.Query.{Query}
 use Rattle.sip_vector.specs.declared.query.Query.TheVariants.{Sub, Range, F2, Inner, Heavy, Share}
 
@@ -9,5 +9,5 @@ is_built (Sub _ _) = true
 is_built (Range _ _ _) = true
 is_built (F2 _) = true
 is_built Inner = true
-is_built (Heavy _ _) = false
-is_built (Share _ _ _) = false
+is_built (Heavy _ _) = true
+is_built (Share _ _ _) = true

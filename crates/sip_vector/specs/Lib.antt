@@ -2,6 +2,7 @@ pub mod Limits
 pub mod Streams
 pub mod Answers
 pub mod Built
+pub mod Thresholds
 pub mod Trees
 pub mod Extensions
 pub mod Sparse

@@ -15,6 +15,7 @@
 //! | `Streams`, `Vectors` | the vector of a side of a stream; what a [`Vector`] shows, and its entries that are not 0 |
 //! | `Answers` | what each query asks for |
 //! | `Built` | which kinds of query are built |
+//! | `Thresholds` | from which entry on a query for heavy hitters asks, and whether its answer may be too wide |
 //! | `Limits` | how large things are at the most |
 //! | `Trees`, `Extensions`, `Levels` | the two hash trees over a vector; its multilinear extension; the level above |
 //! | `Sparse` | lists that are kept by the entries at which they are not 0 |
@@ -49,12 +50,14 @@ pub mod laws;
 mod level;
 mod merging;
 mod query;
+mod threshold;
 mod update;
 mod vector;
 
 pub use depth::{CAP, Depth};
 pub use level::{Level, Spot};
 pub use query::Query;
+pub use threshold::{is_wide, share_of};
 pub use update::{Entry, Side, Update};
 pub use vector::Vector;
 

@@ -52,7 +52,7 @@ impl Query {
     {
         match self {
             Query::Sub { .. } | Query::Range { .. } | Query::F2 { .. } | Query::Inner => true,
-            Query::Heavy { .. } | Query::Share { .. } => false,
+            Query::Heavy { .. } | Query::Share { .. } => true,
         }
     }
 }

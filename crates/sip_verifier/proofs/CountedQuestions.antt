@@ -1,5 +1,5 @@
 -- An answer that accepted replies state is counted.
-use Rattle.std.proofs.Common.{◌≡◌, ◌==◌, ℕ, ◌*◌, ◌-◌, ◌^◌, ◌<◌, ◌≤◌, Bool, true, false, List, [], if◌then◌else◌, Option, Some, None, Result, Ok, Err, ℤ, length, refl, sym, ap, ◌∙◌, arith}
+use Rattle.std.proofs.Common.{◌≡◌, ◌==◌, ℕ, ◌*◌, ◌-◌, ◌^◌, ◌<◌, ◌≤◌, Bool, true, false, List, [], if◌then◌else◌, Option, Some, None, Result, Ok, Err, ℤ, length, refl, sym, ap, ◌∙◌, subst, arith}
 use Rattle.sip_wire.specs.declared.version.Version.{Version}
 use Rattle.sip_field.specs.LawProofs.Primes.{m61_prime}
 use Rattle.sip_field.specs.Moduli.{m61_modulus}
@@ -15,6 +15,7 @@ use Rattle.sip_vector.specs.Steps.{◌>>=◌, needs}
 use Rattle.sip_wire.specs.declared.message.Reason.{Reason}
 use Rattle.sip_wire.specs.declared.message.Reason.TheVariants as reasons
 use Rattle.sip_vector.specs.Streams.{int_sum, vector, IsLegal, IsStrict}
+use Rattle.sip_vector.specs.Thresholds.{share_of}
 use Rattle.sip_vector.specs.Trees.{root, augroot}
 use Rattle.sip_vector.proofs.Sides.{length-vector}
 use Rattle.sip_counts.specs.Clauses.{FewAndCounted}
@@ -40,6 +41,7 @@ use Rattle.sip_heavy.proofs.FewFooledByBytes.{few_fooled_by_bytes}
 use Rattle.sip_heavy.proofs.LegalSums.{legal_sum}
 use Rattle.sip_verifier.specs.CountClause.{accepts_in, bound_of, FewFor, CountsFor}
 use Rattle.sip_verifier.specs.Kinds.{sub_kind, sum_kind, heavy_kind}
+use Rattle.sip_verifier.proofs.ShareAnswers.{share_answer}
 use Rattle.sip_verifier.proofs.SumAnswers.{sums_answer}
 use Rattle.sip_verifier.proofs.SumLaws.{few_sums}
 use Rattle.sip_verifier.specs.Tasks.{CanBeAsked}
@@ -190,6 +192,21 @@ module _ (version : Version) (depth : ℕ) (stream : List Update) (side : Side) 
         (λ right. wrong (same_answer other (pairs entries) same ∙ ap pairs right));
   }
 
+-- ---- shares
+
+-- pairs that accepted replies state are counted, by the count that the share comes to
+share_counts : (version : Version) (depth : ℕ) (stream : List Update) (side : Side) (num den : ℕ) → 1 ≤ den → IsLegal depth stream
+    → (block : List ℕ) (taken : List (List ℕ)) (written : Answer)
+    → Accepts version depth stream (record { query = Share side num den; block = block; replies = taken }) written
+    → CountsFor version depth stream (record { query = Share side num den; block = block; replies = taken }) written
+share_counts version depth stream side num den some legal block taken written accepted = λ strict.
+    let at_least : ℕ = share_of num den (int_sum (vector depth stream side)) in
+    subst (λ (right : Answer). FewAndCounted m61_modulus depth (bound_of depth (heavy_kind version depth stream side at_least))
+    (accepts_in (heavy_kind version depth stream side at_least))
+    (heavy.is_right version m61_modulus depth at_least (vector depth stream side)) block taken (Some written) right)
+    (sym (share_answer depth stream side num den some legal strict))
+    (heavy_counts version depth stream side at_least legal block taken written accepted strict)
+
 -- ---- all kinds
 
 -- no helper has a wrong answer to a query that can be asked accepted at more blocks than its count
@@ -204,7 +221,8 @@ few_wrong version depth stream (F2 side) can legal = λ _. sum_few version depth
 few_wrong version depth stream Inner can legal = λ _. sum_few version depth stream Inner
     (lists (vector depth stream First) (vector depth stream Second)) refl legal
 few_wrong version depth stream (Heavy side at_least) can legal = heavy_few version depth stream side at_least legal
-few_wrong version depth stream (Share side num den) can legal = absurd (let no = can.0 in cc)
+few_wrong version depth stream (Share side num den) can legal =
+    heavy_few version depth stream side (share_of num den (int_sum (vector depth stream side))) legal
 
 -- an answer that accepted replies state is counted
 pub question_counts : (version : Version) (depth : ℕ) (stream : List Update) (query : Query) (block : List ℕ)
@@ -224,5 +242,5 @@ question_counts version depth stream Inner block taken written fits legal accept
     legal block taken written accepted
 question_counts version depth stream (Heavy side at_least) block taken written fits legal accepted =
     heavy_counts version depth stream side at_least legal block taken written accepted
-question_counts version depth stream (Share side num den) block taken written fits legal accepted = absurd
-    accepted
+question_counts version depth stream (Share side num den) block taken written fits legal accepted =
+    share_counts version depth stream side num den (omega (arith, fits.0, fits.1)) legal block taken written accepted

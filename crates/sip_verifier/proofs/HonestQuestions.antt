@@ -16,6 +16,7 @@ use Rattle.sip_vector.specs.declared.update.Update.{Update}
 use Rattle.sip_vector.specs.Answers.{Answer, Fits, answer, pairs}
 use Rattle.sip_vector.specs.Extensions.{ones}
 use Rattle.sip_vector.specs.Streams.{int_sum, vector, IsLegal, IsStrict}
+use Rattle.sip_vector.specs.Thresholds.{share_of}
 use Rattle.sip_vector.specs.Trees.{root, augroot}
 use Rattle.sip_wire.specs.declared.message.Reason.TheVariants as reasons
 use Rattle.sip_replies.specs.Protocols.{Protocol}
@@ -36,12 +37,14 @@ use Rattle.sip_heavy.specs.Protocol.{HeavyState, count_of}
 use Rattle.sip_heavy.proofs.HonestStreams.{legal_sent, none_asked}
 use Rattle.sip_heavy.proofs.HonestVerdicts.{asked_of, heavy_accepted}
 use Rattle.sip_verifier.specs.CompletenessClause.{honest_bytes, HasFewEntries}
-use Rattle.sip_wire.specs.Versions.{Speaks}
+use Rattle.sip_wire.specs.Versions.{Speaks, deepest}
 use Rattle.sip_verifier.specs.Questions.{Accepts, IsFaulty}
 use Rattle.sip_verifier.proofs.Blocks.{IsBlock}
 use Rattle.sip_verifier.proofs.HonestReplies as honest
+use Rattle.sip_verifier.proofs.ShareAnswers.{share_answer}
 use Rattle.sip_verifier.proofs.SumAnswers.{sums_answer}
 use Rattle.sip_verifier.proofs.SumLaws.{sums_honest}
+use Rattle.sip_verifier.proofs.WideSeats.{share_least}
 
 -- ---- a sub-vector
 
@@ -113,7 +116,7 @@ accepted_unasked : {S : Type 0} (P : Protocol S) (block : List ℕ) (replies : L
 accepted_unasked P block replies answer known e h = subst (accepted_where P block replies answer) e h
 
 module _ (version : Version) (depth : ℕ) (stream : List Update) (side : Side) (at_least : ℕ) (least : 1 ≤ at_least) (some : 1 ≤ depth)
-    (speaks : Speaks version depth (Heavy side at_least)) (legal : IsLegal depth stream) (strict : IsStrict depth stream side)
+    (shallow : depth ≤ deepest version) (legal : IsLegal depth stream) (strict : IsStrict depth stream side)
     (block : List ℕ) (size : length block ≡ depth) where
   abbrev numbers : List ℤ
   numbers = vector depth stream side
@@ -142,7 +145,7 @@ module _ (version : Version) (depth : ℕ) (stream : List Update) (side : Side) 
 
     heavy_honest : IsStated heavy_at block shown (answer depth stream (Heavy side at_least))
     heavy_honest =
-        let sent = legal_sent version depth count stream side legal strict some speaks.shallow (total-is depth stream side legal.items ∙ is_count) in
+        let sent = legal_sent version depth count stream side legal strict some shallow (total-is depth stream side legal.items ∙ is_count) in
         let can = asked_of version m61_modulus depth at_least count numbers sent least (leb-true at_least count reached) in
         accepted_asked heavy_at block shown (answer depth stream (Heavy side at_least)) asked
         (heavy_accepted version m61_modulus depth at_least count numbers can block size)
@@ -217,8 +220,13 @@ module _ (version : Version) (depth : ℕ) (stream : List Update) (some : 1 ≤ 
       sum_done version depth stream Inner (lists (vector depth stream First) (vector depth stream Second)) refl some legal block at
       replies written b a accepts agree
   question_done (Heavy side at_least) block replies written b a fits speaks few at accepts agree =
-      heavy_done version depth stream side at_least fits.0 some speaks legal few.0 block at.size replies written b a accepts agree
-  question_done (Share side num den) block replies written b a fits speaks few at accepts agree = absurd accepts
+      heavy_done version depth stream side at_least fits.0 some speaks.shallow legal few.0 block at.size replies written b a accepts agree
+  question_done (Share side num den) block replies written b a fits speaks few at accepts agree =
+      let at_least : ℕ = share_of num den (int_sum (vector depth stream side)) in
+      let least : 1 ≤ at_least = share_least num den (int_sum (vector depth stream side)) fits.0 fits.1 in
+      let done : (b ≡ a) × (written ≡ answer depth stream (Heavy side at_least)) =
+      heavy_done version depth stream side at_least least some speaks.shallow legal few.0 block at.size replies written b a accepts agree in
+      (done.0, done.1 ∙ sym (share_answer depth stream side num den (omega (arith, fits.0, fits.1)) legal few.0))
 
   -- a question that heard honest replies has no fault, but that of the end of the link
   pub question_faulty : (query : Query) (block : List ℕ) (replies : List (List ℕ)) (fault : Fault) (b a : List ℕ) → Fits depth query → Speaks version depth query → HasFewEntries version depth stream query → IsBlock depth block
@@ -239,5 +247,8 @@ module _ (version : Version) (depth : ℕ) (stream : List Update) (some : 1 ≤ 
       sum_faulty version depth stream Inner (lists (vector depth stream First) (vector depth stream Second)) refl some legal block at
       replies fault b a faulty other agree
   question_faulty (Heavy side at_least) block replies fault b a fits speaks few at faulty other agree =
-      heavy_faulty version depth stream side at_least fits.0 some speaks legal few.0 block at.size replies fault b a faulty other agree
-  question_faulty (Share side num den) block replies fault b a fits speaks few at faulty other agree = absurd faulty
+      heavy_faulty version depth stream side at_least fits.0 some speaks.shallow legal few.0 block at.size replies fault b a faulty other agree
+  question_faulty (Share side num den) block replies fault b a fits speaks few at faulty other agree =
+      let at_least : ℕ = share_of num den (int_sum (vector depth stream side)) in
+      let least : 1 ≤ at_least = share_least num den (int_sum (vector depth stream side)) fits.0 fits.1 in
+      heavy_faulty version depth stream side at_least least some speaks.shallow legal few.0 block at.size replies fault b a faulty other agree

@@ -22,6 +22,7 @@ pub mod QueriesChecked
 pub mod RunTalks
 pub mod StreamPromises
 pub mod QueryPromises
+mod ShareAnswers
 mod SumAnswers
 mod SumLaws
 pub mod CountedQuestions

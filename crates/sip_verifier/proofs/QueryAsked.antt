@@ -14,13 +14,11 @@ use Rattle.sip_replies.specs.declared.check.Said.{Said}
 use Rattle.sip_replies.specs.declared.check.Said.TheVariants as saids
 use Rattle.sip_replies.specs.Asking as general
 use Rattle.sip_replies.specs.Protocols.{Protocol}
-use Rattle.sip_replies.specs.Replies as replied
-use Rattle.sip_replies.specs.Replies.{Fault}
 use Rattle.sip_replies.specs.Talks.{IsPrefix, asked, asked_unless, ending}
 use Rattle.sip_verifier.specs.Asking.{question_of, IsAnswered, IsRejected, IsInterrupted, Asks}
 use Rattle.sip_verifier.specs.inside.Judging.{found_in, verdict_of}
 use Rattle.sip_verifier.specs.inside.Protocols.{IsProtocol}
-use Rattle.sip_verifier.specs.Questions.{Accepts, IsDue, IsFaulty, IsWaiting, said_for}
+use Rattle.sip_verifier.specs.Questions.{said_for}
 
 -- no more are shown than there are
 take-min : {X : Type 0} (n : ℕ) (xs : List X) → take (min n (length xs)) xs ≡ take n xs

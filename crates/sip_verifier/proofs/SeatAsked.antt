@@ -1,7 +1,7 @@
 -- The general talk of a seat's query, kind by kind.
 use Rattle.std.proofs.Common.{◌≡◌, ◌≢◌, ℕ, ℤ, ap, ◌*◌, ◌%◌, ◌≤◌, Option, Some, Result, Err, List, length, take, ◌^◌, refl, sym, subst, ◌∙◌, inl, inr, arith}
 use Rattle.std.specs.Prelude.{IsTrue}
-use Rattle.std.proofs.lemmas.Bool.{cases_order, leb-true}
+use Rattle.std.proofs.lemmas.Bool.{cases_order}
 use Rattle.std.proofs.lemmas.Nat.{pow_below}
 use Rattle.sip_wire.specs.declared.version.Version.{Version}
 use Rattle.sip_field.specs.Moduli.{m61_modulus}
@@ -14,6 +14,7 @@ use Rattle.sip_vector.specs.declared.update.Side.TheVariants.{First, Second}
 use Rattle.sip_vector.specs.declared.update.Update.{Update}
 use Rattle.sip_vector.specs.Extensions.{ext, ones}
 use Rattle.sip_vector.specs.Streams.{int_sum, vector}
+use Rattle.sip_vector.specs.Thresholds.{share_of}
 use Rattle.sip_vector.specs.Trees.{Counted, augroot}
 use Rattle.sip_vector.proofs.Sides.{length-vector}
 use Rattle.sip_mle.specs.StandsFor.{PointStandsFor}
@@ -221,12 +222,44 @@ heavy_is_protocol version depth stream (Heavy own least) block side at_least has
     })
 heavy_is_protocol version depth stream (Share own num den) block side at_least hash sum is stands = absurd cc
 
+-- likewise for a share, by the count that it comes to
+share_is_protocol : (version : Version) (depth : ℕ) (stream : List Update) (query : Query) (block : List ℕ)
+    (side : Side) (num den at_least hash : ℕ) (sum : ℤ) → query ≡ Share side num den → at_least ≡ share_of num den sum
+    → RunsOn depth stream query block (aug_root_is hash sum)
+    → IsProtocol version depth stream query block (heavy_protocol (heavy_asked version m61_modulus hash sum (length block) at_least))
+share_is_protocol version depth stream (Sub lo hi) block side num den at_least hash sum is least stands = absurd stands
+share_is_protocol version depth stream (Range own lo hi) block side num den at_least hash sum is least stands = absurd stands
+share_is_protocol version depth stream (F2 own) block side num den at_least hash sum is least stands = absurd stands
+share_is_protocol version depth stream Inner block side num den at_least hash sum is least stands = absurd stands
+share_is_protocol version depth stream (Heavy own count) block side num den at_least hash sum is least stands = absurd cc
+share_is_protocol version depth stream (Share own over under) block side num den at_least hash sum is least stands =
+    let same_num : over ≡ num = cc in
+    let same_den : under ≡ den = cc in
+    let hash_is : hash ≡ (augroot m61_modulus (vector depth stream own) block).hash = ap (λ (n : Counted). n.hash) stands.same in
+    let sum_is : sum ≡ int_sum (vector depth stream own) = root_total m61_modulus block hash sum (vector depth stream own) stands in
+    let size : length block ≡ depth = same_power (length block) depth (sym stands.whole ∙ length-vector depth stream own) in
+    rw (least, sym same_num, sym same_den, hash_is, sum_is, size) (record {
+      said = λ replies. refl;
+      accepts = λ replies answer a. a;
+      faulty = λ replies fault f. f;
+      waits = λ replies w. w;
+    })
+
 -- by the running numbers of a seat
 pub heavy_protocol_is : (version : Version) (depth : ℕ) (stream : List Update) (s : Seated) (block : List ℕ)
     (side : Side) (at_least hash : ℕ) (sum : ℤ) → s.query ≡ Heavy side at_least → s.running ≡ aug_root_is hash sum → s.block ≡ block → StandsFor depth stream s
     → IsProtocol version depth stream s.query block (heavy_protocol (heavy_asked version m61_modulus hash sum (length block) at_least))
 heavy_protocol_is version depth stream s block side at_least hash sum is keeps own stands =
     heavy_is_protocol version depth stream s.query block side at_least hash sum is
+    (subst (λ (r : RunningNumbers). RunsOn depth stream s.query block r) keeps
+    (subst (λ (b : List ℕ). RunsOn depth stream s.query b s.running) own stands))
+
+pub share_protocol_is : (version : Version) (depth : ℕ) (stream : List Update) (s : Seated) (block : List ℕ)
+    (side : Side) (num den at_least hash : ℕ) (sum : ℤ) → s.query ≡ Share side num den → at_least ≡ share_of num den sum
+    → s.running ≡ aug_root_is hash sum → s.block ≡ block → StandsFor depth stream s
+    → IsProtocol version depth stream s.query block (heavy_protocol (heavy_asked version m61_modulus hash sum (length block) at_least))
+share_protocol_is version depth stream s block side num den at_least hash sum is least keeps own stands =
+    share_is_protocol version depth stream s.query block side num den at_least hash sum is least
     (subst (λ (r : RunningNumbers). RunsOn depth stream s.query block r) keeps
     (subst (λ (b : List ℕ). RunsOn depth stream s.query b s.running) own stands))
 

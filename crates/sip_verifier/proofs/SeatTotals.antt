@@ -1,5 +1,5 @@
 -- The sum that a seat for heavy hitters keeps is the total of its side, and the updates of a legal stream keep it within the greatest weight.
-use Rattle.std.proofs.Common.{◌≡◌, ℕ, zero, suc, ◌+◌, ◌-◌, ◌*◌, Bool, true, false, true≢false, ◌^◌, ◌<◌, ◌≤◌, ℤ, pos, ◌+ℤ◌, nat_abs, List, [], ◌∷◌, ◌++◌, length, map, get_or, take, fold, sum_by, filter, All, refl, sym, ap, ◌∙◌, subst, arith}
+use Rattle.std.proofs.Common.{◌≡◌, ℕ, zero, suc, ◌+◌, ◌-◌, ◌*◌, Bool, true, false, true≢false, ◌^◌, ◌<◌, ◌≤◌, ℤ, pos, ◌+ℤ◌, nat_abs, List, [], ◌∷◌, ◌++◌, length, map, get_or, take, fold, sum_by, All, refl, sym, ap, ◌∙◌, subst, arith}
 use Rattle.std.specs.Prelude.{IsTrue}
 use Rattle.std.proofs.Math.Nat.{pow-succ'}
 use Rattle.std.specs.List.{list_all}
@@ -17,10 +17,10 @@ use Rattle.sip_vector.specs.declared.update.Side.{Side}
 use Rattle.sip_vector.specs.declared.update.Side.TheVariants.{First, Second}
 use Rattle.sip_vector.specs.declared.update.Update.{Update}
 use Rattle.sip_vector.specs.Streams.{int_sum, same_side, of_side, total, weight, most_weight, vector, IsLegal}
-use Rattle.sip_vector.specs.Trees.{Counted, leaf, parent, up3, augroot}
+use Rattle.sip_vector.specs.Trees.{Counted, leaf, up3}
 use Rattle.sip_vector.proofs.Sides.{total-is, weight-append}
 use Rattle.sip_vector.proofs.Sums.{nat_abs-add-le}
-use Rattle.sip_verifier.specs.QuerySeats.{HasRoom, HaveRoom, RunningNumbers, RunsOn, Seated, StandsFor, aug_root_is, is_heavy_of}
+use Rattle.sip_verifier.specs.QuerySeats.{HaveRoom, RunningNumbers, RunsOn, Seated, StandsFor, aug_root_is, is_heavy_of}
 use Rattle.sip_verifier.specs.Seats.{AreSeats, Seating}
 use Rattle.sip_verifier.proofs.Seating.{same_true}
 

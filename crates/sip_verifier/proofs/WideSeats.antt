@@ -1,6 +1,6 @@
 -- The first query whose answer may be too wide, by seats and by the stream.
 use Rattle.std.proofs.Common.{◌≡◌, ℕ, zero, suc, ◌+◌, ◌<◌, ◌^◌, Bool, true, false, inl, inr, ℤ, pos, negsuc, ◌≤◌, Option, Some, None, List, [], ◌∷◌, ◌++◌, length, map, get_or, take, drop, All, refl, sym, ap, ◌∙◌, subst, arith, length-take-le}
-use Rattle.std.specs.Prelude.{◌-◌, ◌*◌, ◌/◌, int_le, nat_abs, if◌then◌else◌}
+use Rattle.std.specs.Prelude.{◌-◌, ◌*◌, ◌/◌, int_le, nat_abs}
 use Rattle.std.specs.Option.{option_map}
 use Rattle.std.proofs.lemmas.Bool.{cases_Bool}
 use Rattle.std.proofs.lemmas.List.{map-append, length-map, take_more, take-append-drop}
@@ -8,17 +8,15 @@ use Rattle.std.proofs.lemmas.List.Elements.{All-head, All-tail}
 use Rattle.std.proofs.Math.Nat.{le-div_iff_mul-le, le-mul_of_pos_right}
 use Rattle.std.proofs.Math.Seq.{drop-cons}
 use Rattle.sip_field.specs.Moduli.{m61_modulus}
-use Rattle.sip_tree.specs.StandsFor.{AugRootStandsFor}
 use Rattle.sip_vector.specs.declared.query.Query.{Query}
 use Rattle.sip_vector.specs.declared.query.Query.TheVariants.{Sub, Range, F2, Inner, Heavy, Share}
-use Rattle.sip_vector.specs.declared.update.Side.{Side}
 use Rattle.sip_vector.specs.declared.update.Update.{Update}
-use Rattle.sip_vector.specs.Streams.{int_sum, total, vector}
-use Rattle.sip_verifier.specs.Thresholds.{share_of}
+use Rattle.sip_vector.specs.Streams.{vector}
+use Rattle.sip_vector.specs.Thresholds.{is_wide, share_of}
 use Rattle.sip_vector.proofs.Sides.{total-is}
 use Rattle.sip_verifier.specs.QuerySeats.{RunningNumbers, Seated, StandsFor, RunsOn, root_is, point_is, points_are, aug_root_is}
 use Rattle.sip_verifier.specs.Seats.{AreSeats, Seating}
-use Rattle.sip_verifier.specs.Widths.{first_true, first_wide, first_wide_seat, is_too_wide, is_wide, is_wide_seat}
+use Rattle.sip_verifier.specs.Widths.{first_true, first_wide, first_wide_seat, is_too_wide, is_wide_seat}
 use Rattle.sip_verifier.proofs.SeatTotals.{root_total}
 
 -- ---- the first test that passes
@@ -66,7 +64,8 @@ wide_here seats i d lt none is =
 
 -- ---- shares
 
-share_least : (num den : ℕ) (sum : ℤ) → 1 ≤ num → num ≤ den → 1 ≤ share_of num den sum
+-- a share of a total is at least 1
+pub share_least : (num den : ℕ) (sum : ℤ) → 1 ≤ num → num ≤ den → 1 ≤ share_of num den sum
 share_least num den sum some less = elim (cases_Bool (int_le (pos 1) sum)) [
   | inl above ↦
       let size : 1 ≤ nat_abs sum = above_zero sum above in
@@ -82,7 +81,7 @@ share_least num den sum some less = elim (cases_Bool (int_le (pos 1) sum)) [
     above_zero (pos (suc n)) above = omega arith
     above_zero (negsuc n) above = absurd cc
 
--- a share of a total is at least 1
+-- so is a number that is one
 pub share_some : (num den : ℕ) (sum : ℤ) {least : ℕ} → 1 ≤ num → num ≤ den → least ≡ share_of num den sum → 1 ≤ least
 share_some num den sum some less is = subst (λ n. 1 ≤ n) (sym is) (share_least num den sum some less)
 

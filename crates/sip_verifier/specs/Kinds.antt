@@ -9,6 +9,7 @@ use Rattle.sip_vector.specs.declared.update.Side.TheVariants.{First, Second}
 use Rattle.sip_vector.specs.declared.update.Update.{Update}
 use Rattle.sip_vector.specs.Extensions.{ones}
 use Rattle.sip_vector.specs.Streams.{int_sum, total, vector, IsStrict}
+use Rattle.sip_vector.specs.Thresholds.{is_wide, share_of}
 use Rattle.sip_vector.specs.Trees.{root}
 use Rattle.sip_vector.specs.Vectors.{nonzero_within}
 use Rattle.sip_wire.specs.declared.version.Version.{Version}
@@ -27,7 +28,6 @@ use Rattle.sip_sums.specs.AcceptsSum.{product_at}
 use Rattle.sip_sums.specs.Counting as sums
 use Rattle.sip_sums.specs.Honest as honest_sums
 use Rattle.sip_sums.specs.Protocol.{SumState, sum_asked, sum_protocol}
-use Rattle.sip_verifier.specs.Widths.{is_wide}
 
 -- what is known of a query, by its kind
 pub record Kind : Type 1 where
@@ -104,7 +104,10 @@ kind_row version depth stream Inner =
     built (sum_kind version depth (vector depth stream First) (vector depth stream Second))
 kind_row version depth stream (Heavy side at_least) =
     built (heavy_kind version depth stream side at_least)
-kind_row version depth stream (Share side num den) = missing
+-- a share, by the count that it comes to of the vector's sum
+kind_row version depth stream (Share side num den) =
+    built (heavy_kind version depth stream side
+    (share_of num den (int_sum (vector depth stream side))))
 
 -- this holds of the kind in a row; of a check that doesn't stand here nothing holds
 abbrev pub Holds : (Kind → Type 0) → KindRow → Type 0

@@ -12,7 +12,6 @@ pub mod CauseClause
 pub mod Examples
 pub mod Tasks
 pub mod QuerySeats
-pub mod Thresholds
 pub mod Widths
 pub mod Seats
 pub mod Feeding

@@ -1,23 +1,15 @@
 -- Queries for heavy hitters whose answers may be too wide.
-use Rattle.std.specs.Prelude.{ℕ, suc, ◌/◌, Bool, true, false, ◌&&◌, nat_lt, ℤ, pos, nat_abs, int_le, List, [], ◌∷◌, map, Option, Some, None}
+use Rattle.std.specs.Prelude.{ℕ, suc, Bool, true, false, List, [], ◌∷◌, map, Option, Some, None}
 use Rattle.std.specs.Option.{option_map}
 use Rattle.sip_vector.specs.declared.query.Query.{Query}
 use Rattle.sip_vector.specs.declared.query.Query.TheVariants.{Heavy, Share}
 use Rattle.sip_vector.specs.declared.update.Update.{Update}
 use Rattle.sip_vector.specs.Streams.{total}
-use Rattle.sip_verifier.specs.Thresholds.{share_of}
+use Rattle.sip_vector.specs.Thresholds.{is_wide, share_of}
 use Rattle.sip_verifier.specs.QuerySeats.{RunningNumbers, Seated, aug_root_is}
 
--- how many entries of at least its threshold a total may have, for an answer to be asked for
-abbrev pub most_hitters : ℕ
-most_hitters = 65536
-
--- a total reaches a threshold, and may have more entries of at least that
-abbrev pub is_wide : ℕ → ℤ → Bool
-is_wide at_least total =
-    int_le (pos at_least) total && nat_lt most_hitters (nat_abs total / at_least)
-
--- so may the total of the query's side of a stream
+-- the total of the query's side of a stream may have more entries of at least the threshold than are
+-- asked for
 abbrev pub is_too_wide : List Update → Query → Bool
 is_too_wide stream (Heavy side at_least) = is_wide at_least (total stream side)
 is_too_wide stream (Share side num den) =

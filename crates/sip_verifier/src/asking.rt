@@ -25,7 +25,7 @@ use sip_replies::{AskStop, Said, ask};
 use sip_subvec::SubAsking;
 use sip_sums::SumAsking;
 use sip_tree::AugRoot;
-use sip_vector::{CAP, Entry, Query};
+use sip_vector::{CAP, Entry, Query, share_of};
 use sip_wire::{Frame, Version};
 
 /// Asks the query of a seat, takes the replies and checks them. The pairs of an answer are written to the front of `entries`.
@@ -81,6 +81,10 @@ pub(crate) fn ask_seat<L: Link>(
         }
         (Query::Heavy { at_least, .. }, Running::AugRoot(root)) => {
             ask_heavy(version, seat, root, *at_least, entries, frame, space, link)
+        }
+        (Query::Share { num, den, .. }, Running::AugRoot(root)) => {
+            let at_least = share_of(root.total(), *num, *den);
+            ask_heavy(version, seat, root, at_least, entries, frame, space, link)
         }
         _ => unreachable!(),
     }

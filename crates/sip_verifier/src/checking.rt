@@ -218,3 +218,6 @@ pub fn check_stream<A: Source, B: Source, L: Link, K: Sink, C: Sink>(
         Err(status) => status,
     }
 }
+
+#[cfg(test)]
+mod tests;

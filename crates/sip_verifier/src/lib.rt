@@ -18,7 +18,7 @@
 //! | `Statuses` | which statuses a run may answer, and which count of faults each needs to have risen |
 //! | `Promises`, `RunClause` | the five clauses together, and all that a run keeps |
 //! | `QuerySeats`, `Seats`, `NextSeat` | which streams the running numbers stand for, and which of them is next |
-//! | `Thresholds`, `Widths` | the threshold of a share, and the first query whose answer may be too wide |
+//! | `Widths` | the first query whose answer may be too wide |
 //! | `Feeding` | what is still to send of a stream |
 //! | `Transcripts` | the head of a transcript |
 //! | `Gathering` | what a call did that reads the stream |

@@ -8,10 +8,9 @@ ghost use Rattle.sip_verifier.specs.inside.Running.{RunsFor, block_of, numbers_o
 ghost use Rattle.sip_vector.specs.Answers.{Fits};
 ghost use Rattle.sip_vector.specs.Limits.{most_depth};
 ghost use Rattle.sip_vector.specs.Streams.{most_weight};
-ghost use Rattle.sip_verifier.specs.Thresholds.{share_of};
 ghost use Rattle.sip_heavy.specs.Protocol.{count_of};
 ghost use Rattle.sip_verifier.specs.inside.Judging.{most_nodes, most_places};
-ghost use Rattle.sip_verifier.specs.Widths.{is_wide, is_wide_seat};
+ghost use Rattle.sip_verifier.specs.Widths.{is_wide_seat};
 ghost use Rattle.sip_verifier.specs.Tasks.{CanBeAsked};
 
 use crate::points::Points;
@@ -19,7 +18,7 @@ use sip_field::{M61, Seat};
 use sip_mle::Point;
 use sip_subvec::MOST_ENTRIES;
 use sip_tree::{AugRoot, Root};
-use sip_vector::{CAP, Query, Side, Update};
+use sip_vector::{CAP, Query, Side, Update, is_wide, share_of};
 use std::marker::Model;
 
 /// The running numbers of one query, with its challenges.
@@ -91,21 +90,6 @@ fn concerns(query: &Query, side: Side) -> bool
     }
 }
 
-/// How many entries of at least its threshold a total may have, for an answer to be asked for.
-const MOST_HITTERS: u64 = 65_536;
-
-/// The least count that is `num`/`den` of a total, rounded up; 1 where the total is not above 0.
-pub(crate) fn share_of(total: i64, num: u32, den: u32) -> u64
-    requires total { nat_abs total ≤ most_weight }
-    requires den { 1 ≤ den }
-    ensures { result ≡ share_of num den total }
-{
-    if total < 1 {
-        return 1;
-    }
-    (u64::from(num) * total as u64 + u64::from(den) - 1) / u64::from(den)
-}
-
 // How many nodes a level of the replies may have, of a total with this threshold.
 fn nodes_of(total: i64, at_least: u64) -> usize
     requires total { nat_abs total ≤ most_weight }
@@ -116,19 +100,6 @@ fn nodes_of(total: i64, at_least: u64) -> usize
         return 0;
     }
     2 * (total as u64 / at_least) as usize
-}
-
-// Whether a total may have more entries of at least a threshold than may be asked for.
-fn is_wide(total: i64, at_least: u64) -> bool
-    requires total { nat_abs total ≤ most_weight }
-    requires some { 1 ≤ at_least }
-    ensures { result ≡ is_wide at_least total }
-{
-    if total < 1 {
-        return false;
-    }
-    let total = total as u64;
-    at_least <= total && total / at_least > MOST_HITTERS
 }
 
 /// A query with its running numbers.

@@ -3,6 +3,7 @@ use Rattle.std.specs.Prelude.{ℕ, ◌*◌, ◌/◌, min, nat_le, Bool, false, L
 use Rattle.std.specs.List.{list_all}
 use Rattle.sip_vector.specs.declared.query.Query.{Query}
 use Rattle.sip_vector.specs.declared.query.Query.TheVariants.{Sub, Heavy, Share}
+use Rattle.sip_vector.specs.Thresholds.{share_of}
 use Rattle.sip_replies.specs.declared.asking.AskStop.{AskStop}
 use Rattle.sip_replies.specs.declared.asking.AskStop.TheVariants as stops
 use Rattle.sip_replies.specs.declared.check.Said.{Said}
@@ -11,7 +12,6 @@ use Rattle.sip_heavy.specs.Checking.{Space}
 use Rattle.sip_heavy.specs.Protocol.{count_of}
 use Rattle.sip_subvec.specs.Asking.{most_answer}
 use Rattle.sip_verifier.specs.QuerySeats.{RunningNumbers, Seated, aug_root_is}
-use Rattle.sip_verifier.specs.Thresholds.{share_of}
 use Rattle.sip_verifier.specs.declared.session.SessionFault.{SessionFault}
 use Rattle.sip_verifier.specs.declared.session.SessionFault.TheVariants as faults
 use Rattle.sip_verifier.specs.declared.session.Verdict.{Verdict}

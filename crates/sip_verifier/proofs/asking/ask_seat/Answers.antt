@@ -1,4 +1,4 @@
-use Rattle.std.proofs.Common.{◌≢◌, ◌+◌, ◌-◌, ◌^◌, ◌≤◌, min, length, Err, refl, sym, ap, ◌∙◌, subst, arith, IsTrue}
+use Rattle.std.proofs.Common.{◌≡◌, ◌≢◌, ◌+◌, ◌-◌, ◌^◌, ◌≤◌, min, length, Err, refl, sym, ap, ◌∙◌, subst, arith, IsTrue, rules, to_z, of_z, w64}
 use Rattle.sip_vector.specs.declared.query.Query.{Query}
 use Rattle.sip_wire.specs.declared.message.Message.TheVariants as messages
 use Rattle.sip_wire.specs.Spelling.{fits}
@@ -6,7 +6,11 @@ use Rattle.sip_replies.specs.declared.asking.AskStop.TheVariants as stops
 use Rattle.sip_field.specs.Elements.{m61_number}
 use Rattle.sip_verifier.specs.QuerySeats.{Seated}
 use Rattle.sip_verifier.specs.inside.Running.{block_of, numbers_of}
-use Rattle.sip_verifier.proofs.SeatAsked.{seat_has_spelling, sub_has_room, sub_asks, range_product, square_product, inner_product, heavy_protocol_is}
+use Rattle.sip_verifier.proofs.SeatAsked.{seat_has_spelling, sub_has_room, sub_asks, range_product, square_product, inner_product, heavy_protocol_is, share_protocol_is}
+use Rattle.sip_vector.specs.Answers.{Fits}
+use Rattle.sip_vector.specs.Thresholds.{share_of}
+use Rattle.sip_verifier.proofs.SeatsHead.{seat-fits}
+use Rattle.sip_verifier.proofs.WideSeats.{share_some}
 use Rattle.sip_verifier.proofs.asking.ask_seat.Goals as goal
 
 pub ask-requires-clause-fits : goal.ask-requires-clause-fits
@@ -80,3 +84,22 @@ returns-in-Heavy-AugRoot-clause-asks g c = λ depth stream stands.
     let running = sym (ap (λ (s : Seated). s.running) c.seat.view_is) ∙ ap numbers_of c.in-Heavy-AugRoot.is-1 in
     let protocol = heavy_protocol_is c.args.version depth stream seat c.in-Heavy-AugRoot.root.seat _ c.in-Heavy-AugRoot.at_least c.in-Heavy-AugRoot.root.hash c.in-Heavy-AugRoot.root.total is running block stands in
     rw block (c.ask_heavy.ensures.asks depth stream protocol)
+
+-- the share of the total comes to at least 1
+pub ask_heavy-requires-in-Share-AugRoot-clause-least :
+    goal.ask_heavy-requires-in-Share-AugRoot-clause-least
+ask_heavy-requires-in-Share-AugRoot-clause-least g c =
+    let seat = c.args.seat.now in
+    let is = sym (ap (λ (s : Seated). s.query) c.seat.view_is) ∙ c.in-Share-AugRoot.is-0 in
+    let own = subst (λ (q : Query). Fits (length seat.block) q) is (seat-fits (length seat.block) seat seat.block c.requires.seat refl) in
+    share_some c.in-Share-AugRoot.num c.in-Share-AugRoot.den (to_z w64 (of_z w64 c.total.result)) own.0 own.1 c.share_of-at_least.ensures
+
+pub returns-in-Share-AugRoot-clause-asks : goal.returns-in-Share-AugRoot-clause-asks
+returns-in-Share-AugRoot-clause-asks g c = λ depth stream stands.
+    let seat = c.args.seat.now in
+    let is = sym (ap (λ (s : Seated). s.query) c.seat.view_is) ∙ c.in-Share-AugRoot.is-0 in
+    let block = sym (ap (λ (s : Seated). s.block) c.seat.view_is) ∙ ap block_of c.in-Share-AugRoot.is-1 in
+    let running = sym (ap (λ (s : Seated). s.running) c.seat.view_is) ∙ ap numbers_of c.in-Share-AugRoot.is-1 in
+    let least : c.share_of-at_least.result ≡ share_of c.in-Share-AugRoot.num c.in-Share-AugRoot.den c.in-Share-AugRoot.root.total = search rules in
+    let protocol = share_protocol_is c.args.version depth stream seat c.in-Share-AugRoot.root.seat _ c.in-Share-AugRoot.num c.in-Share-AugRoot.den c.share_of-at_least.result c.in-Share-AugRoot.root.hash c.in-Share-AugRoot.root.total is least running block stands in
+    rw block (c.ask_heavy-in-Share-AugRoot.ensures.asks depth stream protocol)

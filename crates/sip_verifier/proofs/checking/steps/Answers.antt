@@ -11,6 +11,7 @@ use Rattle.sip_verifier.proofs.RunTalks.{tells, said_is, refuses_moves, passed_m
 use Rattle.sip_verifier.proofs.StreamPromises.{after_gather, after_start, narrow_seats}
 use Rattle.sip_verifier.proofs.QueryPromises.{after_queries, at_bye, bye_stops, all_read, rose_since}
 use Rattle.sip_verifier.proofs.QueriesChecked.{all_checked, since_before}
+use Rattle.sip_verifier.proofs.SeatsHead.{seats-speak}
 use Rattle.sip_verifier.proofs.checking.steps.Goals as goal
 
 pub returns-in_err-session-clause-keeps : goal.returns-in_err-session-clause-keeps

@@ -10,3 +10,7 @@ returns-in-Sub-clause-learnt c = λ depth v revealed less has.
 pub returns-in-Sum-clause-learnt : goal.returns-in-Sum-clause-learnt
 returns-in-Sum-clause-learnt c = λ depth v revealed less has.
     c.learn-in-Sum.ensures.learnt depth v revealed less (subst (HasLearnt depth v revealed) c.in-Sum.is has)
+
+pub returns-in-Heavy-clause-learnt : goal.returns-in-Heavy-clause-learnt
+returns-in-Heavy-clause-learnt c = λ depth v revealed less has.
+    c.learn-in-Heavy.ensures.learnt depth v revealed less (subst (HasLearnt depth v revealed) c.in-Heavy.is has)

@@ -1,6 +1,5 @@
-use Rattle.std.proofs.Common.{◌≡◌, ◌≢◌, ◌^◌, ◌==◌, Bool, true, false, not, map, length, ap, sym, ◌∙◌, refl}
-use Rattle.sip_vector.specs.Levels.{index_and_residue, nonzero_from}
-use Rattle.sip_vector.specs.Sparse.{dense, IsSparse}
+use Rattle.std.proofs.Common.{◌^◌, map, sym, refl}
+use Rattle.sip_vector.specs.Levels.{index_and_residue}
 use Rattle.sip_vector.proofs.Dense.{length-dense}
 use Rattle.sip_vector.proofs.Searches.{nonzero_from-all}
 use Rattle.sip_vector.proofs.level.Level.nonzero.Goals as goal

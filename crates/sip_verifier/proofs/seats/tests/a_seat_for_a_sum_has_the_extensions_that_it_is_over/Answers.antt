@@ -10,3 +10,7 @@ update_all-requires-clause-room g c = λ side k d lt heavy. absurd
 pub update-requires-2-clause-room : goal.update-requires-2-clause-room
 update-requires-2-clause-room g c = λ k d lt heavy. absurd
     (no_heavy_seat _ _ _ _ _ (c.update_all.ensures.stands _ _ _ _ (c.update.ensures.stands _ _ _ [] c.given-seats.ensures)) refl _ k d lt heavy)
+
+pub update-requires-clause-room : goal.update-requires-clause-room
+update-requires-clause-room g c = λ k d lt heavy. absurd
+    (no_heavy_seat _ _ _ _ _ c.given-seats.ensures refl _ k d lt heavy)

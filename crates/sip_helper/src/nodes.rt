@@ -1,0 +1,128 @@
+//! The leaves or nodes that are shown of a level, on their way to the verifier.
+
+ghost use Rattle.std.specs.Prelude.{◌≡◌, ◌<◌, ◌++◌, [], All, IsTrue, length, map};
+ghost use Rattle.std.specs.List.{flat_map};
+ghost use Rattle.sip_ports.specs.Ports.{HasCause, SendsWhole};
+ghost use Rattle.sip_wire.specs.Spelling.{fits, spelling};
+ghost use Rattle.sip_wire.specs.Table.{most_nodes, most_rows};
+ghost use Rattle.sip_heavy.specs.Honest.{its_nodes, leaf_frames, leaf_of, node_frames, opening_frames};
+ghost use Rattle.sip_heavy.specs.Spots.{from_on};
+
+use arrayvec::ArrayVec;
+use sip_field::{Field, M61};
+use sip_heavy::HeavyProver;
+use sip_ports::{PortStop, Sink};
+use sip_wire::{Leaf, MOST_NODES, MOST_ROWS, Message, Node, Version, encode};
+
+/// The first leaves from `from` on that are shown, as many as a frame has, and the item from which on the others stand.
+fn next_leaves(prover: &HeavyProver<M61>, from: u64) -> (ArrayVec<Leaf, MOST_ROWS>, u64)
+    ensures split { map leaf_of (from_on from (its_nodes prover.now)) ≡ result.0.items
+        ++ map leaf_of (from_on result.1 (its_nodes prover.now)) }
+    ensures last { length result.0.items < most_rows
+        → map leaf_of (from_on result.1 (its_nodes prover.now)) ≡ [] }
+{
+    // The proof wants the length of the level.
+    let _ = prover.levels_left();
+    let mut rows = ArrayVec::new();
+    let mut next = from;
+    while let Some(node) = prover.next_node(next) {
+        if rows.is_full() {
+            return (rows, next);
+        }
+        rows.push(Leaf {
+            item: node.index,
+            count: node.count,
+        });
+        next = node.index + 1;
+    }
+    (rows, next)
+}
+
+/// The first nodes from `from` on that are shown, as many as a frame has, and the index from which on the others stand.
+fn next_nodes(prover: &HeavyProver<M61>, from: u64) -> (ArrayVec<Node, MOST_NODES>, u64)
+    ensures split { from_on from (its_nodes prover.now) ≡ result.0.items
+        ++ from_on result.1 (its_nodes prover.now) }
+    ensures last { length result.0.items < most_nodes
+        → from_on result.1 (its_nodes prover.now) ≡ [] }
+{
+    // The proof wants the length of the level.
+    let _ = prover.levels_left();
+    let mut rows = ArrayVec::new();
+    let mut next = from;
+    while let Some(node) = prover.next_node(next) {
+        if rows.is_full() {
+            return (rows, next);
+        }
+        rows.push(Node {
+            index: node.index,
+            hash: node.hash.number(),
+            count: node.count,
+        });
+        next = node.index + 1;
+    }
+    (rows, next)
+}
+
+/// Sends the leaves that are shown of the lowest level, in full frames and a last one of the rest. It takes no memory.
+fn put_leaves<K: Sink>(
+    version: Version,
+    prover: &HeavyProver<M61>,
+    out: &mut K,
+) -> Result<(), PortStop>
+    requires fit { All (λ m. IsTrue (fits version m)) (leaf_frames (its_nodes prover.now)) }
+    ensures talk { SendsWhole (K.talk out.old) (K.talk out.new) result
+        (flat_map (spelling version) (leaf_frames (its_nodes prover.now))) }
+    ensures cause { HasCause K.faults K.wants K.is_sure out.old out.new result }
+{
+    let mut next = 0;
+    loop {
+        let (rows, behind) = next_leaves(prover, next);
+        if rows.is_empty() {
+            return Ok(());
+        }
+        encode(&Message::Leaves(rows), version, out)?;
+        next = behind;
+    }
+}
+
+/// Sends the nodes that are shown of a level, in full frames and a last one of the rest. It takes no memory.
+fn put_nodes<K: Sink>(
+    version: Version,
+    prover: &HeavyProver<M61>,
+    out: &mut K,
+) -> Result<(), PortStop>
+    requires fit { All (λ m. IsTrue (fits version m)) (node_frames (its_nodes prover.now)) }
+    ensures talk { SendsWhole (K.talk out.old) (K.talk out.new) result
+        (flat_map (spelling version) (node_frames (its_nodes prover.now))) }
+    ensures cause { HasCause K.faults K.wants K.is_sure out.old out.new result }
+{
+    let mut next = 0;
+    loop {
+        let (rows, behind) = next_nodes(prover, next);
+        if rows.is_empty() {
+            return Ok(());
+        }
+        encode(&Message::Nodes(rows), version, out)?;
+        next = behind;
+    }
+}
+
+/// Sends what is shown of a level: leaves where it is the lowest, and else nodes.
+pub(crate) fn put_level<K: Sink>(
+    version: Version,
+    prover: &HeavyProver<M61>,
+    is_lowest: bool,
+    out: &mut K,
+) -> Result<(), PortStop>
+    requires lowest { prover.now.is_leaf ≡ is_lowest }
+    requires fit { All (λ m. IsTrue (fits version m)) (opening_frames prover.now) }
+    ensures talk { SendsWhole (K.talk out.old) (K.talk out.new) result
+        (flat_map (spelling version) (opening_frames prover.now)) }
+    ensures cause { HasCause K.faults K.wants K.is_sure out.old out.new result }
+{
+    if is_lowest {
+        put_leaves(version, prover, out)
+    } else {
+        put_nodes(version, prover, out)
+    }
+}
