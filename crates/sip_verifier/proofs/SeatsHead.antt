@@ -1,6 +1,6 @@
 -- The head of a transcript, seat by seat.
 use Rattle.std.proofs.Common.{◌≡◌, ℕ, zero, suc, ◌+◌, ◌^◌, ◌<◌, ◌≤◌, List, [], ◌∷◌, ◌++◌, length, map, get_or, take, drop, refl, sym, ap, ◌∙◌, subst, arith, append_assoc, append-nil, take_all}
-use Rattle.std.specs.Prelude.{◌&&◌, nat_le, nat_lt, IsTrue, All}
+use Rattle.std.specs.Prelude.{◌&&◌, nat_le, nat_lt, IsTrue, All, Result, Ok, Err, IfOk}
 use Rattle.std.specs.List.{list_all, flat_map, zip}
 use Rattle.std.proofs.lemmas.Bool.{and_from, and_parts, leb-true, ltb-true}
 use Rattle.std.proofs.lemmas.List.{get_or-map, length-map, take_more, take-append-drop}
@@ -92,6 +92,13 @@ seats-speak depth queries version s most is deep same = λ i other less.
     let here : needed s.depth (map (λ (x : Seated). x.query) s.seats) ≡ version = ap (λ d. needed d (map (λ (x : Seated). x.query) s.seats)) deep ∙ ap (needed depth) same ∙ sym is in
     subst (λ (v : Version). Speaks v s.depth ((get_or s.seats i other).query)) here
     (seat-speaks s.depth i s.seats other (omega (arith, deep, most)) less)
+
+-- where seats were gathered for these queries, each can be asked in the version that they need
+pub gathered-speak : {E : Type 0} (depth : ℕ) (queries : List Query) (version : Version) (gathered : Result Seating E) → depth ≤ most_depth → version ≡ needed depth queries
+    → IfOk gathered (λ (s : Seating). (s.depth ≡ depth) × (map (λ (x : Seated). x.query) s.seats ≡ queries))
+    → IfOk gathered (λ (s : Seating). All (λ (x : Seated). Speaks version s.depth x.query) s.seats)
+gathered-speak depth queries version (Ok s) most is seated = seats-speak depth queries version s most is seated.0 seated.1
+gathered-speak depth queries version (Err e) most is seated = tt
 
 -- where the queries of seats can be asked, each has a code
 pub all-coded : (version : Version) (depth : ℕ) (seats : List Seated) → All (λ (x : Seated). Speaks version depth x.query) seats → IsTrue (list_all (λ (x : Seated). speaks version x.query) seats)

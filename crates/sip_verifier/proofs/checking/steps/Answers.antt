@@ -11,8 +11,13 @@ use Rattle.sip_verifier.proofs.RunTalks.{tells, said_is, refuses_moves, passed_m
 use Rattle.sip_verifier.proofs.StreamPromises.{after_gather, after_start, narrow_seats}
 use Rattle.sip_verifier.proofs.QueryPromises.{after_queries, at_bye, bye_stops, all_read, rose_since}
 use Rattle.sip_verifier.proofs.QueriesChecked.{all_checked, since_before}
-use Rattle.sip_verifier.proofs.SeatsHead.{seats-speak}
+use Rattle.sip_verifier.proofs.SeatsHead.{gathered-speak}
 use Rattle.sip_verifier.proofs.checking.steps.Goals as goal
+
+pub open-requires : goal.open-requires
+open-requires g c =
+    let most : c.args.task.now.depth ≤ most_depth = omega (arith, c.get-levels.ensures.same, c.get-levels.ensures.most) in
+    gathered-speak c.args.task.now.depth _ c.version-version.result c.gather.result most c.version-version.ensures c.gather.ensures.seated
 
 pub returns-in_err-session-clause-keeps : goal.returns-in_err-session-clause-keeps
 returns-in_err-session-clause-keeps g c =
