@@ -9,6 +9,16 @@ pub const NODE_0_AT_ZERO_SEED: [u8; 25] = [
     0, 0, 3,
 ];
 
+// In version 2: the entries of side 0 that are all of its total, which is 9. No pair of leaves is, and both nodes above them are
+// shown, with the hashes 3 + 3 z and 5 + 5 z + z^2 + z^3 and the counts 3 and 6.
+pub const ALL: [u8; 13] = [0x04, 0, 10, 6, 0, 0, 0, 0, 1, 0, 0, 0, 1];
+
+pub const WIDE_NODES_AT_ZERO_SEED: [u8; 53] = [
+    0x16, 0, 0x32, 0, 2, // two nodes
+    0, 0, 0, 0, 0, 0, 0, 0, 0x16, 0x17, 0x3a, 0x9c, 0x41, 0x34, 0x45, 0x2e, 0, 0, 0, 0, 0, 0, 0, 3,
+    0, 0, 0, 0, 0, 0, 0, 1, 0x0f, 0x25, 0x91, 0xe1, 0x63, 0x02, 0x2e, 0x44, 0, 0, 0, 0, 0, 0, 0, 6,
+];
+
 // Frames with a fault, or of a reply with one.
 
 // Leaf 2 is 5 and its sibling is not shown.

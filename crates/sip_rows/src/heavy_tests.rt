@@ -3,6 +3,7 @@
 use crate::case::Case;
 use crate::duel::{check_duel, duel};
 use crate::frames::*;
+use crate::heavy_frames::*;
 use crate::row::{Given, Row, Said, first_run};
 use sip_verifier::Status;
 use sip_wire::Reason;
@@ -160,6 +161,36 @@ fn what_is_none_by_the_total_is_not_asked(rt: HostRuntime) -> Result<(), Fail> {
         row.check(&rt, rt.alloc())?;
     }
     Ok(())
+}
+
+// No entry is all of the total. The threshold is the total itself, so the query is asked.
+#[test]
+fn a_share_that_comes_to_the_total_is_asked(rt: HostRuntime) -> Result<(), Fail> {
+    let row = Row {
+        name: "no entry is 9",
+        given: Given {
+            words: "verify s seed a b - 2 share:0:1:1",
+            replies: &[&LEVEL_END, &WIDE_NODES_AT_ZERO_SEED, &LEVEL_END],
+            ..first_run().given
+        },
+        report: "share:0:1:1 none\n",
+        sent: &[
+            Said::Out(&OPEN_2_WIDE),
+            Said::Out(&UPDATES_OF_THREE_WIDE),
+            Said::Out(&THREE_WIDE_RECORDS),
+            Said::Out(&END_STREAM),
+            Said::Out(&ALL),
+        ],
+        then: &[
+            Said::In(&LEVEL_END),
+            Said::Out(&REVEAL),
+            Said::In(&WIDE_NODES_AT_ZERO_SEED),
+            Said::In(&LEVEL_END),
+            Said::Out(&BYE),
+        ],
+        ..first_run()
+    };
+    row.check(&rt, rt.alloc())
 }
 
 // A total of 65,537 is too wide for a threshold of 1, which a share of 1/65537 comes to. No query is asked.
