@@ -1,5 +1,6 @@
 -- A copy under way: what was read, what of it was sent, and what is gathered.
 use Rattle.std.proofs.Common.{◌≡◌, ℕ, ◌+◌, ◌<◌, ◌≤◌, List, [], ◌∷◌, ◌++◌, length, take, drop, None, Some, Option, Ok, Err, refl, sym, ap, ◌∙◌, subst, arith, append_assoc, append-nil, length-append, take-append-drop}
+use Rattle.std.specs.Io.KnownBytes.{Consumes}
 use Rattle.std.proofs.lemmas.List.{length-take-le, take_at, take_all}
 use Rattle.std.proofs.lemmas.List.Concat.{flat_map-append}
 use Rattle.sip_ports.specs.declared.port.PortStop.{PortStop}
@@ -15,10 +16,10 @@ use Rattle.sip_stream.specs.declared.why.Why.{Why}
 use Rattle.sip_stream.specs.Copied.{IsSentBut, IsCut, legal, were_read, CopiesOn}
 use Rattle.sip_stream.specs.Copying.{copied, Copies, stop_of_sink, stop_of_stream}
 use Rattle.sip_stream.specs.Layouts.{layout_of}
-use Rattle.sip_stream.specs.Reading.{Reading, IsAfter, Reads}
+use Rattle.sip_stream.specs.Reading.{Reading, IsAfter, HasRead, Reads}
 use Rattle.sip_stream.specs.Records.{Records, records, records_after, records_from, fault_at, update_at, pieces_of}
 use Rattle.sip_stream.specs.Spellings.{spelled, all_spelled}
-use Rattle.sip_stream.proofs.RecordsRead.{records_end}
+use Rattle.sip_stream.proofs.RecordsRead.{came_front, records_end}
 
 -- ---- records
 
@@ -110,6 +111,26 @@ module _ (depth : ℕ) (from to : Form) (bytes : List ℕ) (start : Option (List
           sent = so.sent.sent ++ part;
           order = grown ∙ ap (λ l. l ++ spelled (layout_of to) u) (so.sent.order ∙ ap (λ l. so.sent.sent ++ l) parts) ∙ regrouped ∙ ap (λ l. (so.sent.sent ++ part) ++ l) (sym items);
           talk = subst (GoesOn start now') (sym (outs-append so.sent.sent part)) (GoesOn-trans start now now' (outs so.sent.sent) (outs part) so.sent.talk went);
+        };
+      }
+
+  -- after more records that the source held
+  pub goes_on_many : (left left' : Option (List ℕ)) (now : Option (List TalkEvent)) (reader reader' : Reading) (gathered gathered' taken : List ℕ) (us : List Update)
+      → IsUnderway depth from to bytes left start now reader gathered → reader.depth ≡ depth → reader.form ≡ from → HasRead reader reader' taken us → Consumes left left' taken → gathered' ≡ gathered ++ all_spelled to us
+      → IsUnderway depth from to bytes left' start now reader' gathered'
+  goes_on_many left left' now reader reader' gathered gathered' taken us so same_depth same_form had took grown =
+      let came = came_front left left' so.rest taken so.to_come took in
+      let same = rw (same_depth, same_form) at (had.same so.stream came.0 so.after) in
+      record {
+        rest = came.0;
+        to_come = came.1;
+        stream = so.stream ++ us;
+        after = had.after so.stream so.after;
+        ahead = so.ahead ∙ ap (records_from depth from so.stream) came.2 ∙ same;
+        sent = record {
+          sent = so.sent.sent;
+          order = spelled_more to so.stream us (so.stream ++ us) refl ∙ ap (λ l. l ++ all_spelled to us) so.sent.order ∙ append_assoc so.sent.sent gathered (all_spelled to us) ∙ ap (λ l. so.sent.sent ++ l) (sym grown);
+          talk = so.sent.talk;
         };
       }
 

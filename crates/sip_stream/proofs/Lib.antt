@@ -13,3 +13,5 @@ pub mod RecordsRead
 pub mod Copies
 pub mod LegalRecords
 pub mod ManyRead
+pub mod PassedRecords
+pub mod PassedLines

@@ -168,3 +168,12 @@ reads_held old new bytes line answer told took clean short is =
     let order : bytes ≡ line ++ 10 ∷ came.0 = came.2 ∙ append_assoc line (10 ∷ []) came.0 in
     let so = begun_all bytes [] line (10 ∷ came.0) (subst (IsBegun bytes []) order (begun_empty bytes)) clean (omega (arith, short)) in
     reads_line bytes line came.0 new answer so came.1 short is
+
+-- a line in front of more
+pub first_line : (line more : List ℕ) (answer : Result Update Why) → parts_at 10 line ≡ None → length line < 40 → answer ≡ line_said line
+    → IsFirst of_line ((line ++ 10 ∷ []) ++ more) (line ++ 10 ∷ []) more × Says of_line (line ++ 10 ∷ []) answer
+first_line line more answer clean short is =
+    let whole = (line ++ 10 ∷ []) ++ more in
+    let order : whole ≡ line ++ 10 ∷ more = append_assoc line (10 ∷ []) more in
+    let so = begun_all whole [] line (10 ∷ more) (subst (IsBegun whole []) order (begun_empty whole)) clean (omega (arith, short)) in
+    (ended whole line more 10 so refl, subst (Says of_line (line ++ 10 ∷ [])) (sym is) (says_line line clean short))

@@ -4,15 +4,15 @@ use Rattle.std.specs.Prelude.{Option, Some, None, option_map}
 use Rattle.std.proofs.lemmas.Bool.{ne_eqb}
 use Rattle.sip_stream.specs.Lines.{parts_at}
 
-abbrev Parts : Type 0
+abbrev pub Parts : Type 0
 Parts = Option (List ℕ × List ℕ)
 
 -- one more byte in front
-abbrev push : ℕ → Parts → Parts
+abbrev pub push : ℕ → Parts → Parts
 push x parts = option_map (λ (p : List ℕ × List ℕ). (x ∷ p.0, p.1)) parts
 
 -- the parts of a text, by whether its first byte is the mark
-abbrev first_step : ℕ → List ℕ → Bool → Parts → Parts
+abbrev pub first_step : ℕ → List ℕ → Bool → Parts → Parts
 first_step x xs is rest = cond is (Some ([], xs)) (push x rest)
 
 -- there is no mark, so the first byte is none

@@ -1,5 +1,5 @@
 -- What a call that takes one record off the front of some bytes did.
-use Rattle.std.specs.Prelude.{◌≡◌, ◌<◌, ◌≤◌, ℕ, nat_lt, List, [], ◌∷◌, ◌++◌, length, slice_index, Option, Some, None, Result, Ok, Err, if◌then◌else◌}
+use Rattle.std.specs.Prelude.{◌≡◌, ◌<◌, ◌≤◌, ℕ, nat_lt, List, [], ◌∷◌, ◌++◌, length, take, slice_index, Option, Some, None, Result, Ok, Err, if◌then◌else◌}
 use Rattle.sip_ports.specs.declared.port.PortStop.{PortStop}
 use Rattle.sip_vector.specs.declared.update.Update.{Update}
 use Rattle.sip_stream.specs.declared.line_reader.LineEnd.{LineEnd}
@@ -72,3 +72,12 @@ line_said text = elim (numbers_at text) [
 abbrev pub record_said : ℕ → List ℕ → Result Update Why
 record_said width bytes =
     if nat_lt 1 (slice_index bytes 0) then Err BadSide else Ok (record_at width bytes)
+
+-- A line lies in front of the bytes with its line feed, so many bytes in all, and this is what it
+-- says.
+pub record HoldsLine (bytes : List ℕ) (answer : Result Update Why) (size : ℕ) : Type 0 where
+  pub line : List ℕ
+  pub order : take size bytes ≡ line ++ 10 ∷ []
+  pub clean : parts_at 10 line ≡ None
+  pub short : length line < most_line
+  pub says : answer ≡ line_said line

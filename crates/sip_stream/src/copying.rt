@@ -1,14 +1,19 @@
 //! A stream, copied record by record from one form to another.
 
 ghost use Rattle.std.specs.Prelude.{◌≡◌, ◌⊎◌, ◌<◌, ◌≤◌, ◌+◌, ◌^◌, ◌++◌, [], ℕ, List, Some, None, IsSome, MatchResult, OnOk, Err, Ok, take};
+ghost use Rattle.std.specs.Io.KnownBytes.{Consumes};
 ghost use Rattle.arrayvec.specs.ArrayVec.{array_vec_len};
 ghost use Rattle.sip_ports.specs.Ports.{GoesOn, HasCause, Lasts, Rose, outs};
 ghost use Rattle.sip_stream.specs.declared.fault.StreamFault.TheVariants as faults;
 ghost use Rattle.sip_stream.specs.Copying.{Copies, stop_of_sink, stop_of_stream};
 ghost use Rattle.sip_stream.specs.Layouts.{deepest_in};
 ghost use Rattle.sip_stream.specs.Copied.{CopiesOn};
+ghost use Rattle.sip_stream.specs.Reading.{HasRead};
+ghost use Rattle.sip_stream.specs.Spellings.{all_spelled};
+ghost use Rattle.sip_vector.specs.declared.update.Update.{Update};
 
 use crate::spelling::{SPELLING_ROOM, put_update};
+use crate::text::put;
 use crate::{Form, Reader, StreamFault, Why};
 use arrayvec::ArrayVec;
 use sip_ports::{PortStop, Sink, Source, write_whole};
@@ -81,6 +86,28 @@ fn make_room<K: Sink>(sink: &mut K, gathered: &mut ArrayVec<u8, BLOCK>) -> Resul
     Ok(())
 }
 
+// Gathers legal records that the source holds whole, as far as there is room for them: as they lie, where they are to be written
+// in the form that they have.
+fn gather_held<A: Source>(
+    to: Form,
+    reader: &mut Reader,
+    source: &mut A,
+    gathered: &mut ArrayVec<u8, BLOCK>,
+)
+    ensures grown { (us : List Update) × (taken : List ℕ)
+        × (gathered.new.items ≡ gathered.old.items ++ all_spelled to us)
+        × HasRead reader.old reader.new taken us
+        × Consumes (A.left source.old) (A.left source.new) taken }
+    ensures told { IsSome (A.left source.old) → IsSome (A.left source.new) }
+    ensures source { Lasts A.faults A.wants A.is_sure source.old source.new }
+{
+    let held = source.held();
+    let near = &held[..held.len().min(gathered.remaining_capacity())];
+    let used = reader.pass(to, near);
+    put(gathered, &near[..used]);
+    source.skip(used);
+}
+
 // Copies until the stream ends, is read no further, or the sink stops. What is gathered then is still to be written.
 fn copy_on<A: Source, K: Sink>(
     depth: Depth,
@@ -112,6 +139,7 @@ fn copy_on<A: Source, K: Sink>(
         };
         make_room(sink, gathered)?;
         put_update(to, &update, gathered);
+        gather_held(to, &mut reader, source, gathered);
     }
 }
 

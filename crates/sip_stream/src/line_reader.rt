@@ -1,10 +1,10 @@
 //! Records in text, a line each, read where they lie, or else byte by byte.
 
-ghost use Rattle.std.specs.Prelude.{◌≡◌, ◌<◌, ◌≤◌, ℕ, List, [], Some, IsSome, length};
+ghost use Rattle.std.specs.Prelude.{◌≡◌, ◌<◌, ◌≤◌, ℕ, List, [], Some, IfSome, IsSome, length};
 ghost use Rattle.arrayvec.specs.ArrayVec.{array_vec_len};
 ghost use Rattle.sip_ports.specs.Ports.{HasCause};
 ghost use Rattle.sip_stream.specs.Layouts.{of_line};
-ghost use Rattle.sip_stream.specs.Pieces.{ReadsByte, ReadsPiece, TakesLine, line_said};
+ghost use Rattle.sip_stream.specs.Pieces.{HoldsLine, ReadsByte, ReadsPiece, TakesLine, line_said};
 
 use crate::Why;
 use crate::numbers::{read_numbers, split_at};
@@ -105,6 +105,20 @@ fn read_line<S: Source>(source: &mut S) -> Result<Option<Result<Update, Why>>, P
     }
 }
 
+/// What the line in front of the bytes says, and how many bytes it has, where it is there with its line feed and is not too
+/// long.
+pub(crate) fn line_in_front(bytes: &[u8]) -> Option<(Result<Update, Why>, usize)>
+    ensures line { IfSome result (λ line. HoldsLine bytes.now line.0 line.1) }
+    ensures some { IfSome result (λ line. 0 < line.1) }
+    ensures within { IfSome result (λ line. line.1 ≤ length bytes.now) }
+{
+    let near = &bytes[..bytes.len().min(MOST_LINE)];
+    let Some((line, _)) = split_at(near, b'\n') else {
+        return None;
+    };
+    Some((update_of(line), line.len() + 1))
+}
+
 /// What the next line says, or why it says no update; `None` at the end. One that the source holds with its line feed
 /// is read where it lies, unless it is too long.
 pub(crate) fn next_line<S: Source>(source: &mut S) -> Result<Option<Result<Update, Why>>, PortStop>
@@ -114,12 +128,9 @@ pub(crate) fn next_line<S: Source>(source: &mut S) -> Result<Option<Result<Updat
     ensures cause { HasCause S.faults S.wants S.is_sure source.old source.new result }
 {
     let held = source.held();
-    let near = &held[..held.len().min(MOST_LINE)];
-    let Some((line, _)) = split_at(near, b'\n') else {
+    let Some((said, size)) = line_in_front(held) else {
         return read_line(source);
     };
-    let size = line.len() + 1;
-    let said = update_of(line);
     source.skip(size);
     Ok(Some(said))
 }

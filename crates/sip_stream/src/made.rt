@@ -1,10 +1,11 @@
 //! A source of a stream that is made from a number.
 
-ghost use Rattle.std.specs.Prelude.{◌≡◌, ◌≤◌, ◌<◌, ◌+◌, ◌++◌, [], length, nat_le, take};
+ghost use Rattle.std.specs.Prelude.{◌≡◌, ◌≤◌, ◌<◌, ◌+◌, ◌^◌, ◌++◌, [], length, nat_le, take};
+ghost use Rattle.sip_stream.specs.Layouts.{layout_of, made_form, of_bytes};
 
-use crate::Form;
 use crate::generator::{next_state, update_at};
-use crate::spelling::{SPELLING_ROOM, put_update};
+use crate::record_bytes::{NARROW, WIDE, put_at, size_of};
+use crate::text::put;
 use arrayvec::ArrayVec;
 use sip_ports::{PortStop, Source};
 use sip_vector::Depth;
@@ -55,7 +56,39 @@ impl MadeSource {
         }
     }
 
-    // Makes the next records, as many as there is room for, where those that were made were read.
+    // Makes the next records, as many as there is room for, whose item has so many bytes. Those that were made were read. They are
+    // written where they lie in a block of their own, since a place that is kept in memory is waited for at each part of a record.
+    fn make<const WIDTH: usize>(&mut self)
+        requires some { 1 ≤ WIDTH }
+        requires most { WIDTH ≤ 8 }
+        requires form { layout_of (made_form self.old.depth) ≡ of_bytes WIDTH }
+        requires room { 2 ^ self.old.depth ≤ 256 ^ WIDTH }
+        requires read { length self.old.under_way.items ≤ self.old.at }
+        ensures same { made_left self.new ≡ made_left self.old }
+        ensures under_way { self.new.at ≡ length self.new.under_way.items
+            → made_left self.new ≡ [] }
+    {
+        let size = size_of(WIDTH);
+        let depth = self.depth;
+        let mut state = self.state;
+        let mut more = self.more;
+        let mut block = [0; BLOCK];
+        let mut end = 0;
+        while more > 0 && BLOCK - end >= size {
+            state = next_state(state);
+            more -= 1;
+            put_at::<WIDTH>(&update_at(depth, state), &mut block, end);
+            end += size;
+        }
+        self.state = state;
+        self.more = more;
+        self.at = 0;
+        self.under_way.clear();
+        put(&mut self.under_way, &block[..end]);
+    }
+
+    // Makes the next records where those that were made were read.
+    #[inline(never)]
     fn go_on(&mut self)
         ensures same { made_left self.new ≡ made_left self.old }
         ensures under_way { self.new.at ≡ length self.new.under_way.items
@@ -64,13 +97,10 @@ impl MadeSource {
         if self.at < self.under_way.len() {
             return;
         }
-        self.under_way.clear();
-        self.at = 0;
-        while self.more > 0 && self.under_way.remaining_capacity() >= SPELLING_ROOM {
-            self.state = next_state(self.state);
-            self.more -= 1;
-            let update = update_at(self.depth, self.state);
-            put_update(Form::made(self.depth), &update, &mut self.under_way);
+        if self.depth.get() <= Depth::MOST_NARROW {
+            self.make::<NARROW>();
+        } else {
+            self.make::<WIDE>();
         }
     }
 

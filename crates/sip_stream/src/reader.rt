@@ -7,12 +7,13 @@ ghost use Rattle.arrayvec.specs.ArrayVec.{array_vec_len};
 ghost use Rattle.sip_ports.specs.Ports.{HasCause, Lasts, Rose};
 ghost use Rattle.sip_vector.specs.declared.update.Update.{Update};
 ghost use Rattle.sip_stream.specs.declared.why.Why.{Why};
-ghost use Rattle.sip_stream.specs.Layouts.{layout_of, of_bytes};
+ghost use Rattle.sip_stream.specs.Layouts.{layout_of, of_bytes, of_line};
 ghost use Rattle.sip_stream.specs.Pieces.{ReadsPiece};
 ghost use Rattle.sip_stream.specs.Reading.{IsAfter, HasRead, HasRoom, GoesOnAfter, Reads, room, unread, weight_of};
 ghost use Rattle.sip_stream.specs.Records.{update_fault};
+ghost use Rattle.sip_stream.specs.Spellings.{all_spelled};
 
-use crate::line_reader::next_line;
+use crate::line_reader::{line_in_front, next_line};
 use crate::record_bytes::{NARROW, WIDE, size_of};
 use crate::record_reader::{next_record, said_by};
 use crate::{Form, StreamFault, Why};
@@ -244,6 +245,71 @@ impl Reader {
             Form::Binary => self.take_records::<NARROW, ROOM>(bytes, most, block),
             Form::Wide => self.take_records::<WIDE, ROOM>(bytes, most, block),
             Form::Text => 0,
+        }
+    }
+
+    // Passes over the legal records of an item of so many bytes that lie whole at the front of the bytes, and answers how many bytes
+    // they have.
+    fn pass_records<const WIDTH: usize>(&mut self, bytes: &[u8]) -> usize
+        requires some { 1 ≤ WIDTH }
+        requires widest { WIDTH ≤ 8 }
+        requires layout { layout_of self.old.form ≡ of_bytes WIDTH }
+        ensures within { result ≤ length bytes.now }
+        ensures passed { (us : List Update) × (all_spelled self.old.form us ≡ take result bytes.now)
+            × HasRead self.old self.new (take result bytes.now) us }
+    {
+        let size = size_of(WIDTH);
+        let mut reader = *self;
+        let mut used = 0;
+        while bytes.len() - used >= size {
+            let Ok(update) = said_by::<WIDTH>(&bytes[used..used + size]) else {
+                break;
+            };
+            if reader.fault(&update).is_some() {
+                break;
+            }
+            reader.add(&update);
+            used += size;
+        }
+        *self = reader;
+        used
+    }
+
+    // Passes over the legal lines that lie whole at the front of the bytes, and answers how many bytes they have.
+    fn pass_lines(&mut self, bytes: &[u8]) -> usize
+        requires { layout_of self.old.form ≡ of_line }
+        ensures within { result ≤ length bytes.now }
+        ensures passed { (us : List Update) × (all_spelled self.old.form us ≡ take result bytes.now)
+            × HasRead self.old self.new (take result bytes.now) us }
+    {
+        let mut reader = *self;
+        let mut used = 0;
+        while let Some((said, size)) = line_in_front(&bytes[used..]) {
+            let Ok(update) = said else {
+                break;
+            };
+            if reader.fault(&update).is_some() {
+                break;
+            }
+            reader.add(&update);
+            used += size;
+        }
+        *self = reader;
+        used
+    }
+
+    /// Passes over legal records that lie whole at the front of the bytes, and answers how many bytes they have: as far as the one
+    /// spelling of an update in the form `to` is what lies there. It may leave any of them to [`next`](Reader::next).
+    pub(crate) fn pass(&mut self, to: Form, bytes: &[u8]) -> usize
+        ensures within { result ≤ length bytes.now }
+        ensures passed { (us : List Update) × (all_spelled to us ≡ take result bytes.now)
+            × HasRead self.old self.new (take result bytes.now) us }
+    {
+        match (self.form, to) {
+            (Form::Binary, Form::Binary) => self.pass_records::<NARROW>(bytes),
+            (Form::Wide, Form::Wide) => self.pass_records::<WIDE>(bytes),
+            (Form::Text, Form::Text) => self.pass_lines(bytes),
+            _ => 0,
         }
     }
 

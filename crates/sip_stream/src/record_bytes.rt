@@ -1,6 +1,6 @@
 //! An update as a record of bytes.
 
-ghost use Rattle.std.specs.Prelude.{◌≡◌, ◌≢◌, ◌≤◌, ◌<◌, ◌+◌, ◌^◌, ◌++◌, pos};
+ghost use Rattle.std.specs.Prelude.{◌≡◌, ◌≢◌, ◌≤◌, ◌<◌, ◌+◌, ◌^◌, ◌++◌, length, take, pos};
 ghost use Rattle.arrayvec.specs.ArrayVec.{array_vec_len};
 ghost use Rattle.sip_ports.specs.Ports.{HasCause, SendsWhole};
 ghost use Rattle.sip_vector.specs.Limits.{most_depth, most_narrow_depth};
@@ -55,6 +55,29 @@ pub(crate) fn put_bytes<const WIDTH: usize, const ROOM: usize>(
     put(gathered, &[number_of(update.side)]);
     put(gathered, &update.item.to_be_bytes()[8 - WIDTH..]);
     put(gathered, &update.delta.to_be_bytes());
+}
+
+// Writes bytes over those from a place on.
+fn put_part(block: &mut [u8], at: usize, part: &[u8])
+    requires { at + length part.now ≤ length block.old }
+    ensures put { take (at + length part.now) block.new ≡ take at block.old ++ part.now }
+    ensures len { length block.new ≡ length block.old }
+{
+    block[at..at + part.len()].copy_from_slice(part);
+}
+
+/// Writes the record of an update, whose item has so many bytes, over the bytes from a place on.
+pub(crate) fn put_at<const WIDTH: usize>(update: &Update, block: &mut [u8], at: usize)
+    requires width { WIDTH ≤ 8 }
+    requires item { update.now.item < 256 ^ WIDTH }
+    requires room { at + record_size WIDTH ≤ length block.old }
+    ensures put { take (at + record_size WIDTH) block.new
+        ≡ take at block.old ++ record_bytes WIDTH update.now }
+    ensures len { length block.new ≡ length block.old }
+{
+    put_part(block, at, &[number_of(update.side)]);
+    put_part(block, at + 1, &update.item.to_be_bytes()[8 - WIDTH..]);
+    put_part(block, at + 1 + WIDTH, &update.delta.to_be_bytes());
 }
 
 /// The record of an update, whose item has so many bytes.

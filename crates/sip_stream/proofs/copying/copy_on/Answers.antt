@@ -1,9 +1,10 @@
 -- What holds at each exit follows from how far the copy came.
-use Rattle.std.proofs.Common.{rules}
+use Rattle.std.proofs.Common.{rules, arith, ap, ◌∙◌}
+use Rattle.std.specs.Result.{is_err}
 use Rattle.std.proofs.lemmas.Result.{err_from_is_err_and}
 use Rattle.sip_stream.specs.Layouts.{deepest_in}
 use Rattle.sip_stream.proofs.ReadBack.{below_deeper}
-use Rattle.sip_stream.proofs.Copies.{goes_on, ends, stops_reading, stops_writing}
+use Rattle.sip_stream.proofs.Copies.{goes_on, goes_on_many, ends, stops_reading, stops_writing}
 use Rattle.sip_stream.proofs.copying.copy_on.Goals as goal
 
 pub returns-in-Ok-None-clause-copied : goal.returns-in-Ok-None-clause-copied
@@ -38,13 +39,24 @@ loop-update-preserved g c = record {
       let reads = rw (c.loop-update.invariant.depth, c.loop-update.invariant.form, c.in-Ok-Some.is, c.in-Ok-Some.field-0-is) at (c.next.ensures.reads so.stream so.rest so.after so.to_come) in
       let after = rw (c.in-Ok-Some.is, c.in-Ok-Some.field-0-is) at (c.next.ensures.after so.stream so.after) in
       let talk = c.in_ok-make_room.ensures.talk in
-      goes_on c.args.depth c.args.from c.args.to bytes (g.K.Sink.talk c.args.sink.now) (g.A.Source.left c.loop-update.source) (g.A.Source.left c.next.new.source) (g.K.Sink.talk c.loop-update.sink) (g.K.Sink.talk c.make_room.new.sink)
-      c.loop-update.reader c.next.new.self c.loop-update.gathered.items c.make_room.new.gathered.items c.put_update.new.gathered.items talk.0 c.in-Ok-Some.update so reads after talk.1 talk.2 c.put_update.ensures.items;
+      let held = c.gather_held.ensures.grown in
+      let depth = c.next.ensures.depth ∙ c.loop-update.invariant.depth in
+      let form = c.next.ensures.form ∙ c.loop-update.invariant.form in
+      let one = goes_on c.args.depth c.args.from c.args.to bytes (g.K.Sink.talk c.args.sink.now) (g.A.Source.left c.loop-update.source) (g.A.Source.left c.next.new.source) (g.K.Sink.talk c.loop-update.sink) (g.K.Sink.talk c.make_room.new.sink)
+      c.loop-update.reader c.next.new.self c.loop-update.gathered.items c.make_room.new.gathered.items c.put_update.new.gathered.items talk.0 c.in-Ok-Some.update so reads after talk.1 talk.2 c.put_update.ensures.items in
+      goes_on_many c.args.depth c.args.from c.args.to bytes (g.K.Sink.talk c.args.sink.now) (g.A.Source.left c.next.new.source) (g.A.Source.left c.gather_held.new.source) (g.K.Sink.talk c.make_room.new.sink)
+      c.next.new.self c.gather_held.new.reader c.put_update.new.gathered.items c.gather_held.new.gathered.items held.1 held.0 one depth form held.3 held.4 held.2;
   same_to = search rules;
-  depth = search rules;
-  form = search rules;
-  ready = search rules;
+  depth = c.gather_held.ensures.grown.3.depth ∙ c.next.ensures.depth ∙ c.loop-update.invariant.depth;
+  form = c.gather_held.ensures.grown.3.form ∙ c.next.ensures.form ∙ c.loop-update.invariant.form;
+  ready = c.gather_held.ensures.grown.3.spent ∙ c.next.ensures.spent ∙ ap is_err c.in-Ok-Some.is;
   told = search rules;
   source = search rules;
   sink = search rules;
 }
+
+-- what the source held is no farther off
+pub loop-update-smaller : goal.loop-update-smaller
+loop-update-smaller g c =
+    let nearer = rw (c.in-Ok-Some.is, c.in-Ok-Some.field-0-is) at c.next.ensures.nearer in
+    omega (arith, nearer, c.gather_held.ensures.grown.3.nearer)

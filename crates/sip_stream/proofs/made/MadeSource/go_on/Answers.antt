@@ -1,25 +1,17 @@
--- One more record is made, behind those of the block.
-use Rattle.std.proofs.Common.{◌-◌, ◌++◌, ap, sym, ◌∙◌, arith, rules, append_assoc}
-use Rattle.sip_stream.specs.Layouts.{deepest_in, layout_of}
-use Rattle.sip_stream.specs.Made.{made_bytes}
-use Rattle.sip_stream.specs.Spellings.{spelled}
-use Rattle.sip_stream.proofs.MadeSteps.{made_step}
-use Rattle.sip_stream.proofs.ReadBack.{below_deeper}
+-- Each depth has its form.
+use Rattle.std.proofs.Common.{◌<◌, ◌≤◌, arith, rules}
+use Rattle.sip_stream.proofs.MadeSteps.{narrow_form, narrow_room, wide_form, wide_room}
 use Rattle.sip_stream.proofs.made.MadeSource.go_on.Goals as goal
 
-pub put_update-requires : goal.put_update-requires
-put_update-requires c =
-    (search rules, (below_deeper c.update_at-update.result.item c.loop-self.self.depth (deepest_in c.made.result) c.update_at-update.ensures.fits c.made.ensures.room, search rules))
+pub make-requires : goal.make-requires
+make-requires c =
+    let depth = c.args.self.now.depth in
+    let low : depth ≤ 32 = search rules in
+    record { some = omega arith; most = omega arith; form = narrow_form depth low; room = narrow_room depth low; read = search rules }
 
-pub loop-self-preserved : goal.loop-self-preserved
-loop-self-preserved c =
-    let source = c.loop-self.self in
-    let items = source.under_way.items in
-    let state = c.next_state-self.result in
-    let one = spelled (layout_of c.made.result) c.update_at-update.result in
-    let rest = made_bytes state (source.more - 1) source.depth in
-    let step = made_step source.state state source.more source.depth c.made.result c.update_at-update.result (omega (arith, c.loop-self-test.true)) c.made.ensures.form c.next_state-self.ensures c.update_at-update.ensures.update in
-    record {
-      start = c.loop-self.invariant.start;
-      same = ap (λ l. l ++ rest) c.put_update.ensures.items ∙ append_assoc items one rest ∙ ap (λ l. items ++ l) (sym step) ∙ c.loop-self.invariant.same;
-    }
+pub make-requires-else-get-le-MOST_NARROW : goal.make-requires-else-get-le-MOST_NARROW
+make-requires-else-get-le-MOST_NARROW c =
+    let depth = c.args.self.now.depth in
+    let high : 32 < depth = search rules in
+    let most : depth ≤ 48 = omega (arith, c.get.ensures.same, c.get.ensures.most) in
+    record { some = omega arith; most = omega arith; form = wide_form depth high; room = wide_room depth most; read = search rules }

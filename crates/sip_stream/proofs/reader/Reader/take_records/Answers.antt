@@ -1,5 +1,5 @@
 -- One more record was read.
-use Rattle.std.proofs.Common.{◌≡◌, ◌∷◌, [], ◌+◌, ◌-◌, ◌++◌, ◌∙◌, ap, arith, length, None, Ok, rules, sym, subst, take, drop, append-nil, append_assoc}
+use Rattle.std.proofs.Common.{◌≡◌, ◌∷◌, [], ◌+◌, ◌-◌, ◌++◌, ◌∙◌, ap, arith, length, Ok, rules, sym, subst, take, drop, append-nil, append_assoc}
 use Rattle.std.proofs.Math.Seq.{take-add}
 use Rattle.std.specs.Prelude.{IfNone}
 use Rattle.sip_stream.specs.Layouts.{record_size}

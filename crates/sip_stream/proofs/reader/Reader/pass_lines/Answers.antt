@@ -1,0 +1,53 @@
+-- One more line was passed.
+use Rattle.std.proofs.Common.{◌≡◌, ◌∷◌, [], ◌+◌, ◌-◌, ◌++◌, ◌∙◌, ap, arith, length, length-drop, Ok, refl, sym, subst, take, drop}
+use Rattle.std.proofs.Math.Seq.{take-add}
+use Rattle.std.specs.Prelude.{IfNone}
+use Rattle.sip_stream.specs.Pieces.{line_said}
+use Rattle.sip_stream.specs.Reading.{HasRead, HasRoom}
+use Rattle.sip_stream.proofs.ManyRead.{HasRead-none, HasRead-line, none_of}
+use Rattle.sip_stream.proofs.PassedLines.{passed_line}
+use Rattle.sip_stream.proofs.RecordsRead.{rest_at}
+use Rattle.sip_stream.proofs.reader.Reader.pass_lines.Goals as goal
+
+pub loop-said-init : goal.loop-said-init
+loop-said-init c = record { within = omega arith; passed = ([], refl, HasRead-none c.args.self.now) }
+
+pub loop-said-smaller : goal.loop-said-smaller
+loop-said-smaller c =
+    let bytes = c.args.bytes.now in
+    let used = c.loop-said.used in
+    let rest : length (take (length bytes - used) (drop used bytes)) ≡ length bytes - used = ap length (rest_at used bytes) ∙ length-drop used bytes in
+    omega (arith, c.loop-said.invariant.within, c.in-Some.ensures.some, c.in-Some.ensures.within, rest)
+
+pub add-requires : goal.add-requires
+add-requires c =
+    let none = none_of c.fault.result (sym c.is_some.ensures ∙ c.if-is_some.false) in
+    subst (λ r. IfNone r (HasRoom c.loop-said.reader c.in-Ok.update)) none c.fault.ensures.room
+
+pub loop-said-preserved : goal.loop-said-preserved
+loop-said-preserved c =
+    let bytes = c.args.bytes.now in
+    let used = c.loop-said.used in
+    let size = c.in-Some.size in
+    let u = c.in-Ok.update in
+    let old = c.args.self.now in
+    let had = c.loop-said.invariant.passed in
+    let none = none_of c.fault.result (sym c.is_some.ensures ∙ c.if-is_some.false) in
+    let has = subst (λ r. IfNone r (HasRoom c.loop-said.reader u)) none c.fault.ensures.room in
+    let behind = rest_at used bytes in
+    let front = c.in-Some.ensures.line in
+    let line = front.line in
+    let rest : length (take (length bytes - used) (drop used bytes)) ≡ length bytes - used = ap length behind ∙ length-drop used bytes in
+    let said : Ok u ≡ line_said line = sym c.in-Ok.is ∙ front.says in
+    let piece : take size (drop used bytes) ≡ line ++ 10 ∷ [] = ap (take size) (sym behind) ∙ front.order in
+    let whole : take used bytes ++ (line ++ 10 ∷ []) ≡ take (used + size) bytes = ap (λ l. take used bytes ++ l) (sym piece) ∙ sym (take-add used size bytes) in
+    record {
+      within = omega (arith, c.loop-said.invariant.within, c.in-Some.ensures.within, rest);
+      passed = (
+        had.0 ++ u ∷ [],
+        passed_line old.form had.0 u (take used bytes) line c.requires had.1 said ∙ whole,
+        subst (λ l. HasRead old c.add.new.self l (had.0 ++ u ∷ [])) whole
+            (HasRead-line old c.loop-said.reader c.add.new.self (take used bytes) line had.0 u c.requires had.2 front.clean front.short said
+            (λ before is. sym (c.fault.ensures.first before is) ∙ none) has c.add.ensures.after c.add.ensures.heavier c.add.ensures.depth c.add.ensures.form c.add.ensures.spent),
+      );
+    }
