@@ -1,6 +1,6 @@
 //! How updates are spelled.
 
-ghost use Rattle.std.specs.Prelude.{◌≡◌, ◌≢◌, ◌<◌, ◌≤◌, ◌^◌, ℕ, List, [], ◌∷◌, ◌++◌, None, All, length, codes, pos, negsuc, FitsSigned};
+ghost use Rattle.std.specs.Prelude.{◌≡◌, ◌≢◌, ◌<◌, ◌≤◌, ◌^◌, ℕ, List, [], ◌∷◌, ◌++◌, None, All, length, codes, pos, negsuc, slice_index, FitsSigned, Ok};
 ghost use Rattle.std.specs.Int.{w64};
 ghost use Rattle.sip_vector.specs.Limits.{most_depth};
 ghost use Rattle.sip_vector.specs.declared.update.Side.TheVariants as sides;
@@ -8,6 +8,7 @@ ghost use Rattle.sip_vector.specs.declared.update.Update.{Update as AnyUpdate};
 ghost use Rattle.sip_vector.specs.Streams.{IsLegal};
 ghost use Rattle.sip_stream.specs.declared.form.Form.{Form as AnyForm};
 ghost use Rattle.sip_stream.specs.Layouts.{deepest_in, layout_of, record_size};
+ghost use Rattle.sip_stream.specs.Pieces.{line_said, record_said};
 ghost use Rattle.sip_stream.specs.Records.{fault_at, records, records_from, update_at, update_fault};
 ghost use Rattle.sip_stream.specs.Spellings.{all_spelled, line_bytes, record_bytes, spelled};
 
@@ -73,4 +74,13 @@ pub fn streams_are_read()
         → depth ≤ deepest_in form → IsLegal depth stream
         → records depth form (all_spelled form stream)
         ≡ record { legal = stream; fault = None } }
+{}
+
+/// A whole record or line that says an update is the one spelling of that update.
+pub fn spellings_are_the_only_ones()
+    ensures records { (width : ℕ) (bytes : List ℕ) (u : AnyUpdate)
+        → length bytes ≡ record_size width → ((k : ℕ) → slice_index bytes k < 256)
+        → Ok u ≡ record_said width bytes → record_bytes width u ≡ bytes }
+    ensures lines { (text : List ℕ) (u : AnyUpdate) → Ok u ≡ line_said text
+        → line_bytes u ≡ text ++ 10 ∷ [] }
 {}
