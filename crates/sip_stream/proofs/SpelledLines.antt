@@ -1,6 +1,6 @@
 -- The line of an update says that update.
-use Rattle.std.proofs.Common.{◌≡◌, ◌≢◌, ℕ, suc, ◌+◌, ◌^◌, ◌<◌, ◌≤◌, true, false, List, [], ◌∷◌, ◌++◌, length, get_or, append-nil, inl, inr, All, ℤ, pos, negsuc, None, Some, refl, ap, ◌∙◌, append_assoc, length-append, arith, w64}
-use Rattle.std.specs.Prelude.{FitsSigned, decimal, nat_le, nat_lt, option_and_then, if◌then◌else◌}
+use Rattle.std.proofs.Common.{◌≡◌, ◌≢◌, ℕ, suc, ◌+◌, ◌^◌, ◌<◌, ◌≤◌, true, false, List, [], ◌∷◌, ◌++◌, length, get_or, append-nil, inl, inr, All, ℤ, pos, negsuc, None, Some, refl, sym, ap, ◌∙◌, append_assoc, length-append, arith, w64}
+use Rattle.std.specs.Prelude.{FitsSigned, codes, decimal, nat_le, nat_lt, option_and_then, if◌then◌else◌}
 use Rattle.std.specs.Fmt.{signed_decimal}
 use Rattle.std.specs.Str.{all_ascii_digits}
 use Rattle.std.proofs.lemmas.Bool.{ne_eqb, lt-ltb, cases_lt}
@@ -142,3 +142,19 @@ length-line u item fits =
 -- a line has its line feed at least
 pub some_line : (u : Update) → 0 < length (line_bytes u)
 some_line u = rw (line-text u) (omega (arith, length-append (text u) (10 ∷ [])))
+
+-- a side and a space
+side_line : (s : Side) → (48 + side_number s) ∷ 32 ∷ [] ≡ decimal (side_number s) ++ codes " "
+side_line First = ap (λ l. l ++ 32 ∷ []) (sym (decimal_digit 0 (omega arith)))
+side_line Second = ap (λ l. l ++ 32 ∷ []) (sym (decimal_digit 1 (omega arith)))
+
+-- the parts of a line behind others
+pub line_built : (u : Update) (start one two three four all : List ℕ) → one ≡ start ++ (48 + side_number u.side) ∷ 32 ∷ [] → two ≡ one ++ decimal u.item → three ≡ two ++ codes " " → four ≡ three ++ signed_decimal u.delta → all ≡ four ++ 10 ∷ []
+    → all ≡ start ++ line_bytes u
+unfolding line_bytes
+line_built u start one two three four all first second third fourth last =
+    last ∙ ap (λ l. l ++ 10 ∷ []) (fourth ∙ ap (λ l. l ++ signed_decimal u.delta) (third ∙ ap (λ l. l ++ codes " ") (second ∙ ap (λ l. l ++ decimal u.item) (first ∙ ap (λ l. start ++ l) (side_line u.side)))))
+    ∙ behind start (decimal (side_number u.side)) (codes " ") (decimal u.item) (signed_decimal u.delta) (10 ∷ [])
+  where
+    behind : (s a b c d e : List ℕ) → ((((s ++ (a ++ b)) ++ c) ++ b) ++ d) ++ e ≡ s ++ (((((a ++ b) ++ c) ++ b) ++ d) ++ e)
+    behind s a b c d e = simp append_assoc refl

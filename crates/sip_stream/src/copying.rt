@@ -86,8 +86,8 @@ fn make_room<K: Sink>(sink: &mut K, gathered: &mut ArrayVec<u8, BLOCK>) -> Resul
     Ok(())
 }
 
-// Gathers legal records that the source holds whole, as far as there is room for them: as they lie, where they are to be written
-// in the form that they have.
+// Gathers legal records that the source holds whole, as far as there is room for them: as they lie,
+// where they are to be written in the form that they have. Others it leaves alone.
 fn gather_held<A: Source>(
     to: Form,
     reader: &mut Reader,

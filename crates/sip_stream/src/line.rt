@@ -17,14 +17,12 @@ use sip_vector::Update;
 pub(crate) const LINE_ROOM: usize = 46;
 
 /// Adds the line of an update at the end: at most 39 bytes, where its item is below 2^48. There is room for it.
-#[tactic(auto, using(std::proofs::lemmas::Grind::common_steps), unfolding(crate::specs::Spellings::line_bytes))]
 pub(crate) fn put_line_bytes<const ROOM: usize>(update: &Update, gathered: &mut ArrayVec<u8, ROOM>)
     requires { array_vec_len gathered.old + LINE_ROOM ≤ ROOM }
     ensures { gathered.new.items ≡ gathered.old.items ++ line_bytes update.now }
 {
     let mut digits = Buffer::new();
-    put(gathered, digits.format(number_of(update.side)).as_bytes());
-    put(gathered, b" ");
+    put(gathered, &[b'0' + number_of(update.side), b' ']);
     put(gathered, digits.format(update.item).as_bytes());
     put(gathered, b" ");
     put(gathered, digits.format(update.delta).as_bytes());

@@ -105,8 +105,8 @@ fn read_line<S: Source>(source: &mut S) -> Result<Option<Result<Update, Why>>, P
     }
 }
 
-/// What the line in front of the bytes says, and how many bytes it has, where it is there with its line feed and is not too
-/// long.
+/// What the line in front of the bytes says, and how many bytes it has with its line feed, where it
+/// is there whole and is not too long.
 pub(crate) fn line_in_front(bytes: &[u8]) -> Option<(Result<Update, Why>, usize)>
     ensures line { IfSome result (λ line. HoldsLine bytes.now line.0 line.1) }
     ensures some { IfSome result (λ line. 0 < line.1) }
