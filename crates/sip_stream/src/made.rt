@@ -56,9 +56,9 @@ impl MadeSource {
         }
     }
 
-    // Makes the next records, as many as there is room for, whose item has so many bytes. Those that
-    // were made were read. They are written in a block of their own first, since a vector's length is
-    // waited for at each part of a record.
+    // Makes the next records, as many as there is room for, whose item has so many bytes. Those
+    // that were made were read. They are written in a block of their own first, since a vector's
+    // length is waited for at each part of a record.
     fn make<const WIDTH: usize>(&mut self)
         requires some { 1 ≤ WIDTH }
         requires most { WIDTH ≤ 8 }

@@ -275,8 +275,8 @@ impl Reader {
         used
     }
 
-    // Passes over the legal lines that lie whole at the front of the bytes, and answers how many bytes
-    // they have.
+    // Passes over the legal lines that lie whole at the front of the bytes, and answers how many
+    // bytes they have.
     fn pass_lines(&mut self, bytes: &[u8]) -> usize
         requires { layout_of self.old.form ≡ of_line }
         ensures within { result ≤ length bytes.now }
@@ -299,9 +299,9 @@ impl Reader {
         used
     }
 
-    /// Passes over legal records that lie whole at the front of the bytes, and answers how many bytes
-    /// they have: where what lies there is how they are spelled in the form `to`. It may leave any of
-    /// them to [`next`](Reader::next).
+    /// Passes over legal records that lie whole at the front of the bytes, and answers how many
+    /// bytes they have: where what lies there is how they are spelled in the form `to`. It may leave
+    /// any of them to [`next`](Reader::next).
     pub(crate) fn pass(&mut self, to: Form, bytes: &[u8]) -> usize
         ensures within { result ≤ length bytes.now }
         ensures passed { (us : List Update) × (all_spelled to us ≡ take result bytes.now)
