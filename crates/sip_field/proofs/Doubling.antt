@@ -1,8 +1,9 @@
 -- A table that one level more doubles: each of its entries is split into two, one in its place and one behind.
-use Rattle.std.proofs.Common.{◌≡◌, ℕ, zero, suc, ◌+◌, ◌-◌, ◌*◌, ◌/◌, ◌%◌, ◌^◌, ◌<◌, ◌≤◌, List, [], ◌∷◌, length, get_or, set, take, drop, inl, inr, refl, sym, ◌∙◌, ap, subst, arith}
+use Rattle.std.proofs.Common.{◌≡◌, ℕ, zero, suc, ◌+◌, ◌-◌, ◌*◌, ◌/◌, ◌%◌, ◌^◌, ◌<◌, ◌≤◌, List, [], ◌∷◌, length, get_or, set, take, drop, ◌⊎◌, inl, inr, refl, sym, ◌∙◌, ap, subst, arith}
 use Rattle.std.proofs.Math.Arith.{mod-mul}
+use Rattle.std.proofs.Math.Nat.{pow-le-pow_right}
 use Rattle.std.proofs.lemmas.Bool.{cases_lt}
-use Rattle.std.proofs.lemmas.List.{length-set, get_or-set_same, get_or-set_other}
+use Rattle.std.proofs.lemmas.List.{length-set, length-take-le, take_all, get_or-set_same, get_or-set_other}
 
 low_digits : (i m : ℕ) → 0 < m → i % (2 * m) ≡ (i / 2 % m) * 2 + i % 2
 low_digits i m some = ap (λ k. i % k) (let turned : 2 * m ≡ m * 2 = omega arith in turned) ∙ mod-mul i some (let two : 0 < 2 = omega arith in two)
@@ -18,6 +19,21 @@ pub take_shorter : (n : ℕ) (rs : List ℕ) → take n (take (n + 1) rs) ≡ ta
 take_shorter zero rs = refl
 take_shorter (suc n) [] = let more : suc n + 1 ≡ suc (n + 1) = omega arith in rw more refl
 take_shorter (suc n) (r ∷ rs) = let more : suc n + 1 ≡ suc (n + 1) = omega arith in rw more (ap (λ xs. r ∷ xs) (take_shorter n rs))
+
+-- a table of 128 entries has room to split those of fewer than seven levels
+pub table_room : (filled level : ℕ) → filled ≡ 2 ^ level → level < 7 → filled ≤ 64
+table_room filled level count low =
+    let most : 2 ^ level ≤ 2 ^ 6 = pow-le-pow_right (let some : 0 < 2 = omega arith in some) (let le : level ≤ 6 = omega arith in le) in
+    omega (arith, most, count)
+
+-- the levels of such a table: all that there are where these are fewer than seven, and else seven
+pub first_seven : (rs : List ℕ) (level : ℕ) → (length rs < 7 × (level ≡ length rs)) ⊎ (7 ≤ length rs × (level ≡ 7))
+    → (take level rs ≡ take 7 rs) × (level ≡ length (take 7 rs))
+first_seven rs level (inl few) =
+    let whole : take 7 rs ≡ rs = take_all 7 rs (omega (arith, few.0)) in
+    (take_all level rs (omega (arith, few.1)) ∙ sym whole, few.1 ∙ ap length (sym whole))
+first_seven rs level (inr many) =
+    (ap (λ k. take k rs) many.1, many.1 ∙ sym (length-take-le 7 rs (omega (arith, many.0))))
 
 -- what entry e is to be, once so many levels are taken
 module _ {T : Type 0} (none : T) (Is : ℕ → ℕ → T → Type 0) where

@@ -1,20 +1,14 @@
-use Rattle.std.proofs.Common.{◌≡◌, ℕ, suc, List, set, ◌+◌, ◌-◌, ◌*◌, ◌%◌, ◌^◌, ◌<◌, ◌≤◌, length, take, drop, get_or, refl, sym, ◌∙◌, ap, subst, arith}
-use Rattle.std.proofs.Math.Nat.{pow-le-pow_right, pow-suc, mod-eq_of_lt}
-use Rattle.std.proofs.lemmas.List.{length-set, length-take-le, take_all, length-drop, get_or-drop, get_or-replicate}
+use Rattle.std.proofs.Common.{◌≡◌, ℕ, suc, List, set, inl, inr, ◌+◌, ◌-◌, ◌*◌, ◌%◌, ◌^◌, ◌<◌, ◌≤◌, length, take, drop, get_or, refl, sym, ◌∙◌, ap, subst, arith}
+use Rattle.std.proofs.Math.Nat.{pow-suc, mod-eq_of_lt}
+use Rattle.std.proofs.lemmas.List.{length-set, length-drop, get_or-drop, get_or-replicate}
 use Rattle.std.proofs.lemmas.List.Elements.{All-set, All-replicate}
 use Rattle.sip_field.specs.Residue.{product_mod, difference_mod}
 use Rattle.sip_field.specs.Products.{zero_factor, bits_product}
 use Rattle.sip_field.specs.declared.factors.Factors.TheVariants.{Tree, Extension}
-use Rattle.sip_field.proofs.Doubling.{begins, ends, one_pair}
+use Rattle.sip_field.proofs.Doubling.{begins, ends, first_seven, one_pair, table_room}
 use Rattle.sip_field.proofs.BitProducts.{zero_more, one_more, less_product, product_below}
 use Rattle.sip_field.proofs.factors.products.Goals as goal
 use Rattle.sip_field.proofs.factors.products.Goals.{then-left-lt7, else-left-lt7, in-Tree, in-Extension}
-
--- a table has room for a level more
-room : (filled level : ℕ) → filled ≡ 2 ^ level → level < 7 → filled ≤ 64
-room filled level count low =
-    let most : 2 ^ level ≤ 2 ^ 6 = pow-le-pow_right (let some : 0 < 2 = omega arith in some) (let le : level ≤ 6 = omega arith in le) in
-    omega (arith, most, count)
 
 pub loop-level-init : goal.loop-level-init
 loop-level-init g c = record {
@@ -38,7 +32,7 @@ bounds-table-filled g c =
       | then-left-lt7 w ↦ omega (arith, w.levels-is, w.if-left-lt7.true, c.loop-level-test.true)
       | else-left-lt7 w ↦ omega (arith, w.levels-is, c.loop-level-test.true)
     ] in
-    omega (arith, room _ _ c.loop-level.invariant.count seven, c.loop-entry-test.true)
+    omega (arith, table_room _ _ c.loop-level.invariant.count seven, c.loop-entry-test.true)
 
 pub loop-entry-preserved : goal.loop-entry-preserved
 loop-entry-preserved g c =
@@ -66,7 +60,7 @@ loop-entry-preserved g c =
       )
     ] in
     let within : filled + i < length table =
-    omega (arith, c.loop-entry.invariant.long, room _ _ c.loop-level.invariant.count inside.0, c.loop-entry-test.true) in
+    omega (arith, c.loop-entry.invariant.long, table_room _ _ c.loop-level.invariant.count inside.0, c.loop-entry-test.true) in
     let low : i < 2 ^ level = omega (arith, c.loop-level.invariant.count, c.loop-entry-test.true) in
     let r : ℕ = number c.at-challenge.result in
     let is : get_or rs level 0 ≡ r =
@@ -119,15 +113,10 @@ returns-clause-products g c e inside =
     let long : length rs ≡ c.depth.result - c.args.from =
     length-drop c.args.from c.args.seat.now ∙ ap (λ n. n - c.args.from) (sym c.depth.ensures.exact) in
     let all : (take level rs ≡ take 7 rs) × (level ≡ length (take 7 rs)) =
-    elim c.if-left-lt7.branch [
-      | then-left-lt7 w ↦
-          let last : level ≡ length rs = omega (arith, long, w.levels-is, c.loop-level-test.false, c.loop-level.auto.level-end) in
-          let whole : take 7 rs ≡ rs = take_all 7 rs (omega (arith, long, w.if-left-lt7.true)) in
-          (take_all level rs (omega (arith, last)) ∙ sym whole, last ∙ ap length (sym whole))
-      | else-left-lt7 w ↦
-          let seven : level ≡ 7 = omega (arith, w.levels-is, c.loop-level-test.false, c.loop-level.auto.level-end) in
-          (ap (λ k. take k rs) seven, seven ∙ sym (length-take-le 7 rs (omega (arith, long, w.if-left-lt7.false))))
-    ] in
+    first_seven rs level (elim c.if-left-lt7.branch [
+      | then-left-lt7 w ↦ inl (omega (arith, long, w.if-left-lt7.true), omega (arith, long, w.levels-is, c.loop-level-test.false, c.loop-level.auto.level-end))
+      | else-left-lt7 w ↦ inr (omega (arith, long, w.if-left-lt7.false), omega (arith, w.levels-is, c.loop-level-test.false, c.loop-level.auto.level-end))
+    ]) in
     let count : c.loop-level.filled ≡ 2 ^ length (take 7 rs) = c.loop-level.invariant.count ∙ ap (λ k. 2 ^ k) all.1 in
     c.loop-level.invariant.products e (omega (arith, count, inside))
     ∙ ap (bits_product p (zero_factor p c.args.factors) e) all.0

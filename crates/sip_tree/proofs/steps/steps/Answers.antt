@@ -1,19 +1,13 @@
-use Rattle.std.proofs.Common.{◌≡◌, ℕ, suc, List, replicate, set, ◌+◌, ◌-◌, ◌*◌, ◌%◌, ◌^◌, ◌<◌, ◌≤◌, length, take, drop, get_or, refl, sym, ◌∙◌, ap, subst, arith}
-use Rattle.std.proofs.Math.Nat.{pow-le-pow_right, pow-suc, mod-lt, mod-eq_of_lt}
-use Rattle.std.proofs.lemmas.List.{length-set, length-take-le, take_all, length-drop, get_or-drop, get_or-replicate}
+use Rattle.std.proofs.Common.{◌≡◌, ℕ, suc, List, replicate, set, inl, inr, ◌+◌, ◌-◌, ◌*◌, ◌%◌, ◌^◌, ◌<◌, ◌≤◌, length, take, drop, get_or, refl, sym, ◌∙◌, ap, subst, arith}
+use Rattle.std.proofs.Math.Nat.{pow-suc, mod-lt, mod-eq_of_lt}
+use Rattle.std.proofs.lemmas.List.{length-set, length-drop, get_or-drop, get_or-replicate}
 use Rattle.std.proofs.lemmas.List.Elements.{All-set, All-get_or, All-replicate}
-use Rattle.sip_field.proofs.Doubling.{begins, ends, one_pair}
+use Rattle.sip_field.proofs.Doubling.{begins, ends, first_seven, one_pair, table_room}
 use Rattle.sip_tree.specs.Steps.{no_step, IsStep, IsBelow}
 use Rattle.sip_tree.specs.declared.steps.Step.{Step}
 use Rattle.sip_tree.proofs.StepTables.{Split, split_by, left_step, right_step}
 use Rattle.sip_tree.proofs.steps.steps.Goals as goal
 use Rattle.sip_tree.proofs.steps.steps.Goals.{then-left-lt7, else-left-lt7}
-
--- a table has room for a level more
-room : (filled level : ℕ) → filled ≡ 2 ^ level → level < 7 → filled ≤ 64
-room filled level count low =
-    let most : 2 ^ level ≤ 2 ^ 6 = pow-le-pow_right (let some : 0 < 2 = omega arith in some) (let le : level ≤ 6 = omega arith in le) in
-    omega (arith, most, count)
 
 -- the step of no level
 abbrev one : Step
@@ -45,7 +39,7 @@ bounds-table-filled g c =
       | then-left-lt7 w ↦ omega (arith, w.levels-is, w.if-left-lt7.true, c.loop-level-test.true)
       | else-left-lt7 w ↦ omega (arith, w.levels-is, c.loop-level-test.true)
     ] in
-    omega (arith, room _ _ c.loop-level.invariant.count seven, c.loop-entry-test.true)
+    omega (arith, table_room _ _ c.loop-level.invariant.count seven, c.loop-entry-test.true)
 
 pub loop-entry-preserved : goal.loop-entry-preserved
 loop-entry-preserved g c =
@@ -71,7 +65,7 @@ loop-entry-preserved g c =
       )
     ] in
     let within : filled + i < length table =
-    omega (arith, c.loop-entry.invariant.long, room _ _ c.loop-level.invariant.count inside.0, c.loop-entry-test.true) in
+    omega (arith, c.loop-entry.invariant.long, table_room _ _ c.loop-level.invariant.count inside.0, c.loop-entry-test.true) in
     let low : i < 2 ^ level = omega (arith, c.loop-level.invariant.count, c.loop-entry-test.true) in
     let r : ℕ = number c.at-challenge.result in
     let is : r ≡ get_or rs level 0 =
@@ -121,15 +115,10 @@ returns-clause-steps g c e inside =
     let long : length rs ≡ c.depth.result - c.args.from =
     length-drop c.args.from c.args.seat.now ∙ ap (λ n. n - c.args.from) (sym c.depth.ensures.exact) in
     let all : (take level rs ≡ take 7 rs) × (level ≡ length (take 7 rs)) =
-    elim c.if-left-lt7.branch [
-      | then-left-lt7 w ↦
-          let last : level ≡ length rs = omega (arith, long, w.levels-is, c.loop-level-test.false, c.loop-level.auto.level-end) in
-          let whole : take 7 rs ≡ rs = take_all 7 rs (omega (arith, long, w.if-left-lt7.true)) in
-          (take_all level rs (omega (arith, last)) ∙ sym whole, last ∙ ap length (sym whole))
-      | else-left-lt7 w ↦
-          let seven : level ≡ 7 = omega (arith, w.levels-is, c.loop-level-test.false, c.loop-level.auto.level-end) in
-          (ap (λ k. take k rs) seven, seven ∙ sym (length-take-le 7 rs (omega (arith, long, w.if-left-lt7.false))))
-    ] in
+    first_seven rs level (elim c.if-left-lt7.branch [
+      | then-left-lt7 w ↦ inl (omega (arith, long, w.if-left-lt7.true), omega (arith, long, w.levels-is, c.loop-level-test.false, c.loop-level.auto.level-end))
+      | else-left-lt7 w ↦ inr (omega (arith, long, w.if-left-lt7.false), omega (arith, w.levels-is, c.loop-level-test.false, c.loop-level.auto.level-end))
+    ]) in
     let count : c.loop-level.filled ≡ 2 ^ length (take 7 rs) = c.loop-level.invariant.count ∙ ap (λ k. 2 ^ k) all.1 in
     subst (λ taken. IsStep p taken e (get_or c.loop-level.table e no_step)) all.0
     (c.loop-level.invariant.steps e (omega (arith, count, inside)))
