@@ -3,3 +3,4 @@ pub mod FoldSteps
 pub mod StandsLemmas
 pub mod Blocks
 pub mod StepTables
+pub mod Heights
