@@ -1,9 +1,11 @@
-//! Laws of the count of challenge vectors. These functions do nothing: each contract is a fact that holds.
+//! Laws of the count of challenge vectors. These functions do nothing: each contract is a fact that
+//! holds.
 
 ghost use Rattle.std.specs.Prelude.{◌≡◌, ℕ, ◌+◌, ◌*◌, ◌-◌, ◌<◌, ◌≤◌, ◌^◌, if◌then◌else◌, Bool, true, not, List, [], ◌∷◌, ◌++◌, length, All};
 ghost use Rattle.sip_counts.specs.Counts.{sum_below, count_below, counted, counted_from};
 
-/// The count at a prefix: 1 or 0 where no challenge is left, and else the sum of the counts at the prefixes that are longer by one challenge. It is the count of the continuations that pass.
+/// The count at a prefix: 1 or 0 where no challenge is left, and else the sum of the counts at the
+/// prefixes that are longer by one challenge. It is the count of the continuations that pass.
 pub fn count_by_prefixes()
     ensures none_left { (p : ℕ) (test : List ℕ → Bool) (prefix : List ℕ)
         → counted_from p test 0 prefix ≡ (if test prefix then 1 else 0) }
@@ -24,8 +26,9 @@ pub fn count_grows_with_its_test()
     ensures at_most { (p d : ℕ) (test : List ℕ → Bool) → counted p test d ≤ p ^ d }
 {}
 
-/// The escape law. Where `bad` holds at the empty prefix, and from each shorter prefix at which it holds it fails for at
-/// most c of the p continuations by one challenge, it fails at no more than c·d·p^(d - 1) of the vectors.
+/// The escape law. Where `bad` holds at the empty prefix, and from each shorter prefix at which it
+/// holds it fails for at most c of the p continuations by one challenge, it fails at no more than
+/// c·d·p^(d - 1) of the vectors.
 pub fn few_vectors_escape()
     ensures { (p c d : ℕ) (bad : List ℕ → Bool) → bad [] ≡ true
         → ((v : List ℕ) → length v < d → All (λ x. x < p) v → bad v ≡ true

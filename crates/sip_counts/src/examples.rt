@@ -8,8 +8,8 @@ ghost use Rattle.sip_counts.specs.Examples.{all_above_one, guess_query, is_one_t
 ghost use Rattle.sip_counts.specs.Joint.{misled};
 ghost use Rattle.sip_counts.specs.Strategies.{replies, fooled};
 
-/// Counts by hand: (1 - r_1)·(1 - r_2) is 0 modulo 31 at 31 + 31 - 1 of the 961 vectors; (1, 2) is one vector of 9, and
-/// is that of the prefix 1 alone; and all 9 pass a test that is always true.
+/// Counts by hand: (1 - r_1)·(1 - r_2) is 0 modulo 31 at 31 + 31 - 1 of the 961 vectors; (1, 2) is
+/// one vector of 9, and is that of the prefix 1 alone; and all 9 pass a test that is always true.
 pub fn counts_by_hand()
     ensures product { counted 31 one_is_one 2 ≡ 61 }
     ensures single { counted 3 is_one_two 2 ≡ 1 }
@@ -18,28 +18,30 @@ pub fn counts_by_hand()
     ensures all { counted 3 (λ v. true) 2 ≡ 9 }
 {}
 
-/// Modulo 5, `all_above_one` loses two of the five continuations: for one challenge 2·1·5^0 vectors escape, the bound; for
-/// two challenges 25 - 3·3 do, of at most 2·2·5.
+/// Modulo 5, `all_above_one` loses two of the five continuations: for one challenge 2·1·5^0 vectors
+/// escape, the bound; for two challenges 25 - 3·3 do, of at most 2·2·5.
 pub fn escapes_by_hand()
     ensures one { counted 5 (λ v. not (all_above_one v)) 1 ≡ 2 * 1 }
     ensures two { counted 5 (λ v. not (all_above_one v)) 2 ≡ 16 }
 {}
 
-/// x·(x - 1)·(x - 2) has three roots modulo 31, the most that its degree lets it have. Modulo 8, which is not prime,
-/// x² - 1 has four.
+/// x·(x - 1)·(x - 2) has three roots modulo 31, the most that its degree lets it have. Modulo 8,
+/// which is not prime, x² - 1 has four.
 pub fn roots_by_hand()
     ensures three { count_below 31 (λ x. polynomial x (0 ∷ 2 ∷ 28 ∷ 1 ∷ []) % 31 == 0) ≡ 3 }
     ensures four { count_below 8 (λ x. polynomial x (7 ∷ 0 ∷ 1 ∷ []) % 8 == 0) ≡ 4 }
 {}
 
-/// A strategy's replies at the challenges 5, 6 and 7 are what it says after none of them, after 5, and after 5 and 6.
+/// A strategy's replies at the challenges 5, 6 and 7 are what it says after none of them, after 5,
+/// and after 5 and 6.
 pub fn replies_by_hand()
     ensures values { replies (λ v. v) (5 ∷ 6 ∷ 7 ∷ []) ≡ [] ∷ (5 ∷ []) ∷ (5 ∷ 6 ∷ []) ∷ [] }
     ensures missing { fooled 3 2 (λ r all. true) (λ all. false) two_replies ≡ 3 }
 {}
 
-/// Two queries that are each fooled by one of five challenges: 25 - 4·4 of the joint vectors mislead, of at most 2·5. A
-/// strategy that repeats the challenges revealed so far guesses the second query's challenge where both are the same.
+/// Two queries that are each fooled by one of five challenges: 25 - 4·4 of the joint vectors
+/// mislead, of at most 2·5. A strategy that repeats the challenges revealed so far guesses the
+/// second query's challenge where both are the same.
 pub fn joint_counts_by_hand()
     ensures apart { misled 5 1 (λ v. Some v) (zero_query ∷ zero_query ∷ []) ≡ 9 }
     ensures guess { misled 5 1 (λ v. Some v) (guess_query ∷ guess_query ∷ []) ≡ 5 }

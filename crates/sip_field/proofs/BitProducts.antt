@@ -1,5 +1,5 @@
 -- Products over the bits of an index: that of the whole is the product of those of its parts.
-use Rattle.std.proofs.Common.{◌≡◌, ℕ, zero, suc, ◌+◌, ◌-◌, ◌*◌, ◌/◌, ◌%◌, ◌^◌, ◌<◌, ◌≤◌, ◌==◌, if◌then◌else◌, List, [], ◌∷◌, length, get_or, take, drop, refl, sym, ◌∙◌, ap, arith}
+use Rattle.std.proofs.Common.{◌≡◌, ℕ, zero, suc, ◌+◌, ◌-◌, ◌*◌, ◌/◌, ◌%◌, ◌^◌, ◌<◌, ◌≤◌, ◌==◌, if◌then◌else◌, List, [], ◌∷◌, length, get_or, take, drop, sym, ◌∙◌, ap, arith}
 use Rattle.std.proofs.Math.Nat.{mod-lt, mod-eq_of_lt, pow-succ', div-div-eq-div-mul, div-eq_of_lt, mod-add-div}
 use Rattle.std.proofs.lemmas.List.{drop_more, drop-take, drop-drop}
 use Rattle.std.proofs.lemmas.Nat.{mul-mod_first, mul-mod_second, pow_pos, mod-mul-add, div-mul-add}

@@ -15,10 +15,11 @@ const TRIES: u32 = 8;
 #[derive(Clone, Copy, PartialEq, Eq, Debug)]
 pub struct SeedSpent;
 
-/// The next challenge: the upper 61 bits of the next word, where these are not 2^61 - 1. Where they are, the word after it
-/// is tried, and so on, eight words at most.
+/// The next challenge: the upper 61 bits of the next word, where these are not 2^61 - 1. Where they
+/// are, the word after it is tried, and so on, eight words at most.
 ///
-/// The words up to the challenge's own are taken from the generator, and all eight where the answer is `SeedSpent`.
+/// The words up to the challenge's own are taken from the generator, and all eight where the answer
+/// is `SeedSpent`.
 pub fn draw_one<R: Rng>(rng: &mut R) -> Result<M61, SeedSpent>
     ensures exact { (drawn result, R.stream rng.new) ≡ draw_one (R.stream rng.old) }
     ensures spent { IsErr result ↔ AllMissed 8 (R.stream rng.old) }

@@ -14,8 +14,8 @@ pub enum Factors {
     Extension,
 }
 
-/// The products for at most seven challenges, those of the levels above `from`. Entry e is that of the index e, the lowest
-/// bit first, for each e below 2^n, where there are n challenges.
+/// The products for at most seven challenges, those of the levels above `from`. Entry e is that of
+/// the index e, the lowest bit first, for each e below 2^n, where there are n challenges.
 ///
 /// 2^n - 1 `times`: each challenge doubles what there is, by one for each pair.
 pub(crate) fn products<F: Field, const CAP: usize>(
@@ -49,8 +49,9 @@ pub(crate) fn products<F: Field, const CAP: usize>(
     table
 }
 
-/// Makes the tables of all challenges of a seat, and says how many they are: table g is that of the seven challenges above
-/// level 7·g, or of those that are left. The tables behind them are left as they are.
+/// Makes the tables of all challenges of a seat, and says how many they are: table g is that of the
+/// seven challenges above level 7·g, or of those that are left. The tables behind them are left as
+/// they are.
 ///
 /// 127 `times` for a table of seven challenges.
 pub fn fill_tables<F: Field, const CAP: usize>(
@@ -72,7 +73,8 @@ pub fn fill_tables<F: Field, const CAP: usize>(
     count
 }
 
-/// `start` times the product of an index, by the tables of all challenges: table g is that of the seven above level 7·g.
+/// `start` times the product of an index, by the tables of all challenges: table g is that of the
+/// seven above level 7·g.
 ///
 /// One `times` for each table.
 pub fn by_tables<F: Field>(start: F, tables: &[[u64; 128]], index: u64) -> F
@@ -91,8 +93,9 @@ pub fn by_tables<F: Field>(start: F, tables: &[[u64; 128]], index: u64) -> F
     product
 }
 
-/// A number with the residue of what [`by_tables`] answers, where there are N tables: the loop over them has a length that the
-/// compiler knows, and only its end is left to reduce. It is below (N + 1) * 2^61.
+/// A number with the residue of what [`by_tables`] answers, where there are N tables: the loop over
+/// them has a length that the compiler knows, and only its end is left to reduce. It is below (N +
+/// 1) * 2^61.
 ///
 /// One `loose_times` for each table.
 pub fn loosely_by_tables<F: Field, const N: usize>(

@@ -8,7 +8,8 @@ ghost use Rattle.sip_field.specs.Residue.{DifferencesAreResidues, ResiduesAreRem
 
 use crate::arithmetic::PrimeField;
 
-/// Residues of signed numbers are remainders, and the residue of a difference is that of the signed number.
+/// Residues of signed numbers are remainders, and the residue of a difference is that of the signed
+/// number.
 pub fn residues_are_remainders()
     ensures signed { ResiduesAreRemainders }
     ensures differences { DifferencesAreResidues }
@@ -25,12 +26,14 @@ pub fn modulus_is_prime<F: PrimeField>()
     ensures { IsPrime F.MODULUS }
 {}
 
-/// Drawing several challenges is drawing some of them and then the others, from the words that are left.
+/// Drawing several challenges is drawing some of them and then the others, from the words that are
+/// left.
 pub fn draws_in_blocks()
     ensures { DrawsInBlocks }
 {}
 
-/// Two values that were worked out by hand: the residue of -2^63 modulo 2^61 - 1, and that of 34 - 58·2 + 25·2².
+/// Two values that were worked out by hand: the residue of -2^63 modulo 2^61 - 1, and that of 34 -
+/// 58·2 + 25·2².
 pub fn values_by_hand()
     ensures least { residue m61_modulus (negsuc (2 ^ 63 - 1)) ≡ m61_modulus - 4 }
     ensures polynomial { polynomial 2 (34 ∷ (m61_modulus - 58) ∷ 25 ∷ []) % m61_modulus ≡ 18 }

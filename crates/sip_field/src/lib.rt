@@ -1,18 +1,20 @@
 //! Arithmetic modulo a prime, and the challenges that a verifier draws.
 //!
-//! - [`Field`] is the arithmetic of the residues modulo an odd number, with its laws, and [`PrimeField`] that modulo a prime.
-//!   [`M61`], modulo 2^61 - 1, is the field of every run. [`F31`], modulo 31, is for tests that try all challenges.
+//! - [`Field`] is the arithmetic of the residues modulo an odd number, with its laws, and
+//!   [`PrimeField`] that modulo a prime. [`M61`], modulo 2^61 - 1, is the field of every run.
+//!   [`F31`], modulo 31, is for tests that try all challenges.
 //! - [`horner`] is the value of a polynomial.
-//! - [`draw_one`] draws a challenge from a generator's words, and [`draw_challenges`] draws the first ones of a seed.
-//! - [`Seat`] keeps the challenges of one query. [`fill_tables`] makes tables of products of them, and [`by_tables`]
-//!   looks a product up in these, seven challenges at a time.
+//! - [`draw_one`] draws a challenge from a generator's words, and [`draw_challenges`] draws the
+//!   first ones of a seed.
+//! - [`Seat`] keeps the challenges of one query. [`fill_tables`] makes tables of products of them,
+//!   and [`by_tables`] looks a product up in these, seven challenges at a time.
 //!
 //! No call takes memory. [`OutOfMemory`] stands here for the crates above.
 //!
 //! # What the contracts say
 //!
-//! A contract names the residue that a value stands for, as `F.number x`, and the whole-number arithmetic of it, modulo
-//! `F.MODULUS`. The definitions are those of `specs/`:
+//! A contract names the residue that a value stands for, as `F.number x`, and the whole-number
+//! arithmetic of it, modulo `F.MODULUS`. The definitions are those of `specs/`:
 //!
 //! | Module | Definitions |
 //! |---|---|
@@ -26,17 +28,20 @@
 //!
 //! # The laws, and how a proof above uses them
 //!
-//! `g.met.F.Field.below x` proves that a residue is below the modulus, and likewise `distinguishes`, `equal_is_same`,
-//! `number_element`, `ring`, `odd`, `half`, `at_least`, `at_most`, and `g.met.F.PrimeField.zero_product x y` and `prime`.
-//! `laws` has the facts about the definitions alone. `docs/PRIMES.md` tells why the moduli are prime.
+//! `g.met.F.Field.below x` proves that a residue is below the modulus, and likewise
+//! `distinguishes`, `equal_is_same`, `number_element`, `ring`, `odd`, `half`, `at_least`,
+//! `at_most`, and `g.met.F.PrimeField.zero_product x y` and `prime`. `laws` has the facts about the
+//! definitions alone. `docs/PRIMES.md` tells why the moduli are prime.
 //!
-//! A contract above is best written as a whole-number expression modulo `F.MODULUS`. It then follows from those of the
-//! calls by `residues`, the four rules that take the inner remainders out of a sum and a product:
+//! A contract above is best written as a whole-number expression modulo `F.MODULUS`. It then
+//! follows from those of the calls by `residues`, the four rules that take the inner remainders out
+//! of a sum and a product:
 //!
 //! ```rust
 //! #[tactic(auto, using(sip_field::proofs::Residues::residues))]
 //! fn node<F: Field>(left: F, right: F, challenge: F) -> F
-//!     ensures { F.number result ≡ (F.number left + F.number challenge * F.number right) % F.MODULUS }
+//!     ensures { F.number result
+//!         ≡ (F.number left + F.number challenge * F.number right) % F.MODULUS }
 //! {
 //!     left.plus(challenge.times(right))
 //! }
@@ -44,8 +49,8 @@
 //!
 //! # Cost
 //!
-//! The unit is one `times`. For `M61` that is a product of 64 by 64 bits, a mask, a shift, an addition and at most one
-//! subtraction.
+//! The unit is one `times`. For `M61` that is a product of 64 by 64 bits, a mask, a shift, an
+//! addition and at most one subtraction.
 //!
 //! | Call | `times` | Beside it, for `M61` |
 //! |---|---|---|

@@ -37,7 +37,8 @@ impl Default for M61 {
     }
 }
 
-// 2^61 is 1 modulo 2^61 - 1. So the bits of a number above its lowest 61 count as much as those, and are added to them.
+// 2^61 is 1 modulo 2^61 - 1. So the bits of a number above its lowest 61 count as much as those,
+// and are added to them.
 impl Field for M61 {
     const MODULUS: u64 = P;
 

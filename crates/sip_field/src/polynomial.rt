@@ -4,7 +4,8 @@ ghost use Rattle.sip_field.specs.Polynomial.{polynomial};
 
 use crate::arithmetic::Field;
 
-/// The value at `x` of the polynomial with these coefficients, the constant one first. It is 0 where there is none.
+/// The value at `x` of the polynomial with these coefficients, the constant one first. It is 0
+/// where there is none.
 ///
 /// Horner's rule: a product and a sum for each coefficient.
 pub fn horner<F: Field>(coefficients: &[F], x: F) -> F

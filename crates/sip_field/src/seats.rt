@@ -7,7 +7,8 @@ use std::marker::{Model, PhantomData};
 
 /// The challenges `r_1` to `r_d` of one query, in order, of which there are at most `CAP`.
 ///
-/// A contract sees the list of their residues. A seat takes no memory beyond itself, and its calls multiply nothing.
+/// A contract sees the list of their residues. A seat takes no memory beyond itself, and its calls
+/// multiply nothing.
 #[derive(Clone, Drop)]
 pub struct Seat<F: Field, const CAP: usize> {
     challenges: ArrayVec<u64, CAP>,
@@ -26,7 +27,8 @@ impl<F: Field, const CAP: usize> Model for Seat<F, CAP> {
 }
 
 impl<F: Field, const CAP: usize> Seat<F, CAP> {
-    /// The seat with these challenges, `r_1` first. `None` where there is no challenge, or more than `CAP`.
+    /// The seat with these challenges, `r_1` first. `None` where there is no challenge, or more
+    /// than `CAP`.
     pub fn of(challenges: &[F]) -> Option<Seat<F, CAP>>
         ensures fits { IsSome result ↔ ((0 < length challenges.now)
             × (length challenges.now ≤ CAP)) }

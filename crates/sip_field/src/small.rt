@@ -7,7 +7,8 @@ use crate::arithmetic::{Field, PrimeField};
 
 const P: u64 = 31;
 
-/// A residue modulo 31, kept as a number from 0 to 30: a field so small that a test can try all challenges.
+/// A residue modulo 31, kept as a number from 0 to 30: a field so small that a test can try all
+/// challenges.
 #[derive(Clone, Copy, PartialEq, Eq, Debug)]
 pub struct F31 {
     value: u64,

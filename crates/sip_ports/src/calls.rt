@@ -1,8 +1,8 @@
 // The calls of a port over memory, numbered from 1, of which some fail.
 ghost use Rattle.std.specs.Prelude.{◌≡◌, ◌<◌, ◌^◌, ◌+◌, ◌-◌, min};
 
-/// Which calls of a port are to fail, and how many were made. Numbers end at 2^64 - 1, and no call after that
-/// fails.
+/// Which calls of a port are to fail, and how many were made. Numbers end at 2^64 - 1, and no call
+/// after that fails.
 #[derive(Drop)]
 pub struct Calls {
     pub fails: Vec<u64>,

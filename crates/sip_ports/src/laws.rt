@@ -22,7 +22,8 @@ pub fn sure_ports_have_no_fault()
     ensures link { (port : Link) → link_is_sure port → link_faults port ≡ 0 }
 {}
 
-/// Where calls 2 and 4 are to fail, 2 of the first 5 calls failed, and the call after the first fails.
+/// Where calls 2 and 4 are to fail, 2 of the first 5 calls failed, and the call after the first
+/// fails.
 pub fn failing_calls_are_counted()
     ensures none { failed_of (2 ∷ 4 ∷ []) 1 ≡ 0 }
     ensures both { failed_of (2 ∷ 4 ∷ []) 5 ≡ 2 }
@@ -82,7 +83,8 @@ pub fn contents_are_a_talk()
         → GoesOn (option_map outs old) (option_map outs new) (outs bytes) ↔ Appends old new bytes }
 {}
 
-/// A receive of nothing into a buffer that isn't empty is the end, and one into an empty buffer is nothing.
+/// A receive of nothing into a buffer that isn't empty is the end, and one into an empty buffer is
+/// nothing.
 pub fn receives_of_nothing()
     ensures end { received 0 (7 ∷ []) ≡ Ended ∷ [] }
     ensures nothing { received 0 [] ≡ [] }

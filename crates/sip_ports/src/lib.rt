@@ -1,14 +1,15 @@
 //! Ports: where the bytes of a run come from and go to.
 //!
-//! All that computes is generic over a [`Source`], a [`Sink`] or a [`Link`], which is a sink that can be
-//! heard. A port counts its faults, and answers [`PortStop::Failed`] only where that count rose; it counts how
-//! often memory was refused to it, and answers [`PortStop::OutOfMemory`] only where that count rose. Where it
-//! tells its bytes, its calls say exactly which bytes were moved, whatever pieces they came in;
-//! [`read_exact_into`], [`write_whole`] and [`recv_whole`] move all that is asked for.
+//! All that computes is generic over a [`Source`], a [`Sink`] or a [`Link`], which is a sink that
+//! can be heard. A port counts its faults, and answers [`PortStop::Failed`] only where that count
+//! rose; it counts how often memory was refused to it, and answers [`PortStop::OutOfMemory`] only
+//! where that count rose. Where it tells its bytes, its calls say exactly which bytes were moved,
+//! whatever pieces they came in; [`read_exact_into`], [`write_whole`] and [`recv_whole`] move all
+//! that is asked for.
 //!
 //! The ports over memory tell everything and fail at chosen calls. Those over readers and writers
-//! tell what these tell: [`ReaderSource`], [`WriterSink`] and [`TwoWayLink`]. Over files and over the
-//! runtime's writers, which tell nothing, they are the edge to the machine.
+//! tell what these tell: [`ReaderSource`], [`WriterSink`] and [`TwoWayLink`]. Over files and over
+//! the runtime's writers, which tell nothing, they are the edge to the machine.
 #![tactic(auto)]
 
 mod calls;

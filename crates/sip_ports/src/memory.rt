@@ -26,8 +26,8 @@ fn received_events(alloc: Global, bytes: &[u8]) -> Result<Vec<TalkEvent>, AllocE
     bytes.iter().map(|byte| TalkEvent::In(*byte)).collect(alloc)
 }
 
-/// A source of bytes in memory. A call moves at most a chunk, and the calls whose numbers, from 1, are in a
-/// list fail. It takes no memory.
+/// A source of bytes in memory. A call moves at most a chunk, and the calls whose numbers, from 1,
+/// are in a list fail. It takes no memory.
 #[derive(Drop)]
 pub struct MemorySource {
     bytes: Vec<u8>,
@@ -115,8 +115,8 @@ impl Source for MemorySource {
     {}
 }
 
-/// A sink that keeps its bytes in memory. A call takes at most a chunk, and the calls whose numbers, from 1,
-/// are in a list fail.
+/// A sink that keeps its bytes in memory. A call takes at most a chunk, and the calls whose
+/// numbers, from 1, are in a list fail.
 #[derive(Drop)]
 pub struct MemorySink {
     bytes: Vec<u8>,
@@ -196,9 +196,9 @@ impl Sink for MemorySink {
     }
 }
 
-/// A link over memory: what it gives is set, and what happens on it is kept. A call moves at most a chunk,
-/// and the calls whose numbers, from 1, are in a list fail. Writes and receives are numbered together, with
-/// empty ones too.
+/// A link over memory: what it gives is set, and what happens on it is kept. A call moves at most a
+/// chunk, and the calls whose numbers, from 1, are in a list fail. Writes and receives are numbered
+/// together, with empty ones too.
 #[derive(Drop)]
 pub struct MemoryLink {
     alloc: Global,

@@ -11,8 +11,8 @@ ghost use Rattle.sip_ports.specs.Ports.{HasCause, StandsStill, Sends, Hears};
 pub enum PortStop {
     /// The port failed. It is answered only where the port's count of faults rose in this call.
     Failed,
-    /// Memory was refused to a port that keeps what passes through it. It is answered only where the port's
-    /// count of such refusals rose in this call. No fault is counted.
+    /// Memory was refused to a port that keeps what passes through it. It is answered only where
+    /// the port's count of such refusals rose in this call. No fault is counted.
     OutOfMemory,
 }
 
@@ -38,15 +38,16 @@ pub trait Source {
     /// How often it has failed. The count never falls, and stands still at 2^64 - 1.
     ghost faults: { Self → ℕ };
 
-    /// How often memory was refused to it. The count never falls, and stands still at 2^64 - 1. It is 0 at a port
-    /// that takes no memory, which then never answers want of it.
+    /// How often memory was refused to it. The count never falls, and stands still at 2^64 - 1. It
+    /// is 0 at a port that takes no memory, which then never answers want of it.
     ghost wants: { Self → ℕ };
 
     /// It never fails.
     ghost is_sure: { Self → Type 0 };
 
-    /// Moves some of the bytes to come to the front of the buffer, and answers how many. It answers 0 at the
-    /// end, or where the buffer is empty. A call that stops moves nothing, where the bytes are told.
+    /// Moves some of the bytes to come to the front of the buffer, and answers how many. It answers
+    /// 0 at the end, or where the buffer is empty. A call that stops moves nothing, where the bytes
+    /// are told.
     fn read(&mut self, buf: &mut [u8]) -> Result<usize, PortStop>
         ensures bound { ReadsAtMost result buf.new }
         ensures bytes { ReadConsumes (left self.old) (left self.new) result buf.new }
@@ -54,8 +55,8 @@ pub trait Source {
             → OnOk result (StandsStill faults wants self.old self.new) }
         ensures cause { HasCause faults wants is_sure self.old self.new result };
 
-    /// The bytes that it holds, to be read where they lie: a front of those to come, where they are told. A source
-    /// that holds none answers an empty slice, which says nothing about the end.
+    /// The bytes that it holds, to be read where they lie: a front of those to come, where they are
+    /// told. A source that holds none answers an empty slice, which says nothing about the end.
     fn held(&self) -> &[u8]
         ensures bytes { result.now ≡ ahead self.now }
         ensures front { IfSome (left self.now) (λ bytes. StartsWith bytes result.now) };
@@ -82,15 +83,15 @@ pub trait Sink {
     /// How often it has failed. The count never falls, and stands still at 2^64 - 1.
     ghost faults: { Self → ℕ };
 
-    /// How often memory was refused to it. The count never falls, and stands still at 2^64 - 1. It is 0 at a port
-    /// that takes no memory, which then never answers want of it.
+    /// How often memory was refused to it. The count never falls, and stands still at 2^64 - 1. It
+    /// is 0 at a port that takes no memory, which then never answers want of it.
     ghost wants: { Self → ℕ };
 
     /// It never fails.
     ghost is_sure: { Self → Type 0 };
 
-    /// Sends bytes from the front of the buffer, and answers how many: at least one, unless the buffer is
-    /// empty. A call that stops sends nothing, where the talk is told.
+    /// Sends bytes from the front of the buffer, and answers how many: at least one, unless the
+    /// buffer is empty. A call that stops sends nothing, where the talk is told.
     fn write(&mut self, buf: &[u8]) -> Result<usize, PortStop>
         ensures bound { WritesAtMost result buf.now }
         ensures takes { 0 < length buf.now → IfOk result (λ n. 0 < n) }
@@ -106,12 +107,12 @@ pub trait Sink {
     ghost sure_counts: { (sink : Self) → is_sure sink → faults sink ≡ 0 };
 }
 
-/// A sink whose other end can be heard. What is received joins the talk, and faults and wants of memory join
-/// the sink's counts.
+/// A sink whose other end can be heard. What is received joins the talk, and faults and wants of
+/// memory join the sink's counts.
 pub trait Link: Sink {
-    /// Receives some bytes into the front of the buffer, and answers how many. It answers 0 where the other
-    /// end has closed, or where the buffer is empty. A call that stops receives nothing, where the talk is
-    /// told.
+    /// Receives some bytes into the front of the buffer, and answers how many. It answers 0 where
+    /// the other end has closed, or where the buffer is empty. A call that stops receives nothing,
+    /// where the talk is told.
     fn recv(&mut self, buf: &mut [u8]) -> Result<usize, PortStop>
         ensures bound { ReadsAtMost result buf.new }
         ensures talk { Hears (Self.talk self.old) (Self.talk self.new) result buf.new }

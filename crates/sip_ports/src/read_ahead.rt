@@ -10,10 +10,12 @@ use std::io;
 use std::io::Read;
 use std::marker::Model;
 
-/// 630 records of 13 bytes fit, and each frame of version 1; the longest of version 2, 8,709 bytes, is read in two pieces.
+/// 630 records of 13 bytes fit, and each frame of version 1; the longest of version 2, 8,709 bytes,
+/// is read in two pieces.
 const CAPACITY: usize = 8192;
 
-/// The bytes that were read and not yet given, in order. It is of a fixed size, and takes no memory.
+/// The bytes that were read and not yet given, in order. It is of a fixed size, and takes no
+/// memory.
 #[derive(Drop)]
 pub struct ReadAhead {
     bytes: [u8; CAPACITY],

@@ -1,4 +1,5 @@
-// What no clause says: files of the machine, devices that fail, and that calls succeed with ample memory.
+// What no clause says: files of the machine, devices that fail, and that calls succeed with ample
+// memory.
 ghost use Rattle.std.specs.Prelude.{◌≡◌, ◌≤◌, ◌++◌, min, length, take, drop};
 ghost use Rattle.std.specs.Prelude.{IfOk, OnOk, IsErrOf, Some};
 ghost use Rattle.std.specs.Io.KnownBytes.{Appends};
@@ -31,8 +32,9 @@ fn link(alloc: Global, incoming: &[u8], chunk: usize, fails: &[u64]) -> Result<M
     Ok(MemoryLink::new(alloc, incoming, chunk, fails))
 }
 
-// Three callers of the loops, which see that over memory each promise has its full content: what is moved is
-// exactly the front, a port of which no call is to fail doesn't fail, and one that takes no memory has no want of it.
+// Three callers of the loops, which see that over memory each promise has its full content: what is
+// moved is exactly the front, a port of which no call is to fail doesn't fail, and one that takes
+// no memory has no want of it.
 fn read_front(source: &mut MemorySource, buf: &mut [u8]) -> Result<usize, PortStop>
     ensures count { IfOk result (λ n. n ≡ min (length buf.new) (length (memory_left source.old))) }
     ensures front { IfOk result (λ n. take n buf.new ≡ take n (memory_left source.old)) }
@@ -187,7 +189,8 @@ fn a_file_that_could_not_be_opened_fails_at_every_call(rt: HostRuntime) {
     assert_eq!(rt; link.recv(&mut []), Err(PortStop::Failed));
 }
 
-// Files of the machine that open and then refuse: one opened to read is written, a full device, and a folder.
+// Files of the machine that open and then refuse: one opened to read is written, a full device, and
+// a folder.
 #[test]
 fn files_that_refuse(rt: HostRuntime) {
     assert_eq!(rt;
@@ -229,7 +232,8 @@ fn a_file_ends_in_mid_record(rt: HostRuntime) {
     assert_eq!(rt; buf[..2] == [b'o', b'k'], true);
 }
 
-// 1,000 records of 13 bytes, each full of its number modulo 251, fill the read-ahead more than once.
+// 1,000 records of 13 bytes, each full of its number modulo 251, fill the read-ahead more than
+// once.
 #[test]
 fn a_long_file_is_read_in_records(rt: HostRuntime) {
     let mut sink = FileSink::new(std::fs::create(&rt, "long").ok());
@@ -415,8 +419,8 @@ impl Source for HoldsAll {
     }
 }
 
-// Whether the bytes `abcde` come so, of which the first is read, two are read where they lie, the fourth is
-// read and the last one is dropped.
+// Whether the bytes `abcde` come so, of which the first is read, two are read where they lie, the
+// fourth is read and the last one is dropped.
 fn comes_held<S: Source>(source: &mut S) -> bool {
     let mut byte = [0];
     let first = source.read(&mut byte) == Ok(1) && byte[0] == b'a';

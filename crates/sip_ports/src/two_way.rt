@@ -11,8 +11,9 @@ use crate::writer_sink::WriterSink;
 use crate::{Link, PortStop, Sink, Source};
 use std::io::{Read, Write};
 
-/// A reader to hear, through a buffer of its own, and a writer to send to. Where one is not there, its
-/// calls fail. A reader and a writer don't tell in which order their bytes passed, so it tells no talk.
+/// A reader to hear, through a buffer of its own, and a writer to send to. Where one is not there,
+/// its calls fail. A reader and a writer don't tell in which order their bytes passed, so it tells
+/// no talk.
 #[derive(Drop)]
 pub struct TwoWayLink<R: Read + Drop, W: Write + Drop> {
     from: ReaderSource<R>,

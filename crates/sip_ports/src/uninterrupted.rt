@@ -32,8 +32,8 @@ pub fn read_uninterrupted<R: Read>(reader: &mut R, buf: &mut [u8]) -> io::Result
     Err(io::Error::from(ErrorKind::TimedOut))
 }
 
-/// One write to the writer, and none of an empty buffer. An interruption is never the answer, and to take
-/// nothing of something is an error.
+/// One write to the writer, and none of an empty buffer. An interruption is never the answer, and
+/// to take nothing of something is an error.
 pub fn write_uninterrupted<W: Write>(writer: &mut W, buf: &[u8]) -> io::Result<usize>
     ensures bound { WritesAtMost result buf.now }
     ensures takes { 0 < length buf.now → IfOk result (λ n. 0 < n) }

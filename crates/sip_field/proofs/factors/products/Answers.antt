@@ -4,7 +4,6 @@ use Rattle.std.proofs.lemmas.List.{length-set, length-drop, get_or-drop, get_or-
 use Rattle.std.proofs.lemmas.List.Elements.{All-set, All-replicate}
 use Rattle.sip_field.specs.Residue.{product_mod, difference_mod}
 use Rattle.sip_field.specs.Products.{zero_factor, bits_product}
-use Rattle.sip_field.specs.declared.factors.Factors.TheVariants.{Tree, Extension}
 use Rattle.sip_field.proofs.Doubling.{begins, ends, first_seven, one_pair, table_room}
 use Rattle.sip_field.proofs.BitProducts.{zero_more, one_more, less_product, product_below}
 use Rattle.sip_field.proofs.factors.products.Goals as goal

@@ -1,4 +1,4 @@
-use Rattle.std.proofs.Common.{◌≡◌, ◌+◌, ◌^◌, ◌<◌, length, drop, take}
+use Rattle.std.proofs.Common.{◌≡◌, ◌^◌, ◌<◌, length, drop, take}
 use Rattle.std.specs.Prelude.{All}
 use Rattle.sip_field.specs.Products.{zero_factor, bits_product}
 use Rattle.sip_field.proofs.Doubling.{Filled, Between}
