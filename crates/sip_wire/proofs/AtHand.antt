@@ -1,6 +1,6 @@
 -- What reading a frame that is at hand answers, at each of its ends.
 use Rattle.std.proofs.Common.{◌≡◌, ℕ, ◌+◌, ◌-◌, ◌<◌, ◌≤◌, Some, Result, Ok, Err, List, length, drop, sym, ap, subst, ◌∙◌, arith}
-use Rattle.std.specs.Prelude.{IsTrue, slice_index}
+use Rattle.std.specs.Prelude.{IsTrue}
 use Rattle.sip_wire.specs.declared.kind.Kind.{Kind}
 use Rattle.sip_wire.specs.declared.kind.Place.{Place}
 use Rattle.sip_wire.specs.declared.version.Version.{Version}
@@ -8,7 +8,7 @@ use Rattle.sip_wire.specs.declared.message.Message.{Message}
 use Rattle.sip_wire.specs.declared.message.WireFault.{WireFault}
 use Rattle.sip_wire.specs.declared.message.WireFault.TheVariants as faults
 use Rattle.sip_wire.specs.Table.{shape}
-use Rattle.sip_wire.specs.Spelling.{length_in, body_fault, kind_fault, frame_fault, asked, ReadsBody}
+use Rattle.sip_wire.specs.Spelling.{body_fault, kind_fault, frame_fault, asked, ReadsBody}
 use Rattle.sip_wire.specs.Reading.{read_frame}
 use Rattle.sip_wire.specs.Decoding.{IsBytes, Head}
 use Rattle.sip_wire.specs.AtHand.{Reads}

@@ -57,8 +57,9 @@ pub(crate) fn read_message(
 
 /// Receives exactly one frame of a version into `frame`, and reads its message into `message`.
 ///
-/// It is [`decode`] for one frame after the other: what it would answer is in `message` after an `Ok`, and where the frame has rows
-/// of the same kind as `message` they are read in place of those, so that nothing is moved. After an `Err` the message is any.
+/// It is [`decode`] for one frame after the other: what it would answer is in `message` after an
+/// `Ok`, and where the frame has rows of the same kind as `message` they are read in place of
+/// those, so that nothing is moved. After an `Err` the message is any.
 pub fn decode_into<L: Link>(
     link: &mut L,
     place: Place,
@@ -81,11 +82,12 @@ pub fn decode_into<L: Link>(
 
 /// Receives exactly one frame of a version into `frame`, and answers its message.
 ///
-/// It receives three bytes, and then a body of the stated length if the place allows the kind and the kind has the length. The
-/// faults of the bytes are tested in the order of [`WireFault`], the count before the numbers. `Closed` comes exactly where the
-/// link ended inside the frame, `PeerFault` only where the count of its faults rose, and `OutOfMemory` only where the count of its
-/// wants did; at these two the frame was not received whole. Whatever the answer, `frame` shows what was received, and what
-/// follows is still on the link. No memory is taken.
+/// It receives three bytes, and then a body of the stated length if the place allows the kind and
+/// the kind has the length. The faults of the bytes are tested in the order of [`WireFault`], the
+/// count before the numbers. `Closed` comes exactly where the link ended inside the frame,
+/// `PeerFault` only where the count of its faults rose, and `OutOfMemory` only where the count of
+/// its wants did; at these two the frame was not received whole. Whatever the answer, `frame` shows
+/// what was received, and what follows is still on the link. No memory is taken.
 pub fn decode<L: Link>(
     link: &mut L,
     place: Place,

@@ -39,7 +39,8 @@ fn put_updates(version: Version, updates: &[Update], out: &mut Bytes)
     put_updates_body(version, updates, out);
 }
 
-/// Writes the frame of updates that lie anywhere, as [`encode`] writes that of a message of them, which would be made for it.
+/// Writes the frame of updates that lie anywhere, as [`encode`] writes that of a message of them,
+/// which would be made for it.
 pub fn encode_updates<K: Sink>(
     updates: &[Update],
     version: Version,
@@ -56,8 +57,8 @@ pub fn encode_updates<K: Sink>(
     write_whole(sink, &out)
 }
 
-/// Writes the one spelling of the message in a version, the whole frame at once. After an `Err` a part of it was written, and not all. It takes
-/// no memory.
+/// Writes the one spelling of the message in a version, the whole frame at once. After an `Err` a
+/// part of it was written, and not all. It takes no memory.
 pub fn encode<K: Sink>(message: &Message, version: Version, sink: &mut K) -> Result<(), PortStop>
     requires { IsTrue (fits version message.now) }
     ensures talk { SendsWhole (K.talk sink.old) (K.talk sink.new) result

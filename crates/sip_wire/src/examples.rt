@@ -27,7 +27,8 @@ pub fn heavy_replies_are_spelled()
     ensures { (rest : List ℕ) → AreSpelled One heavy_replies rest }
 {}
 
-/// The transcript of the worked talk: its head, the query and both challenges, and then the replies.
+/// The transcript of the worked talk: its head, the query and both challenges, and then the
+/// replies.
 pub fn transcript_of_the_talk()
     ensures { (replies : List ℕ) → transcript One 2 ((queries.Sub 1 2, 2 ∷ 10 ∷ []) ∷ []) replies
         ≡ 0x53 ∷ 0x49 ∷ 0x50 ∷ 0x54 ∷ 1 ∷ 2 ∷ 1

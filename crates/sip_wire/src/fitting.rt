@@ -60,8 +60,8 @@ impl Message {
         }
     }
 
-    /// Whether the message has a spelling in a version: each number is one that its field may hold, rows are there, and a query
-    /// has a code.
+    /// Whether the message has a spelling in a version: each number is one that its field may hold,
+    /// rows are there, and a query has a code.
     pub fn fits(&self, version: Version) -> bool
         ensures { result ≡ fits version self.now }
     {

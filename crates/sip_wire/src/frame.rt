@@ -14,7 +14,8 @@ pub const HEAD: usize = 3;
 /// How many bytes the longest frame has: an Updates frame of 512 records with wide items.
 pub const LONGEST_FRAME: usize = 8709;
 
-/// What was received of a frame: room for the longest one, taken once, and how many bytes of it came.
+/// What was received of a frame: room for the longest one, taken once, and how many bytes of it
+/// came.
 #[derive(Drop)]
 pub struct Frame {
     buffer: Vec<u8>,
@@ -52,8 +53,8 @@ impl Frame {
         self.taken = 0;
     }
 
-    /// Receives until so many bytes are there. `Closed` where the link ended before, `PeerFault` where it failed, and
-    /// `OutOfMemory` where memory was refused to it.
+    /// Receives until so many bytes are there. `Closed` where the link ended before, `PeerFault`
+    /// where it failed, and `OutOfMemory` where memory was refused to it.
     pub(crate) fn receive<L: Link>(&mut self, link: &mut L, upto: usize) -> Result<(), WireFault>
         requires order { length (frame_bytes self.old) ≤ upto }
         requires room { upto ≤ longest_frame }

@@ -127,7 +127,8 @@ fn is_query(version: Version, length: usize) -> bool
     }
 }
 
-/// Whether a body that begins with a count from 1 to `most`, of rows of so many bytes, may be so long.
+/// Whether a body that begins with a count from 1 to `most`, of rows of so many bytes, may be so
+/// long.
 fn is_counted(length: usize, most: usize, row: usize) -> bool
     requires most { most < 2 ^ 16 }
     requires row { row < 2 ^ 16 }

@@ -39,8 +39,8 @@ pub fn claims_that_fit()
         → IsTrue (fits version (messages.Claim value)) ↔ (nat_abs value ≤ most_claim) }
 {}
 
-/// No spelling begins another: where two with whatever follows are the same bytes, the messages are the
-/// same, and the same follows.
+/// No spelling begins another: where two with whatever follows are the same bytes, the messages are
+/// the same, and the same follows.
 pub fn one_spelling()
     ensures { (version : AnyVersion) (m n : AnyMessage) (x y : List ℕ) → IsTrue (fits version m)
         → IsTrue (fits version n)
@@ -64,7 +64,8 @@ pub fn messages_are_spelled()
         → Spelled version place bytes m rest }
 {}
 
-/// What follows a frame changes nothing: its message stays, and so does a fault, unless more bytes can mend it.
+/// What follows a frame changes nothing: its message stays, and so does a fault, unless more bytes
+/// can mend it.
 pub fn frames_stay()
     ensures message { (version : AnyVersion) (place : AnyPlace) (bytes more : List ℕ)
         (m : AnyMessage) (rest : List ℕ)
@@ -82,8 +83,8 @@ pub fn fronts_are_not_whole()
         → read_frame version place front ≡ Err faults.Closed }
 {}
 
-/// A query that fits a depth has a spelling in each version in which it can be asked there, and each query can
-/// be asked in the least version that the queries need.
+/// A query that fits a depth has a spelling in each version in which it can be asked there, and
+/// each query can be asked in the least version that the queries need.
 pub fn queries_have_spellings()
     ensures fits { (version : AnyVersion) (depth : ℕ) (query : AnyQuery)
         → Speaks version depth query → Fits depth query
@@ -92,7 +93,8 @@ pub fn queries_have_spellings()
         → All (Speaks (needed depth queries) depth) queries }
 {}
 
-/// What has a spelling in a version has one in version 2: no field is narrower there, and no mark is missing.
+/// What has a spelling in a version has one in version 2: no field is narrower there, and no mark
+/// is missing.
 pub fn version_2_has_room_for_each()
     ensures { (version : AnyVersion) (m : AnyMessage) → IsTrue (fits version m)
         → IsTrue (fits Two m) }

@@ -128,7 +128,8 @@ pub enum Reason {
     BadNumber,
     /// The helper refused, with this code.
     Refused(u8),
-    /// An index is not above the one before, or outside the interval or the level, or already known.
+    /// An index is not above the one before, or outside the interval or the level, or already
+    /// known.
     BadOrder,
     /// There are more entries or nodes than an answer may have.
     TooMany,

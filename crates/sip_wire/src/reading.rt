@@ -227,7 +227,8 @@ fn share_of(version: Version, rest: &[u8]) -> Option<Query>
     })
 }
 
-/// The query of a code, behind which these bytes stand, if each number is one that its field may hold.
+/// The query of a code, behind which these bytes stand, if each number is one that its field may
+/// hold.
 fn query_behind(version: Version, code: u8, rest: &[u8]) -> Option<Query>
     requires { IsTrue (mark_fits (query_shape version) code (1 + length rest.now)) }
     ensures { ReadsQuery version code rest.now result }
@@ -259,7 +260,8 @@ fn read_query(version: Version, body: &[u8], message: &mut Message) -> Result<()
     }
 }
 
-// Rows are read into those of the message where it is of their kind, so that a frame like the last one moves nothing.
+// Rows are read into those of the message where it is of their kind, so that a frame like the last
+// one moves nothing.
 
 fn read_updates(version: Version, body: &[u8], message: &mut Message) -> Result<(), WireFault>
     requires { 2 ≤ length body.now }

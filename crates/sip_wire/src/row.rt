@@ -30,7 +30,8 @@ pub trait Row: Copy + Default {
         ensures some { 0 < result }
         ensures narrow { result < 2 ^ 16 };
 
-    /// The row at the front of these bytes and what follows, if each number is one that its field may hold.
+    /// The row at the front of these bytes and what follows, if each number is one that its field
+    /// may hold.
     fn take(version: Version, bytes: &[u8]) -> Option<(Self, &[u8])>
         requires { size (layout version) ≤ length bytes.now }
         ensures said { IfSome result (λ x. said x.0 ≡ numbers_in (layout version) bytes.now) }

@@ -67,8 +67,9 @@ fn put_rows<T: Row>(version: Version, rows: &[T], out: &mut Bytes)
     }
 }
 
-/// Reads the rows of a body that begins with their count, in place of those before. `BadCount` where the body is not of this
-/// count, which is 1 to `CAP`, else `BadNumber` where a field may not hold its number.
+/// Reads the rows of a body that begins with their count, in place of those before. `BadCount`
+/// where the body is not of this count, which is 1 to `CAP`, else `BadNumber` where a field may not
+/// hold its number.
 #[tactic(auto, using(crate::proofs::Counting::size_repeat), unfolding(crate::specs::Spelling::body_fault))]
 pub fn fill_counted<T: Row + Drop, const CAP: usize>(
     version: Version,

@@ -16,8 +16,8 @@ use sip_field::{Field, M61, Seat};
 use sip_ports::{PortStop, Sink, write_whole};
 use sip_vector::{CAP, Depth, Query};
 
-/// Writes what a transcript begins with: that it is one, the version of its frames, the depth and the number of queries, from 1 to 16.
-/// After an `Err` a part of it was written, and not all.
+/// Writes what a transcript begins with: that it is one, the version of its frames, the depth and
+/// the number of queries, from 1 to 16. After an `Err` a part of it was written, and not all.
 pub fn put_head<K: Sink>(
     version: Version,
     depth: Depth,
@@ -43,7 +43,8 @@ pub fn put_head<K: Sink>(
     write_whole(sink, &head)
 }
 
-/// Writes a query that was asked, and its challenges, at once. After an `Err` a part of it was written, and not all.
+/// Writes a query that was asked, and its challenges, at once. After an `Err` a part of it was
+/// written, and not all.
 pub fn put_ask<K: Sink>(
     version: Version,
     query: &Query,

@@ -1,4 +1,4 @@
-use Rattle.std.proofs.Common.{Ok, Err, ap}
+use Rattle.std.proofs.Common.{Ok, Err}
 use Rattle.std.proofs.lemmas.Result.{err_from_is_err_and}
 use Rattle.sip_wire.proofs.ReadingLaws.{read_frame-fault}
 use Rattle.sip_wire.proofs.AtHand.{all_there, body_there, never_closed, no_body_yet, no_head_yet, read_whole, under_body, under_head}
