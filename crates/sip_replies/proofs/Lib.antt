@@ -10,3 +10,5 @@ pub mod Saying
 pub mod Turns
 pub mod Ending
 pub mod Passing
+pub mod SameEntries
+pub mod Unasked

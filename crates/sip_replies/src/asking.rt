@@ -66,8 +66,8 @@ fn in_round(round: u8, taken: Result<(), ReplyStop>) -> Result<(), AskStop>
     }
 }
 
-// A message is as large as the longest frame's rows, so each that is sent is made in a call of its own: the stack has it no longer
-// than that, and never while a reply is taken.
+// A message is as large as the longest frame's rows, so each that is sent is made in a call of its
+// own: the stack has it no longer than that, and never while a reply is taken.
 
 /// Sends a query.
 #[inline(never)]
@@ -94,15 +94,15 @@ fn send_reveal<L: Link>(challenge: u64, version: Version, link: &mut L) -> Resul
 /// Asks a query, takes the replies, reveals a challenge between two of them, and checks them.
 ///
 /// A challenge leaves only after the reply before it was taken and passed its tests, and the last
-/// challenge never leaves. No byte is received behind the one that shows the verdict. Where the check
-/// knows the answer without a reply, nothing is said. The bytes of each frame are written to `keep`
-/// before they are judged. Takes no memory; the time is that of the check's calls, one for each
-/// frame.
+/// challenge never leaves. No byte is received behind the one that shows the verdict. Where the
+/// check knows the answer without a reply, nothing is said. The bytes of each frame are written to
+/// `keep` before they are judged. Takes no memory; the time is that of the check's calls, one for
+/// each frame.
 ///
 /// # Errors
 ///
-/// [`AskStop::Rejected`] with the first fault of the replies; the others are those of the ports, each only where
-/// that port's own count of them rose.
+/// [`AskStop::Rejected`] with the first fault of the replies; the others are those of the ports,
+/// each only where that port's own count of them rose.
 pub fn ask<C: Check, L: Link, K: Keeper>(
     check: &mut C,
     version: Version,

@@ -26,8 +26,8 @@ pub enum Said {
 /// A check of the replies to one query, with places for the pairs of an answer.
 ///
 /// The calls come in the order of a talk: `unasked` first; then, for each reply, `take` for each of
-/// its frames, with a `reveal` between two replies; and `finish` behind the last one. The places are
-/// those of all calls, with nothing changed in between.
+/// its frames, with a `reveal` between two replies; and `finish` behind the last one. The places
+/// are those of all calls, with nothing changed in between.
 pub trait Check {
     ghost use Rattle.sip_field.specs.Moduli.{m61_modulus};
     ghost use Rattle.sip_vector.specs.Limits.{most_depth};

@@ -6,14 +6,17 @@
 //! | `Replies` | what replies state as bytes, their first fault, when they are accepted |
 //! | `Talks` | the order of bytes in the talk of a query |
 //! | `Checks`, `Asking` | what the calls of a check did, and those that ask |
+//! | `Rising`, `SameEntries` | two tests that the checks of several kinds make |
 #![tactic(auto)]
 
 mod asking;
 mod check;
 mod keeper;
 pub mod laws;
+mod rising;
 mod taking;
 
 pub use asking::{AskStop, ask};
 pub use check::{Check, More, Said};
 pub use keeper::Keeper;
+pub use rising::is_above;

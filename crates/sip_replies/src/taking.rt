@@ -72,8 +72,9 @@ impl From<Reason> for ReplyStop {
     }
 }
 
-/// Receives one frame, writes its bytes to `keep`, and then judges it. Where the link stopped inside
-/// the frame nothing is kept. What the frame says is read into `message`, so that nothing is moved.
+/// Receives one frame, writes its bytes to `keep`, and then judges it. Where the link stopped
+/// inside the frame nothing is kept. What the frame says is read into `message`, so that nothing is
+/// moved.
 pub(crate) fn receive<L: Link, K: Keeper>(
     version: Version,
     place: Place,
@@ -135,7 +136,8 @@ pub(crate) fn take_reply<C: Check, L: Link, K: Keeper>(
     ensures keeper_memory { result ≡ Err ReplyStop.KeepOutOfMemory
         → Rose (K.wants keep.old) (K.wants keep.new) }
 {
-    // One message for the whole reply: the rows of a frame are read in place of those of the frame before.
+    // One message for the whole reply: the rows of a frame are read in place of those of the frame
+    // before.
     let mut message = Message::Bye;
     loop {
         receive(version, check.place(), frame, link, keep, &mut message)?;
