@@ -29,8 +29,8 @@ fn added<F: Field, const N: usize>(root: F, tables: &[[u64; 128]], updates: &[Up
     of_wide(sum)
 }
 
-/// The root after these updates, by the tables of all levels. For each number of tables there is a loop of its own, since one
-/// that the compiler knows the length of takes two thirds of the time.
+/// The root after these updates, by the tables of all levels. For each number of tables there is a
+/// loop of its own, since one that the compiler knows the length of takes two thirds of the time.
 pub(crate) fn added_by_tables<F: Field>(root: F, tables: &[[u64; 128]], updates: &[Update]) -> F
     requires few { length tables.now ≤ 7 }
     requires below { All (All (λ x. x < F.MODULUS)) tables.now }

@@ -14,7 +14,8 @@ use sip_vector::Update;
 /// The shortest block for which tables are made: below it they cost more than they save.
 const BLOCK: usize = 32;
 
-/// The augmented root of a vector of 2^d numbers, for the d challenges of a seat: a hash, and the sum of the numbers.
+/// The augmented root of a vector of 2^d numbers, for the d challenges of a seat: a hash, and the
+/// sum of the numbers.
 #[derive(Drop)]
 pub struct AugRoot<F: Field, const CAP: usize> {
     /// The challenges, the lowest level's first.
@@ -65,8 +66,9 @@ impl<F: Field, const CAP: usize> AugRoot<F, CAP> {
 
     /// The root after each of these updates, whatever their sides.
     ///
-    /// Two `times` for an update, and one more for seven challenges of it; and 261 for seven challenges, whose table is on the
-    /// stack for this call. A block of less than 32 updates is `update` for each.
+    /// Two `times` for an update, and one more for seven challenges of it; and 261 for seven
+    /// challenges, whose table is on the stack for this call. A block of less than 32 updates is
+    /// `update` for each.
     #[inline(never)]
     pub fn update_all(&mut self, updates: &[Update])
         requires depth { length self.old.seat ≤ most_depth }
@@ -127,8 +129,9 @@ impl<F: Field, const CAP: usize> Default for AugRoot<F, CAP> {
     }
 }
 
-// The factor of an entry in the hash. A level makes it h + r where the node stands left, and h * r^2 + r^3, which is
-// (h + r) * r^2, where it stands right: the second form has two products and not three.
+// The factor of an entry in the hash. A level makes it h + r where the node stands left, and h *
+// r^2 + r^3, which is (h + r) * r^2, where it stands right: the second form has two products and
+// not three.
 fn hash_weight<F: Field, const CAP: usize>(seat: &Seat<F, CAP>, index: u64) -> F
     ensures { F.number result ≡ hash_weight F.MODULUS index seat.now }
 {

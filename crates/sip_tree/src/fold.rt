@@ -4,8 +4,8 @@ ghost use Rattle.sip_vector.specs.Trees as trees;
 
 use sip_field::Field;
 
-/// Folds a level to the one above, in place: each pair `left`, `right` of neighbours becomes `left + r * right`. The
-/// empty list stays empty.
+/// Folds a level to the one above, in place: each pair `left`, `right` of neighbours becomes `left
+/// + r * right`. The empty list stays empty.
 ///
 /// One `times` for each pair. The list keeps its memory and takes none.
 pub fn up<F: Field>(list: &mut Vec<F>, r: F)

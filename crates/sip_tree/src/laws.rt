@@ -8,7 +8,8 @@ ghost use Rattle.sip_vector.specs.Weights.{raised_numbers, node_weight, weight_a
 ghost use Rattle.sip_vector.specs.declared.update.Side.{Side as AnySide};
 ghost use Rattle.sip_vector.specs.declared.update.Update.{Update as AnyUpdate};
 
-/// An entry that is raised raises the root by what was added times the entry's weight, and the count by what was added.
+/// An entry that is raised raises the root by what was added times the entry's weight, and the
+/// count by what was added.
 pub fn roots_of_a_raised_entry()
     ensures root { (p : ℕ) (numbers : List ℤ) (challenges : List ℕ) (i : ℕ) (delta : ℤ)
         → 0 < p → length numbers ≡ 2 ^ length challenges → i < length numbers
@@ -31,7 +32,8 @@ pub fn roots_of_zeros()
         → augroot p (replicate n (pos 0)) challenges ≡ record { hash = 0; count = pos 0 } }
 {}
 
-/// The root is the sum of a level's nodes, each times its weight. Level 0 has the residues of the numbers themselves.
+/// The root is the sum of a level's nodes, each times its weight. Level 0 has the residues of the
+/// numbers themselves.
 pub fn root_is_a_sum_of_nodes()
     ensures length { (p : ℕ) (numbers : List ℤ) (challenges : List ℕ) (level : ℕ)
         → length numbers ≡ 2 ^ length challenges → level ≤ length challenges
@@ -42,8 +44,8 @@ pub fn root_is_a_sum_of_nodes()
         ≡ weighted_sum p challenges level 0 (tree p numbers (take level challenges)) % p }
 {}
 
-/// A stretch of a level that begins at an even index keeps its weighted sum where it is folded to the level above, and a
-/// node at either end adds itself times its weight.
+/// A stretch of a level that begins at an even index keeps its weighted sum where it is folded to
+/// the level above, and a node at either end adds itself times its weight.
 pub fn folds_keep_weighted_sums()
     ensures folded { (p : ℕ) (challenges : List ℕ) (level first n : ℕ) (nodes : List ℕ)
         → level < length challenges → length nodes ≡ 2 * n
@@ -60,8 +62,8 @@ pub fn folds_keep_weighted_sums()
         + x * weight_above p challenges level (first + length nodes) }
 {}
 
-/// A side's vector is zeros before the stream. An update raises one entry of it, or none where it is of the other side.
-/// So a root that is fed with a side's updates stands for that side's vector.
+/// A side's vector is zeros before the stream. An update raises one entry of it, or none where it
+/// is of the other side. So a root that is fed with a side's updates stands for that side's vector.
 pub fn vectors_of_streams()
     ensures empty { (depth : ℕ) (side : AnySide)
         → vector depth [] side ≡ replicate (2 ^ depth) (pos 0) }
@@ -74,8 +76,8 @@ pub fn vectors_of_streams()
         ≡ vector depth stream side }
 {}
 
-/// The weights in the tree of (3, 0, 5, 1) at the challenges (2, 10), worked out by hand: 3·1 + 5·10 + 1·20 is the
-/// root, 73, and 3·13 + 5·1300 + 1·2200 the hash, 8739.
+/// The weights in the tree of (3, 0, 5, 1) at the challenges (2, 10), worked out by hand: 3·1 +
+/// 5·10 + 1·20 is the root, 73, and 3·13 + 5·1300 + 1·2200 the hash, 8739.
 pub fn weights_by_hand()
     ensures entries { map (weight_above m61_modulus (2 ∷ 10 ∷ []) 0) (0 ∷ 1 ∷ 2 ∷ 3 ∷ [])
         ≡ 1 ∷ 2 ∷ 10 ∷ 20 ∷ [] }

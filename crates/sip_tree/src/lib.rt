@@ -1,29 +1,34 @@
-//! Roots of hash trees over a vector, kept up to date in one number or two while the vector's updates stream by.
+//! Roots of hash trees over a vector, kept up to date in one number or two while the vector's
+//! updates stream by.
 //!
-//! The trees are those of Cormode, Thaler and Yi, "Verifying Computations with Streaming Interactive Proofs", PVLDB 5(1),
-//! section 4; the augmented one, whose nodes also count, is this project's own form of their tree for heavy hitters.
+//! The trees are those of Cormode, Thaler and Yi, "Verifying Computations with Streaming
+//! Interactive Proofs", PVLDB 5(1), section 4; the augmented one, whose nodes also count, is this
+//! project's own form of their tree for heavy hitters.
 //!
-//! - [`Root`] is the root of the tree in which a node is `left + r * right`. [`Root::weight_above`] is the factor that a
-//!   node has in it.
+//! - [`Root`] is the root of the tree in which a node is `left + r * right`. [`Root::weight_above`]
+//!   is the factor that a node has in it.
 //! - [`AugRoot`] is the root of the augmented tree: a hash, and the sum of the vector.
 //! - [`up`] folds a level of nodes to the one above.
 //!
 //! # What the contracts say
 //!
-//! A root is one number for very many vectors. So a contract says which vectors it stands for, as a relation: those whose
-//! root it is (`specs/StandsFor.antt`, over the trees of `sip_vector`). A new root stands for zeros, and an update goes
-//! from every vector that the root stood for to the same with that entry raised. A caller that keeps the fact
-//! `RootStandsFor F.MODULUS root.seat root.value numbers` of its own vector has it again after each update, whatever the
-//! order of the updates. The clauses `value` and `hash` say besides which number comes out, for all numbers.
+//! A root is one number for very many vectors. So a contract says which vectors it stands for, as a
+//! relation: those whose root it is (`specs/StandsFor.antt`, over the trees of `sip_vector`). A new
+//! root stands for zeros, and an update goes from every vector that the root stood for to the same
+//! with that entry raised. A caller that keeps the fact `RootStandsFor F.MODULUS root.seat
+//! root.value numbers` of its own vector has it again after each update, whatever the order of the
+//! updates. The clauses `value` and `hash` say besides which number comes out, for all numbers.
 //!
-//! [`laws`] has the facts of the definitions alone: what a raised entry does to a root, that the root is the sum of a level's
-//! nodes each times its weight, that a fold keeps such a sum, and what an update does to the vector of a stream.
+//! [`laws`] has the facts of the definitions alone: what a raised entry does to a root, that the
+//! root is the sum of a level's nodes each times its weight, that a fold keeps such a sum, and what
+//! an update does to the vector of a stream.
 //!
 //! # Cost
 //!
-//! No call takes memory: a root is its seat and 8 or 16 bytes, and `up` works in the list that its caller made. `update_all`
-//! has its tables on the stack for one call, 7 KB, and `AugRoot` 14. The unit of
-//! time is one `Field::times`. The bits are those of the index, d is the depth, and a list has n nodes.
+//! No call takes memory: a root is its seat and 8 or 16 bytes, and `up` works in the list that its
+//! caller made. `update_all` has its tables on the stack for one call, 7 KB, and `AugRoot` 14. The
+//! unit of time is one `Field::times`. The bits are those of the index, d is the depth, and a list
+//! has n nodes.
 //!
 //! | Call | `times` | Beside it |
 //! |---|---|---|

@@ -54,8 +54,9 @@ impl<F: Field, const CAP: usize> Root<F, CAP> {
 
     /// The root after each of these updates, whatever their sides.
     ///
-    /// One `times` for an update and seven challenges, and 127 for seven challenges, whose table of products is on the stack
-    /// for this call. A block of less than 32 updates is `update` for each.
+    /// One `times` for an update and seven challenges, and 127 for seven challenges, whose table of
+    /// products is on the stack for this call. A block of less than 32 updates is `update` for
+    /// each.
     #[inline(never)]
     pub fn update_all(&mut self, updates: &[Update])
         requires depth { length self.old.seat ≤ most_depth }
@@ -87,8 +88,8 @@ impl<F: Field, const CAP: usize> Root<F, CAP> {
         F::of_number(self.value)
     }
 
-    /// The factor of a node of this level in the root: the product of the challenges of the levels above for which the
-    /// index has the bit 1, the lowest bit first.
+    /// The factor of a node of this level in the root: the product of the challenges of the levels
+    /// above for which the index has the bit 1, the lowest bit first.
     ///
     /// One `times` for each of them: d - level at most.
     pub fn weight_above(&self, level: usize, index: u64) -> F

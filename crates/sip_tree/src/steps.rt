@@ -12,8 +12,8 @@ pub(crate) struct Step {
     pub(crate) shift: u64,
 }
 
-/// The steps for at most seven levels, those above `from`. Entry e is the step of the levels along the bits of e, the lowest
-/// bit first, for each e below 2^n, where there are n levels.
+/// The steps for at most seven levels, those above `from`. Entry e is the step of the levels along
+/// the bits of e, the lowest bit first, for each e below 2^n, where there are n levels.
 ///
 /// Two `times` for each pair, and one for each level.
 pub(crate) fn steps<F: Field, const CAP: usize>(seat: &Seat<F, CAP>, from: usize) -> [Step; 128]
@@ -46,8 +46,8 @@ pub(crate) fn steps<F: Field, const CAP: usize>(seat: &Seat<F, CAP>, from: usize
     table
 }
 
-/// Makes the tables of all levels of a seat, and says how many they are: table g is that of the seven levels above 7·g, or
-/// of those that are left. The tables behind them are left as they are.
+/// Makes the tables of all levels of a seat, and says how many they are: table g is that of the
+/// seven levels above 7·g, or of those that are left. The tables behind them are left as they are.
 ///
 /// 261 `times` for a table of seven levels.
 pub(crate) fn fill_steps<F: Field, const CAP: usize>(

@@ -6,7 +6,8 @@ use sip_field::{Field, Seat};
 
 /// `start` times the weight of a node. Bits of the index above the top of the tree count nothing.
 ///
-/// One `times` for each bit of the index that is 1: the product begins with `start`, so no other is needed.
+/// One `times` for each bit of the index that is 1: the product begins with `start`, so no other is
+/// needed.
 pub(crate) fn weighted<F: Field, const CAP: usize>(
     start: F,
     seat: &Seat<F, CAP>,

@@ -1,4 +1,4 @@
-use Rattle.std.proofs.Common.{◌≡◌, ◌+◌, ◌^◌, ◌<◌, length, drop, take}
+use Rattle.std.proofs.Common.{◌≡◌, ◌^◌, length, drop, take}
 use Rattle.std.specs.Prelude.{All}
 use Rattle.sip_field.proofs.Doubling.{Filled, Between}
 use Rattle.sip_tree.specs.Steps.{no_step, IsStep, IsBelow}
