@@ -1,5 +1,5 @@
 -- Replies that are accepted have become clear.
-use Rattle.std.proofs.Common.{◌≡◌, ℕ, zero, suc, ◌+◌, ◌-◌, ◌*◌, ◌/◌, ◌%◌, ◌^◌, Bool, true, false, eqb, ltb, Option, Some, None, Result, Ok, Err, List, [], ◌∷◌, length, refl, ap, sym, subst, ◌∙◌, arith, inl, inr}
+use Rattle.std.proofs.Common.{◌≡◌, ℕ, zero, suc, ◌+◌, ◌-◌, ◌*◌, ◌/◌, ◌%◌, ◌^◌, Bool, true, false, eqb, ltb, Option, Some, None, Result, Ok, List, [], ◌∷◌, length, refl, ap, sym, subst, ◌∙◌, arith, inl, inr}
 use Rattle.std.specs.Prelude.{nat_lt, ◌==◌}
 use Rattle.std.specs.List.{list_all}
 use Rattle.std.proofs.Math.Nat.{pow-succ'}
@@ -11,12 +11,13 @@ use Rattle.sip_replies.specs.Replies.{in_round}
 use Rattle.sip_wire.specs.declared.message.Node.{Node}
 use Rattle.sip_wire.specs.declared.message.Reason.{Reason}
 use Rattle.sip_wire.specs.declared.message.Reason.TheVariants as reasons
+use Rattle.sip_replies.proofs.Passing.{step_passed, round_passed}
 use Rattle.sip_heavy.specs.AcceptsHeavy.{Asked, width, merged, nodes_above, level_nodes, known_after, top_test}
 use Rattle.sip_heavy.specs.Rising.{Rises}
 use Rattle.sip_heavy.proofs.Levels.{received_rise, merged_rises, above_rises}
 use Rattle.sip_heavy.specs.TrueNodes.{Spot, is_spot, are_true, level_above}
 use Rattle.sip_heavy.proofs.WrongLevels.{has, left_over, halves, is_clear}
-use Rattle.sip_heavy.proofs.ClearedLevels.{two_parts, Passed, level_passed, passed, nodes_of, is_there, clears}
+use Rattle.sip_heavy.proofs.ClearedLevels.{Passed, level_passed, passed, nodes_of, is_there, clears}
 
 -- ---- indices
 
@@ -90,10 +91,6 @@ first_there {X} (Some received) rest all is = by_rest (all_there rest) refl is
     by_rest None e k = absurd cc
     by_rest (Some more) e k = record { received = received; more = more; there = refl; others = e; same = (let same : all ≡ received ∷ more = cc in same) }
 
-pub in_round-ok : {X : Type 0} (level : ℕ) (r : Result X Reason) (nodes : X) → in_round level r ≡ Ok nodes → r ≡ Ok nodes
-in_round-ok {X} level (Ok xs) nodes e = let same : xs ≡ nodes = cc in ap (λ (ys : X). Ok ys) same
-in_round-ok level (Err reason) nodes e = absurd cc
-
 module _ (p root : ℕ) (q : Asked) where
   pub accepted_clears : (left level : ℕ) (strategy : List ℕ → Option (List Node)) (truth : ℕ → Spot) (heavy : List ℕ) (known : List Node) (v : List ℕ) (all : List (List Node)) (top : List Node)
       → length v ≡ left → q.depth ≡ level + left → Rises 0 (2 ^ left) known → are_within (2 ^ left) heavy ≡ true → all_there (replies strategy v) ≡ Some all
@@ -109,12 +106,12 @@ module _ (p root : ℕ) (q : Asked) where
   accepted_clears (suc left) level strategy truth heavy known (x ∷ v) all top long deep rises within there is ends hash count =
       let f = first_there (strategy []) (replies (λ w. strategy (x ∷ w)) v) all (ap all_there (sym (replies-more strategy x v)) ∙ there) in
       let says : known_after p q level known (x ∷ v) (f.received ∷ f.more) ≡ Ok top = ap (known_after p q level known (x ∷ v)) (sym f.same) ∙ is in
-      let parts = two_parts (in_round level (level_nodes q level known f.received)) (λ nodes. known_after p q (level + 1) (nodes_above p x nodes) v f.more) top says in
-      let nodes : List Node = parts.0 in
-      let ok : level_nodes q level known f.received ≡ Ok nodes = in_round-ok level (level_nodes q level known f.received) nodes parts.1.0 in
+      let parts = step_passed (in_round level (level_nodes q level known f.received)) (λ nodes. known_after p q (level + 1) (nodes_above p x nodes) v f.more) top says in
+      let nodes : List Node = parts.x in
+      let ok : level_nodes q level known f.received ≡ Ok nodes = round_passed level (level_nodes q level known f.received) nodes parts.first in
       let twice : 2 ^ suc left ≡ 2 * 2 ^ left = pow-succ' 2 left in
       let wide : width q level ≡ 2 * 2 ^ left = ap (λ n. 2 ^ n) (let e : q.depth - level ≡ suc left = omega (arith, deep) in e) ∙ twice in
       let above = level_rises p x (2 ^ left) q level known f.received nodes wide (subst (λ n. Rises 0 n known) twice rises) (level_passed q level known f.received nodes ok) in
       let lower = halves_within (2 ^ left) nodes heavy (ap (λ n. are_within n heavy) (sym twice) ∙ within) in
-      let ih = accepted_clears left (level + 1) (λ w. strategy (x ∷ w)) (level_above p x truth) (halves (left_over nodes heavy)) (nodes_above p x nodes) v f.more top (omega arith) (omega (arith, deep)) above lower f.others parts.1.1 ends hash count in
+      let ih = accepted_clears left (level + 1) (λ w. strategy (x ∷ w)) (level_above p x truth) (halves (left_over nodes heavy)) (nodes_above p x nodes) v f.more top (omega arith) (omega (arith, deep)) above lower f.others parts.then ends hash count in
       ap (is_there (λ ns. clears p q left (level + 1) (λ w. strategy (x ∷ w)) (level_above p x truth) (halves (left_over ns heavy)) (nodes_above p x ns) v)) (ap (nodes_of q level known) f.there ∙ ap passed ok) ∙ ih

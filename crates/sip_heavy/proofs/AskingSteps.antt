@@ -17,6 +17,7 @@ use Rattle.sip_replies.specs.Protocols.{Reveals}
 use Rattle.sip_replies.specs.Replies.{Fault}
 use Rattle.sip_replies.specs.declared.check.More.{More}
 use Rattle.sip_replies.specs.declared.check.More.TheVariants as mores
+use Rattle.sip_replies.proofs.Passing.{same_ok}
 use Rattle.sip_heavy.specs.AcceptsHeavy.{Asked, is_next, end_test, heavy_entries, known_after, leaves_of, merged, most_nodes, nodes_above, with_nodes}
 use Rattle.sip_heavy.specs.Asking.{HeavyStands, phase_of}
 use Rattle.sip_heavy.specs.Checking.{Advances, AnswersAs, Begun, Given, HasTaken, Kept, Takes, nothing}
@@ -29,7 +30,7 @@ pub stands_begun : (asked : HeavyAsked) (c : Kept) (nodes : ℕ) (challenges : L
     → HasTaken m61_modulus asked.query asked.root challenges nothing c → Begun challenges nodes c → most_nodes asked.query ≤ length places → HeavyStands asked nothing_came c places
 unfolding known_after
 stands_begun asked c nodes challenges places field taken begun room =
-    let none : c.known ≡ [] = sym (of_ok [] c.known taken.ended) in
+    let none : c.known ≡ [] = sym (same_ok {E = Fault} [] c.known taken.ended) in
     record {
       field = field;
       given = nothing;
@@ -45,9 +46,6 @@ stands_begun asked c nodes challenges places field taken begun room =
       shown = rw taken.found refl;
       room = room;
     }
-  where
-    of_ok : (a b : List Node) → ◌≡◌ {A = Result (List Node) Fault} (Ok a) (Ok b) → a ≡ b
-    of_ok a b e = cc
 
 -- ---- a challenge
 

@@ -13,15 +13,12 @@ use Rattle.sip_vector.specs.Steps.{◌>>=◌, needs}
 use Rattle.sip_wire.specs.declared.message.Node.{Node}
 use Rattle.sip_wire.specs.declared.message.Reason.{Reason}
 use Rattle.sip_wire.specs.declared.message.Reason.TheVariants as reasons
+use Rattle.sip_replies.proofs.Passing.{step_passed, same_ok}
 use Rattle.sip_heavy.specs.AcceptsHeavy.{Asked, most_nodes, is_next, is_empty, are_pairs, pair_counts, nodes_above, merged, with_nodes, end_test, level_nodes}
 use Rattle.sip_heavy.specs.TrueNodes.{Spot, level_above}
 use Rattle.sip_heavy.proofs.WrongLevels.{left_over, halves, is_clear, are_heavy, heavy_above, ClearsAbove, level_step}
 
 -- ---- a level that passes
-
-pub two_parts : {A B E : Type 0} (r : Result A E) (f : A → Result B E) (y : B) → (r >>= f) ≡ Ok y → (x : A) × ((r ≡ Ok x) × (f x ≡ Ok y))
-two_parts (Ok x) f y e = (x, (refl, e))
-two_parts (Err err) f y e = absurd cc
 
 -- the tests of one node, and the others
 pub node_parts : (order room light : Bool) (r : Result (List Node) Reason) (all : List Node)
@@ -66,14 +63,14 @@ end_parts false b c e = absurd cc
 
 pub level_passed : (q : Asked) (level : ℕ) (known received nodes : List Node) → level_nodes q level known received ≡ Ok nodes → Passed q level known received nodes
 level_passed q level known received nodes is =
-    let first = two_parts (with_nodes q level known [] received) (λ all. end_test q level (merged known all) >>= λ _. Ok (merged known all)) nodes is in
-    let second = two_parts (end_test q level (merged known first.0)) (λ _. Ok (merged known first.0)) nodes first.1.1 in
-    let all : received ≡ first.0 = taken_same q level known [] received first.0 first.1.0 in
-    let same : merged known first.0 ≡ nodes = cc in
-    let ended : end_test q level nodes ≡ Ok tt = ap (end_test q level) (sym same) ∙ second.1.0 in
+    let first = step_passed (with_nodes q level known [] received) (λ all. end_test q level (merged known all) >>= λ _. Ok (merged known all)) nodes is in
+    let second = step_passed (end_test q level (merged known first.x)) (λ _. Ok (merged known first.x)) nodes first.then in
+    let all : received ≡ first.x = taken_same q level known [] received first.x first.first in
+    let same : merged known first.x ≡ nodes = same_ok {E = Reason} (merged known first.x) nodes second.then in
+    let ended : end_test q level nodes ≡ Ok tt = ap (end_test q level) (sym same) ∙ second.first in
     let tests = end_parts (are_pairs nodes && (nat_lt (level + 1) q.depth || not (is_empty nodes))) (list_all (nat_le q.at_least) (pair_counts nodes)) (list_all (λ c. nat_le c q.total) (pair_counts nodes)) ended in
     record {
-      taken = first.1.0 ∙ ap (λ (xs : List Node). Ok xs) (sym all);
+      taken = first.first ∙ ap (λ (xs : List Node). Ok xs) (sym all);
       same = ap (merged known) all ∙ same;
       pairs = (and_parts (are_pairs nodes) (nat_lt (level + 1) q.depth || not (is_empty nodes)) tests.0).0;
       totals = tests.1;

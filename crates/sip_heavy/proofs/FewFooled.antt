@@ -1,26 +1,23 @@
 -- A strategy has a wrong list of leaves accepted at few vectors of challenges.
-use Rattle.std.proofs.Common.{◌≡◌, ◌≢◌, ℕ, zero, suc, ◌-◌, ◌*◌, ◌<◌, ◌≤◌, ◌^◌, Bool, true, false, not, eqb, Option, Some, None, Result, Ok, Err, is_ok, List, [], ◌∷◌, length, map, ℤ, pos, ◌≤ℤ◌, nat_abs, refl, ap, sym, subst, ◌∙◌, arith, inl, inr}
+use Rattle.std.proofs.Common.{◌≡◌, ◌≢◌, ℕ, zero, suc, ◌-◌, ◌*◌, ◌<◌, ◌≤◌, ◌^◌, Bool, true, false, not, Option, Some, None, Result, Ok, Err, is_ok, List, [], ◌∷◌, length, map, ℤ, pos, ◌≤ℤ◌, nat_abs, refl, ap, sym, subst, ◌∙◌, arith, inl, inr}
 use Rattle.std.specs.Prelude.{◌==◌}
-use Rattle.std.specs.Ordering.{int_eq}
 use Rattle.std.specs.List.{All}
-use Rattle.std.specs.Cmp.{signed_Decides}
-use Rattle.std.specs.Cmp.Lexicographic.{pointwise, pointwise_decides}
-use Rattle.std.proofs.lemmas.Bool.{cases_Bool, and_parts, and_from, eqb-true, eq-eqb, not-true, both_ways, false_from_ne_true}
+use Rattle.std.proofs.lemmas.Bool.{cases_Bool, and_parts, not-true, both_ways, false_from_ne_true}
 use Rattle.std.proofs.lemmas.List.Elements.{recursion_from_All}
 use Rattle.sip_field.specs.Prime.{IsPrime}
 use Rattle.sip_counts.specs.Counts.{counted}
 use Rattle.sip_counts.specs.Strategies.{replies, all_there, is_wrong, takes_wrong}
 use Rattle.sip_counts.proofs.Vectors.{counted-grows, counted-none}
 use Rattle.sip_counts.proofs.Talks.{replies-more}
-use Rattle.sip_vector.specs.declared.update.Entry.{Entry}
 use Rattle.sip_vector.specs.Steps.{◌>>=◌}
 use Rattle.sip_vector.specs.Streams.{int_sum}
 use Rattle.sip_vector.specs.Trees.{leaf, augroot}
 use Rattle.sip_replies.specs.Replies.{in_round}
 use Rattle.sip_wire.specs.declared.message.Node.{Node}
 use Rattle.sip_wire.specs.declared.message.Reason.{Reason}
+use Rattle.sip_replies.proofs.SameEntries.{same_entries}
 use Rattle.sip_heavy.specs.AcceptsHeavy.{Asked, width, known_after, top_test, heavy_entries, leaves_of, verdict, accepts}
-use Rattle.sip_heavy.specs.Counting.{asked_over, accepts_nodes, is_same_entry, are_right}
+use Rattle.sip_heavy.specs.Counting.{asked_over, accepts_nodes, are_right}
 use Rattle.sip_heavy.specs.Honest.{heavy_of}
 use Rattle.sip_heavy.specs.Rising.{Rises}
 use Rattle.sip_heavy.proofs.Levels.{received_rise, merged_none}
@@ -30,24 +27,6 @@ use Rattle.sip_heavy.proofs.ClearedLevels.{nodes_of, is_there, nodes_from_reply,
 use Rattle.sip_heavy.proofs.AcceptedLevels.{first_there, accepted_clears}
 use Rattle.sip_heavy.proofs.TrueLevels.{true_level, count_is_sum, top_hash, top_count}
 use Rattle.sip_heavy.proofs.SaidLeaves.{heavy_from, heavy_are, heavy_within, leaves_counts, said_right}
-
--- ---- the same entries
-
-abbrev entry : ℕ → ℤ → Entry
-entry i v = record { index = i; value = v }
-
-entry_decides : (a b : Entry) → (is_same_entry a b ≡ true → a ≡ b) × (a ≡ b → is_same_entry a b ≡ true)
-entry_decides a b = (
-  (λ h.
-      let both = and_parts (eqb a.index b.index) (int_eq a.value b.value) h in
-      let one : a.index ≡ b.index = eqb-true a.index b.index both.0 in
-      let two : a.value ≡ b.value = (signed_Decides a.value b.value).0 both.1 in
-      ap (λ (i : ℕ). entry i a.value) one ∙ ap (λ (v : ℤ). entry b.index v) two),
-  (λ e. and_from (eqb a.index b.index) (int_eq a.value b.value) (eq-eqb a.index b.index (ap (λ (x : Entry). x.index) e)) ((signed_Decides a.value b.value).1 (ap (λ (x : Entry). x.value) e))),
-)
-
-pub same_entries : (xs ys : List Entry) → (pointwise is_same_entry xs ys ≡ true → xs ≡ ys) × (xs ≡ ys → pointwise is_same_entry xs ys ≡ true)
-same_entries = pointwise_decides entry_decides
 
 -- ---- where a wrong list is taken
 

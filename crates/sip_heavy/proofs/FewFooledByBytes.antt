@@ -1,5 +1,5 @@
 -- A strategy of bytes has wrong heavy entries accepted at few vectors of challenges.
-use Rattle.std.proofs.Common.{◌≡◌, ◌≢◌, ℕ, suc, ◌+◌, ◌-◌, ◌*◌, ◌<◌, ◌≤◌, ◌^◌, Bool, true, false, ◌&&◌, not, leb, Option, Some, None, Result, Ok, Err, is_ok, List, [], ◌∷◌, length, map, take, ℤ, pos, negsuc, ◌≤ℤ◌, ◌+ℤ◌, nat_abs, int_le, All, refl, ap, sym, subst, ◌∙◌, arith, inl, inr}
+use Rattle.std.proofs.Common.{◌≡◌, ◌≢◌, ℕ, suc, ◌+◌, ◌-◌, ◌*◌, ◌<◌, ◌≤◌, ◌^◌, Bool, true, false, ◌&&◌, not, leb, Option, Some, None, Result, Ok, Err, is_ok, List, [], ◌∷◌, length, map, take, ℤ, pos, negsuc, ◌≤ℤ◌, ◌+ℤ◌, nat_abs, int_le, All, refl, ap, sym, ◌∙◌, arith, inl, inr}
 use Rattle.std.specs.Prelude.{◌==◌, nat_lt, if◌then◌else◌, filter}
 use Rattle.std.specs.List.{AllByRecursion, enumerate_from}
 use Rattle.std.specs.Cmp.Lexicographic.{pointwise}
@@ -22,15 +22,17 @@ use Rattle.sip_wire.specs.declared.message.Reason.{Reason}
 use Rattle.sip_wire.specs.declared.message.Reason.TheVariants as reasons
 use Rattle.sip_wire.specs.declared.version.Version.{Version}
 use Rattle.sip_replies.specs.Protocols.{Rules, Protocol}
-use Rattle.sip_replies.specs.Replies.{Fault, in_round, read_reply, run_from, run, IsAccepted, IsStated}
+use Rattle.sip_replies.specs.Replies.{Fault, in_round, read_reply, run_from, run, IsAccepted}
 use Rattle.sip_replies.specs.Replies as replies_of
+use Rattle.sip_replies.proofs.SameEntries.{same_entries}
+use Rattle.sip_replies.specs.SameEntries.{is_same_entry}
+use Rattle.sip_replies.proofs.Unasked.{accepted_asked, accepted_unasked}
+use Rattle.sip_replies.proofs.Passing.{step_passed, round_passed}
 use Rattle.sip_heavy.specs.AcceptsHeavy.{Asked, most_nodes, is_next, with_nodes, top_test, heavy_entries, leaves_of, verdict}
-use Rattle.sip_heavy.specs.Counting.{asked_over, accepts_nodes, is_same_entry, are_right, heavy_over, accepts_heavy, leaves_in, said, is_right}
+use Rattle.sip_heavy.specs.Counting.{asked_over, accepts_nodes, are_right, heavy_over, accepts_heavy, leaves_in, said, is_right}
 use Rattle.sip_heavy.specs.Honest.{heavy_of}
 use Rattle.sip_heavy.specs.Protocol.{HeavyState, count_of, heavy_asked, heavy_rules, heavy_finish, reaches}
-use Rattle.sip_heavy.proofs.ClearedLevels.{two_parts}
-use Rattle.sip_heavy.proofs.AcceptedLevels.{in_round-ok}
-use Rattle.sip_heavy.proofs.FewFooled.{same_entries, ok_parts, few_fooled}
+use Rattle.sip_heavy.proofs.FewFooled.{ok_parts, few_fooled}
 use Rattle.sip_heavy.proofs.HeardNodes.{heard, run_heard}
 use Rattle.sip_heavy.proofs.ReadNodes.{nodes_said, reply_read}
 use Rattle.sip_heavy.proofs.SaidBytes.{leaves_first}
@@ -63,20 +65,6 @@ accepts_asked P rs all e = rw e refl
 
 accepts_unasked : {S : Type 0} (P : Protocol S) (rs : List ℕ) (all : List (List ℕ)) (known : Answer) → P.unasked ≡ Some known → replies_of.accepts P rs all ≡ true
 accepts_unasked P rs all known e = rw e refl
-
-abbrev accepted_where : {S : Type 0} → Protocol S → List ℕ → List (List ℕ) → Answer → Option Answer → Type 0
-accepted_where P rs all answer unasked = elim unasked [
-  | None ↦ IsStated P rs all answer
-  | Some known ↦ (all ≡ []) × (answer ≡ known)
-]
-
-accepted_asked : {S : Type 0} (P : Protocol S) (rs : List ℕ) (all : List (List ℕ)) (answer : Answer) → P.unasked ≡ None → IsAccepted P rs all answer → IsStated P rs all answer
-accepted_asked P rs all answer e h =
-    subst (accepted_where P rs all answer) e h
-
-accepted_unasked : {S : Type 0} (P : Protocol S) (rs : List ℕ) (all : List (List ℕ)) (answer known : Answer) → P.unasked ≡ Some known → IsAccepted P rs all answer → (all ≡ []) × (answer ≡ known)
-accepted_unasked P rs all answer known e h =
-    subst (accepted_where P rs all answer) e h
 
 same_pairs : (xs ys : List Entry) → ◌≡◌ {A = Result Answer Reason} (Ok (pairs xs)) (Ok (pairs ys)) → xs ≡ ys
 same_pairs xs ys e = cc
@@ -221,12 +209,12 @@ module _ (version : Version) (p d t : ℕ) (numbers : List ℤ) where
     | inl asked ↦
         let P = heavy_over version p d t numbers r in
         let stated = accepted_asked P r all (pairs answer) (ap (λ b. if b then None else Some (pairs [])) asked) h in
-        let states = two_parts (run R r all) (λ s. in_round (length r) (heavy_finish (heavy_asked version p (augroot p numbers r).hash (int_sum numbers) d t) s)) (pairs answer) stated.found in
-        let s : HeavyState = states.0 in
-        let done = in_round-ok (length r) (heavy_finish (heavy_asked version p (augroot p numbers r).hash (int_sum numbers) d t) s) (pairs answer) states.1.1 in
-        let ends = two_parts (top_test q (augroot p numbers r).hash s.known) (λ _. Ok (pairs (heavy_entries t s.leaves))) (pairs answer) done in
-        let same : heavy_entries t s.leaves ≡ answer = same_pairs (heavy_entries t s.leaves) answer ends.1.1 in (
-          ap (heavy_entries t) (leaves_first version p q r all s states.1.0) ∙ same,
+        let states = step_passed (run R r all) (λ s. in_round (length r) (heavy_finish (heavy_asked version p (augroot p numbers r).hash (int_sum numbers) d t) s)) (pairs answer) stated.found in
+        let s : HeavyState = states.x in
+        let done = round_passed (length r) (heavy_finish (heavy_asked version p (augroot p numbers r).hash (int_sum numbers) d t) s) (pairs answer) states.then in
+        let ends = step_passed (top_test q (augroot p numbers r).hash s.known) (λ _. Ok (pairs (heavy_entries t s.leaves))) (pairs answer) done in
+        let same : heavy_entries t s.leaves ≡ answer = same_pairs (heavy_entries t s.leaves) answer ends.then in (
+          ap (heavy_entries t) (leaves_first version p q r all s states.first) ∙ same,
           asked_accepts r all asked ∙ and_from (length all == length r) (is_ok (replies_of.verdict P r all)) (eq-eqb (length all) (length r) stated.all) (ap is_ok stated.found),
         )
     | inr unasked ↦

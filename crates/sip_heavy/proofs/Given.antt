@@ -4,6 +4,7 @@ use Rattle.sip_vector.specs.Steps.{◌>>=◌}
 use Rattle.sip_wire.specs.declared.message.Node.{Node}
 use Rattle.sip_wire.specs.declared.message.Reason.{Reason}
 use Rattle.sip_replies.specs.Replies.{Fault}
+use Rattle.sip_replies.proofs.Passing.{same_ok}
 use Rattle.sip_heavy.specs.AcceptsHeavy.{Asked, with_nodes, known_after}
 use Rattle.sip_heavy.specs.Checking.{Kept, Given, HasTaken, AnswersAs, Takes}
 use Rattle.sip_heavy.proofs.Taking.{with_nodes-append}
@@ -25,10 +26,7 @@ refused (Err other) Has reason answer = sym (same_err other reason (sym answer))
 pub known_same : (p : ℕ) (q : Asked) (root : ℕ) (challenges : List ℕ) (g h : Given) (old new : Kept) → g.ended ≡ h.ended
     → HasTaken p q root challenges g old → HasTaken p q root challenges h new → new.known ≡ old.known
 known_same p q root challenges g h old new same before now =
-    of_ok new.known old.known (sym now.ended ∙ ap (known_after p q 0 [] challenges) (sym same) ∙ before.ended)
-  where
-    of_ok : (a b : List Node) → ◌≡◌ {A = Result (List Node) Fault} (Ok a) (Ok b) → a ≡ b
-    of_ok a b e = cc
+    same_ok {E = Fault} new.known old.known (sym now.ended ∙ ap (known_after p q 0 [] challenges) (sym same) ∙ before.ended)
 
 -- nodes that pass, and those behind them
 pub Takes-both : (p : ℕ) (old mid new : Kept) (xs more : List Node) (result : Result (Unit {0}) Reason) → Takes p old xs mid (Ok tt) → mid.level ≡ old.level → Takes p mid more new result

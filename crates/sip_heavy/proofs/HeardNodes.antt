@@ -10,10 +10,11 @@ use Rattle.sip_wire.specs.declared.message.Reason.{Reason}
 use Rattle.sip_wire.specs.declared.version.Version.{Version}
 use Rattle.sip_replies.specs.Protocols.{Rules}
 use Rattle.sip_replies.specs.Replies.{Fault, in_round, learnt, read_reply, run_from}
+use Rattle.sip_replies.proofs.Passing.{step_passed, round_passed}
 use Rattle.sip_heavy.specs.AcceptsHeavy.{Asked, merged, nodes_above, with_nodes, end_test, level_nodes, known_after, leaves_of}
 use Rattle.sip_heavy.specs.Protocol.{HeavyState, learns, heavy_rules}
-use Rattle.sip_heavy.proofs.ClearedLevels.{two_parts, taken_same}
-use Rattle.sip_heavy.proofs.AcceptedLevels.{first_there, in_round-ok}
+use Rattle.sip_heavy.proofs.ClearedLevels.{taken_same}
+use Rattle.sip_heavy.proofs.AcceptedLevels.{first_there}
 use Rattle.sip_heavy.proofs.ReadNodes.{nodes_said, reply_read}
 
 -- ---- the nodes of a strategy
@@ -46,8 +47,8 @@ module _ (version : Version) (p : ℕ) (q : Asked) where
   pub run_parts : (j : ℕ) (rs : List ℕ) (s : HeavyState) (bytes : List ℕ) (more : List (List ℕ)) (t : HeavyState) → run_from R j rs s (bytes ∷ more) ≡ Ok t → RunParts j rs s bytes more t
   unfolding run_from
   run_parts j rs s bytes more t e =
-      let a = two_parts {E = Fault} (in_round j (read_reply R s bytes)) (λ u. run_from R (j + 1) (drop 1 rs) (learnt R rs u) more) t e in
-      record { next = a.0; first = in_round-ok j (read_reply R s bytes) a.0 a.1.0; rest = a.1.1 }
+      let a = step_passed {E = Fault} (in_round j (read_reply R s bytes)) (λ u. run_from R (j + 1) (drop 1 rs) (learnt R rs u) more) t e in
+      record { next = a.x; first = round_passed j (read_reply R s bytes) a.x a.first; rest = a.then }
 
   pub run_none : (j : ℕ) (rs : List ℕ) (s t : HeavyState) → run_from R j rs s [] ≡ Ok t → s ≡ t
   unfolding run_from

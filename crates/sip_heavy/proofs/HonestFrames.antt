@@ -18,6 +18,7 @@ use Rattle.sip_wire.specs.declared.version.Version.TheVariants.{One, Two}
 use Rattle.sip_wire.specs.Spelling.{fits, has_room, all_hold, leaf_numbers, node_numbers}
 use Rattle.sip_wire.specs.Table.{repeat, leaf_fields, node_fields}
 use Rattle.sip_wire.specs.Versions.{index_width, deepest}
+use Rattle.sip_wire.proofs.SmallNumbers.{element_room}
 use Rattle.sip_heavy.specs.AcceptsHeavy.{leaf_node}
 use Rattle.sip_heavy.specs.Honest.{node_at, shown, shown_from, leaf_of}
 use Rattle.sip_heavy.specs.Protocol.{leaf_nodes}
@@ -44,9 +45,6 @@ pub record IsNodeRow (version : Version) (x : Node) : Type 0 where
   pub index : x.index < 256 ^ index_width version
   pub hash : x.hash < m61_modulus
   pub count : x.count < m61_modulus
-
-element_room : (n : ℕ) → n < m61_modulus → nat_lt n (256 ^ 8) ≡ true
-element_room n h = lt-ltb n (256 ^ 8) (omega arith)
 
 -- ---- hashes
 

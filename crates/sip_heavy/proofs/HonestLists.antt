@@ -21,28 +21,15 @@ use Rattle.sip_heavy.proofs.HeavyPairs.{counts, AreCounts, numbered, children, c
 
 -- a threshold of at least 1 that the sum of a vector reaches
 pub record CanBeFound (p depth t n : ℕ) (numbers : List ℤ) : Type 0 where
-  pub modulus : 0 < p
-  pub levels : 1 ≤ depth
-  pub size : length numbers ≡ 2 ^ depth
-  pub strict : All (λ a. pos 0 ≤ℤ a) numbers
-  pub total : int_sum numbers ≡ pos n
-  pub light : n < p
+  pub counted : CanBeCounted p depth n numbers
   pub some : 1 ≤ t
   pub reached : t ≤ n
 
 pub found_by : (p depth t n : ℕ) (numbers : List ℤ) → CanBeCounted p depth n numbers → 1 ≤ t → t ≤ n → CanBeFound p depth t n numbers
-found_by p depth t n numbers can some reached = record {
-  modulus = can.modulus;
-  levels = can.levels;
-  size = can.size;
-  strict = can.strict;
-  total = can.total;
-  light = can.light;
-  some = some;
-  reached = reached;
-}
+found_by p depth t n numbers can some reached = record { counted = can; some = some; reached = reached }
 
-abbrev at : ℕ → Bool → List Counted → Proving
+-- a level that a prover is at
+abbrev pub at : ℕ → Bool → List Counted → Proving
 at t is_leaf level = record { at_least = t; is_leaf = is_leaf; level = level }
 
 -- what is known of a level: its children that are not sent
@@ -200,21 +187,21 @@ module _ (p depth t n : ℕ) (numbers : List ℤ) (can : CanBeFound p depth t n 
   asked = record { depth = depth; at_least = t; total = n }
 
   pub total_is : counts (map (leaf p) numbers) ≡ n
-  total_is = ap nat_abs (sym (leaves_sum p numbers can.strict) ∙ can.total)
+  total_is = ap nat_abs (sym (leaves_sum p numbers can.counted.strict) ∙ can.counted.total)
 
   pub stated : heavy_entries t (children t 0 (map (leaf p) numbers)) ≡ heavy_of t numbers
   stated = sym (heavy_filtered t (children t 0 (map (leaf p) numbers)))
-      ∙ ap (heavy_entries t) (sym (heavy_is t (2 ^ (depth - 1)) 0 (map (leaf p) numbers) (length-map numbers (leaf p) ∙ can.size ∙ two_halves depth can.levels)))
+      ∙ ap (heavy_entries t) (sym (heavy_is t (2 ^ (depth - 1)) 0 (map (leaf p) numbers) (length-map numbers (leaf p) ∙ can.counted.size ∙ two_halves depth can.counted.levels)))
       ∙ heavy_filtered t (numbered 0 (map (leaf p) numbers))
-      ∙ heavy_numbers p t 0 numbers can.strict
+      ∙ heavy_numbers p t 0 numbers can.counted.strict
 
   pub lists_accepted : (challenges : List ℕ) → length challenges ≡ depth → verdict p asked (augroot p numbers challenges).hash challenges (honest_lists p (begun p numbers t) challenges) ≡ Ok (heavy_of t numbers)
-  lists_accepted [] size = absurd (omega (arith, size, can.levels))
+  lists_accepted [] size = absurd (omega (arith, size, can.counted.levels))
   lists_accepted (r ∷ challenges) size =
       let level : List Counted = map (leaf p) numbers in
       let cs : List ℕ = r ∷ challenges in
-      let are = leaves_are p numbers can.strict in
-      let long : length level ≡ 2 ^ suc (length challenges) = length-map numbers (leaf p) ∙ can.size ∙ ap (λ d. 2 ^ d) (sym size) in
+      let are = leaves_are p numbers can.counted.strict in
+      let long : length level ≡ 2 ^ suc (length challenges) = length-map numbers (leaf p) ∙ can.counted.size ∙ ap (λ d. 2 ^ d) (sym size) in
       let climbed = rw (none_known t (children t 0 level)) at (climbs p asked r challenges 0 true level can.some can.reached refl (omega (arith, size)) are total_is long) in
       let top = top_is p n cs level long are total_is in
       let same : top.0.hash ≡ (augroot p numbers cs).hash = ap (λ (xs : List Counted). (get_or xs 0 (leaf p (pos 0))).hash) (sym top.1) in

@@ -29,6 +29,7 @@ use Rattle.sip_heavy.specs.Honest.{leaf_frames, node_frames, leaf_of}
 use Rattle.sip_heavy.specs.Protocol.{HeavyState, leaf_nodes, nodes_step, ended, end_step, heavy_step, heavy_rules}
 use Rattle.sip_heavy.proofs.HonestFrames.{IsLeafRow, IsNodeRow, leaves_fit, nodes_fit, end_fits, leaf_rows}
 use Rattle.sip_heavy.proofs.Taking.{with_nodes-append}
+use Rattle.sip_heavy.proofs.StatedFrames.{with_received}
 
 -- ---- nodes that pass, in parts
 
@@ -67,10 +68,6 @@ as_due s r = r >>= λ all. Ok (mores.Due, record s { received = all })
 module _ (version : Version) (p : ℕ) (q : Asked) where
   abbrev R : Rules HeavyState
   R = heavy_rules version p q
-
-  -- a state with these nodes received
-  abbrev with_received : HeavyState → List Node → HeavyState
-  with_received s xs = record s { received = xs }
 
   -- a kind of frame whose rows stand for nodes: at most k of them
   pub record IsFrame {X : Type 0} (frame : List X → Message) (nodes : List X → List Node) (k : ℕ) (Row : X → Type 0) (s : HeavyState) : Type 0 where

@@ -1,55 +1,28 @@
 -- All honest replies: what they state, and that it is accepted.
-use Rattle.std.proofs.Common.{◌≡◌, ℕ, zero, suc, ◌+◌, ◌-◌, ◌^◌, ◌<◌, ◌≤◌, Bool, true, false, ◌==◌, if◌then◌else◌, Result, Ok, List, [], ◌∷◌, ◌++◌, length, take, drop, filter, map, All, ℤ, refl, sym, ap, ◌∙◌, arith, append-nil}
-use Rattle.std.specs.List.{range_with_len, flat_map}
+use Rattle.std.proofs.Common.{◌≡◌, ℕ, zero, suc, ◌+◌, ◌-◌, ◌^◌, ◌<◌, ◌≤◌, Bool, true, false, ◌==◌, if◌then◌else◌, Ok, List, [], ◌∷◌, ◌++◌, length, filter, map, All, ℤ, refl, sym, ap, ◌∙◌, arith}
+use Rattle.std.specs.List.{flat_map}
 use Rattle.std.proofs.Math.Nat.{pow-le-pow_right}
 use Rattle.std.proofs.lemmas.Bool.{ne_eqb}
-use Rattle.std.proofs.lemmas.List.{append_assoc, length-append, take_at}
 use Rattle.std.proofs.lemmas.List.Sums.{fold-append}
 use Rattle.sip_field.specs.Moduli.{m61_modulus}
-use Rattle.sip_vector.specs.Steps.{◌>>=◌}
 use Rattle.sip_vector.specs.Trees.{Counted, leaf, up3, augtree}
 use Rattle.sip_wire.specs.declared.message.Node.{Node}
 use Rattle.sip_wire.specs.declared.message.Message.TheVariants as messages
-use Rattle.sip_wire.specs.declared.message.Reason.{Reason}
 use Rattle.sip_wire.specs.declared.version.Version.{Version}
 use Rattle.sip_wire.specs.Spelling.{spelling}
 use Rattle.sip_wire.specs.Versions.{deepest}
 use Rattle.sip_replies.specs.Protocols.{Rules}
-use Rattle.sip_replies.specs.Replies.{in_round, learnt as learnt_by, read_reply, run_from}
+use Rattle.sip_replies.specs.Replies.{read_reply, run_from}
+use Rattle.sip_replies.proofs.Passing.{run_is, run_none}
 use Rattle.sip_heavy.specs.AcceptsHeavy.{Asked, merged, with_nodes, end_test}
 use Rattle.sip_heavy.specs.Honest.{Proving, learnt, is_first, proving, shown_from, opening_frames}
 use Rattle.sip_heavy.specs.Protocol.{HeavyState, heavy_rules}
 use Rattle.sip_heavy.proofs.HeavyPairs.{counts, AreCounts, numbered, children, is_heavy, heavy_is, above_is, above_counts, above_are}
 use Rattle.sip_heavy.proofs.HonestFrames.{AreHashed, AreLeaves, IsNodeRow, room_below, shown_rows, above_hashed, leaves_back}
-use Rattle.sip_heavy.proofs.HonestLists.{known_of, received_pass, all_merge, ends_well, above_long, half_size, none_known}
+use Rattle.sip_heavy.proofs.HonestLists.{received_pass, all_merge, ends_well, above_long, half_size, none_known, at, known_of}
 use Rattle.sip_heavy.proofs.HonestReading.{leaves_read, nodes_read}
 
 -- ---- reply by reply
-
--- g of each front of front ++ challenges that has front
-unfoldable pub walk : {X : Type 0} → (List ℕ → X) → List ℕ → List ℕ → List X
-walk g front [] = []
-walk g front (r ∷ challenges) = g front ∷ walk g (front ++ r ∷ []) challenges
-
-pub fronts_walk : {X : Type 0} (g : List ℕ → X) (front challenges : List ℕ) → map (λ j. g (take j (front ++ challenges))) (range_with_len (length front) (length challenges)) ≡ walk g front challenges
-unfolding walk
-fronts_walk g front [] = refl
-fronts_walk g front (r ∷ challenges) =
-    let here : take (length front) (front ++ r ∷ challenges) ≡ front = take_at front (r ∷ challenges) (length front) refl in
-    let same : (front ++ r ∷ []) ++ challenges ≡ front ++ r ∷ challenges = append_assoc front (r ∷ []) challenges in
-    let longer : length front + 1 ≡ length (front ++ r ∷ []) = omega (arith, length-append front (r ∷ [])) in
-    ap (λ x. g x ∷ map (λ j. g (take j (front ++ r ∷ challenges))) (range_with_len (length front + 1) (length challenges))) here
-    ∙ ap (λ xs. g front ∷ map (λ j. g (take j xs)) (range_with_len (length front + 1) (length challenges))) (sym same)
-    ∙ ap (λ k. g front ∷ map (λ j. g (take j ((front ++ r ∷ []) ++ challenges))) (range_with_len k (length challenges))) longer
-    ∙ ap (λ xs. g front ∷ xs) (fronts_walk g (front ++ r ∷ []) challenges)
-
--- one challenge more gives one more
-pub walk_snoc : {X : Type 0} (g : List ℕ → X) (front challenges : List ℕ) (r : ℕ) → walk g front (challenges ++ r ∷ []) ≡ walk g front challenges ++ g (front ++ challenges) ∷ []
-unfolding walk
-walk_snoc g front [] r = ap (λ xs. g xs ∷ []) (sym (append-nil front))
-walk_snoc g front (c ∷ challenges) r =
-    ap (λ xs. g front ∷ xs) (walk_snoc g (front ++ c ∷ []) challenges r
-    ∙ ap (λ xs. walk g (front ++ c ∷ []) challenges ++ g xs ∷ []) (append_assoc front (c ∷ []) challenges))
 
 -- one more challenge leads to the level above
 pub proving-push : (p : ℕ) (numbers : List ℤ) (t : ℕ) (prefix : List ℕ) (r : ℕ) → proving p numbers t (prefix ++ r ∷ []) ≡ learnt p (proving p numbers t prefix) r
@@ -93,9 +66,6 @@ stands_above p q j r is_leaf level some less stands =
       hashed = above_hashed p r some level;
       leaves = λ e. absurd (let f : false ≡ true = e in cc);
     }
-
-abbrev pub at : ℕ → Bool → List Counted → Proving
-at t is_leaf level = record { at_least = t; is_leaf = is_leaf; level = level }
 
 -- what is known of a level from the level below
 abbrev pub from_below : ℕ → Bool → List Counted → List Node
@@ -169,24 +139,14 @@ module _ (version : Version) (p : ℕ) (q : Asked) (some : 0 < p) (elements : p 
 
   -- ---- all replies
 
-  run_is : (j : ℕ) (rs : List ℕ) (s : HeavyState) (bytes : List ℕ) (more : List (List ℕ)) (t : HeavyState) → read_reply R s bytes ≡ Ok t
-      → run_from R j rs s (bytes ∷ more) ≡ run_from R (j + 1) (drop 1 rs) (learnt_by R rs t) more
-  unfolding run_from
-  run_is j rs s bytes more t is =
-      ap (λ (x : Result HeavyState Reason). in_round j x >>= λ u. run_from R (j + 1) (drop 1 rs) (learnt_by R rs u) more) is
-
-  run_none : (j : ℕ) (rs : List ℕ) (s : HeavyState) → run_from R j rs s [] ≡ Ok s
-  unfolding run_from
-  run_none j rs s = refl
-
   pub runs : (challenges more : List ℕ) (j : ℕ) (leaves : List Node) (is_leaf : Bool) (level : List Counted) → j + length challenges ≤ q.depth → Stands p q j is_leaf level
       → run_from R j (challenges ++ more) (arrives p q.at_least j leaves is_leaf level []) (replies_of version p q.at_least is_leaf level challenges) ≡ Ok (arrives p q.at_least j leaves is_leaf level challenges)
-  runs [] more j leaves is_leaf level within stands = run_none j more (arrives p q.at_least j leaves is_leaf level [])
+  runs [] more j leaves is_leaf level within stands = run_none R j more (arrives p q.at_least j leaves is_leaf level [])
   runs (r ∷ challenges) more j leaves is_leaf level within stands =
       let t : ℕ = q.at_least in
       let less : j < q.depth = omega (arith, within) in
       let above = stands_above p q j r is_leaf level some less stands in
       let next : List Node = if j == 0 then shown_from t is_leaf 0 level else leaves in
-      run_is j ((r ∷ challenges) ++ more) (arrives p t j leaves is_leaf level []) (reply_of version (at t is_leaf level)) (replies_of version p t false (up3 p level r) challenges) (came j leaves is_leaf level) (reply_read j leaves is_leaf level less stands)
+      run_is R j ((r ∷ challenges) ++ more) (arrives p t j leaves is_leaf level []) (reply_of version (at t is_leaf level)) (replies_of version p t false (up3 p level r) challenges) (came j leaves is_leaf level) (reply_read j leaves is_leaf level less stands)
       ∙ ap (λ (xs : List Node). run_from R (j + 1) (challenges ++ more) (record { level = j + 1; known = xs; received = []; leaves = next }) (replies_of version p t false (up3 p level r) challenges)) (above_is p r t 0 level stands.are)
       ∙ runs challenges more (j + 1) next false (up3 p level r) (omega (arith, within)) above

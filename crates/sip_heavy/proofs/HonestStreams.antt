@@ -1,15 +1,12 @@
 -- The heavy entries of a legal stream's vector can be sent, and below the threshold there are none.
 use Rattle.std.proofs.Common.{◌≡◌, ℕ, suc, ◌<◌, ◌≤◌, Bool, true, false, inl, inr, if◌then◌else◌, Option, Some, None, List, [], ◌∷◌, map, All, ℤ, pos, nat_abs, refl, sym, ap, subst, ◌∙◌, arith}
-use Rattle.std.specs.Prelude.{nat_le, sum_by, ◌≤ℤ◌}
+use Rattle.std.specs.Prelude.{nat_le, ◌≤ℤ◌}
 use Rattle.std.proofs.lemmas.Bool.Decides.{leb_tells}
-use Rattle.std.proofs.lemmas.Int.{ints}
-use Rattle.std.proofs.lemmas.List.Sums.{sum_by-cons}
 use Rattle.sip_field.specs.Moduli.{m61_modulus}
 use Rattle.sip_vector.specs.declared.update.Side.{Side}
-use Rattle.sip_vector.specs.declared.update.Side.TheVariants.{First, Second}
 use Rattle.sip_vector.specs.declared.update.Update.{Update}
 use Rattle.sip_vector.specs.Answers.{Answer, pairs}
-use Rattle.sip_vector.specs.Streams.{int_sum, of_side, total, weight, vector, most_weight, IsLegal, IsStrict}
+use Rattle.sip_vector.specs.Streams.{int_sum, of_side, total, vector, most_weight, IsLegal, IsStrict}
 use Rattle.sip_vector.specs.Trees.{Counted, leaf}
 use Rattle.sip_vector.proofs.Sides.{length-vector, total-is}
 use Rattle.sip_wire.specs.declared.version.Version.{Version}
@@ -20,14 +17,7 @@ use Rattle.sip_heavy.specs.Honest.{CanBeSent, heavy_of}
 use Rattle.sip_heavy.specs.Protocol.{heavy_asked, heavy_protocol}
 use Rattle.sip_heavy.proofs.HeavyPairs.{counts, numbered}
 use Rattle.sip_heavy.proofs.HonestLists.{leaves_sum, heavy_numbers}
-
-sum_light : (us : List Update) → nat_abs (int_sum (map (λ (u : Update). u.delta) us)) ≤ sum_by (λ (u : Update). nat_abs u.delta) us
-sum_light [] = omega arith
-sum_light (u ∷ us) = omega (arith, ints, sum_light us, sum_by-cons (λ (x : Update). nat_abs x.delta) u us)
-
-side_light : (depth : ℕ) (stream : List Update) (side : Side) → IsLegal depth stream → weight stream side ≤ most_weight
-side_light depth stream First legal = legal.first
-side_light depth stream Second legal = legal.second
+use Rattle.sip_heavy.proofs.LegalSums.{sum_light, side_light}
 
 pub legal_sent : (version : Version) (depth n : ℕ) (stream : List Update) (side : Side) → IsLegal depth stream → IsStrict depth stream side → 1 ≤ depth → depth ≤ deepest version
     → total stream side ≡ pos n → CanBeSent version m61_modulus depth n (vector depth stream side)

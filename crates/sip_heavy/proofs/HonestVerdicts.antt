@@ -5,6 +5,7 @@ use Rattle.std.proofs.lemmas.Bool.{le-leb}
 use Rattle.std.proofs.lemmas.List.{length-map}
 use Rattle.std.proofs.lemmas.List.FromFn.{length-map-range_with_len}
 use Rattle.sip_field.specs.Moduli.{m61_modulus}
+use Rattle.sip_counts.proofs.Walks.{walk, fronts_walk, walk_snoc}
 use Rattle.sip_vector.specs.Answers.{Answer, pairs}
 use Rattle.sip_vector.specs.Streams.{int_sum}
 use Rattle.sip_vector.specs.Trees.{Counted, leaf, up3, augroot}
@@ -22,8 +23,8 @@ use Rattle.sip_heavy.specs.Honest.{learnt, proving, shown_from, honest_messages,
 use Rattle.sip_heavy.specs.Protocol.{HeavyState, HeavyAsked, heavy_rules, heavy_asked, heavy_protocol}
 use Rattle.sip_heavy.proofs.HeavyPairs.{counts, numbered, is_heavy}
 use Rattle.sip_heavy.proofs.HonestFrames.{leaves_hashed, leaves_are_leaves}
-use Rattle.sip_heavy.proofs.HonestLists.{CanBeFound, found_by, leaves_are, top_is, top_passes, stated, total_is}
-use Rattle.sip_heavy.proofs.HonestReplies.{walk, fronts_walk, walk_snoc, proving-push, Stands, at, arrives, later, reply_of, replies_of, runs}
+use Rattle.sip_heavy.proofs.HonestLists.{CanBeFound, found_by, leaves_are, top_is, top_passes, stated, total_is, at}
+use Rattle.sip_heavy.proofs.HonestReplies.{proving-push, Stands, arrives, later, reply_of, replies_of, runs}
 
 -- ---- where all challenges lead
 
@@ -84,11 +85,11 @@ module _ (version : Version) (p depth t n : ℕ) (numbers : List ℤ) (can : IsA
   begin_stands : Stands p q 0 true leaves
   begin_stands = record {
     first = refl;
-    are = leaves_are p numbers can.found.strict;
+    are = leaves_are p numbers can.found.counted.strict;
     sum = sum_is;
-    size = length-map numbers (leaf p) ∙ can.found.size ∙ ap (λ d. 2 ^ d) (let same : depth ≡ depth - 0 = omega arith in same);
-    hashed = leaves_hashed p can.found.modulus numbers;
-    leaves = λ e. leaves_are_leaves p numbers can.found.strict (omega (arith, sum_is, can.found.light));
+    size = length-map numbers (leaf p) ∙ can.found.counted.size ∙ ap (λ d. 2 ^ d) (let same : depth ≡ depth - 0 = omega arith in same);
+    hashed = leaves_hashed p can.found.counted.modulus numbers;
+    leaves = λ e. leaves_are_leaves p numbers can.found.counted.strict (omega (arith, sum_is, can.found.counted.light));
   }
 
   -- reply by reply, from a level on
@@ -108,7 +109,7 @@ module _ (version : Version) (p depth t n : ℕ) (numbers : List ℤ) (can : IsA
   pub all_run : (revealed more : List ℕ) → length revealed ≤ depth → run R (revealed ++ more) (replies revealed) ≡ Ok (arrives p t 0 [] true leaves revealed)
   all_run revealed more short =
       ap (run R (revealed ++ more)) (replies_are revealed)
-      ∙ runs version p q can.found.modulus can.elements can.found.light can.shallow can.found.some can.found.reached revealed more 0 [] true leaves (omega (arith, short)) begin_stands
+      ∙ runs version p q can.found.counted.modulus can.elements can.found.counted.light can.shallow can.found.some can.found.reached revealed more 0 [] true leaves (omega (arith, short)) begin_stands
 
   -- there is one for each challenge, and one challenge more gives one reply more
   pub replies_count : (challenges : List ℕ) → length (replies challenges) ≡ length challenges
@@ -126,8 +127,8 @@ module _ (version : Version) (p depth t n : ℕ) (numbers : List ℤ) (can : IsA
   found : (r : ℕ) (challenges : List ℕ) → length (r ∷ challenges) ≡ depth → verdict (heavy_protocol (asked_by (r ∷ challenges) (pos n))) (r ∷ challenges) (replies (r ∷ challenges)) ≡ Ok (pairs (heavy_of t numbers))
   found r challenges all =
       let cs : List ℕ = r ∷ challenges in
-      let long : length leaves ≡ 2 ^ length cs = length-map numbers (leaf p) ∙ can.found.size ∙ ap (λ d. 2 ^ d) (sym all) in
-      let top = top_is p n cs leaves long (leaves_are p numbers can.found.strict) sum_is in
+      let long : length leaves ≡ 2 ^ length cs = length-map numbers (leaf p) ∙ can.found.counted.size ∙ ap (λ d. 2 ^ d) (sym all) in
+      let top = top_is p n cs leaves long (leaves_are p numbers can.found.counted.strict) sum_is in
       let same : top.0.hash ≡ (augroot p numbers cs).hash = ap (λ (xs : List Counted). (get_or xs 0 (leaf p (pos 0))).hash) (sym top.1) in
       let s : HeavyState = arrives p t 0 [] true leaves cs in
       let is : run R cs (replies cs) ≡ Ok s = ap (λ l. run R l (replies cs)) (sym (append-nil cs)) ∙ all_run cs [] (omega (arith, all)) in
@@ -138,7 +139,7 @@ module _ (version : Version) (p depth t n : ℕ) (numbers : List ℤ) (can : IsA
       ∙ ap (λ es. Ok (pairs es)) (stated p depth t n numbers can.found)
 
   sent_accepted : (challenges : List ℕ) → length challenges ≡ depth → IsAccepted (heavy_protocol (asked_by challenges (pos n))) challenges (replies challenges) (pairs (heavy_of t numbers))
-  sent_accepted [] all = absurd (omega (arith, all, can.found.levels))
+  sent_accepted [] all = absurd (omega (arith, all, can.found.counted.levels))
   sent_accepted (r ∷ challenges) all =
       let cs : List ℕ = r ∷ challenges in
       let reaches : nat_le t n ≡ true = le-leb t n can.found.reached in
@@ -147,7 +148,7 @@ module _ (version : Version) (p depth t n : ℕ) (numbers : List ℤ) (can : IsA
 
   -- against the root of the vector and its sum, with its heavy entries
   pub heavy_accepted : (challenges : List ℕ) → length challenges ≡ depth → IsAccepted (heavy_protocol (asked_by challenges (int_sum numbers))) challenges (replies challenges) (pairs (heavy_of t numbers))
-  heavy_accepted challenges all = subst (λ z. IsAccepted (heavy_protocol (asked_by challenges z)) challenges (replies challenges) (pairs (heavy_of t numbers))) (sym can.found.total) (sent_accepted challenges all)
+  heavy_accepted challenges all = subst (λ z. IsAccepted (heavy_protocol (asked_by challenges z)) challenges (replies challenges) (pairs (heavy_of t numbers))) (sym can.found.counted.total) (sent_accepted challenges all)
 
   -- ---- they have no fault
 

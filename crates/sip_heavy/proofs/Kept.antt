@@ -2,9 +2,8 @@
 use Rattle.std.proofs.Common.{◌≡◌, ℕ, zero, suc, ◌+◌, ◌-◌, ◌*◌, ◌/◌, ◌%◌, ◌^◌, ◌<◌, ◌≤◌, Bool, true, false, ◌==◌, ◌||◌, List, [], ◌∷◌, length, drop, All, slice_get, Some, refl, sym, ap, subst, ◌∙◌, inl, inr, arith}
 use Rattle.std.specs.Prelude.{nat_lt, nat_le}
 use Rattle.std.specs.List.Sorted.{IsPartitionPoint}
-use Rattle.std.proofs.Math.Nat.{pow-succ', pow-le-pow_right, mod-lt}
+use Rattle.std.proofs.Math.Nat.{pow-le-pow_right, mod-lt}
 use Rattle.std.proofs.lemmas.Bool.{cases_Bool}
-use Rattle.std.proofs.lemmas.Nat.{pow_pos}
 use Rattle.std.proofs.lemmas.Option.{none-some, same_Some}
 use Rattle.std.proofs.lemmas.List.Elements.{All-nil, All-cons, All-head, All-tail, All-append, All-filter}
 use Rattle.sip_vector.specs.Limits.{most_depth}
@@ -16,6 +15,7 @@ use Rattle.sip_heavy.specs.Rising.{Rises}
 use Rattle.sip_heavy.specs.Spots.{left_of, right_of, spots_above, shown_spots, from_on, whole_level, behind_place, IsKept}
 use Rattle.sip_heavy.proofs.Shown.{all_in, half_indices, spots_rise, same_sum, skipped_at}
 use Rattle.sip_heavy.proofs.Wholes.{whole_above, shown_is}
+use Rattle.sip_heavy.proofs.HonestLists.{two_halves}
 
 pub whole_long : (n i : ℕ) (xs : List Node) → length (whole_level n i xs) ≡ n
 unfolding whole_level
@@ -38,10 +38,6 @@ hashes_above p r some (x ∷ y ∷ more) = elim (cases_Bool (x.index / 2 == y.in
 
 -- ---- the level above
 
-pub two_halves : (left : ℕ) → 1 ≤ left → 2 ^ left ≡ 2 ^ (left - 1) + 2 ^ (left - 1)
-two_halves zero some = absurd (omega arith)
-two_halves (suc left) some = let one : suc left - 1 ≡ left = omega arith in rw one (pow-succ' 2 left ∙ (let twice : 2 * 2 ^ left ≡ 2 ^ left + 2 ^ left = omega arith in twice))
-
 module _ (p r t left : ℕ) (xs : List Node) (kept : IsKept p t left xs) (level : 1 ≤ left) (some : 0 < p) where
   pub kept_above : IsKept p t (left - 1) (spots_above p r xs)
   kept_above =
@@ -58,15 +54,6 @@ module _ (p r t left : ℕ) (xs : List Node) (kept : IsKept p t left xs) (level 
 
   pub level_above : whole_level (2 ^ (left - 1)) 0 (spots_above p r xs) ≡ up3 p (whole_level (2 ^ left) 0 xs) r
   level_above = sym (rw (two_halves left level) (whole_above p r some (2 ^ (left - 1)) 0 (2 ^ left) xs kept.rises))
-
--- a level of two nodes or more has a level above it
-pub has_level : (left n : ℕ) → n ≡ 2 ^ left → 2 ≤ n → 1 ≤ left
-has_level zero n is two = absurd (omega (arith, is))
-has_level (suc left) n is two = omega arith
-
-pub has_pair : (left n : ℕ) → n ≡ 2 ^ left → 1 ≤ left → 2 ≤ n
-has_pair zero n is some = absurd (omega arith)
-has_pair (suc left) n is some = omega (arith, is, pow-succ' 2 left, pow_pos left)
 
 -- ---- what is shown
 

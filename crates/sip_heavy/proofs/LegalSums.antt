@@ -9,12 +9,12 @@ use Rattle.sip_vector.specs.Streams.{int_sum, of_side, weight, most_weight, vect
 use Rattle.sip_vector.proofs.Sides.{total-is}
 use Rattle.sip_vector.proofs.Sums.{nat_abs-add-le}
 
-sum_light : (us : List Update) → nat_abs (int_sum (map (λ (u : Update). u.delta) us)) ≤ sum_by (λ (u : Update). nat_abs u.delta) us
+pub sum_light : (us : List Update) → nat_abs (int_sum (map (λ (u : Update). u.delta) us)) ≤ sum_by (λ (u : Update). nat_abs u.delta) us
 sum_light [] = omega arith
 sum_light (u ∷ us) =
     omega (arith, sum_by-cons (λ (w : Update). nat_abs w.delta) u us, nat_abs-add-le u.delta (int_sum (map (λ (w : Update). w.delta) us)), sum_light us)
 
-side_light : (depth : ℕ) (stream : List Update) (side : Side) → IsLegal depth stream → weight stream side ≤ most_weight
+pub side_light : (depth : ℕ) (stream : List Update) (side : Side) → IsLegal depth stream → weight stream side ≤ most_weight
 side_light depth stream First legal = legal.first
 side_light depth stream Second legal = legal.second
 

@@ -4,7 +4,7 @@ use Rattle.std.specs.Prelude.{nat_lt, nat_le, ◌==◌, slice_index, if◌then�
 use Rattle.sip_vector.specs.declared.update.Entry.{Entry}
 use Rattle.std.specs.List.{list_all, list_any}
 use Rattle.std.proofs.Math.Nat.{pow-succ'}
-use Rattle.std.proofs.lemmas.Bool.{and_parts, eqb-true, ltb-true, ne_eqb}
+use Rattle.std.proofs.lemmas.Bool.{and_parts, eqb-true, ltb-true, ne_eqb, not-true}
 use Rattle.std.proofs.lemmas.Bool.Decides.{leb_tells, eqb_tells}
 use Rattle.std.proofs.lemmas.List.Folds.{list_all-append}
 use Rattle.sip_vector.specs.Steps.{◌>>=◌, needs}
@@ -12,6 +12,7 @@ use Rattle.sip_wire.specs.declared.message.Node.{Node}
 use Rattle.sip_wire.specs.declared.message.Reason.{Reason}
 use Rattle.sip_wire.specs.declared.message.Reason.TheVariants as reasons
 use Rattle.sip_replies.specs.Replies.{Fault, in_round}
+use Rattle.sip_replies.proofs.Passing.{step_passed}
 use Rattle.sip_heavy.specs.AcceptsHeavy.{Asked, most_nodes, width, nodes_below, nodes_from, merged, are_pairs, pair_counts, is_empty, nodes_above, is_next, with_nodes, end_test, level_nodes, known_after, heavy_entries, leaves_of}
 use Rattle.sip_heavy.specs.Checking.{Kept, Given, HasTaken, AnswersAs, asked_of, passing_all, keeping, folded}
 use Rattle.sip_heavy.specs.Rising.{Rises}
@@ -31,10 +32,6 @@ abbrev pub AreNew : ℕ → List Node → List Node → Type 0
 AreNew n known [] = Unit {0}
 AreNew n known (x ∷ xs) = (list_any (λ k. k.index == x.index) known ≡ false) × AreNew n known xs
 
-by_not : (b : Bool) → not b ≡ true → b ≡ false
-by_not false e = refl
-by_not true e = absurd cc
-
 -- received nodes rise, and are new
 pub received_rise : (q : Asked) (level : ℕ) (known before : List Node) (least : ℕ) (xs all : List Node) → ((i : ℕ) → list_all (λ b. nat_lt b.index i) before ≡ true → least ≤ i)
     → with_nodes q level known before xs ≡ Ok all → Rises least (width q level) xs × AreNew (width q level) known xs
@@ -46,13 +43,9 @@ received_rise q level known before least (x ∷ xs) all above passed =
     let later = received_rise q level known (before ++ x ∷ []) (suc x.index) xs all
     (λ i lower. let both = and_parts (list_all (λ b. nat_lt b.index i) before) (nat_lt x.index i && true) (sym (list_all-append (λ b. nat_lt b.index i) before (x ∷ [])) ∙ lower) in
     ltb-true x.index i (and_parts (nat_lt x.index i) true both.1).0) parts.1 in
-    ((above x.index order.0, ltb-true x.index (width q level) order.1, later.0), (by_not _ next.1, later.1))
+    ((above x.index order.0, ltb-true x.index (width q level) order.1, later.0), (not-true _ next.1, later.1))
 
 -- ---- a merged level rises
-
-rises_more : (n a b : ℕ) (xs : List Node) → a ≤ b → Rises b n xs → Rises a n xs
-rises_more n a b [] le rises = tt
-rises_more n a b (x ∷ xs) le rises = (omega (arith, rises.0), rises.1, rises.2)
 
 rises_below : (i n least : ℕ) (ks : List Node) → Rises least n ks → Rises least n (nodes_below i ks)
 rises_below i n least [] rises = tt
@@ -126,10 +119,6 @@ above_rises p r n least (l ∷ h ∷ xs) pairs rises =
 
 -- ---- one reply more
 
-pub two_parts : {A B E : Type 0} (r : Result A E) (f : A → Result B E) (y : B) → (r >>= f) ≡ Ok y → (x : A) × ((r ≡ Ok x) × (f x ≡ Ok y))
-two_parts (Ok x) f y e = (x, (refl, e))
-two_parts (Err err) f y e = absurd cc
-
 pub known_after_more : (p : ℕ) (q : Asked) (level : ℕ) (known : List Node) (challenges : List ℕ) (ended : List (List Node)) (received k nodes : List Node)
     → known_after p q level known challenges ended ≡ Ok k → length ended < length challenges → level_nodes q (level + length ended) k received ≡ Ok nodes
     → known_after p q level known challenges (ended ++ received ∷ []) ≡ Ok (nodes_above p (slice_index challenges (length ended)) nodes)
@@ -140,10 +129,10 @@ known_after_more p q level known (r ∷ challenges) [] received k nodes is left 
     let e : level + 0 ≡ level = omega arith in
     ap (λ (t : Result (List Node) Reason). in_round level t >>= λ ns. Ok (nodes_above p r ns)) (ap (λ ks. level_nodes q level ks received) same ∙ (rw e at says))
 known_after_more p q level known (r ∷ challenges) (first ∷ ended) received k nodes is left says =
-    let parts = two_parts (in_round level (level_nodes q level known first)) (λ ns. known_after p q (level + 1) (nodes_above p r ns) challenges ended) k is in
+    let parts = step_passed (in_round level (level_nodes q level known first)) (λ ns. known_after p q (level + 1) (nodes_above p r ns) challenges ended) k is in
     let e : level + suc (length ended) ≡ level + 1 + length ended = omega arith in
-    ap (λ (t : Result (List Node) Fault). t >>= λ ns. known_after p q (level + 1) (nodes_above p r ns) challenges (ended ++ received ∷ [])) parts.1.0
-    ∙ known_after_more p q (level + 1) (nodes_above p r parts.0) challenges ended received k nodes parts.1.1 (omega arith) (rw e at says)
+    ap (λ (t : Result (List Node) Fault). t >>= λ ns. known_after p q (level + 1) (nodes_above p r ns) challenges (ended ++ received ∷ [])) parts.first
+    ∙ known_after_more p q (level + 1) (nodes_above p r parts.x) challenges ended received k nodes parts.then (omega arith) (rw e at says)
 
 -- ---- the heavy leaves
 

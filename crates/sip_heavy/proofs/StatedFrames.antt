@@ -1,17 +1,17 @@
 -- How frames of nodes are read: the nodes that they state are tested, and then what follows is read.
-use Rattle.std.proofs.Common.{◌≡◌, ℕ, ◌+◌, Bool, true, false, not, ◌||◌, Result, Ok, Err, List, [], ◌∷◌, ◌++◌, length, All, refl, sym, ap, ◌∙◌, append_assoc, append-nil}
-use Rattle.std.specs.Prelude.{◌==◌, nat_lt, if◌then◌else◌}
+use Rattle.std.proofs.Common.{◌≡◌, ℕ, Bool, true, false, Result, Ok, Err, List, [], ◌∷◌, ◌++◌, All, refl, sym, ap, ◌∙◌, append_assoc, append-nil}
+use Rattle.std.specs.Prelude.{◌==◌, if◌then◌else◌}
 use Rattle.std.specs.List.{flat_map}
 use Rattle.std.proofs.lemmas.List.Concat.{flat_map-cons}
 use Rattle.std.proofs.lemmas.List.Elements.{All-head, All-tail}
-use Rattle.sip_vector.specs.Steps.{◌>>=◌, needs}
+use Rattle.std.proofs.lemmas.Bool.{not-true}
+use Rattle.sip_vector.specs.Steps.{◌>>=◌}
 use Rattle.sip_wire.specs.declared.kind.Place.{Place}
 use Rattle.sip_wire.specs.declared.kind.Place.TheVariants as places
 use Rattle.sip_wire.specs.declared.message.Message.{Message}
 use Rattle.sip_wire.specs.declared.message.Message.TheVariants as messages
 use Rattle.sip_wire.specs.declared.message.Node.{Node}
 use Rattle.sip_wire.specs.declared.message.Reason.{Reason}
-use Rattle.sip_wire.specs.declared.message.Reason.TheVariants as reasons
 use Rattle.sip_wire.specs.declared.version.Version.{Version}
 use Rattle.sip_wire.specs.Spelling.{fits, has_room, all_hold, kind_of, spelling}
 use Rattle.sip_wire.specs.Table.{allows}
@@ -21,26 +21,10 @@ use Rattle.sip_replies.specs.declared.check.More.TheVariants as mores
 use Rattle.sip_replies.specs.Protocols.{Rules}
 use Rattle.sip_replies.specs.Replies.{at_end, read_reply, step_says}
 use Rattle.sip_replies.proofs.Reading.{read_reply-step}
-use Rattle.sip_heavy.specs.AcceptsHeavy.{Asked, end_test, is_next, merged, most_nodes, with_nodes}
+use Rattle.sip_heavy.specs.AcceptsHeavy.{Asked, end_test, merged, with_nodes}
 use Rattle.sip_heavy.specs.Protocol.{HeavyState, end_step, ended, heavy_rules, heavy_step, nodes_step}
 use Rattle.sip_heavy.specs.Stating.{IsFrame, nodes_of, stands_in, stated_reply}
 use Rattle.sip_heavy.proofs.Taking.{with_nodes-append}
-
--- nodes that pass are those received before, and these
-pub taken_all : (q : Asked) (level : ℕ) (known before xs all : List Node) → with_nodes q level known before xs ≡ Ok all → all ≡ before ++ xs
-taken_all q level known before [] all e = (let same : before ≡ all = cc in sym same) ∙ sym (append-nil before)
-taken_all q level known before (x ∷ xs) all e =
-    by_tests (is_next q level known before x.index) (nat_lt (length known + length before) (most_nodes q)) (level == 0 || nat_lt x.count q.at_least) (λ f. taken_all q level known (before ++ x ∷ []) xs all f) e
-  where
-    by_tests : (order room light : Bool) → (with_nodes q level known (before ++ x ∷ []) xs ≡ Ok all → all ≡ (before ++ x ∷ []) ++ xs) → (needs order reasons.BadOrder >>= λ _. needs room reasons.TooMany >>= λ _. needs light reasons.HeavySibling >>= λ _. with_nodes q level known (before ++ x ∷ []) xs) ≡ Ok all → all ≡ before ++ x ∷ xs
-    by_tests true true true later f = later f ∙ append_assoc before (x ∷ []) xs
-    by_tests true true false later f = absurd cc
-    by_tests true false light later f = absurd cc
-    by_tests false room light later f = absurd cc
-
-by_not : (b : Bool) → not b ≡ true → b ≡ false
-by_not false e = refl
-by_not true e = absurd cc
 
 -- the numbers of such a frame are in range
 frame_range : (first : Bool) (m : Message) → stands_in first m ≡ true → InRange m
@@ -65,7 +49,7 @@ place_in first = if first then places.Leaves else places.Nodes
 -- it may stand at its place
 frame_allowed : (first : Bool) (m : Message) → stands_in first m ≡ true → allows (place_in first) (kind_of m) ≡ true
 frame_allowed first (messages.Leaves v) stands = rw stands refl
-frame_allowed first (messages.Nodes v) stands = rw (by_not first stands) refl
+frame_allowed first (messages.Nodes v) stands = rw (not-true first stands) refl
 frame_allowed first messages.LevelEnd stands = absurd cc
 frame_allowed first (messages.Refuse code) stands = absurd cc
 frame_allowed first (messages.Open number depth) stands = absurd cc
@@ -82,7 +66,7 @@ frame_allowed first (messages.Siblings left right) stands = absurd cc
 -- its step is that of its nodes
 pub frame_step : (q : Asked) (s : HeavyState) (m : Message) → stands_in (s.level == 0) m ≡ true → heavy_step q s m ≡ nodes_step q s (nodes_of m)
 frame_step q s (messages.Leaves v) stands = rw stands refl
-frame_step q s (messages.Nodes v) stands = rw (by_not (s.level == 0) stands) refl
+frame_step q s (messages.Nodes v) stands = rw (not-true (s.level == 0) stands) refl
 frame_step q s messages.LevelEnd stands = absurd cc
 frame_step q s (messages.Refuse code) stands = absurd cc
 frame_step q s (messages.Open number depth) stands = absurd cc
@@ -96,12 +80,13 @@ frame_step q s (messages.Poly a b c) stands = absurd cc
 frame_step q s (messages.Entries v) stands = absurd cc
 frame_step q s (messages.Siblings left right) stands = absurd cc
 
+-- a state with these nodes received
+abbrev pub with_received : HeavyState → List Node → HeavyState
+with_received s xs = record s { received = xs }
+
 module _ (version : Version) (p : ℕ) (q : Asked) where
   abbrev R : Rules HeavyState
   R = heavy_rules version p q
-
-  abbrev with_received : HeavyState → List Node → HeavyState
-  with_received s all = record s { received = all }
 
   -- ---- nodes
 

@@ -17,11 +17,9 @@ use Rattle.sip_heavy.specs.AcceptsHeavy.{Asked, end_test, heavy_entries, known_a
 use Rattle.sip_heavy.specs.AcceptsHeavy as heavy
 use Rattle.sip_heavy.specs.Protocol.{HeavyAsked, HeavyState, ended, heavy_finish, heavy_protocol, heavy_rules, learns, reaches}
 use Rattle.sip_heavy.specs.Stating.{AreFrames, as_answer, nodes_of, stated_nodes, stated_replies, stated_reply}
-use Rattle.sip_heavy.proofs.StatedFrames.{level_says, reply_is, taken_all}
-
--- a level before anything of it was received
-abbrev at_level : ℕ → List Node → List Node → HeavyState
-at_level level known leaves = record { level = level; known = known; received = []; leaves = leaves }
+use Rattle.sip_heavy.proofs.StatedFrames.{level_says, reply_is}
+use Rattle.sip_heavy.proofs.HeardNodes.{at_level}
+use Rattle.sip_heavy.proofs.ClearedLevels.{taken_same}
 
 module _ (asked : HeavyAsked) where
   abbrev version : Version
@@ -75,7 +73,7 @@ module _ (asked : HeavyAsked) where
       by_nodes : (w : Result (List Node) Reason) → with_nodes q j known [] xs ≡ w
           → ended_bytes d (in_round j (w >>= λ all. end_test q j (merged known all) >>= λ _. Ok (ended (record { level = j; known = known; received = all; leaves = leaves }))) >>= λ t. run_from R (j + 1) rs (learns p t r) more)
           ≡ ended_lists d final (in_round j (w >>= λ all. end_test q j (merged known all) >>= λ _. Ok (merged known all)) >>= λ nodes. known_after p q (j + 1) (nodes_above p r nodes) rs lists)
-      by_nodes (Ok all) is = by_ends all (taken_all q j known [] xs all is) (end_test q j (merged known all))
+      by_nodes (Ok all) is = by_ends all (sym (taken_same q j known [] xs all is)) (end_test q j (merged known all))
       by_nodes (Err reason) is = refl
 
   replies_from : (j d : ℕ) (rs : List ℕ) (known leaves : List Node) (replies : List (List Message)) → AreFrames version j replies → length replies ≡ length rs → ((j == 0) ≡ true → leaves ≡ [])

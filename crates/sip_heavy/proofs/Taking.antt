@@ -10,8 +10,9 @@ use Rattle.sip_vector.specs.Steps.{◌>>=◌, needs}
 use Rattle.sip_wire.specs.declared.message.Node.{Node}
 use Rattle.sip_wire.specs.declared.message.Reason.{Reason}
 use Rattle.sip_wire.specs.declared.message.Reason.TheVariants as reasons
+use Rattle.sip_replies.specs.Rising.{is_above}
 use Rattle.sip_heavy.specs.AcceptsHeavy.{Asked, most_nodes, width, nodes_below, nodes_from, is_next, with_nodes, top_test}
-use Rattle.sip_heavy.specs.Checking.{Kept, Given, HasTaken, AnswersAs, asked_of, passing, with_node, node_test, is_above, begins_with}
+use Rattle.sip_heavy.specs.Checking.{Kept, Given, HasTaken, AnswersAs, asked_of, passing, with_node, node_test, begins_with}
 use Rattle.sip_heavy.proofs.Merging.{drop_below, length_below, merges_next, known_is, from_passed, passed_below, all_lower}
 
 -- nodes are tested one after another

@@ -6,6 +6,7 @@ use Rattle.sip_vector.specs.declared.update.Entry.{Entry}
 use Rattle.sip_wire.specs.declared.message.Node.{Node}
 use Rattle.sip_wire.specs.declared.message.Reason.{Reason}
 use Rattle.sip_wire.specs.declared.message.Reason.TheVariants as reasons
+use Rattle.sip_replies.specs.Rising.{is_above}
 use Rattle.sip_heavy.specs.Rising.{Rises}
 use Rattle.sip_heavy.specs.AcceptsHeavy.{Asked, most_nodes, width, nodes_below, merged, nodes_above, known_after, with_nodes, heavy_entries, leaves_of}
 
@@ -62,11 +63,6 @@ pub record Begun (challenges : List ℕ) (nodes : ℕ) (c : Kept) : Type 0 where
   pub unspent : c.spent ≡ false
 
 -- ---- one node
-
--- an index is above the last one, where there is one
-abbrev pub is_above : Option ℕ → ℕ → Bool
-is_above None i = true
-is_above (Some last) i = nat_lt last i
 
 -- the first of these nodes has this index
 abbrev pub begins_with : ℕ → List Node → Bool

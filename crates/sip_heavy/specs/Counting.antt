@@ -1,13 +1,13 @@
 -- How many challenges a wrong list of heavy entries can be accepted at: what is counted, and what a
 -- call promises of it.
-use Rattle.std.specs.Prelude.{ℕ, ◌==◌, Bool, ◌&&◌, ℤ, List, [], take, Option, Result, Ok, Err, ◌*◌}
-use Rattle.std.specs.Ordering.{int_eq}
+use Rattle.std.specs.Prelude.{ℕ, Bool, ℤ, List, [], take, Option, Result, Ok, Err, ◌*◌}
 use Rattle.std.specs.Cmp.Lexicographic.{pointwise}
 use Rattle.sip_field.specs.Moduli.{m61_modulus}
 use Rattle.sip_counts.specs.Clauses.{FewAndCounted}
 use Rattle.sip_replies.specs.Protocols.{Protocol}
 use Rattle.sip_replies.specs.Replies.{Fault, run}
 use Rattle.sip_replies.specs.Replies as replies_of
+use Rattle.sip_replies.specs.SameEntries.{is_same_entry}
 use Rattle.sip_vector.specs.declared.update.Entry.{Entry}
 use Rattle.sip_vector.specs.Streams.{int_sum}
 use Rattle.sip_vector.specs.Trees.{augroot}
@@ -28,9 +28,6 @@ asked_over depth t numbers =
 abbrev pub accepts_nodes : ℕ → ℕ → ℕ → List ℤ → List ℕ → List (List Node) → Bool
 accepts_nodes p depth t numbers challenges replies =
     accepts p (asked_over depth t numbers) (augroot p numbers challenges).hash challenges replies
-
-abbrev pub is_same_entry : Entry → Entry → Bool
-is_same_entry a b = (a.index == b.index) && int_eq a.value b.value
 
 -- the heavy leaves among what was received are those of the numbers
 abbrev pub are_right : ℕ → List ℤ → List (List Node) → Bool

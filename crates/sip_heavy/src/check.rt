@@ -2,12 +2,14 @@
 
 ghost use Rattle.std.specs.Prelude.{◌≡◌, ℕ, ◌+◌, ◌-◌, ◌*◌, ◌/◌, ◌%◌, ◌^◌, ◌<◌, ◌≤◌, ◌==◌, ◌&&◌, ◌||◌, not, true, false, nat_lt, nat_le, nat_abs, pos, ◌≤ℤ◌, slice_index, List, [], ◌∷◌, ◌++◌, length, drop, is_err, IfOk};
 ghost use Rattle.std.specs.List.{list_all};
+ghost use Rattle.sip_replies.specs.Rising.{is_above};
 ghost use Rattle.sip_heavy.specs.AcceptsHeavy.{Asked, are_pairs, end_test, is_empty, leaf_node, merged, nodes_above, pair_counts, top_test};
-ghost use Rattle.sip_heavy.specs.Checking.{Advances, AnswersAs, Begun, Given, HasTaken, Kept, asked_of, begins_with, folded, is_above, keeping, node_test, Takes, nothing, passing, passing_all, with_node};
+ghost use Rattle.sip_heavy.specs.Checking.{Advances, AnswersAs, Begun, Given, HasTaken, Kept, asked_of, begins_with, folded, keeping, node_test, Takes, nothing, passing, passing_all, with_node};
 
 use crate::level::{are_heavy, are_pairs, are_within, fold_pairs, move_below, put_heavy};
 use crate::space::HeavySpace;
 use sip_field::Field;
+use sip_replies::is_above;
 use sip_tree::AugRoot;
 use sip_vector::Entry;
 use sip_wire::{Node, Reason};
@@ -473,16 +475,6 @@ impl<F: Field, const CAP: usize> HeavyCheck<F, CAP> {
         ensures { result ≡ length self.now.nodes + (length self.now.known - self.now.passed) }
     {
         self.nodes.len() + (self.known.len() - self.passed)
-    }
-}
-
-// Whether an index is above the last one, where there is one.
-fn is_above(last: Option<u64>, index: u64) -> bool
-    ensures { result ≡ is_above last index }
-{
-    match last {
-        Some(last) => last < index,
-        None => true,
     }
 }
 

@@ -1,5 +1,5 @@
-//! Laws: honest replies are accepted, and what they state is the answer. These functions do nothing: each contract is a fact
-//! that holds.
+//! Laws: honest replies are accepted, and what they state is the answer. These functions do
+//! nothing: each contract is a fact that holds.
 
 ghost use Rattle.std.specs.Prelude.{◌≡◌, ℕ, ◌+◌, ◌<◌, ◌≤◌, nat_le, ℤ, pos, ◌≤ℤ◌, All, IsTrue, List, [], ◌∷◌, ◌++◌, length, filter, slice_get, Some, None, Ok};
 ghost use Rattle.sip_field.specs.Moduli.{m61_modulus};
@@ -21,7 +21,8 @@ ghost use Rattle.sip_heavy.specs.Honest.{Proving, begun, learnt, proving, its_no
 ghost use Rattle.sip_heavy.specs.HonestExamples.{level_end, reply_0, reply_1};
 ghost use Rattle.sip_heavy.specs.Protocol.{heavy_asked, heavy_protocol, heavy_rules};
 
-/// A prover that learns the challenges one after another comes to the levels of the augmented tree that they lead to.
+/// A prover that learns the challenges one after another comes to the levels of the augmented tree
+/// that they lead to.
 pub fn provers_go_up()
     ensures begun { (p : ℕ) (numbers : List ℤ) (t : ℕ)
         → proving p numbers t [] ≡ begun p numbers t }
@@ -29,7 +30,8 @@ pub fn provers_go_up()
         → proving p numbers t (prefix ++ r ∷ []) ≡ learnt p (proving p numbers t prefix) r }
 {}
 
-/// The first node that is shown of a level, and then those after it, are all of them: so a walk finds each.
+/// The first node that is shown of a level, and then those after it, are all of them: so a walk
+/// finds each.
 pub fn walks_find_each_node()
     ensures all { (s : Proving) → filter (λ x. nat_le 0 x.index) (its_nodes s) ≡ its_nodes s }
     ensures next { (s : Proving) (from : ℕ) (x : Node)
@@ -48,7 +50,8 @@ pub fn honest_messages_have_spellings()
         → All (λ m. IsTrue (fits version m)) (honest_messages p numbers t revealed) }
 {}
 
-/// The honest nodes, level by level, are accepted against the root of the vector, and what they state is its heavy entries.
+/// The honest nodes, level by level, are accepted against the root of the vector, and what they
+/// state is its heavy entries.
 pub fn honest_lists_are_accepted()
     ensures { (p depth t n : ℕ) (numbers : List ℤ) (challenges : List ℕ)
         → CanBeCounted p depth n numbers → 1 ≤ t → t ≤ n → length challenges ≡ depth
@@ -58,8 +61,8 @@ pub fn honest_lists_are_accepted()
         ≡ Ok (heavy_of t numbers) }
 {}
 
-/// The honest replies about a vector whose heavy entries can be sent are accepted against its root and its sum, and what they
-/// state is its heavy entries.
+/// The honest replies about a vector whose heavy entries can be sent are accepted against its root
+/// and its sum, and what they state is its heavy entries.
 pub fn honest_replies_are_accepted()
     ensures { (version : Version) (p depth t n : ℕ) (numbers : List ℤ) (challenges : List ℕ)
         → CanBeSent version p depth n numbers → 1 ≤ t → t ≤ n
@@ -71,8 +74,8 @@ pub fn honest_replies_are_accepted()
         (pairs (heavy_of t numbers)) }
 {}
 
-/// While honest replies come they have no fault, but that more is to come: neither where the last one is whole, nor where a front
-/// of it was taken.
+/// While honest replies come they have no fault, but that more is to come: neither where the last
+/// one is whole, nor where a front of it was taken.
 pub fn honest_replies_have_no_fault()
     ensures whole { (version : Version) (p depth t n : ℕ) (numbers : List ℤ)
         (revealed more : List ℕ) → CanBeSent version p depth n numbers → 1 ≤ t → t ≤ n
@@ -91,7 +94,8 @@ pub fn honest_replies_have_no_fault()
         (honest_replies version p numbers t revealed ++ front ∷ []) }
 {}
 
-/// Below the threshold nothing is asked, and the answer without a reply is right: no entry is heavy.
+/// Below the threshold nothing is asked, and the answer without a reply is right: no entry is
+/// heavy.
 pub fn nothing_is_asked_below()
     ensures { (version : Version) (p hash depth t n : ℕ) (numbers : List ℤ) (challenges : List ℕ)
         → All (λ a. pos 0 ≤ℤ a) numbers → int_sum numbers ≡ pos n → n < t
@@ -113,7 +117,8 @@ pub fn legal_streams_are_answered()
         ≡ pairs (heavy_of t (vector depth stream side)) }
 {}
 
-/// The honest replies about the entries of at least 4 of (3, 0, 5, 1), in both versions, and where no entry is heavy.
+/// The honest replies about the entries of at least 4 of (3, 0, 5, 1), in both versions, and where
+/// no entry is heavy.
 #[tactic(auto, unfolding(crate::specs::Honest::honest_messages, sip_wire::specs::Spelling::spelling, sip_wire::specs::Spelling::in_bytes, sip_wire::specs::Spelling::spelled))]
 pub fn honest_replies_by_hand()
     ensures four { honest_replies One m61_modulus four 4 (2 ∷ 10 ∷ [])

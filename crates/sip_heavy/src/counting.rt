@@ -1,4 +1,5 @@
-//! How many challenges a helper can win by. These functions do nothing: each contract is a fact that holds.
+//! How many challenges a helper can win by. These functions do nothing: each contract is a fact
+//! that holds.
 #![tactic(auto, unfolding(crate::specs::AcceptsHeavy::verdict, crate::specs::AcceptsHeavy::known_after, sip_counts::specs::Counts::sum_below, sip_counts::specs::Counts::count_below, sip_counts::specs::Counts::counted_from, sip_counts::specs::Counts::counted, sip_counts::specs::Strategies::takes_wrong))]
 
 ghost use Rattle.std.specs.Prelude.{◌≡◌, ◌↔◌, ℕ, ◌*◌, ◌-◌, ◌^◌, ◌<◌, ◌≤◌, ◌≤ℤ◌, true, false, nat_lt, ℤ, pos, nat_abs, Option, Some, List, [], ◌∷◌, length, All};
@@ -22,8 +23,9 @@ ghost use Rattle.sip_heavy.specs.Counting.{accepts_heavy, accepts_nodes, are_rig
 ghost use Rattle.sip_heavy.specs.Honest.{heavy_of};
 ghost use Rattle.sip_heavy.specs.CountedExamples.{misplaced, says_first};
 
-/// Over every prime modulus, nodes in whole pairs, of which one is wrong, have right nodes above them for at most three
-/// challenges. The counts of each pair have to add up to less than p; the true counts may be any.
+/// Over every prime modulus, nodes in whole pairs, of which one is wrong, have right nodes above
+/// them for at most three challenges. The counts of each pair have to add up to less than p; the
+/// true counts may be any.
 pub fn few_challenges_hide_a_wrong_node()
     ensures { (p : ℕ) (truth : ℕ → Spot) (nodes : List AnyNode)
         → IsPrime p → are_pairs nodes ≡ true
@@ -31,9 +33,10 @@ pub fn few_challenges_hide_a_wrong_node()
         → count_below p (λ r. are_true p (level_above p r truth) (nodes_above p r nodes)) ≤ 3 }
 {}
 
-/// Over every prime modulus p, for numbers of which none is negative and whose sum is below p: however a helper replies to
-/// the query for those of at least t, by what was revealed to it, it has another list than theirs accepted at no more than
-/// 3·d·p^(d - 1) of the p^d vectors of challenges. Nothing is asked of the nodes that it sends.
+/// Over every prime modulus p, for numbers of which none is negative and whose sum is below p:
+/// however a helper replies to the query for those of at least t, by what was revealed to it, it
+/// has another list than theirs accepted at no more than 3·d·p^(d - 1) of the p^d vectors of
+/// challenges. Nothing is asked of the nodes that it sends.
 pub fn few_challenges_for_wrong_leaves()
     ensures { (p d t : ℕ) (numbers : List ℤ) (strategy : List ℕ → Option (List AnyNode))
         → IsPrime p → length numbers ≡ 2 ^ d → All (λ a. pos 0 ≤ℤ a) numbers
@@ -42,8 +45,8 @@ pub fn few_challenges_for_wrong_leaves()
         ≤ 3 * d * p ^ (d - 1) }
 {}
 
-/// The same over replies as bytes, for every strategy, made of bytes or not. Where the sum is below t nothing is asked, and no
-/// wrong answer is accepted.
+/// The same over replies as bytes, for every strategy, made of bytes or not. Where the sum is below
+/// t nothing is asked, and no wrong answer is accepted.
 pub fn few_challenges_for_wrong_replies()
     ensures { (version : Version) (p d t : ℕ) (numbers : List ℤ) (strategy : Strategy)
         → IsPrime p → length numbers ≡ 2 ^ d → All (λ a. pos 0 ≤ℤ a) numbers
@@ -52,7 +55,8 @@ pub fn few_challenges_for_wrong_replies()
         ≤ 3 * d * p ^ (d - 1) }
 {}
 
-/// Modulo 2^61 - 1, for a side of every legal stream with no negative entry, no more is asked: its sum is small enough.
+/// Modulo 2^61 - 1, for a side of every legal stream with no negative entry, no more is asked: its
+/// sum is small enough.
 pub fn few_challenges_for_wrong_answers()
     ensures { (version : Version) (d t : ℕ) (stream : List AnyUpdate) (side : AnySide)
         (strategy : Strategy)
@@ -62,7 +66,8 @@ pub fn few_challenges_for_wrong_answers()
         ≤ 3 * d * m61_modulus ^ (d - 1) }
 {}
 
-/// Where entries are written only for replies that are accepted and state them, the promise on helpers that lie holds.
+/// Where entries are written only for replies that are accepted and state them, the promise on
+/// helpers that lie holds.
 pub fn accepted_answers_are_counted()
     ensures { (version : Version) (d t : ℕ) (stream : List AnyUpdate) (side : AnySide)
         (block : List ℕ) (taken : List (List ℕ)) (written : Option (List AnyEntry))
@@ -80,15 +85,16 @@ pub fn right_replies_say_the_heavy_numbers()
         ↔ (said version p d t numbers all ≡ heavy_of t numbers) }
 {}
 
-/// An augmented root counts all of its numbers: so the total that a running root keeps is their sum.
+/// An augmented root counts all of its numbers: so the total that a running root keeps is their
+/// sum.
 pub fn augmented_roots_count_all()
     ensures { (p : ℕ) (numbers : List ℤ) (challenges : List ℕ)
         → length numbers ≡ 2 ^ length challenges
         → (augroot p numbers challenges).count ≡ int_sum numbers }
 {}
 
-/// Over 31, for (3, 1) and the entries of at least 3: the leaves (0, 4) and (1, 0) are accepted at the challenges 1 and 30
-/// alone; the bound is 3.
+/// Over 31, for (3, 1) and the entries of at least 3: the leaves (0, 4) and (1, 0) are accepted at
+/// the challenges 1 and 30 alone; the bound is 3.
 pub fn two_challenges_of_31()
     ensures count { counted 31 (takes_wrong (accepts_nodes 31 1 3 (pos 3 ∷ pos 1 ∷ []))
         (are_right 3 (pos 3 ∷ pos 1 ∷ [])) says_first) 1 ≡ 2 }
@@ -98,8 +104,9 @@ pub fn two_challenges_of_31()
         (are_right 3 (pos 3 ∷ pos 1 ∷ [])) says_first (30 ∷ []) ≡ true }
 {}
 
-/// Over 31, for (0, 0, 4, 0) and the entries of at least 3: the leaves (0, 4) and (1, 0), with an empty node beside theirs,
-/// are accepted where 4·(1 + r_1 + r_2)·(1 - r_2²) is 0, at 91 of the 961 vectors; the bound is 186.
+/// Over 31, for (0, 0, 4, 0) and the entries of at least 3: the leaves (0, 4) and (1, 0), with an
+/// empty node beside theirs, are accepted where 4·(1 + r_1 + r_2)·(1 - r_2²) is 0, at 91 of the 961
+/// vectors; the bound is 186.
 pub fn ninety_one_of_961()
     ensures { counted 31 (takes_wrong (accepts_nodes 31 2 3 misplaced) (are_right 3 misplaced)
         says_first) 2 ≡ 91 }

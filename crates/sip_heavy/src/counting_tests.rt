@@ -16,7 +16,8 @@ fn root_at(first: u64, second: u64) -> AugRoot<F31, 8>
     root
 }
 
-// Gives a new check the leaves 4 and 0 at the indices 0 and 1, and then a node 1 with nothing below it.
+// Gives a new check the leaves 4 and 0 at the indices 0 and 1, and then a node 1 with nothing below
+// it.
 fn judge(check: &mut HeavyCheck<F31, 8>) -> Result<(), Reason>
     requires depth { length check.old.challenges ≡ 2 }
     requires level { check.old.level ≡ 0 }

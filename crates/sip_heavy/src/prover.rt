@@ -22,9 +22,10 @@ pub struct HeavyNode<F> {
 
 /// What an honest helper keeps to show the entries of a vector that are at least a threshold.
 ///
-/// A contract sees the level of the augmented tree that the challenges so far lead to, as the list of all its nodes. Only the m
-/// nodes that are not zero take memory, 24 bytes each; no call goes over the others, and `learn` folds them in place. The idea
-/// of a tree whose nodes also count is that of Cormode, Thaler and Yi (PVLDB 5(1)).
+/// A contract sees the level of the augmented tree that the challenges so far lead to, as the list
+/// of all its nodes. Only the m nodes that are not zero take memory, 24 bytes each; no call goes
+/// over the others, and `learn` folds them in place. The idea of a tree whose nodes also count is
+/// that of Cormode, Thaler and Yi (PVLDB 5(1)).
 #[derive(Drop)]
 pub struct HeavyProver<F: Field> {
     at_least: u64,
@@ -52,8 +53,9 @@ impl<F: Field> Model for HeavyProver<F> {
 }
 
 impl<F: Field> HeavyProver<F> {
-    /// Begins at the leaves over a vector without negative numbers. It takes memory for the entries that are not 0; no later
-    /// call takes any. O(m), and slower where additions are pending in the vector.
+    /// Begins at the leaves over a vector without negative numbers. It takes memory for the entries
+    /// that are not 0; no later call takes any. O(m), and slower where additions are pending in the
+    /// vector.
     pub fn start(
         alloc: Global,
         vector: &Vector,
@@ -77,7 +79,8 @@ impl<F: Field> HeavyProver<F> {
         })
     }
 
-    /// How many levels are left below the root, the present one among them: each has nodes to show and a challenge to learn.
+    /// How many levels are left below the root, the present one among them: each has nodes to show
+    /// and a challenge to learn.
     pub fn levels_left(&self) -> u8
         ensures exact { length self.now.level ≡ 2 ^ result }
         ensures some { (0 < result) ↔ (2 ≤ length self.now.level) }
@@ -86,10 +89,11 @@ impl<F: Field> HeavyProver<F> {
         self.levels_left
     }
 
-    /// The first node that is shown of the level, at `from` or after it; `None` where there is none, as at the root.
+    /// The first node that is shown of the level, at `from` or after it; `None` where there is
+    /// none, as at the root.
     ///
-    /// A search of O(log m), and a walk over the nodes up to the one that is found, without memory. So a level costs O(m), and a
-    /// search for each node that is shown.
+    /// A search of O(log m), and a walk over the nodes up to the one that is found, without memory.
+    /// So a level costs O(m), and a search for each node that is shown.
     pub fn next_node(&self, from: u64) -> Option<HeavyNode<F>>
         ensures first { option_map (node_of F.number) result
             ≡ slice_get (filter (λ x. nat_le from x.index) (its_nodes self.now)) 0 }
@@ -107,7 +111,8 @@ impl<F: Field> HeavyProver<F> {
         })
     }
 
-    /// Goes to the level above by its challenge. O(m), three `times` for each node above, without memory.
+    /// Goes to the level above by its challenge. O(m), three `times` for each node above, without
+    /// memory.
     pub fn learn(&mut self, r: F)
         requires { 2 ≤ length self.old.level }
         ensures learnt { self.new ≡ learnt F.MODULUS self.old (F.number r) }

@@ -6,8 +6,9 @@ ghost use Rattle.sip_vector.specs.Answers.{entries, is_shared};
 ghost use Rattle.sip_vector.specs.Streams.{int_sum};
 ghost use Rattle.sip_heavy.specs.Honest.{heavy_of};
 
-/// Of numbers of which none is negative, those that have a share of their sum are those of at least that share of it, rounded up.
-/// Where the sum is 0 there are none, as there are none of at least 1.
+/// Of numbers of which none is negative, those that have a share of their sum are those of at least
+/// that share of it, rounded up. Where the sum is 0 there are none, as there are none of at least
+/// 1.
 pub fn shares_are_thresholds()
     ensures { (num den : ℕ) (numbers : List ℤ) → 1 ≤ den → All (λ a. pos 0 ≤ℤ a) numbers
         → filter (is_shared num den (int_sum numbers)) (entries numbers)

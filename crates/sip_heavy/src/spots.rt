@@ -13,7 +13,8 @@ use sip_vector::{Entry, Vector};
 use sip_wire::Node;
 use std::alloc::Global;
 
-// The leaves over a vector's numbers that are not 0. O(m), and slower where additions are pending in the vector.
+// The leaves over a vector's numbers that are not 0. O(m), and slower where additions are pending
+// in the vector.
 pub(crate) fn leaves_of<F: Field>(alloc: Global, vector: &Vector) -> Result<Vec<Node>, OutOfMemory>
     requires strict { All (λ a. pos 0 ≤ℤ a) vector.now.numbers }
     ensures { IfOk result (λ spots. spots.items
@@ -62,7 +63,8 @@ fn zero_at(index: u64) -> Node
     }
 }
 
-// The pair of the first of these nodes: with the second one where that is its sibling, and else with a zero.
+// The pair of the first of these nodes: with the second one where that is its sibling, and else
+// with a zero.
 fn first_pair(spots: &[Node]) -> Pair
     requires some { 0 < length spots.now }
     requires small { All (λ x. x.index < 2 ^ 48) spots.now }
@@ -102,8 +104,8 @@ fn first_pair(spots: &[Node]) -> Pair
     }
 }
 
-// Writes the nodes above over these. A node above comes after one node or two, so it never takes the place of one that is
-// still to be read. Three `times` for each node above.
+// Writes the nodes above over these. A node above comes after one node or two, so it never takes
+// the place of one that is still to be read. Three `times` for each node above.
 pub(crate) fn fold_spots<F: Field>(spots: &mut Vec<Node>, r: F)
     requires small { All (λ x. x.index < 2 ^ 48) spots.old.items }
     requires light { All (λ x. x.count < 2 ^ 61) spots.old.items }

@@ -9,6 +9,7 @@ use Rattle.sip_wire.specs.declared.message.Node.{Node}
 use Rattle.sip_wire.specs.declared.message.Reason.{Reason}
 use Rattle.sip_wire.specs.declared.message.Reason.TheVariants as reasons
 use Rattle.sip_replies.specs.declared.check.More.{More}
+use Rattle.sip_replies.specs.LawProofs.Refusals.{same_err, wrong_kind}
 use Rattle.sip_heavy.specs.AcceptsHeavy.{Asked, most_nodes, is_next, with_nodes, are_pairs, is_empty, pair_counts, end_test, merged, top_test}
 use Rattle.sip_heavy.specs.Protocol.{HeavyAsked, HeavyState, leaf_nodes, nodes_step, heavy_protocol}
 
@@ -16,17 +17,9 @@ use Rattle.sip_heavy.specs.Protocol.{HeavyAsked, HeavyState, leaf_nodes, nodes_s
 abbrev NotClosed : {X : Type 0} → Result X Reason → Type 0
 NotClosed {X} r = (reason : Reason) → r ≡ Err reason → reason ≢ reasons.Closed
 
--- two refusals that are the same have the same reason
-same_err : {X : Type 0} (a b : Reason) → ◌≡◌ {A = Result X Reason} (Err a) (Err b) → a ≡ b
-same_err a b e = cc
-
 -- what passes has no reason
 by_ok : {X : Type 0} (x : X) → NotClosed (Ok x)
 by_ok x reason e c = absurd cc
-
--- a frame of a wrong kind
-wrong_kind : {X : Type 0} → NotClosed {X = X} (Err reasons.BadKind)
-wrong_kind reason e c = let f = same_err reasons.BadKind reason e in cc
 
 -- a step behind a test
 by_needs : {X : Type 0} (test : Bool) (first : Reason) (r : Unit {0} → Result X Reason)

@@ -68,7 +68,8 @@ fn learn<F: Field, R: Abort>(rt: &R, prover: &mut HeavyProver<F>, r: u64) {
     prover.learn(F::of(r));
 }
 
-// The entries of at least 4 of (3, 0, 5, 1): the node above the first two is light, and 9 = 3 + 3 * 2.
+// The entries of at least 4 of (3, 0, 5, 1): the node above the first two is light, and 9 = 3 + 3 *
+// 2.
 fn prove_four<F: Field, R: Abort>(rt: &R, alloc: Global, vector: &Vector) -> Result<(), Fail> {
     let mut prover = prover_of::<F, R>(rt, alloc, vector, 4)?;
     assert_eq!(rt; prover.levels_left(), 2);

@@ -1,6 +1,7 @@
 use Rattle.std.proofs.Common.{◌≡◌, ◌^◌, length, sym, ap, ◌∙◌}
+use Rattle.sip_tree.proofs.Heights.{has_level, has_pair}
 use Rattle.sip_heavy.specs.Honest.{Proving}
-use Rattle.sip_heavy.proofs.Kept.{whole_long, has_level, has_pair}
+use Rattle.sip_heavy.proofs.Kept.{whole_long}
 use Rattle.sip_heavy.proofs.prover.HeavyProver.levels_left.Goals as goal
 
 pub returns-clause-exact : goal.returns-clause-exact
