@@ -2,4 +2,5 @@ pub mod CauseLemmas
 pub mod GivingLemmas
 pub mod HonestLemmas
 pub mod KeepsLemmas
+pub mod LyingLemmas
 pub mod PartLemmas

@@ -1,4 +1,5 @@
 pub mod Helping
+pub mod Lying
 pub mod Receiving
 pub mod Story
 pub mod Taking

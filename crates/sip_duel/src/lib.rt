@@ -1,7 +1,8 @@
 //! Boxed helpers, and a duel of both ends in one program.
 //!
 //! A [`Helper`] is the other end of a talk, in a box; [`HelperLink`] is a link to one, and [`play`] a run of the verifier over it.
-//! [`Honest`] keeps to the turns, [`Skewed`] counts one item once more, and [`Mute`] says nothing.
+//! [`Honest`] keeps to the turns, [`Skewed`] counts one item once more, [`Liar`] replies by a table of
+//! lies, and [`Mute`] says nothing.
 //!
 //! # What is proved
 //!
@@ -13,20 +14,25 @@
 //! - `play` makes the five promises of `check_stream`, is never a fault of the peer, and closes and drops the helper. With an
 //!   honest helper its talk is an honest one: `IsHonestTalk`.
 //! - `Honest` refuses a message out of turn once, and has ended then.
+//! - A `Liar` appends the reply of the first of its lies that is about the point of the talk, and has
+//!   ended where there is none.
 //!
 //! That a run against an honest helper is accepted is tested, and not proved yet. The behaviour of `Skewed` is tested alone.
 //!
 //! # The definitions to read
 //!
-//! `specs/Helping.antt` has what a helper does where its state is told, `specs/Receiving.antt` what a receive did, and
-//! `specs/Story.antt` the steps of a talk and the promises. Fields of a link that contracts name are private: a box that may be any
-//! helper has no model.
+//! `specs/Helping.antt` has what a helper does where its state is told, `specs/Receiving.antt` what a
+//! receive did, `specs/Lying.antt` what a liar replies, and `specs/Story.antt` the steps of a talk and
+//! the promises. Fields of a link that contracts name are private: a box that may be any helper has
+//! no model.
 #![tactic(auto)]
 
 mod duel;
 mod helper;
 mod honest;
 mod kept;
+mod liar;
+mod lie;
 mod link;
 mod mute;
 mod part;
@@ -36,6 +42,8 @@ mod wants;
 pub use duel::play;
 pub use helper::{Helper, More};
 pub use honest::Honest;
+pub use liar::Liar;
+pub use lie::Lie;
 pub use link::HelperLink;
 pub use mute::Mute;
 pub use skewed::Skewed;
