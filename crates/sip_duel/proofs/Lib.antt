@@ -4,3 +4,4 @@ pub mod HonestLemmas
 pub mod KeepsLemmas
 pub mod LyingLemmas
 pub mod PartLemmas
+pub mod SpeakingLemmas

@@ -49,4 +49,14 @@ pub use mute::Mute;
 pub use skewed::Skewed;
 
 #[cfg(test)]
-mod tests;
+mod cases;
+#[cfg(test)]
+mod counting;
+#[cfg(test)]
+mod exit_tests;
+#[cfg(test)]
+mod liar_tests;
+#[cfg(test)]
+mod link_tests;
+#[cfg(test)]
+mod row_tests;
