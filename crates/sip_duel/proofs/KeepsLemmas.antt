@@ -24,16 +24,16 @@ use Rattle.sip_duel.specs.declared.kept.Mood.TheVariants as moods
 use Rattle.sip_duel.specs.declared.helper.More.{More}
 use Rattle.sip_duel.specs.declared.helper.More.TheVariants as mores
 use Rattle.sip_duel.specs.Helping.{Hears, HearsBy, IsOwed, Appends}
-use Rattle.sip_duel.specs.Story.{Step, Heard, Answered, state_after, said, frames, AreSteps, Follows, left, IsLive, IsOutOfTurn, IsStray, IsOver, WasRight, BeginsWithEnd, Keeps, KeepsEnded, KeepsBy, Asked, IsUnderWay, IsEnded, IsHonestTalk}
+use Rattle.sip_duel.specs.Story.{Step, Heard, Answered, state_after, said, frames, AreSteps, Follows, left, IsLive, IsOutOfTurn, IsShort, IsStray, IsOver, WasRight, BeginsWithEnd, Keeps, KeepsEnded, KeepsBy, Asked, IsUnderWay, IsEnded, IsHonestTalk}
 use Rattle.sip_duel.specs.Taking.{IsNoFrame, Takes, version_after}
 use Rattle.sip_duel.specs.declared.part.Taken.{Taken}
 use Rattle.sip_duel.specs.declared.part.Taken.TheVariants as taken
 
-outs_are_no_end : (bytes : List ℕ) → All (λ (e : TalkEvent). e ≢ Ended) (outs bytes)
+pub outs_are_no_end : (bytes : List ℕ) → All (λ (e : TalkEvent). e ≢ Ended) (outs bytes)
 outs_are_no_end [] = All-nil (λ (e : TalkEvent). e ≢ Ended)
 outs_are_no_end (b ∷ bytes) = All-cons (λ (e : TalkEvent). e ≢ Ended) (Out b) (outs bytes) (λ e. cc) (outs_are_no_end bytes)
 
-ins_are_no_end : (bytes : List ℕ) → All (λ (e : TalkEvent). e ≢ Ended) (ins bytes)
+pub ins_are_no_end : (bytes : List ℕ) → All (λ (e : TalkEvent). e ≢ Ended) (ins bytes)
 ins_are_no_end [] = All-nil (λ (e : TalkEvent). e ≢ Ended)
 ins_are_no_end (b ∷ bytes) = All-cons (λ (e : TalkEvent). e ≢ Ended) (In b) (ins bytes) (λ e. cc) (ins_are_no_end bytes)
 
@@ -120,6 +120,7 @@ over_goes_on k l bytes talk out at mood p = record {
   now = p.now;
   later = p.later ++ outs bytes;
   follows = p.follows;
+  short = p.short;
   silent = heard-append p.later (outs bytes) ∙ ap (λ l. heard p.later ++ l) (heard-outs bytes) ∙ append-nil (heard p.later) ∙ p.silent;
   right = over_sent l.mood k.mood (state_after p.steps) p.give (left k) (left l) p.later bytes mood (rw (out, at) refl) p.right;
   split = talk ∙ ap (λ t. t ++ outs bytes) p.split ∙ append_assoc p.now p.later (outs bytes);
@@ -275,6 +276,7 @@ keeps_ended s k l over out at mood talk (inr (inr p)) =
       now = p.now;
       later = p.later ++ Ended ∷ [];
       follows = p.follows;
+      short = p.short;
       silent = heard-append p.later (Ended ∷ []) ∙ append-nil (heard p.later) ∙ p.silent;
       right = subst (λ x. WasRight x (state_after p.steps) p.give (left l) (p.later ++ Ended ∷ [])) (sym (mood ∙ over)) (r.0, r.1, same ∙ r.2, begins_still p.later (Ended ∷ []) r.3);
       split = talk ∙ ap (λ t. t ++ Ended ∷ []) p.split ∙ append_assoc p.now p.later (Ended ∷ []);
@@ -287,6 +289,9 @@ left_none at out e = grind (arith, common_steps)
 
 left_some : (at : ℕ) (out bytes after : List ℕ) → at ≡ length out → after ≡ out ++ bytes → drop at after ≡ bytes
 left_some at out bytes after e longer = grind (arith, common_steps)
+
+short_part : (s : Option HelperState) (k : Kept) (live : IsLive s k) → IsShort (state_after live.steps).version k.part.bytes.items
+short_part s k live = subst (λ v. IsShort v k.part.bytes.items) live.version k.part.short
 
 followed_to_end : (s : Option HelperState) (k : Kept) (live : IsLive s k) → left k ≡ [] → Follows live.steps k.part.bytes.items [] k.talk.items
 followed_to_end s k live none = subst (λ g. Follows live.steps k.part.bytes.items g k.talk.items) none live.follows
@@ -311,6 +316,7 @@ answered_over s new any k l opened none still mood replied talk (inl live) =
       now = k.talk.items;
       later = Ended ∷ [];
       follows = followed_to_end s k live none;
+      short = short_part s k live;
       silent = refl;
       right = subst (λ x. WasRight x (state_after live.steps) [] (left l) (Ended ∷ [])) (sym mood) (refl, sym told, still, ([], refl));
       split = talk;
@@ -327,6 +333,7 @@ keeps_failed s any k l opened none mood talk (inl live) = inr (inr (record {
   now = k.talk.items;
   later = [];
   follows = followed_to_end s k live (left_none k.at (sink_bytes k.out) none);
+  short = short_part s k live;
   silent = refl;
   right = subst (λ x. WasRight x (state_after live.steps) [] (left l) []) (sym mood) (All-nil (λ (e : TalkEvent). e ≢ Ended));
   split = talk ∙ sym (append-nil k.talk.items);
@@ -395,6 +402,7 @@ kept_is_honest s k (inr (inr p)) = inr (inr (record {
   now = p.now;
   later = p.later;
   follows = p.follows;
+  short = p.short;
   silent = p.silent;
   why = why_over k.mood (state_after p.steps) p.give (left k) p.later p.right;
   split = p.split;

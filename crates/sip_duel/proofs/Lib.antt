@@ -5,3 +5,15 @@ pub mod KeepsLemmas
 pub mod LyingLemmas
 pub mod PartLemmas
 pub mod SpeakingLemmas
+pub mod TurnLemmas
+pub mod WalkLemmas
+pub mod StrayLemmas
+pub mod TalkLemmas
+pub mod RevealLemmas
+pub mod KindLemmas
+pub mod RefusalLemmas
+pub mod QueryLemmas
+pub mod FaultLemmas
+pub mod StreamLemmas
+pub mod DoneLemmas
+pub mod AcceptLemmas

@@ -1,3 +1,4 @@
+pub mod Accepting
 pub mod Helping
 pub mod Lying
 pub mod Receiving

@@ -1,11 +1,13 @@
 -- What happened on a link whose helper keeps to the turns.
-use Rattle.std.specs.Prelude.{drop, ◌≡◌, ◌≢◌, ◌⊎◌, ℕ, Bool, false, IsTrue, List, [], ◌∷◌, ◌++◌, Option, Some, None, ⊤, Result, Ok, Err, All}
+use Rattle.std.specs.Prelude.{drop, ◌≡◌, ◌≢◌, ◌⊎◌, ◌<◌, length, ℕ, Bool, false, IsTrue, List, [], ◌∷◌, ◌++◌, Option, Some, None, ⊤, Result, Ok, Err, All}
 use Rattle.sip_ports.specs.declared.port.TalkEvent.{TalkEvent}
 use Rattle.sip_ports.specs.declared.port.TalkEvent.TheVariants.{Out, In, Ended}
 use Rattle.sip_ports.specs.Ports.{heard, written, outs}
 use Rattle.sip_ports.specs.Memory.{sink_bytes}
 use Rattle.sip_wire.specs.declared.message.Message.{Message}
-use Rattle.sip_wire.specs.Spelling.{spelling}
+use Rattle.sip_wire.specs.declared.kind.Place.TheVariants.{ToHelper}
+use Rattle.sip_wire.specs.declared.version.Version.{Version}
+use Rattle.sip_wire.specs.Spelling.{asked, spelling}
 use Rattle.sip_helper.specs.Serving.{IsMessage}
 use Rattle.sip_helper.specs.Turns.{HelperState, fresh, is_allowed, step, owed, after_answer}
 use Rattle.sip_duel.specs.declared.helper.More.{More}
@@ -97,6 +99,10 @@ WasRight moods.Over s give rest later =
     (give ≡ []) × (owed s ≡ []) × (rest ≡ []) × BeginsWithEnd later
 WasRight moods.Failed s give rest later = All (λ e. e ≢ Ended) later
 
+-- fewer bytes than a frame has
+abbrev pub IsShort : Version → List ℕ → Type 0
+IsShort version part = length part < asked version ToHelper part
+
 -- it went on by the turns to its end; nothing comes then
 pub record IsOver (k : Kept) : Type 0 where
   pub steps : List Step
@@ -105,6 +111,7 @@ pub record IsOver (k : Kept) : Type 0 where
   pub now : List TalkEvent
   pub later : List TalkEvent
   pub follows : Follows steps part give now
+  pub short : IsShort (state_after steps).version part
   pub silent : heard later ≡ []
   pub right : WasRight k.mood (state_after steps) give (left k) later
   pub split : k.talk.items ≡ now ++ later
@@ -142,7 +149,8 @@ pub record IsUnderWay (talk : List TalkEvent) : Type 0 where
   pub follows : Follows steps part give talk
 
 -- They were so up to an end, behind which nothing was received: all was given and nothing was owed,
--- and the end was told; or the helper ran out of memory, and no end was told.
+-- and the end was told; or the helper ran out of memory, and no end was told. No whole frame was
+-- left unheard.
 pub record IsEnded (talk : List TalkEvent) : Type 0 where
   pub steps : List Step
   pub part : List ℕ
@@ -150,6 +158,7 @@ pub record IsEnded (talk : List TalkEvent) : Type 0 where
   pub now : List TalkEvent
   pub later : List TalkEvent
   pub follows : Follows steps part give now
+  pub short : IsShort (state_after steps).version part
   pub silent : heard later ≡ []
   pub why : ((give ≡ []) × (owed (state_after steps) ≡ []) × BeginsWithEnd later)
       ⊎ All (λ e. e ≢ Ended) later

@@ -1,23 +1,27 @@
 //! A run of the verifier against a boxed helper.
 
-ghost use Rattle.std.specs.Prelude.{◌≡◌, ◌≢◌, None, Some};
+ghost use Rattle.std.specs.Prelude.{◌≡◌, ◌≢◌, None, Some, []};
 ghost use Rattle.std.specs.Option.{option_and_then};
 ghost use Rattle.sip_ports.specs.Ports.{Lasts};
-ghost use Rattle.sip_verifier.specs.Exchanges.{TakesAtMost};
-ghost use Rattle.sip_verifier.specs.Moments.{moment};
+ghost use Rattle.sip_verifier.specs.Exchanges.{Exchange as AnyExchange, Tells, TakesAtMost};
+ghost use Rattle.sip_verifier.specs.Moments.{counts, moment};
 ghost use Rattle.sip_verifier.specs.RunClause.{RunClause};
 ghost use Rattle.sip_verifier.specs.Tasks.{CanBeDone};
+ghost use Rattle.sip_duel.specs.Accepting.{DuelAccepts};
 ghost use Rattle.sip_duel.specs.Story.{IsHonestTalk, Keeps};
 
 use crate::HelperLink;
 use sip_ports::{Sink, Source};
+use sip_vector::Depth;
 use sip_verifier::{Status, Task, check_stream};
+use sip_wire::MOST_QUERIES;
 use std::alloc::Global;
 
 /// Does a task over a link to a boxed helper, which is closed and dropped at every exit; the talk stays on the link.
 ///
 /// It is [`check_stream`] over that link, and makes its five promises. The link counts no fault, so no answer is a fault of the peer. Where the helper is an honest one that had heard
-/// nothing, its bytes are the replies that are owed by the turns of a helper.
+/// nothing, its bytes are the replies that are owed by the turns of a helper, and a good run over a link that was made for it is accepted
+/// with the stream's own answers. Want of memory alone changes that: at this end it is the answer, and the helper refuses a query.
 pub fn play<A: Source, B: Source, K: Sink, C: Sink>(
     alloc: Global,
     task: &Task,
@@ -37,6 +41,16 @@ pub fn play<A: Source, B: Source, K: Sink, C: Sink>(
     ensures peer { result ≢ Status.PeerFault }
     ensures honest { Keeps (option_and_then honest_state link.old.helper) link.old.kept
         → IsHonestTalk link.new.kept.talk.items }
+    ensures accepts { Keeps (option_and_then honest_state link.old.helper) link.old.kept
+        → link.old.kept.talk.items ≡ [] → (x : AnyExchange)
+        → Tells
+        (moment (A.left first.old) (A.faults first.old) (B.left second.old) (B.faults second.old)
+        (Some link.old.kept.talk.items) 0 (K.talk report.old) (K.faults report.old))
+        (moment (A.left first.new) (A.faults first.new) (B.left second.new) (B.faults second.new)
+        (Some link.new.kept.talk.items) 0 (K.talk report.new) (K.faults report.new)) x
+        → DuelAccepts task.now x
+        (counts (A.faults first.old) (B.faults second.old) 0 (K.faults report.old))
+        (counts (A.faults first.new) (B.faults second.new) 0 (K.faults report.new)) result }
     ensures gone { link.new.helper ≡ None }
     ensures first { Lasts A.faults A.wants A.is_sure first.old first.new }
     ensures seed { TakesAtMost 32 (B.left second.old) (B.left second.new) }
@@ -44,6 +58,10 @@ pub fn play<A: Source, B: Source, K: Sink, C: Sink>(
     ensures report { Lasts K.faults K.wants K.is_sure report.old report.new }
     ensures kept { keep.new ≡ keep.old }
 {
+    let levels = task.depth.get();
+    prove!(levels >= 1 && levels <= Depth::MOST);
+    let asked = task.queries.len();
+    prove!(asked <= MOST_QUERIES);
     let status = check_stream(alloc, task, first, second, link, report, keep);
     link.close_and_drop();
     status

@@ -12,25 +12,27 @@
 //! - A link to an honest helper that had heard nothing keeps the promise `Keeps`, through every call that knows any link: what it
 //!   gives are the replies that the turns owe for what was sent.
 //! - `play` makes the five promises of `check_stream`, is never a fault of the peer, and closes and drops the helper. With an
-//!   honest helper its talk is an honest one: `IsHonestTalk`.
+//!   honest helper its talk is an honest one: `IsHonestTalk`. With a good seed, a legal stream and ports that do not fail it is then
+//!   accepted with the stream's own answers, unless memory runs out at one of the two ends: `DuelAccepts`.
 //! - `Honest` refuses a message out of turn once, and has ended then.
 //! - A `Liar` appends the reply of the first of its lies that is about the point of the talk, and has
 //!   ended where there is none.
 //!
-//! That a run against an honest helper is accepted is tested, and not proved yet. The behaviour of `Skewed` is tested alone.
+//! The behaviour of `Skewed` is tested alone.
 //!
 //! # The definitions to read
 //!
 //! `specs/Helping.antt` has what a helper does where its state is told, `specs/Receiving.antt` what a
-//! receive did, `specs/Lying.antt` what a liar replies, and `specs/Story.antt` the steps of a talk and
-//! the promises. Fields of a link that contracts name are private: a box that may be any helper has
-//! no model.
+//! receive did, `specs/Lying.antt` what a liar replies, `specs/Story.antt` the steps of a talk and the
+//! promises, and `specs/Accepting.antt` what a run against an honest helper comes to. Fields of a link
+//! that contracts name are private: a box that may be any helper has no model.
 #![tactic(auto)]
 
 mod duel;
 mod helper;
 mod honest;
 mod kept;
+pub mod laws;
 mod liar;
 mod lie;
 mod link;

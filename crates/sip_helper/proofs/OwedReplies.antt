@@ -29,7 +29,7 @@ use Rattle.sip_helper.specs.Vectors.{Vectors}
 -- ---- the stream
 
 -- updates that are added one piece after another are added at once
-added_again : (v : Vectors) (us more : List Update) → with_updates (with_updates v us) more ≡ with_updates v (us ++ more)
+pub added_again : (v : Vectors) (us more : List Update) → with_updates (with_updates v us) more ≡ with_updates v (us ++ more)
 added_again v us more = rw (fold-append (with_update First) v.first us more, fold-append (with_update Second) v.second us more) refl
 
 -- updates in pieces are all of them, one after another
@@ -40,7 +40,7 @@ heard_vectors s v (us ∷ pieces) e =
     ∙ ap Some (added_again v us (flat_map (λ x. x) pieces))
 
 -- what is added to nothing
-from_zero : (depth : ℕ) (us : List Update) → with_updates (zero_vectors depth) us ≡ vectors_of depth us
+pub from_zero : (depth : ℕ) (us : List Update) → with_updates (zero_vectors depth) us ≡ vectors_of depth us
 from_zero depth us = rw (fold-with_update depth us First, fold-with_update depth us Second) refl
 
 -- the vectors of a stream
@@ -60,11 +60,11 @@ heard_version s (us ∷ pieces) = heard_version (step s false (messages.Updates 
 -- ---- a query
 
 -- a query that is open, and whose reply is owed
-abbrev due : Query → List ℕ → OpenQuery
+abbrev pub due : Query → List ℕ → OpenQuery
 due q revealed = record { query = q; revealed = revealed; given = false; refused = false }
 
 -- its reply, where its row does not refuse it
-owed_honest : (s : HelperState) (v : Vectors) (q : Query) (revealed : List ℕ) → s.vectors ≡ Some v → s.open_query ≡ Some (due q revealed) → (help_row q).refused_by v ≡ None
+pub owed_honest : (s : HelperState) (v : Vectors) (q : Query) (revealed : List ℕ) → s.vectors ≡ Some v → s.open_query ≡ Some (due q revealed) → (help_row q).refused_by v ≡ None
     → owed s ≡ flat_map (spelling s.version) ((help_row q).honest v revealed)
 owed_honest s v q revealed ev eo none = ap (flat_map (spelling s.version)) (said s.vectors s.open_query ev eo)
   where
@@ -74,11 +74,11 @@ owed_honest s v q revealed ev eo none = ap (flat_map (spelling s.version)) (said
         ∙ ap (λ x. reply_to x (due q revealed)) ev
         ∙ ap (λ r. elim r [ Some code ↦ refusal code | None ↦ (help_row q).honest v revealed ]) none
 
-left_above : (n m : ℕ) → n < m → nat_le m n ≡ false
+pub left_above : (n m : ℕ) → n < m → nat_le m n ≡ false
 left_above n m less = grind (arith, nat_tests)
 
 -- it stays open behind its reply and a challenge, where a level is left
-next_due : (s : HelperState) (depth : ℕ) (v : Vectors) (q : Query) (revealed : List ℕ) (r : ℕ) → s.heard ≡ Whole depth → s.vectors ≡ Some v → s.open_query ≡ Some (due q revealed) → (help_row q).refused_by v ≡ None → length revealed + 1 < depth
+pub next_due : (s : HelperState) (depth : ℕ) (v : Vectors) (q : Query) (revealed : List ℕ) (r : ℕ) → s.heard ≡ Whole depth → s.vectors ≡ Some v → s.open_query ≡ Some (due q revealed) → (help_row q).refused_by v ≡ None → length revealed + 1 < depth
     → (step (after_answer s) false (messages.Reveal r)).open_query ≡ Some (due q (revealed ++ r ∷ []))
 next_due s depth v q revealed r eh ev eo none more =
     ap (λ x. option_map (with_challenge r) (option_and_then (after_reply (depth_of x) s.vectors) s.open_query)) eh

@@ -54,7 +54,7 @@ module _ (version : Version) (depth : ℕ) (stream : List Update) (lo hi : ℕ) 
       (root m61_modulus (vector depth stream First) block) lo hi block)
 
   -- honest replies are accepted, and state the stream's own answer
-  sub_honest : IsStated sub_protocol_at block
+  pub sub_honest : IsStated sub_protocol_at block
       (honest_replies version m61_modulus (vector depth stream First) lo hi block)
       (answer depth stream (Sub lo hi))
   sub_honest = shown_accepted version m61_modulus depth lo hi (vector depth stream First) block shown size
@@ -64,14 +64,14 @@ module _ (version : Version) (depth : ℕ) (stream : List Update) (lo hi : ℕ) 
 module _ (version : Version) (depth : ℕ) (stream : List Update) (query : Query) (l : Lists)
     (is : lists_of depth stream query ≡ Some l) (some : 1 ≤ depth) (legal : IsLegal depth stream)
     (block : List ℕ) (at : IsBlock depth block) where
-  abbrev sum_protocol_at : Protocol SumState
+  abbrev pub sum_protocol_at : Protocol SumState
   sum_protocol_at = sum_protocol (sum_asked version m61_modulus (product_at m61_modulus l.first l.second block))
 
-  abbrev sum_replies : List (List ℕ)
+  abbrev pub sum_replies : List (List ℕ)
   sum_replies = sums.honest_replies version m61_modulus depth l.first l.second block
 
   -- honest replies are accepted, and state the stream's own answer
-  sum_honest : IsStated sum_protocol_at block sum_replies (answer depth stream query)
+  pub sum_honest : IsStated sum_protocol_at block sum_replies (answer depth stream query)
   sum_honest = rw (sums_answer depth stream query l is)
       (sums_honest version depth stream query l block legal some is at.size at.below)
 
@@ -118,20 +118,20 @@ accepted_unasked P block replies answer known e h = subst (accepted_where P bloc
 module _ (version : Version) (depth : ℕ) (stream : List Update) (side : Side) (at_least : ℕ) (least : 1 ≤ at_least) (some : 1 ≤ depth)
     (shallow : depth ≤ deepest version) (legal : IsLegal depth stream) (strict : IsStrict depth stream side)
     (block : List ℕ) (size : length block ≡ depth) where
-  abbrev numbers : List ℤ
+  abbrev pub numbers : List ℤ
   numbers = vector depth stream side
 
-  abbrev heavy_at : Protocol HeavyState
+  abbrev pub heavy_at : Protocol HeavyState
   heavy_at = heavy_over version m61_modulus depth at_least numbers block
 
-  abbrev shown : List (List ℕ)
+  abbrev pub shown : List (List ℕ)
   shown = heavies.honest_replies version m61_modulus numbers at_least block
 
   -- the total of a strict side is a count
-  abbrev count : ℕ
+  abbrev pub count : ℕ
   count = count_of (int_sum numbers)
 
-  is_count : int_sum numbers ≡ pos count
+  pub is_count : int_sum numbers ≡ pos count
   is_count = by_sum (int_sum numbers) (int_sum_above numbers strict)
     where
       by_sum : (z : ℤ) → pos 0 ≤ℤ z → z ≡ pos (count_of z)
@@ -140,10 +140,10 @@ module _ (version : Version) (depth : ℕ) (stream : List Update) (side : Side) 
 
   -- the total reaches the threshold: honest replies are accepted, and state the stream's own answer
   module _ (reached : nat_le at_least count ≡ true) where
-    asked : heavy_at.unasked ≡ None
+    pub asked : heavy_at.unasked ≡ None
     asked = ap (λ (b : Bool). if b then None else Some (pairs [])) reached
 
-    heavy_honest : IsStated heavy_at block shown (answer depth stream (Heavy side at_least))
+    pub heavy_honest : IsStated heavy_at block shown (answer depth stream (Heavy side at_least))
     heavy_honest =
         let sent = legal_sent version depth count stream side legal strict some shallow (total-is depth stream side legal.items ∙ is_count) in
         let can = asked_of version m61_modulus depth at_least count numbers sent least (leb-true at_least count reached) in
@@ -167,10 +167,10 @@ module _ (version : Version) (depth : ℕ) (stream : List Update) (side : Side) 
 
   -- it does not: nothing is asked, and no entry is heavy
   module _ (below : nat_le at_least count ≡ false) where
-    unasked : heavy_at.unasked ≡ Some (pairs [])
+    pub unasked : heavy_at.unasked ≡ Some (pairs [])
     unasked = ap (λ (b : Bool). if b then None else Some (pairs [])) below
 
-    none_is : answer depth stream (Heavy side at_least) ≡ pairs []
+    pub none_is : answer depth stream (Heavy side at_least) ≡ pairs []
     none_is = (accepted_unasked heavy_at block [] (answer depth stream (Heavy side at_least)) (pairs []) unasked
         (none_asked version m61_modulus (augroot m61_modulus numbers block).hash depth at_least count numbers block strict is_count (leb-false at_least count below))).1
 

@@ -3,7 +3,7 @@ mod SeatsRaised
 pub mod SeatTotals
 pub mod WideSeats
 pub mod WideQueries
-mod FramesFit
+pub mod FramesFit
 mod Sends
 mod DueFrames
 mod SeatsGiven
@@ -22,7 +22,7 @@ pub mod QueriesChecked
 pub mod RunTalks
 pub mod StreamPromises
 pub mod QueryPromises
-mod ShareAnswers
+pub mod ShareAnswers
 mod SumAnswers
 mod SumLaws
 pub mod CountedQuestions
