@@ -40,6 +40,13 @@ class Programs:
             programs["old"] = [os.path.abspath(os.environ["OLD"])]
         return programs
 
+    def base(self):
+        """`sip`, and the older program that it is held to; nothing where the path of that one isn't given."""
+        path = os.environ.get("BASE")
+        if not path:
+            return None
+        return {"sip": [proved("sip", ["--version"])], "base": [os.path.abspath(path)]}
+
     def parts(self):
         yardstick = plain("yardstick", self.work)
         return {"sip": [proved("sip_bench", [])], "plain": [yardstick, "plain"], "limit": [yardstick, "limit"]}

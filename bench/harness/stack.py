@@ -2,7 +2,7 @@
 
 from harness.children import run
 from harness.settings import reachable
-from harness.talks import Talks, parts
+from harness.talks import Talks, made, parts
 
 MOST = 64 * 1024
 RECORDS = 100_000
@@ -18,7 +18,7 @@ def measure(programs, settings, work):
     above = []
     for depth in settings.depths:
         for queries in settings.queries:
-            talks = Talks(programs["sip"], RECORDS, depth, work)
+            talks = Talks(made(programs["sip"], RECORDS, depth), depth, work)
             stacks = {}
             for name, program in reachable(programs, depth):
                 stacks[name] = [child.stack for child in talks.talk(name, program, parts(queries), traced=True)]

@@ -4,7 +4,7 @@ import struct
 
 from harness.settings import reachable, record_size
 from harness.tables import Table
-from harness.talks import Talks
+from harness.talks import Talks, made
 
 # A query that wants next to no time of either end, and no memory.
 LEAST = "sub:0:0"
@@ -30,7 +30,7 @@ def measured(name, asked, programs, settings, work):
     table = Table(f"{name} of {records} records", "ms of CPU of an end, the most memory that it has, and what the query adds", programs)
     above = []
     for depth in settings.depths:
-        talks = Talks(programs["sip"], records, depth, work)
+        talks = Talks(made(programs["sip"], records, depth), depth, work)
         queries = Queries(talks.stream, depth, asked)
         for _ in range(settings.rounds):
             for word in queries.words:
@@ -96,8 +96,4 @@ class Queries:
 
     def talk(self, talks, name, program, word, traced=False):
         """Runs both ends, and compares the report with the answer."""
-        ends = talks.talk(name, program, [word], traced=traced)
-        report = open(talks.path(f"report.{name}")).read()
-        if report != f"{word} {self.answers[word]}\n":
-            raise SystemExit(f"{name} reports {report}, and the answer is {self.answers[word]}")
-        return ends
+        return talks.answered(name, program, word, self.answers[word], traced)

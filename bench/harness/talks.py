@@ -19,15 +19,20 @@ def parts(count):
     return [f"sub:{k * APART}:{k * APART + ITEMS - 1}" for k in range(count)]
 
 
-class Talks:
-    """Talks about one stream."""
+def made(sip, records, depth):
+    """What writes a stream of so many records that are made."""
+    return lambda path: run([*sip, "gen", 7, records, depth], path)
 
-    def __init__(self, sip, records, depth, work):
+
+class Talks:
+    """Talks about one stream, which a function writes to the path that it is given."""
+
+    def __init__(self, write, depth, work):
         self.depth = depth
         self.work = work
         self.stream, self.seed = self.path("stream"), self.path("seed")
         self.fifos = [self.path("to.helper"), self.path("from.helper")]
-        run([*sip, "gen", 7, records, depth], self.stream)
+        write(self.stream)
         with open(self.seed, "wb") as seed:
             seed.write(os.urandom(32))
         for fifo in self.fifos:
@@ -54,6 +59,14 @@ class Talks:
             raise SystemExit(f"the report of {name} differs at depth {self.depth}: {' '.join(queries)}")
         return ends
 
+    def answered(self, name, program, word, answer, traced=False):
+        """Runs both ends of a talk of one query, and compares the report with its answer."""
+        ends = self.talk(name, program, [word], traced=traced)
+        report = open(self.path(f"report.{name}")).read()
+        if report != f"{word} {answer}\n":
+            raise SystemExit(f"{name} reports {report}, and the answer is {answer}")
+        return ends
+
     def count(self, program, queries, which):
         """What one end executes, 0 the helper and 1 the verifier."""
         out = self.path("callgrind.out")
@@ -69,7 +82,7 @@ def measure(programs, settings, work):
     memory = {}
     for records in settings.records:
         for depth in settings.depths:
-            talks = Talks(programs["sip"], records, depth, work)
+            talks = Talks(made(programs["sip"], records, depth), depth, work)
             for queries in settings.queries:
                 for _ in range(settings.rounds):
                     for name, program in reachable(programs, depth):
@@ -119,7 +132,7 @@ def count_ends(programs, settings, work):
         for queries in settings.queries:
             cells = {}
             for records in (COUNTED, 2 * COUNTED):
-                talks = Talks(programs["sip"], records, depth, work)
+                talks = Talks(made(programs["sip"], records, depth), depth, work)
                 for name, program in reachable(programs, depth):
                     for which in (0, 1):
                         cells.setdefault((name, which), []).append(talks.count(program, parts(queries), which))
