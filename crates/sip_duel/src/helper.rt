@@ -22,20 +22,21 @@ pub enum More {
 
 /// The other end of a talk, in a box.
 ///
-/// Where its `honest_state` is told, it keeps to the turns of an honest helper. After `Ended` or an `Err` neither `hear` nor
-/// `answer` is called again.
+/// Where its `honest_state` is told, it keeps to the turns of an honest helper. After `Ended` or an
+/// `Err` neither `hear` nor `answer` is called again.
 pub trait Helper: Drop {
     /// Its state by the turns of a helper, where it is told.
     ghost honest_state: { Self → Option HelperState };
 
-    /// Hears a message. One that may come next steps the state; after another one the state is the same, or is told no longer.
+    /// Hears a message. One that may come next steps the state; after another one the state is the
+    /// same, or is told no longer.
     fn hear(&mut self, message: &Message)
         requires { IsTrue (fits Two message.now) }
         ensures { Hears (honest_state self.old) message.now (honest_state self.new) };
 
-    /// Appends the reply that is due, at least one byte of it where it [`Goes`](More::Goes), and none where it has
-    /// [`Ended`](More::Ended). Where the state is told it is the reply that is owed, or nothing where none is. After an `Err` any
-    /// bytes may have been appended.
+    /// Appends the reply that is due, at least one byte of it where it [`Goes`](More::Goes), and
+    /// none where it has [`Ended`](More::Ended). Where the state is told it is the reply that is
+    /// owed, or nothing where none is. After an `Err` any bytes may have been appended.
     fn answer(&mut self, out: &mut MemorySink) -> Result<More, OutOfMemory>
         requires { sink_is_sure out.old }
         ensures sure { sink_is_sure out.new }

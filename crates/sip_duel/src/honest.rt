@@ -26,7 +26,8 @@ pub(crate) enum Standing {
     Over,
 }
 
-/// The honest helper. It keeps to the turns; after a message that may not come it appends a refusal once, and has ended then.
+/// The honest helper. It keeps to the turns; after a message that may not come it appends a refusal
+/// once, and has ended then.
 #[derive(Drop)]
 pub struct Honest {
     core: HelperCore,

@@ -39,8 +39,8 @@ fn received_events(alloc: Global, bytes: &[u8]) -> Result<Vec<TalkEvent>, AllocE
     bytes.iter().map(|byte| TalkEvent::In(*byte)).collect(alloc)
 }
 
-/// The talk, the frame that is being sent, what the helper appended, and how much of it was given: what was received is the
-/// front of what was appended.
+/// The talk, the frame that is being sent, what the helper appended, and how much of it was given:
+/// what was received is the front of what was appended.
 #[derive(Drop)]
 pub(crate) struct Kept {
     pub(crate) alloc: Global,

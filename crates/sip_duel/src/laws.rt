@@ -14,8 +14,9 @@ ghost use Rattle.sip_verifier.specs.VerdictClause.{VerdictClause};
 ghost use Rattle.sip_duel.specs.Accepting.{DuelAccepts};
 ghost use Rattle.sip_duel.specs.Story.{IsHonestTalk};
 
-/// Each call that keeps to the clauses of verdicts and of causes over the talk of a link with an honest helper that had heard nothing
-/// is accepted with the stream's own answers, unless memory ran out at one of the two ends.
+/// Each call that keeps to the clauses of verdicts and of causes over the talk of a link with an
+/// honest helper that had heard nothing is accepted with the stream's own answers, unless memory
+/// ran out at one of the two ends.
 pub fn honest_talks_are_accepted()
     ensures { (task : AnyTask) (x : AnyExchange) (before now : AnyCounts) (status : AnyStatus)
         → 1 ≤ task.depth → task.depth ≤ most_depth → length task.queries.items ≤ most_queries

@@ -40,7 +40,8 @@ fn reply(helper: &mut Box<dyn Helper>, out: &mut MemorySink) -> Result<More, Out
     helper.answer(out)
 }
 
-/// Asks a helper for its next reply, where nothing is left to give. Where it has ended, the end is to be told at once.
+/// Asks a helper for its next reply, where nothing is left to give. Where it has ended, the end is
+/// to be told at once.
 fn ask(helper: &mut Box<dyn Helper>, kept: &mut Kept) -> Result<More, OutOfMemory>
     requires opened { kept.old.mood ≡ moods.Open }
     requires none { kept.old.at ≡ length (sink_bytes kept.old.out) }
@@ -67,10 +68,11 @@ fn let_go(helper: Box<dyn Helper>) {
 
 /// A link to a helper that its maker boxed.
 ///
-/// It reads the frames that are sent, in version 1 up to an opening and in the version of the opening behind it, and hands each
-/// whole one to the helper. It asks the helper only in a receive into a buffer with room, at most once in that call, and only
-/// where all that was appended is given. It ends where the helper does, where the bytes that are sent are no frame, or where it
-/// is closed. Where memory is refused to the helper, each later receive answers that.
+/// It reads the frames that are sent, in version 1 up to an opening and in the version of the
+/// opening behind it, and hands each whole one to the helper. It asks the helper only in a receive
+/// into a buffer with room, at most once in that call, and only where all that was appended is
+/// given. It ends where the helper does, where the bytes that are sent are no frame, or where it is
+/// closed. Where memory is refused to the helper, each later receive answers that.
 #[derive(Drop)]
 pub struct HelperLink {
     helper: Option<Box<dyn Helper>>,
@@ -79,7 +81,8 @@ pub struct HelperLink {
 }
 
 impl HelperLink {
-    /// A link to this helper, on which nothing has happened. Where memory is refused the helper is closed and dropped.
+    /// A link to this helper, on which nothing has happened. Where memory is refused the helper is
+    /// closed and dropped.
     pub fn new(alloc: Global, helper: Box<dyn Helper>) -> Result<HelperLink, OutOfMemory>
         ensures talk { IfOk result (λ link. link.kept.talk.items ≡ []) }
         ensures promise { honest_state helper ≡ Some fresh
@@ -264,8 +267,9 @@ impl HelperLink {
         }
     }
 
-    /// Receives, as [`Link::recv`] does, and says all that is known of it: the helper is asked only where all that it appended is
-    /// given, and the end is found exactly where that is so and the link has ended.
+    /// Receives, as [`Link::recv`] does, and says all that is known of it: the helper is asked only
+    /// where all that it appended is given, and the end is found exactly where that is so and the
+    /// link has ended.
     pub fn receive(&mut self, buf: &mut [u8]) -> Result<usize, PortStop>
         ensures receives { 0 < length buf.old → Receives self.old.kept self.new.kept result }
         ensures empty { length buf.old ≡ 0 → (result ≡ Ok 0) × (self.new ≡ self.old) }

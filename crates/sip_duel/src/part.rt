@@ -38,7 +38,8 @@ fn version_behind(version: Version, message: &Message) -> Version
     }
 }
 
-/// The bytes of a frame that were sent so far, fewer than it has, and the version of the frames. There is room for any frame.
+/// The bytes of a frame that were sent so far, fewer than it has, and the version of the frames.
+/// There is room for any frame.
 #[derive(Drop)]
 pub(crate) struct Part {
     pub(crate) bytes: Vec<u8>,

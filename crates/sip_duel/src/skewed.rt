@@ -12,8 +12,8 @@ use sip_vector::{Side, Update};
 use sip_wire::Message;
 use std::alloc::Global;
 
-/// An honest helper that counts item 0 of the first side once more before the stream ends, where the side's weight has room for
-/// it. Its replies are honest ones of another vector.
+/// An honest helper that counts item 0 of the first side once more before the stream ends, where
+/// the side's weight has room for it. Its replies are honest ones of another vector.
 #[derive(Drop)]
 pub struct Skewed {
     honest: Honest,
