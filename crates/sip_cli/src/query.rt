@@ -72,7 +72,7 @@ fn spelled_heavy(word: &str) -> Option<Query>
 fn spelled_share(word: &str) -> Option<Query>
     ensures { MatchOption result
         ((side : AnySide) (num den : ℕ) → num < 2 ^ 32 → den < 2 ^ 32
-            → word.now ≢ query_word (queries.Share side num den))
+        → word.now ≢ query_word (queries.Share side num den))
         (λ query. IsRead query × (word.now ≡ query_word query)) }
 {
     if let Some((num, den)) = ratio_behind("share:0:", word) {
