@@ -2,8 +2,8 @@
 #![tactic(auto)]
 
 use sip_cli::{
-    LinkOrder, Opening, PortPlan, Words, finish, page_of, ports, run, status_without_words,
-    write_page,
+    LinkOrder, Opening, PortPlan, Words, finish, page_of, play_words, ports, run,
+    status_without_words, write_page,
 };
 use sip_ports::{FileLink, FileSource, NullSink, Source, StderrSink, StdoutSink};
 use sip_stream::MadeSource;
@@ -71,7 +71,8 @@ fn link(rt: &HostRuntime, words: &Words, plan: &PortPlan) -> Option<Box<FileLink
 }
 
 /// Opens the files that the words name, but for the first source, and does what the words say. A file that does not open
-/// is a port whose calls fail. `None` where memory is refused to a port.
+/// is a port whose calls fail. For words of `play` no link is opened, since its helper is in the program. `None` where
+/// memory is refused to a port.
 #[inline(never)]
 fn obey_over<S: Source>(
     rt: &HostRuntime,
@@ -80,16 +81,22 @@ fn obey_over<S: Source>(
     first: &mut S,
 ) -> Option<Status> {
     let mut second = source(rt, words, plan.second)?;
-    let mut peer = link(rt, words, plan)?;
     let mut report = StdoutSink::new(io::writer(rt));
+    let mut keep = NullSink::new();
+    let alloc = rt.alloc();
+    let played = play_words(alloc, words, first, &mut *second, &mut report, &mut keep);
+    if played.is_some() {
+        return played;
+    }
+    let mut peer = link(rt, words, plan)?;
     Some(run(
-        rt.alloc(),
+        alloc,
         words,
         first,
         &mut *second,
         &mut *peer,
         &mut report,
-        &mut NullSink::new(),
+        &mut keep,
     ))
 }
 

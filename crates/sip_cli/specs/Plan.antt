@@ -34,6 +34,10 @@ abbrev pub verify_ports : Opening → PortPlan
 verify_ports first =
     record no_ports { first = first; second = Path 2 0; from = Path 3 0; to = Path 4 0 }
 
+-- play STREAM SEED HELPER - DEPTH QUERY.., whose link is to a helper in the program
+abbrev pub play_ports : Opening → PortPlan
+play_ports first = record no_ports { first = first; second = Path 2 0 }
+
 -- help FROM TO
 abbrev pub help_ports : PortPlan
 help_ports = record no_ports { from = Path 1 0; to = Path 2 0 }
@@ -51,6 +55,8 @@ Opens words (command.Lines form depth) plan =
     (s : Stream) × IsStreamWord s (word words 1) × (plan ≡ source_ports (opening_of s depth))
 Opens words (command.Widen form depth) plan =
     (s : Stream) × IsStreamWord s (word words 1) × (plan ≡ source_ports (opening_of s depth))
+Opens words (command.Play task name) plan =
+    (s : Stream) × IsStreamWord s (word words 1) × (plan ≡ play_ports (opening_of s task.depth))
 
 -- the name of the file that an opening is on: a word without its first bytes, if there is such a
 -- word

@@ -6,7 +6,7 @@ ghost use Rattle.sip_verifier.specs.declared.task.Task.{Task as AnyTask};
 ghost use Rattle.sip_cli.specs.declared.command.Command.{Command as AnyCommand};
 ghost use Rattle.sip_cli.specs.declared.stream.Stream.{Stream as AnyStream};
 ghost use Rattle.sip_stream.specs.Made.{most_made};
-ghost use Rattle.sip_cli.specs.Plan.{HasName, HaveNames, IsMarked, Opens, file_name, help_ports, no_ports, opening_of, source_ports, verify_ports};
+ghost use Rattle.sip_cli.specs.Plan.{HasName, HaveNames, IsMarked, Opens, file_name, help_ports, no_ports, opening_of, play_ports, source_ports, verify_ports};
 ghost use Rattle.sip_cli.specs.Shapes.{IsStreamWord};
 ghost use Rattle.sip_cli.specs.Words.{Spells, IsRefusedAt, word};
 
@@ -168,6 +168,19 @@ impl PortPlan {
         }
     }
 
+    // The ports of `play`, whose stream is opened like this.
+    fn play(first: Opening) -> PortPlan
+        ensures { result ≡ play_ports first }
+    {
+        PortPlan {
+            first,
+            second: Opening::file(2),
+            from: Opening::Nothing,
+            to: Opening::Nothing,
+            keep: Opening::Nothing,
+        }
+    }
+
     // The ports of `help`.
     fn help() -> PortPlan
         ensures { result ≡ help_ports }
@@ -195,12 +208,14 @@ impl PortPlan {
                 let stream = Opening::stream(words, *depth);
                 PortPlan::source(stream)
             }
+            Command::Play(task, _) => PortPlan::play(Opening::stream(words, task.depth)),
         }
     }
 }
 
 /// The files and made streams that a command opens: for `verify` its stream, its seed and the two ends of its link, for
-/// `help` the two ends of its link, for `gen`, `lines` and `widen` their stream. Words that are no command open nothing.
+/// `play` its stream and its seed, for `help` the two ends of its link, for `gen`, `lines` and `widen` their stream. Words
+/// that are no command open nothing.
 pub fn ports(words: &Words) -> PortPlan
     ensures spelled { (command : AnyCommand) → Spells words.now command
         → Opens words.now command result }

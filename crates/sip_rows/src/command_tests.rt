@@ -22,11 +22,10 @@ fn refused_at(words: &Words) -> Option<u32> {
 
 // Words, and the number of the first of them that no command has behind the words before it, found by hand; none where
 // they are a command.
-const REFUSALS: [(&str, Option<u32>); 179] = [
+const REFUSALS: [(&str, Option<u32>); 178] = [
     ("", Some(0)),
     ("audit|s|t", Some(0)),
     ("show|t", Some(0)),
-    ("play|s|k|honest|-|3|sub:1:2", Some(0)),
     ("Verify|s|k|f|t|-|3|sub:1:2", Some(0)),
     ("verify ", Some(0)),
     ("verify", Some(1)),
@@ -308,7 +307,7 @@ fn form_and_depth(command: &Command) -> (Option<Form>, u8) {
         Command::Lines { form, depth } | Command::Widen { form, depth } => {
             (Some(*form), depth.get())
         }
-        Command::Verify(_) | Command::Help => (None, 0),
+        Command::Verify(_) | Command::Play(..) | Command::Help => (None, 0),
     }
 }
 
