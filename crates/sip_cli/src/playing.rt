@@ -105,6 +105,18 @@ fn play_named<A: Source, B: Source, K: Sink, C: Sink>(
     }
 }
 
+// The task and the helper of words of `play`.
+fn task_to_play(words: &Words) -> Option<(Task, HelperName)>
+    ensures { MatchOption result
+        ((task : AnyTask) (name : AnyName) → Spells words.now (Command.Play task name) → ⊥)
+        (λ x. Spells words.now (Command.Play x.0 x.1)) }
+{
+    match read_words(words) {
+        Ok(Command::Play(task, name)) => Some((task, name)),
+        _ => None,
+    }
+}
+
 /// Does what words of `play` say; other words give `None`, and then no port is called.
 ///
 /// `play STREAM SEED HELPER - DEPTH QUERY..` is [`run`](crate::run) over a link to the helper of that name, which is made here,
@@ -143,13 +155,9 @@ pub fn play_words<A: Source, B: Source, K: Sink, C: Sink>(
     ensures second { Lasts B.faults B.wants B.is_sure second.old second.new }
     ensures report { Lasts K.faults K.wants K.is_sure report.old report.new }
 {
-    match read_words(words) {
-        Ok(Command::Play(task, name)) => {
-            match play_named(alloc, &task, name, first, second, report, keep) {
-                Ok(status) => Some(status),
-                Err(_) => Some(Status::OutOfMemory),
-            }
-        }
-        _ => None,
+    let (task, name) = task_to_play(words)?;
+    match play_named(alloc, &task, name, first, second, report, keep) {
+        Ok(status) => Some(status),
+        Err(_) => Some(Status::OutOfMemory),
     }
 }

@@ -53,9 +53,8 @@ fn obey<A: Source, B: Source, L: Link, K: Sink, C: Sink>(
     ensures kept { keep.new ≡ keep.old }
 {
     match command {
-        Command::Verify(task) | Command::Play(task, _) => {
-            check_stream(alloc, task, first, second, peer, report, keep)
-        }
+        Command::Verify(task) => check_stream(alloc, task, first, second, peer, report, keep),
+        Command::Play(task, _) => check_stream(alloc, task, first, second, peer, report, keep),
         Command::Help => help(alloc, peer),
         Command::Gen { depth } => {
             let form = Form::made(*depth);

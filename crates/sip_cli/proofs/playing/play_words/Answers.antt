@@ -1,4 +1,23 @@
+use Rattle.std.proofs.Common.{[], arith}
 use Rattle.sip_cli.proofs.PlayLemmas.{nothing_with, unbegun}
-use Rattle.sip_cli.proofs.Refusals.{command_once, spelled_not_refused}
 use Rattle.sip_cli.proofs.RunLemmas.{played}
 use Rattle.sip_cli.proofs.playing.play_words.Goals as goal
+
+pub play_named-requires : goal.play_named-requires
+play_named-requires g c = played _ _ _ c.in_ok-task_to_play.ensures
+
+pub returns-in-Err-clause-played : goal.returns-in-Err-clause-played
+returns-in-Err-clause-played g c =
+    let spells = c.in_ok-task_to_play.ensures in
+    let deep = spells.1.depth in
+    let same = c.in-Err.ensures.unbegun in (
+      _,
+      _,
+      spells,
+      record {
+        talk = [];
+        known = nothing_with _;
+        keeps = rw (same.0, same.1, same.2) (unbegun _ (played _ _ _ spells) deep.0 deep.1 _);
+        peer = λ e. cc;
+      },
+    )

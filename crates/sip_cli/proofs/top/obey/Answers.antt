@@ -9,7 +9,7 @@ pub returns-in-Verify-clause-keeps : goal.returns-in-Verify-clause-keeps
 returns-in-Verify-clause-keeps g c = verify_keeps _ c.in-Verify.is c.check_stream.ensures.keeps
 
 pub returns-in-Play-clause-keeps : goal.returns-in-Play-clause-keeps
-returns-in-Play-clause-keeps g c = play_keeps _ _ c.in-Play.is c.check_stream.ensures.keeps
+returns-in-Play-clause-keeps g c = play_keeps _ _ c.in-Play.is c.check_stream-in-Play.ensures.keeps
 
 pub returns-in-Help-clause-keeps : goal.returns-in-Help-clause-keeps
 returns-in-Help-clause-keeps g c =
