@@ -18,18 +18,11 @@ use Rattle.sip_verifier.proofs.CountedReports.{report_counts}
 use Rattle.sip_verifier.proofs.RunTalks.{nothing_reported, tells}
 use Rattle.sip_verifier.proofs.StreamPromises.{after_gather}
 use Rattle.sip_duel.specs.Story.{IsHonestTalk}
-use Rattle.sip_cli.specs.declared.helper_name.HelperName.{HelperName}
-use Rattle.sip_cli.specs.declared.helper_name.HelperName.TheVariants.{Honest, Skewed, Mute}
-use Rattle.sip_cli.specs.PlayClause.{IsTalkWith, PlayClause}
+use Rattle.sip_cli.specs.PlayClause.{PlayClause}
 
 -- nothing that happened is honest
-nothing_is_honest : IsHonestTalk []
+pub nothing_is_honest : IsHonestTalk []
 nothing_is_honest = inl (record { steps = []; part = []; give = []; follows = record { are = tt; sent = refl; came = refl; lasts = λ i other less. absurd (omega arith) } })
-
-pub nothing_with : (name : HelperName) → IsTalkWith name []
-nothing_with Honest = nothing_is_honest
-nothing_with Skewed = tt
-nothing_with Mute = tt
 
 module _ (task : Task) (can : CanBeDone task) (some : 1 ≤ task.depth) (most : task.depth ≤ most_depth) where
   -- it wanted memory
@@ -55,7 +48,7 @@ module _ (task : Task) (can : CanBeDone task) (some : 1 ≤ task.depth) (most : 
     listed = refl;
   }
 
--- what is promised with one thing known of the talk is promised with what follows from it
-pub promised_by : {E : Type 0} {task : Task} {Known Other : List TalkEvent → Type 0} {before : Moment} {now : List TalkEvent → Moment} (r : Result Status E) → ((talk : List TalkEvent) → Known talk → Other talk) → IfOk r (PlayClause task Known before now) → IfOk r (PlayClause task Other before now)
-promised_by (Ok status) tells p = record { talk = p.talk; known = tells p.talk p.known; keeps = p.keeps; peer = p.peer }
-promised_by (Err e) tells p = tt
+-- what is promised of a helper is promised by whatever tells that it is the honest one
+pub promised_by : {E : Type 0} {IsHonest IsNamed : Type 0} (task : Task) (before : Moment) (now : List TalkEvent → Moment) (r : Result Status E) → (IsNamed → IsHonest) → IfOk r (PlayClause task IsHonest before now) → IfOk r (PlayClause task IsNamed before now)
+promised_by task before now (Ok status) tells p = record { talk = p.talk; keeps = p.keeps; peer = p.peer; honest = λ is. p.honest (tells is); accepts = λ is. p.accepts (tells is) }
+promised_by task before now (Err e) tells p = tt

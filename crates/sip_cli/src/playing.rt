@@ -2,7 +2,6 @@
 
 ghost use Rattle.std.specs.Prelude.{◌≡◌, [], Some, None, IfOk, OnErr, MatchOption};
 ghost use Rattle.sip_ports.specs.Ports.{Lasts};
-ghost use Rattle.sip_duel.specs.Story.{IsHonestTalk};
 ghost use Rattle.sip_duel.specs.Told.{told};
 ghost use Rattle.sip_helper.specs.Turns.{fresh};
 ghost use Rattle.sip_verifier.specs.declared.task.Task.{Task as AnyTask};
@@ -11,7 +10,7 @@ ghost use Rattle.sip_verifier.specs.Moments.{moment};
 ghost use Rattle.sip_verifier.specs.Tasks.{CanBeDone};
 ghost use Rattle.sip_cli.specs.declared.command.Command.{Command as AnyCommand};
 ghost use Rattle.sip_cli.specs.declared.helper_name.HelperName.{HelperName as AnyName};
-ghost use Rattle.sip_cli.specs.PlayClause.{IsTalkWith, PlayClause};
+ghost use Rattle.sip_cli.specs.PlayClause.{PlayClause};
 ghost use Rattle.sip_cli.specs.Words.{Spells};
 
 use crate::{Command, HelperName, Words, read_words};
@@ -47,8 +46,7 @@ fn play_boxed<A: Source, B: Source, K: Sink, C: Sink>(
     keep: &mut C,
 ) -> Result<Status, OutOfMemory>
     requires { CanBeDone task.now }
-    ensures played { IfOk result (PlayClause task.now
-        (λ talk. honest_state helper ≡ Some fresh → IsHonestTalk talk)
+    ensures played { IfOk result (PlayClause task.now (honest_state helper ≡ Some fresh)
         (moment (A.left first.old) (A.faults first.old) (B.left second.old) (B.faults second.old)
         (Some []) 0 (K.talk report.old) (K.faults report.old))
         (λ talk. moment (A.left first.new) (A.faults first.new)
@@ -77,7 +75,7 @@ fn play_named<A: Source, B: Source, K: Sink, C: Sink>(
     keep: &mut C,
 ) -> Result<Status, OutOfMemory>
     requires { CanBeDone task.now }
-    ensures played { IfOk result (PlayClause task.now (IsTalkWith name)
+    ensures played { IfOk result (PlayClause task.now (name ≡ HelperName.Honest)
         (moment (A.left first.old) (A.faults first.old) (B.left second.old) (B.faults second.old)
         (Some []) 0 (K.talk report.old) (K.faults report.old))
         (λ talk. moment (A.left first.new) (A.faults first.new)
@@ -133,12 +131,12 @@ pub fn play_words<A: Source, B: Source, K: Sink, C: Sink>(
     keep: &mut C,
 ) -> Option<Status>
     // The five promises, over the talk of a link that counts no fault. So the run never ends by a
-    // fault of the peer, and with the helper `honest` the talk is an honest one.
+    // fault of the peer, and with the helper `honest` a good run is accepted.
     ensures played { MatchOption result
         ((task : AnyTask) (name : AnyName) → Spells words.now (Command.Play task name) → ⊥)
         (λ status. (task : AnyTask) × (name : AnyName)
         × Spells words.now (Command.Play task name)
-        × PlayClause task (IsTalkWith name)
+        × PlayClause task (name ≡ HelperName.Honest)
         (moment (A.left first.old) (A.faults first.old) (B.left second.old) (B.faults second.old)
         (Some []) 0 (K.talk report.old) (K.faults report.old))
         (λ talk. moment (A.left first.new) (A.faults first.new)

@@ -1,5 +1,5 @@
-use Rattle.std.proofs.Common.{[], arith}
-use Rattle.sip_cli.proofs.PlayLemmas.{nothing_with, unbegun}
+use Rattle.std.proofs.Common.{[], refl, inl, inr}
+use Rattle.sip_cli.proofs.PlayLemmas.{nothing_is_honest, unbegun}
 use Rattle.sip_cli.proofs.RunLemmas.{played}
 use Rattle.sip_cli.proofs.playing.play_words.Goals as goal
 
@@ -16,8 +16,9 @@ returns-in-Err-clause-played g c =
       spells,
       record {
         talk = [];
-        known = nothing_with _;
         keeps = rw (same.0, same.1, same.2) (unbegun _ (played _ _ _ spells) deep.0 deep.1 _);
         peer = λ e. cc;
+        honest = λ is. nothing_is_honest;
+        accepts = λ is x tells good none. inr (inl refl);
       },
     )
