@@ -65,7 +65,8 @@ fn blocks_follow_one_another(rt: HostRuntime) -> Result<(), Fail> {
     Ok(())
 }
 
-// Record 2 is not legal, so records 0 and 1 are written; the sink's first call fails, so nothing is; the source's does.
+// Record 2 is not legal, so records 0 and 1 are written; the sink's first call fails, so nothing
+// is; the source's does.
 #[test]
 fn a_stop_leaves_what_came_before(rt: HostRuntime) -> Result<(), Fail> {
     let alloc = rt.alloc();

@@ -1,6 +1,5 @@
-ghost use Rattle.std.specs.Prelude.{◌≡◌, ◌^◌, ◌<◌, ◌≤◌, All, length};
+ghost use Rattle.std.specs.Prelude.{◌≡◌, ◌≤◌, length};
 
-use crate::block_tests::{block, next_word};
 use sip_field::{F31, Field, M61, Seat};
 use sip_mle::{IntervalFold, Point, chi, interval_at};
 use sip_vector::Depth;
@@ -109,46 +108,6 @@ fn intervals_fold_like_whole_lists(rt: HostRuntime) {
             let list = folded(list, third);
             assert!(rt; begins_with(list, &interval, 1));
             assert_eq!(rt; interval_at(&seat, lo, hi), list[0], "{lo} to {hi}");
-        }
-    }
-}
-
-// Whether a block gives what its updates give one by one, at the first challenges.
-fn block_is_its_updates<F: Field>(challenges: &[F], count: usize) -> bool
-    requires some { 1 ≤ length challenges.now }
-    requires deep { length challenges.now ≤ 48 }
-    requires fits { count ≤ 500 }
-{
-    let updates = block(challenges.len(), count);
-    let mut single = Point::new(Seat::<F, 48>::of(challenges).unwrap());
-    let mut whole = Point::new(Seat::<F, 48>::of(challenges).unwrap());
-    for update in &updates[..count] {
-        single.update(update.item, update.delta);
-    }
-    whole.update_all(&updates[..count]);
-    single.value() == whole.value()
-}
-
-#[test]
-fn a_block_gives_what_its_updates_give(rt: HostRuntime) {
-    let mut small = [F31::of(0); 48];
-    let mut large = [M61::of(0); 48];
-    let mut word = 2;
-    for at in 0..48 {
-        word = next_word(word);
-        small[at] = F31::of(word >> 5);
-        large[at] = M61::of(word);
-    }
-    for depth in [1, 7, 8, 20, 48] {
-        for count in [0, 1, 31, 32, 127, 500] {
-            assert!(rt;
-                block_is_its_updates(&small[..depth], count),
-                "{depth} {count}"
-            );
-            assert!(rt;
-                block_is_its_updates(&large[..depth], count),
-                "{depth} {count}"
-            );
         }
     }
 }

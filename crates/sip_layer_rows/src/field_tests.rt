@@ -132,8 +132,8 @@ fn a_draw_tries_eight_words(rt: HostRuntime) {
     assert_eq!(rt; words.greatest, 1);
 }
 
-// The key stream of ChaCha20 at a zero key and a zero nonce begins
-// 76 b8 e0 ad a0 f1 3d 90 40 5d 6a e5 53 86 bd 28 bd d2 19 b8 a0 8d ed 1a (RFC 7539, A.1, vector 1).
+// The key stream of ChaCha20 at a zero key and a zero nonce begins 76 b8 e0 ad a0 f1 3d 90 40 5d 6a
+// e5 53 86 bd 28 bd d2 19 b8 a0 8d ed 1a (RFC 7539, A.1, vector 1).
 #[test]
 fn a_seed_gives_challenges(rt: HostRuntime) -> Result<(), Fail> {
     let drawn = draw_challenges::<4>([0; 32], 3).expect(&rt, "the zero seed is not spent");

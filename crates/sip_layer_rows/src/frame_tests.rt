@@ -10,8 +10,8 @@ use std::alloc::Global;
 use std::process::Abort;
 use std::test::Fail;
 
-/// Frames, each at a place that allows it: a whole talk over the vector (3, 0, 5, 1), replies to other queries over it, each query,
-/// and each way in which siblings are present.
+/// Frames, each at a place that allows it: a whole talk over the vector (3, 0, 5, 1), replies to
+/// other queries over it, each query, and each way in which siblings are present.
 const FRAMES: [(Place, &[u8]); 25] = [
     (Place::ToHelper, &[0x01, 0, 2, 1, 2]),
     (
@@ -85,7 +85,8 @@ const FRAMES: [(Place, &[u8]); 25] = [
     (Place::Claim, &[0x18, 0, 1, 4]),
 ];
 
-/// The same frames in version 2, where they differ, the share too: the vector (3, 0, 5, 1), its replies, each query.
+/// The same frames in version 2, where they differ, the share too: the vector (3, 0, 5, 1), its
+/// replies, each query.
 const WIDE_FRAMES: [(Place, &[u8]); 11] = [
     (Place::ToHelper, &[0x01, 0, 2, 2, 48]),
     (
@@ -139,7 +140,8 @@ const WIDE_FRAMES: [(Place, &[u8]); 11] = [
     (Place::ToHelper, &[0x06, 0, 0]),
 ];
 
-// A link that gives these bytes, so many a call and one at least, whose calls of these numbers fail, and a frame to receive them.
+// A link that gives these bytes, so many a call and one at least, whose calls of these numbers
+// fail, and a frame to receive them.
 fn link_of(
     alloc: Global,
     bytes: Vec<u8>,
@@ -151,7 +153,8 @@ fn link_of(
     Ok((link, frame))
 }
 
-// What `decode` answers to these bytes, and how many of them the frame shows; it shows the front of them.
+// What `decode` answers to these bytes, and how many of them the frame shows; it shows the front of
+// them.
 fn fault_of(
     alloc: Global,
     version: Version,
@@ -213,7 +216,8 @@ fn at_hand(version: Version, place: Place, bytes: &[u8]) -> Option<Result<Messag
     Some(read(place, version, bytes))
 }
 
-// The frame without its last byte is not whole yet, and with it is read as the message that it is the encoding of.
+// The frame without its last byte is not whole yet, and with it is read as the message that it is
+// the encoding of.
 fn is_read_at_hand(
     rt: &impl Abort,
     alloc: Global,
@@ -272,7 +276,8 @@ fn frames_are_read_at_hand(rt: HostRuntime) -> Result<(), Fail> {
     Ok(())
 }
 
-/// Bytes that are no frame of version 2, where they are awaited, their fault, and how many of them are taken.
+/// Bytes that are no frame of version 2, where they are awaited, their fault, and how many of them
+/// are taken.
 const WIDE_FAULTS: [(Place, &[u8], WireFault, usize); 17] = [
     // The lengths of version 1 are none.
     (Place::ToHelper, &[0x02, 0, 0x0f], WireFault::BadLength, 3),
@@ -360,7 +365,8 @@ const WIDE_FAULTS: [(Place, &[u8], WireFault, usize); 17] = [
     ),
 ];
 
-/// Bytes that are no frame of version 1, where they are awaited, their fault, and how many of them are taken.
+/// Bytes that are no frame of version 1, where they are awaited, their fault, and how many of them
+/// are taken.
 const FAULTS: [(Place, &[u8], WireFault, usize); 52] = [
     // The three bytes before a body come whole before the kind is tested.
     (Place::ToHelper, &[], WireFault::Closed, 0),
@@ -489,8 +495,8 @@ const FAULTS: [(Place, &[u8], WireFault, usize); 52] = [
     (Place::Poly, &[0x18, 0, 1, 5], WireFault::BadNumber, 4),
 ];
 
-/// Frames with a number of eight bytes that its field may not hold: where they are awaited, what stands before the number, the
-/// number, and how many bytes that are 0 follow.
+/// Frames with a number of eight bytes that its field may not hold: where they are awaited, what
+/// stands before the number, the number, and how many bytes that are 0 follow.
 const NUMBERS: [(Place, &[u8], u64, usize); 18] = [
     (Place::ToHelper, &[0x02, 0, 0x0f, 0, 1, 2, 0, 0, 0, 0], 1, 0),
     (Place::ToHelper, &[0x02, 0, 0x0f, 0, 1, 0, 0, 0, 0, 0], 0, 0),

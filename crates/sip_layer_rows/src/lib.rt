@@ -1,5 +1,6 @@
-//! What each layer's public calls do over worked rows: vectors from outside, printed text, devices that fail, and that a call
-//! succeeds where memory is ample. Nothing but tests stands here, so that each of these layers is proved once.
+//! What each layer's public calls do over worked rows: vectors from outside, printed text, devices
+//! that fail, and that a call succeeds where memory is ample. Nothing but tests stands here, so
+//! that each of these layers is proved once.
 #![tactic(auto)]
 
 #[cfg(test)]

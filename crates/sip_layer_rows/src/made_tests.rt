@@ -185,7 +185,8 @@ fn read_by(alloc: Global, depth: u8, chunk: usize) -> Result<(Vec<u8>, usize), F
     Err("it ends".into())
 }
 
-// The bytes of 1,000 records add up to these sums, and the last records are (0, 678910, 7) and (0, 229828307082238, 7).
+// The bytes of 1,000 records add up to these sums, and the last records are (0, 678910, 7) and (0,
+// 229828307082238, 7).
 #[test]
 fn pieces_of_any_size_are_the_same_bytes(rt: HostRuntime) -> Result<(), Fail> {
     let alloc = rt.alloc();

@@ -72,7 +72,8 @@ fn read_all(
     read_from(alloc, levels, form, &mut source)
 }
 
-// Those of some bytes, which are held from the first one on, since a byte was read in front of them.
+// Those of some bytes, which are held from the first one on, since a byte was read in front of
+// them.
 fn read_held(
     alloc: Global,
     levels: u8,
@@ -102,7 +103,8 @@ fn ends(
     Ok(pieces == want && whole == want && held == want)
 }
 
-// A record of binary form is held that is not legal behind three that are, and the front of one more.
+// A record of binary form is held that is not legal behind three that are, and the front of one
+// more.
 #[test]
 fn held_records_are_read_together(rt: HostRuntime) -> Result<(), Fail> {
     let alloc = rt.alloc();

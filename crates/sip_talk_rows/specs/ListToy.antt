@@ -9,6 +9,7 @@ use Rattle.sip_wire.specs.declared.message.Message.TheVariants as messages
 use Rattle.sip_wire.specs.declared.message.Reason.{Reason}
 use Rattle.sip_wire.specs.declared.message.Reason.TheVariants as reasons
 use Rattle.sip_wire.specs.declared.version.Version.TheVariants as versions
+use Rattle.sip_replies.specs.LawProofs.Refusals.{same_err, wrong_kind}
 use Rattle.sip_replies.specs.Protocols.{Rules, Protocol}
 use Rattle.sip_replies.specs.declared.check.More.{More}
 use Rattle.sip_replies.specs.declared.check.More.TheVariants as mores
@@ -72,19 +73,11 @@ pub record ListStands (asked : ListAsked) (s : ListState) (most count : ℕ) (le
 
 -- ---- the end of the link is no test's reason
 
-same : {X : Type 0} (a b : Reason) → ◌≡◌ {A = Result X Reason} (Err a) (Err b) → a ≡ b
-same a b e = cc
-
-kind : (reason : Reason)
-    → ◌≡◌ {A = Result (More × ListState) Reason} (Err reasons.BadKind) (Err reason)
-    → reason ≢ reasons.Closed
-kind reason e c = let f = same {X = More × ListState} reasons.BadKind reason e in cc
-
 open_valued : (has_room : Bool) (s : ListState) (v : ℤ) (reason : Reason)
     → valued has_room s v ≡ Err reason → reason ≢ reasons.Closed
 open_valued true s v reason e c = absurd cc
 open_valued false s v reason e c =
-    let f = same {X = More × ListState} reasons.TooMany reason e in cc
+    let f = same_err {X = More × ListState} reasons.TooMany reason e in cc
 
 pub list_tests : (asked : ListAsked) (s : ListState) (m : Message) (reason : Reason)
     → (list_protocol asked).rules.step s m ≡ Err reason → reason ≢ reasons.Closed
@@ -92,23 +85,34 @@ list_tests asked s (messages.Claim v) reason e =
     open_valued (nat_lt (length s.said) asked.most) s v reason e
 list_tests asked s messages.LevelEnd reason e = λ c. absurd cc
 list_tests asked s (messages.Refuse code) reason e =
-    λ c. (let f = same {X = More × ListState} (reasons.Refused code) reason e in cc)
-list_tests asked s (messages.Open version depth) reason e = kind reason e
-list_tests asked s (messages.Updates us) reason e = kind reason e
-list_tests asked s messages.EndStream reason e = kind reason e
-list_tests asked s (messages.Query q) reason e = kind reason e
-list_tests asked s (messages.Reveal r) reason e = kind reason e
-list_tests asked s messages.Bye reason e = kind reason e
-list_tests asked s (messages.Poly a b c) reason e = kind reason e
-list_tests asked s (messages.Entries v) reason e = kind reason e
-list_tests asked s (messages.Siblings left right) reason e = kind reason e
-list_tests asked s (messages.Leaves v) reason e = kind reason e
-list_tests asked s (messages.Nodes v) reason e = kind reason e
+    λ c. (let f = same_err {X = More × ListState} (reasons.Refused code) reason e in cc)
+list_tests asked s (messages.Open version depth) reason e =
+    wrong_kind {X = More × ListState} reason e
+list_tests asked s (messages.Updates us) reason e =
+    wrong_kind {X = More × ListState} reason e
+list_tests asked s messages.EndStream reason e =
+    wrong_kind {X = More × ListState} reason e
+list_tests asked s (messages.Query q) reason e =
+    wrong_kind {X = More × ListState} reason e
+list_tests asked s (messages.Reveal r) reason e =
+    wrong_kind {X = More × ListState} reason e
+list_tests asked s messages.Bye reason e =
+    wrong_kind {X = More × ListState} reason e
+list_tests asked s (messages.Poly a b c) reason e =
+    wrong_kind {X = More × ListState} reason e
+list_tests asked s (messages.Entries v) reason e =
+    wrong_kind {X = More × ListState} reason e
+list_tests asked s (messages.Siblings left right) reason e =
+    wrong_kind {X = More × ListState} reason e
+list_tests asked s (messages.Leaves v) reason e =
+    wrong_kind {X = More × ListState} reason e
+list_tests asked s (messages.Nodes v) reason e =
+    wrong_kind {X = More × ListState} reason e
 
 open_ended : (is : Bool) (said : List Entry) (reason : Reason) → list_ended is said ≡ Err reason
     → reason ≢ reasons.Closed
 open_ended true said reason e c = absurd cc
-open_ended false said reason e c = let f = same {X = Answer} reasons.Total reason e in cc
+open_ended false said reason e c = let f = same_err {X = Answer} reasons.Total reason e in cc
 
 pub list_ends : (asked : ListAsked) (s : ListState) (reason : Reason)
     → (list_protocol asked).finish s ≡ Err reason → reason ≢ reasons.Closed

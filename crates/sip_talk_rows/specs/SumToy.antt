@@ -10,6 +10,7 @@ use Rattle.sip_wire.specs.declared.message.Message.TheVariants as messages
 use Rattle.sip_wire.specs.declared.message.Reason.{Reason}
 use Rattle.sip_wire.specs.declared.message.Reason.TheVariants as reasons
 use Rattle.sip_wire.specs.declared.version.Version.TheVariants as versions
+use Rattle.sip_replies.specs.LawProofs.Refusals.{same_err, wrong_kind}
 use Rattle.sip_replies.specs.Protocols.{Rules, Protocol}
 use Rattle.sip_replies.specs.declared.check.More.{More}
 use Rattle.sip_replies.specs.declared.check.More.TheVariants as mores
@@ -86,28 +87,21 @@ pub record SumStands (asked : SumAsked) (s : SumState) (value : ℕ) (claim : Op
 
 -- ---- the end of the link is no test's reason
 
-same : {X : Type 0} (a b : Reason) → ◌≡◌ {A = Result X Reason} (Err a) (Err b) → a ≡ b
-same a b e = cc
-
-kind : {X : Type 0} (reason : Reason) → ◌≡◌ {A = Result X Reason} (Err reasons.BadKind) (Err reason)
-    → reason ≢ reasons.Closed
-kind reason e c = let f = same reasons.BadKind reason e in cc
-
 open_claimed : (claim : Option ℤ) (s : SumState) (v : ℤ) (reason : Reason)
     → claimed claim s v ≡ Err reason → reason ≢ reasons.Closed
 open_claimed None s v reason e c = absurd cc
-open_claimed (Some w) s v reason e c = kind {X = More × SumState} reason e c
+open_claimed (Some w) s v reason e c = wrong_kind {X = More × SumState} reason e c
 
 open_if : (test : Bool) (x : More × SumState) (reason : Reason)
     → ◌≡◌ {A = Result (More × SumState) Reason} (if test then Ok x else Err reasons.Sum)
     (Err reason)
     → reason ≢ reasons.Closed
 open_if true x reason e c = absurd cc
-open_if false x reason e c = let f = same {X = More × SumState} reasons.Sum reason e in cc
+open_if false x reason e c = let f = same_err {X = More × SumState} reasons.Sum reason e in cc
 
 open_summed : (claim : Option ℤ) (s : SumState) (a b d : ℕ) (reason : Reason)
     → summed claim s a b d ≡ Err reason → reason ≢ reasons.Closed
-open_summed None s a b d reason e c = kind {X = More × SumState} reason e c
+open_summed None s a b d reason e c = wrong_kind {X = More × SumState} reason e c
 open_summed (Some w) s a b d reason e c = open_if (sum_of_ends a b d == s.expected) _ reason e c
 
 pub sum_tests : (asked : SumAsked) (s : SumState) (m : Message) (reason : Reason)
@@ -116,24 +110,35 @@ sum_tests asked s (messages.Claim v) reason e = open_claimed s.claim s v reason 
 sum_tests asked s (messages.Poly a b d) reason e =
     open_summed s.claim s (a % m61_modulus) (b % m61_modulus) (d % m61_modulus) reason e
 sum_tests asked s (messages.Refuse code) reason e =
-    λ c. (let f = same {X = More × SumState} (reasons.Refused code) reason e in cc)
-sum_tests asked s (messages.Open version depth) reason e = kind {X = More × SumState} reason e
-sum_tests asked s (messages.Updates us) reason e = kind {X = More × SumState} reason e
-sum_tests asked s messages.EndStream reason e = kind {X = More × SumState} reason e
-sum_tests asked s (messages.Query q) reason e = kind {X = More × SumState} reason e
-sum_tests asked s (messages.Reveal r) reason e = kind {X = More × SumState} reason e
-sum_tests asked s messages.Bye reason e = kind {X = More × SumState} reason e
-sum_tests asked s (messages.Entries v) reason e = kind {X = More × SumState} reason e
-sum_tests asked s (messages.Siblings left right) reason e = kind {X = More × SumState} reason e
-sum_tests asked s (messages.Leaves v) reason e = kind {X = More × SumState} reason e
-sum_tests asked s (messages.Nodes v) reason e = kind {X = More × SumState} reason e
-sum_tests asked s messages.LevelEnd reason e = kind {X = More × SumState} reason e
+    λ c. (let f = same_err {X = More × SumState} (reasons.Refused code) reason e in cc)
+sum_tests asked s (messages.Open version depth) reason e =
+    wrong_kind {X = More × SumState} reason e
+sum_tests asked s (messages.Updates us) reason e =
+    wrong_kind {X = More × SumState} reason e
+sum_tests asked s messages.EndStream reason e =
+    wrong_kind {X = More × SumState} reason e
+sum_tests asked s (messages.Query q) reason e =
+    wrong_kind {X = More × SumState} reason e
+sum_tests asked s (messages.Reveal r) reason e =
+    wrong_kind {X = More × SumState} reason e
+sum_tests asked s messages.Bye reason e =
+    wrong_kind {X = More × SumState} reason e
+sum_tests asked s (messages.Entries v) reason e =
+    wrong_kind {X = More × SumState} reason e
+sum_tests asked s (messages.Siblings left right) reason e =
+    wrong_kind {X = More × SumState} reason e
+sum_tests asked s (messages.Leaves v) reason e =
+    wrong_kind {X = More × SumState} reason e
+sum_tests asked s (messages.Nodes v) reason e =
+    wrong_kind {X = More × SumState} reason e
+sum_tests asked s messages.LevelEnd reason e =
+    wrong_kind {X = More × SumState} reason e
 
 open_ended : (claim : Option ℤ) (is : Bool) (reason : Reason) → sum_ended claim is ≡ Err reason
     → reason ≢ reasons.Closed
-open_ended None is reason e c = let f = same {X = Answer} reasons.Root reason e in cc
+open_ended None is reason e c = let f = same_err {X = Answer} reasons.Root reason e in cc
 open_ended (Some v) true reason e c = absurd cc
-open_ended (Some v) false reason e c = let f = same {X = Answer} reasons.Root reason e in cc
+open_ended (Some v) false reason e c = let f = same_err {X = Answer} reasons.Root reason e in cc
 
 pub sum_ends : (asked : SumAsked) (s : SumState) (reason : Reason)
     → (sum_protocol asked).finish s ≡ Err reason → reason ≢ reasons.Closed

@@ -30,7 +30,8 @@ fn element<F: Field>(number: Option<u64>) -> Option<F> {
     number.map(|x| F::of(x))
 }
 
-// What a check of two levels answers to these entries and siblings: the first refusal, or that of the end.
+// What a check of two levels answers to these entries and siblings: the first refusal, or that of
+// the end.
 fn answer(
     root: &Root<M61, CAP>,
     lo: u64,
@@ -189,7 +190,8 @@ fn zeros_at(first: u64, second: u64) -> Root<F31, 2>
     Root::new(Seat::of(&[F31::of(first), F31::of(second)]).unwrap())
 }
 
-// What a check of entry 0 of (0, 0, 0, 0) answers to the entry 1, the sibling 30, and then the sibling r_1 - 1.
+// What a check of entry 0 of (0, 0, 0, 0) answers to the entry 1, the sibling 30, and then the
+// sibling r_1 - 1.
 fn answer_two_levels(first: u64, second: u64) -> Result<(), Reason> {
     let root = zeros_at(first, second);
     let mut check = SubCheck::start(&root, 0, 0);

@@ -61,8 +61,8 @@ fn a_talk_is_served(rt: HostRuntime) -> Result<(), Fail> {
     Ok(())
 }
 
-/// In version 2 the opening of a talk over 2^48 items, the last three of them (4, 7, 9), and their end; the query for the last
-/// entry, the challenge 2, and the farewell.
+/// In version 2 the opening of a talk over 2^48 items, the last three of them (4, 7, 9), and their
+/// end; the query for the last entry, the challenge 2, and the farewell.
 const WIDE: [u8; 98] = [
     1, 0, 2, 2, 48, 2, 0, 53, 0, 3, 0, 0, 0, 0xff, 0xff, 0xff, 0xff, 0xff, 0xfd, 0, 0, 0, 0, 0, 0,
     0, 4, 0, 0, 0, 0xff, 0xff, 0xff, 0xff, 0xff, 0xfe, 0, 0, 0, 0, 0, 0, 0, 7, 0, 0, 0, 0xff, 0xff,
@@ -71,7 +71,8 @@ const WIDE: [u8; 98] = [
     0, 0,
 ];
 
-/// The entry (2^48 - 1, 9) and the sibling 7 left of it; then the sibling 8 = 0 + 2 * 4, of the pair (0, 4).
+/// The entry (2^48 - 1, 9) and the sibling 7 left of it; then the sibling 8 = 0 + 2 * 4, of the
+/// pair (0, 4).
 const WIDE_REPLIES: [u8; 45] = [
     19, 0, 18, 0, 1, 0, 0, 0xff, 0xff, 0xff, 0xff, 0xff, 0xff, 0, 0, 0, 0, 0, 0, 0, 9, 20, 0, 9, 1,
     0, 0, 0, 0, 0, 0, 0, 7, 20, 0, 9, 1, 0, 0, 0, 0, 0, 0, 0, 8,
@@ -105,7 +106,8 @@ const ENDS: [(&[u8], HelpStatus, &[u8]); 16] = [
     (&[1, 0, 2, 1, 33], HelpStatus::BadFrame { offset: 0 }, &[]),
     (&[1, 0, 2, 2, 49], HelpStatus::BadFrame { offset: 0 }, &[]),
     (&[1, 0, 2, 2, 48], HelpStatus::PeerClosed, &[]),
-    // In version 2, an update with a narrow item, and a query for a share before the stream has ended.
+    // In version 2, an update with a narrow item, and a query for a share before the stream has
+    // ended.
     (
         &[
             1, 0, 2, 2, 1, 2, 0, 15, 0, 1, 0, 0, 0, 0, 1, 0, 0, 0, 0, 0, 0, 0, 1,
@@ -118,7 +120,8 @@ const ENDS: [(&[u8], HelpStatus, &[u8]); 16] = [
         HelpStatus::BadFrame { offset: 5 },
         &[0x18, 0, 1, 4],
     ),
-    // A challenge, a second opening, a query and the end before the opening, and an item that the depth does not have.
+    // A challenge, a second opening, a query and the end before the opening, and an item that the
+    // depth does not have.
     (
         &[1, 0, 2, 1, 2, 5, 0, 8, 0, 0, 0, 0, 0, 0, 0, 2],
         HelpStatus::BadFrame { offset: 5 },
@@ -171,7 +174,8 @@ const TWO_SIDES: [u8; 91] = [
 /// The challenge 2.
 pub(crate) const REVEALED: [u8; 11] = [5, 0, 8, 0, 0, 0, 0, 0, 0, 0, 2];
 
-/// Queries for sums, and what is sent to each: the claim and the first polynomial, and the second one behind the challenge 2.
+/// Queries for sums, and what is sent to each: the claim and the first polynomial, and the second
+/// one behind the challenge 2.
 const SUMS: [(&[u8], &[u8]); 3] = [
     // The squares of side 0: 35, (34, -58, 25) and (9, 0, 0).
     (
@@ -229,14 +233,16 @@ fn sums_are_answered(rt: HostRuntime) -> Result<(), Fail> {
 /// A query for a share, which has no spelling in version 1.
 const SHARE: [u8; 13] = [4, 0, 10, 6, 0, 0, 0, 0, 1, 0, 0, 0, 2];
 
-// Wherever it stands in a talk in version 1, it is no frame: nothing is sent behind the replies before it.
+// Wherever it stands in a talk in version 1, it is no frame: nothing is sent behind the replies
+// before it.
 #[test]
 fn a_share_in_version_1(rt: HostRuntime) -> Result<(), Fail> {
     let alloc = rt.alloc();
     let queried = joined(alloc, &STREAM, ASKED.get(..12).unwrap_or(&[]))?;
     let served_once = joined(alloc, &STREAM, ASKED.get(..23).unwrap_or(&[]))?;
     let before: [(&[u8], &[u8]); 5] = [
-        // Nothing was heard; the stream goes on; it has ended; a query is open; it was answered to its end.
+        // Nothing was heard; the stream goes on; it has ended; a query is open; it was answered to
+        // its end.
         (&[], &[]),
         (&[1, 0, 2, 1, 2], &[]),
         (&STREAM, &[]),
@@ -291,7 +297,8 @@ fn sixteen_queries_are_answered(rt: HostRuntime) -> Result<(), Fail> {
     Ok(())
 }
 
-// Six frames are received, two calls each where there is a body, and three are sent: 13 calls in all.
+// Six frames are received, two calls each where there is a body, and three are sent: 13 calls in
+// all.
 #[test]
 fn a_link_fails_at_each_call(rt: HostRuntime) -> Result<(), Fail> {
     let alloc = rt.alloc();

@@ -22,9 +22,11 @@ fn replies<R: Abort>(rt: &R, alloc: Global, parts: &[&[u8]], sent: &[u8]) -> Res
     Ok(())
 }
 
-/// Queries for the heavy hitters of (3, 0, 5, 1), and what is sent to each: the replies before and behind the challenge 2.
+/// Queries for the heavy hitters of (3, 0, 5, 1), and what is sent to each: the replies before and
+/// behind the challenge 2.
 const HITTERS: [(&[u8], &[u8]); 3] = [
-    // At least 4: the leaves 5 and 1 below the node 6, and the light node, which has the hash 9 = 3 + 3 * 2.
+    // At least 4: the leaves 5 and 1 below the node 6, and the light node, which has the hash 9 = 3
+    // + 3 * 2.
     (
         &[4, 0, 10, 5, 0, 0, 0, 0, 0, 0, 0, 0, 4],
         &[
@@ -76,7 +78,8 @@ const SHARES: [(&[u8], &[u8]); 2] = [
             0, 0, 0, 0, 0, 9, 0, 0, 0, 0, 0, 0, 0, 3, 0x17, 0, 0,
         ],
     ),
-    // The whole is 9: no leaf, and both nodes, of which the second has the hash 27 = 5 + 5 * 2 + 1 * 4 + 1 * 8.
+    // The whole is 9: no leaf, and both nodes, of which the second has the hash 27 = 5 + 5 * 2 + 1
+    // * 4 + 1 * 8.
     (
         &[4, 0, 10, 6, 0, 0, 0, 0, 1, 0, 0, 0, 1],
         &[
@@ -176,7 +179,8 @@ fn ones(alloc: Global) -> Result<Vec<u8>, Fail> {
     Ok(talk)
 }
 
-// Every pair of leaves is 2, so that all 1,024 leaves are shown at the threshold 2, by 512 in a frame.
+// Every pair of leaves is 2, so that all 1,024 leaves are shown at the threshold 2, by 512 in a
+// frame.
 #[test]
 fn leaves_by_512(rt: HostRuntime) -> Result<(), Fail> {
     let alloc = rt.alloc();
@@ -193,7 +197,8 @@ fn leaves_by_512(rt: HostRuntime) -> Result<(), Fail> {
     replies(&rt, alloc, &[&ones(alloc)?, &query], &sent)
 }
 
-// At the threshold 3 no leaf is shown, and all 512 nodes above them, by 256 in a frame. Each has the hash 1 + 2 + 4 + 8.
+// At the threshold 3 no leaf is shown, and all 512 nodes above them, by 256 in a frame. Each has
+// the hash 1 + 2 + 4 + 8.
 #[test]
 fn nodes_by_256(rt: HostRuntime) -> Result<(), Fail> {
     let alloc = rt.alloc();

@@ -1,5 +1,6 @@
-//! What the public calls of the two checks, of their honest sides, of the helper and of the call that asks do over worked rows.
-//! Nothing but tests stands here, so that each of these layers is proved once.
+//! What the public calls of the two checks, of their honest sides, of the helper and of the call
+//! that asks do over worked rows. Nothing but tests stands here, so that each of these layers is
+//! proved once.
 #![tactic(auto)]
 
 #[cfg(test)]

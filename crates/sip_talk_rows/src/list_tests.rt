@@ -142,8 +142,8 @@ const LESS: [u8; 11] = [0x11, 0, 8, 0xff, 0xff, 0xff, 0xff, 0xff, 0xff, 0xff, 0x
 
 const END: [u8; 3] = [0x17, 0, 0];
 
-// What a talk did: the answer, the challenges that the check has, what happened on the link, and what
-// was kept.
+// What a talk did: the answer, the challenges that the check has, what happened on the link, and
+// what was kept.
 #[derive(Drop)]
 struct Talked {
     said: Result<Said, AskStop>,

@@ -93,8 +93,8 @@ fn polynomials_are_those_worked_out_by_hand(rt: HostRuntime) -> Result<(), Fail>
     prove_range::<F31, _>(&rt, rt.alloc(), true)
 }
 
-// Runs a prover to its end, at one challenge: the values of each polynomial at 0 and 1 add up to what is expected, first
-// the claim. The last value is the product of both lists' extensions.
+// Runs a prover to its end, at one challenge: the values of each polynomial at 0 and 1 add up to
+// what is expected, first the claim. The last value is the product of both lists' extensions.
 fn run<F: Field, R: Abort>(rt: &R, mut prover: SumProver<F>, claim: i64, r: u64) -> u64 {
     assert_eq!(rt; prover.claim(), claim);
     let mut expected = F::of_signed(prover.claim());

@@ -202,9 +202,9 @@ fn asked_of(
     Ok((said, link, keep))
 }
 
-// The sum is 9 + 25 + 1 = 35. At 2 the pairs (3, 0) and (5, 1) are 3 - 2 * 3 = -3 and 5 - 2 * 4 = -3.
-// So the polynomials are (3 - 3x)^2 + (5 - 4x)^2 = 34 - 58x + 25x^2 and (-3)^2 = 9, and the last
-// value is 9.
+// The sum is 9 + 25 + 1 = 35. At 2 the pairs (3, 0) and (5, 1) are 3 - 2 * 3 = -3 and 5 - 2 * 4 =
+// -3. So the polynomials are (3 - 3x)^2 + (5 - 4x)^2 = 34 - 58x + 25x^2 and (-3)^2 = 9, and the
+// last value is 9.
 #[test]
 fn a_sum_is_answered_and_all_that_came_is_kept(rt: HostRuntime) -> Result<(), Fail> {
     let alloc = rt.alloc();
