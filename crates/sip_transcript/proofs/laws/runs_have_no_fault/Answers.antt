@@ -1,6 +1,4 @@
-use Rattle.std.proofs.Common.{◌≡◌, ℕ, ◌≤◌, true, length, arith}
-use Rattle.std.proofs.lemmas.Bool.Decides.{nat_tests}
-use Rattle.sip_transcript.specs.Fields.{is_count, is_depth}
+use Rattle.std.proofs.Common.{length}
 use Rattle.sip_transcript.proofs.Openings.{run-has_no_fault}
 use Rattle.sip_transcript.proofs.Tests.{count-test, depth-test}
 use Rattle.sip_transcript.proofs.laws.runs_have_no_fault.Goals as goal
