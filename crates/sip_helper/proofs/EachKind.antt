@@ -7,7 +7,6 @@ use Rattle.sip_vector.specs.declared.query.Query.{Query}
 use Rattle.sip_vector.specs.declared.query.Query.TheVariants.{Sub, Range, F2, Inner, Heavy, Share}
 use Rattle.sip_vector.specs.Answers.{Fits}
 use Rattle.sip_vector.specs.declared.update.Side.{Side}
-use Rattle.sip_vector.specs.Built.{is_built}
 use Rattle.sip_vector.specs.Streams.{int_sum}
 use Rattle.sip_vector.specs.Thresholds.{is_wide}
 use Rattle.sip_wire.specs.declared.message.Message.TheVariants as messages
@@ -47,24 +46,15 @@ hitters_row side l v = by_tests (is_strict numbers) (is_wide (threshold l (int_s
     by_tests true false = tt
     by_tests false wide = (omega arith, omega arith)
 
--- the refusal of a kind that is built lies between that for want of memory and that of a message out of turn
-pub built_row : (q : Query) (v : Vectors) → IsTrue (is_built q) → IfSome ((help_row q).refused_by v) (λ code. (want_of_memory < code) × (code < out_of_turn))
-built_row (Sub lo hi) v is = by_length (is_too_long lo hi v)
+-- a row's refusal lies between that for want of memory and that of a message out of turn
+pub row_refuses : (q : Query) (v : Vectors) → IfSome ((help_row q).refused_by v) (λ code. (want_of_memory < code) × (code < out_of_turn))
+row_refuses (Sub lo hi) v = by_length (is_too_long lo hi v)
   where
     by_length : (long : Bool) → IfSome (if long then Some too_many else None) (λ code. (want_of_memory < code) × (code < out_of_turn))
     by_length true = (omega arith, omega arith)
     by_length false = tt
-built_row (Range _ _ _) v is = tt
-built_row (F2 _) v is = tt
-built_row Inner v is = tt
-built_row (Heavy side at_least) v is = hitters_row side (least.Count at_least) v
-built_row (Share side num den) v is = hitters_row side (least.Share num den) v
-
--- no kind is left that is not built
-pub other_row : (q : Query) (v : Vectors) → is_built q ≡ false → (help_row q).refused_by v ≡ Some out_of_turn
-other_row (Sub lo hi) v is = absurd cc
-other_row (Range _ _ _) v is = absurd cc
-other_row (F2 _) v is = absurd cc
-other_row Inner v is = absurd cc
-other_row (Heavy _ _) v is = absurd cc
-other_row (Share _ _ _) v is = absurd cc
+row_refuses (Range _ _ _) v = tt
+row_refuses (F2 _) v = tt
+row_refuses Inner v = tt
+row_refuses (Heavy side at_least) v = hitters_row side (least.Count at_least) v
+row_refuses (Share side num den) v = hitters_row side (least.Share num den) v

@@ -15,7 +15,7 @@ use Rattle.sip_replies.specs.Talks.{asked_unless}
 use Rattle.sip_replies.specs.Replies as replied
 use Rattle.sip_replies.specs.Replies.{Fault, IsAccepted, IsStated, joined}
 use Rattle.sip_verifier.specs.CompletenessClause.{honest_bytes, HasFewEntries}
-use Rattle.sip_verifier.specs.Kinds.{KindRow, built, missing, kind_row, Holds}
+use Rattle.sip_verifier.specs.Kinds.{Kind, kind_row}
 use Rattle.sip_verifier.specs.Reports.{line, report_of}
 use Rattle.sip_verifier.specs.Questions.{Question, Accepted, IsFaulty, said_by_kind}
 use Rattle.sip_wire.specs.Versions.{Speaks}
@@ -35,25 +35,23 @@ heard_accepted P query block replies given None stated =
     heard-asked P.rules.version query block replies (omega (arith, stated.all))
 heard_accepted P query block replies given (Some known) none = sym (ap joined none.0)
 
-question_heard : (row : KindRow) (query : Query) (block : List ℕ) (replies : List (List ℕ)) (given : Answer)
-    → Holds (λ kind. IsAccepted (kind.protocol block) block replies given) row
-    → heard (said_by_kind row (record { query = query; block = block; replies = replies }))
+question_heard : (kind : Kind) (query : Query) (block : List ℕ) (replies : List (List ℕ)) (given : Answer)
+    → IsAccepted (kind.protocol block) block replies given
+    → heard (said_by_kind kind (record { query = query; block = block; replies = replies }))
     ≡ joined replies
-question_heard (built kind) query block replies given accepted =
+question_heard kind query block replies given accepted =
     let P = kind.protocol block in
     heard_accepted P query block replies given P.unasked accepted
-question_heard missing query block replies given accepted = absurd accepted
 
-fault_heard : (row : KindRow) (query : Query) (block : List ℕ) (replies : List (List ℕ)) (fault : Fault)
-    → Holds (λ kind. replied.IsFaulty (kind.protocol block) block replies fault) row
-    → heard (said_by_kind row (record { query = query; block = block; replies = replies }))
+fault_heard : (kind : Kind) (query : Query) (block : List ℕ) (replies : List (List ℕ)) (fault : Fault)
+    → replied.IsFaulty (kind.protocol block) block replies fault
+    → heard (said_by_kind kind (record { query = query; block = block; replies = replies }))
     ≡ joined replies
-fault_heard (built kind) query block replies fault faulty =
+fault_heard kind query block replies fault faulty =
     let P = kind.protocol block in
     ap (λ (u : Option Answer). heard (asked_unless u P.rules.version query block replies))
     faulty.asked
     ∙ heard-asked P.rules.version query block replies (omega (arith, faulty.taken))
-fault_heard missing query block replies fault faulty = absurd faulty
 
 pub faulty_heard : (version : Version) (depth : ℕ) (stream : List Update) (query : Query) (block : List ℕ)
     (replies : List (List ℕ)) (fault : Fault)

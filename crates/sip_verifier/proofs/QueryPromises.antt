@@ -10,7 +10,6 @@ use Rattle.sip_ports.specs.declared.port.TalkEvent.{TalkEvent}
 use Rattle.sip_ports.specs.Ports.{GoesOn, Rose, SendsWhole, outs}
 use Rattle.sip_ports.proofs.FaultLemmas.{Rose-since}
 use Rattle.sip_ports.proofs.TalkLemmas.{GoesOn-refl, GoesOn-trans, outs-append}
-use Rattle.sip_replies.specs.Replies as replied
 use Rattle.sip_replies.specs.Replies.{Fault}
 use Rattle.sip_vector.specs.declared.query.Query.{Query}
 use Rattle.sip_vector.specs.Answers.{Answer}
@@ -29,24 +28,16 @@ use Rattle.sip_replies.specs.Talks.{IsPrefix, ending}
 use Rattle.sip_verifier.specs.CauseClause.{CanBeJudged}
 use Rattle.sip_verifier.specs.Widths.{first_wide}
 use Rattle.sip_verifier.specs.Exchanges.{Exchange}
-use Rattle.sip_verifier.specs.Kinds.{KindRow, built, missing, kind_row, Holds}
 use Rattle.sip_verifier.specs.Moments.{Counts}
 use Rattle.sip_verifier.specs.inside.Progress.{Fails, PassesInPart, FailsInPart, HasNone, AreFirst, Passed, PassedBy, EndsWith, Ended, status_of}
 use Rattle.sip_verifier.specs.Reports.{line, rejection}
 use Rattle.sip_verifier.specs.Statuses.{FaultClause, IsListed}
 use Rattle.sip_verifier.specs.Talks.{stream_sent, bye_sent}
 use Rattle.sip_verifier.specs.TalkClause.{EndsAtFault, IsUnderWay}
-use Rattle.sip_verifier.specs.Questions.{Question, Accepted, Accepts, IsDue, IsFaulty, IsWaiting, said_for, updates, IsLegalToEnd, Done, questions_of, lines, farewell, AreQuestions, Reached}
+use Rattle.sip_verifier.specs.Questions.{Question, Accepted, Accepts, IsFaulty, IsWaiting, said_for, updates, IsLegalToEnd, Done, questions_of, lines, farewell, AreQuestions, Reached}
 use Rattle.sip_verifier.specs.VerdictClause.{OneFaulty, PartWritten, PartRejected, CutInLine, NoneLeft}
 use Rattle.sip_verifier.proofs.QueriesChecked.{first_more, flat_map_snoc}
 use Rattle.sip_verifier.proofs.RunTalks.{Adds, said_is, written_is, front_before}
-
--- a question that waits is unfinished
-waits_unfinished : (row : KindRow) (block : List ℕ) (replies : List (List ℕ))
-    → Holds (λ kind. IsDue (kind.protocol block) block replies) row
-    → Holds (λ kind. replied.IsUnfinished (kind.protocol block).rules block replies) row
-waits_unfinished (built kind) block replies waits = waits.1
-waits_unfinished missing block replies waits = waits
 
 -- the farewell is one message's spelling
 bye_is : (version : Version) → outs (spelling version messages.Bye) ≡ (bye_sent version)
@@ -223,8 +214,7 @@ module _ (task : Task) (x : Exchange) where
           done = done;
           reached = were_reached;
           current = Some question;
-          unfinished = waits_unfinished (kind_row (version_of task) task.depth (updates task x) query) block replies
-              waits;
+          unfinished = waits.1;
           questions = λ _. are_questions replies next;
           order = in_order;
           legal = λ not. absurd (not c.legal);

@@ -1,9 +1,8 @@
 -- Completeness.
 --
--- Take a seed that gives challenges, a legal stream, and queries whose check stands here and whose
--- answers have no more entries than may be sent; where heavy hitters are asked for, let no entry of
--- their side be negative. Let the link give the bytes of honest replies at
--- the run's blocks, or a front of them, and not end. If no port's count of faults rises, then each
+-- Take a seed that gives challenges, a legal stream, and queries whose answers have no more entries
+-- than may be sent; where heavy hitters are asked for, let no entry of their side be negative. Let
+-- the link give the bytes of honest replies at the run's blocks, or a front of them, and not end. If no port's count of faults rises, then each
 -- query is accepted and the report has the stream's own answers; or memory ran out.
 use Rattle.std.specs.Prelude.{◌≡◌, ◌≢◌, ◌⊎◌, ℕ, List, [], flat_map, Some, All}
 use Rattle.std.specs.List.{zip}
@@ -19,22 +18,18 @@ use Rattle.sip_verifier.specs.Tasks.{version_of}
 use Rattle.sip_verifier.specs.Draws.{drawn, blocks}
 use Rattle.sip_replies.specs.Talks.{IsPrefix}
 use Rattle.sip_verifier.specs.Exchanges.{Exchange}
-use Rattle.sip_verifier.specs.Kinds.{KindRow, built, missing, kind_row, OfKind}
+use Rattle.sip_verifier.specs.Kinds.{kind_row, OfKind}
 use Rattle.sip_verifier.specs.Moments.{Counts}
 use Rattle.sip_verifier.specs.Reports.{report_of}
 use Rattle.sip_verifier.specs.Questions.{updates, IsLegalToEnd}
 
--- what an honest helper replies, by the row of a query
-abbrev pub honest_in : KindRow → List ℕ → List (List ℕ)
-honest_in (built kind) block = kind.honest block
-honest_in missing block = []
-
 -- the bytes of all honest replies to a query at its block
 abbrev pub honest_bytes : Version → ℕ → List Update → Query × List ℕ → List ℕ
 honest_bytes version depth stream (query, block) = flat_map (λ b. b)
-    (honest_in (kind_row version depth stream query) block)
+    ((kind_row version depth stream query).honest block)
 
--- the query's check stands here, and its answer has no more entries than may be sent
+-- what an honest helper asks of the stream: the answer has no more entries than may be sent, and no
+-- entry is negative where heavy hitters are asked for
 abbrev pub HasFewEntries : Version → ℕ → List Update → Query → Type 0
 HasFewEntries version depth stream query = OfKind version depth stream query (λ kind. kind.HasFew)
 

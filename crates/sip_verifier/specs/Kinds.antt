@@ -87,33 +87,21 @@ heavy_kind version depth stream side at_least = record {
       else [];
 }
 
--- whether a query's check stands here
-pub data KindRow : Type 1 where
-  built : Kind → KindRow
-  missing : KindRow
-
--- The table of kinds: to build one is to change its row.
-abbrev pub kind_row : Version → ℕ → List Update → Query → KindRow
-kind_row version depth stream (Sub lo hi) =
-    built (sub_kind version (vector depth stream First) lo hi)
+-- The table of kinds: a further one is a further row.
+abbrev pub kind_row : Version → ℕ → List Update → Query → Kind
+kind_row version depth stream (Sub lo hi) = sub_kind version (vector depth stream First) lo hi
 kind_row version depth stream (Range side lo hi) =
-    built (sum_kind version depth (vector depth stream side) (ones depth lo hi))
+    sum_kind version depth (vector depth stream side) (ones depth lo hi)
 kind_row version depth stream (F2 side) =
-    built (sum_kind version depth (vector depth stream side) (vector depth stream side))
+    sum_kind version depth (vector depth stream side) (vector depth stream side)
 kind_row version depth stream Inner =
-    built (sum_kind version depth (vector depth stream First) (vector depth stream Second))
+    sum_kind version depth (vector depth stream First) (vector depth stream Second)
 kind_row version depth stream (Heavy side at_least) =
-    built (heavy_kind version depth stream side at_least)
+    heavy_kind version depth stream side at_least
 -- a share, by the count that it comes to of the vector's sum
 kind_row version depth stream (Share side num den) =
-    built (heavy_kind version depth stream side
-    (share_of num den (int_sum (vector depth stream side))))
-
--- this holds of the kind in a row; of a check that doesn't stand here nothing holds
-abbrev pub Holds : (Kind → Type 0) → KindRow → Type 0
-Holds of_kind (built kind) = of_kind kind
-Holds of_kind missing = ⊥
+    heavy_kind version depth stream side (share_of num den (int_sum (vector depth stream side)))
 
 -- this holds of the query's kind
 abbrev pub OfKind : Version → ℕ → List Update → Query → (Kind → Type 0) → Type 0
-OfKind version depth stream query of_kind = Holds of_kind (kind_row version depth stream query)
+OfKind version depth stream query of_kind = of_kind (kind_row version depth stream query)

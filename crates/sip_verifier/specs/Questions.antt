@@ -13,7 +13,7 @@ use Rattle.sip_replies.specs.Talks.{asked_unless}
 use Rattle.sip_verifier.specs.declared.task.Task.{Task}
 use Rattle.sip_verifier.specs.Draws.{drawn, blocks}
 use Rattle.sip_verifier.specs.Exchanges.{Exchange}
-use Rattle.sip_verifier.specs.Kinds.{KindRow, built, missing, kind_row, OfKind}
+use Rattle.sip_verifier.specs.Kinds.{Kind, kind_row, OfKind}
 use Rattle.sip_verifier.specs.Reports.{line}
 use Rattle.sip_verifier.specs.Tasks.{version_of}
 use Rattle.sip_verifier.specs.Talks.{stream_sent, bye_sent}
@@ -28,7 +28,7 @@ abbrev pub IsDue : {S : Type 0} → Protocol S → List ℕ → List (List ℕ) 
 IsDue P block replies = (P.unasked ≡ None) × general.IsUnfinished P.rules block replies
     × general.IsMissing P.rules block replies
 
--- ---- the states of a question; a query whose check does not stand here is never asked
+-- ---- the states of a question
 
 -- the replies are accepted, and this is the answer that they state
 abbrev pub Accepts : Version → ℕ → List Update → Question → Answer → Type 0
@@ -58,11 +58,10 @@ pub record Accepted (version : Version) (depth : ℕ) (stream : List Update) : T
 
 -- ---- the questions of a run
 
--- what was said for a query by its row: nothing, where its answer is known without a reply
-abbrev pub said_by_kind : KindRow → Question → List TalkEvent
-said_by_kind (built kind) q = asked_unless (kind.protocol q.block).unasked
+-- what was said for a query by its kind: nothing, where its answer is known without a reply
+abbrev pub said_by_kind : Kind → Question → List TalkEvent
+said_by_kind kind q = asked_unless (kind.protocol q.block).unasked
     (kind.protocol q.block).rules.version q.query q.block q.replies
-said_by_kind missing q = []
 
 -- what was said for a question
 abbrev pub said_for : Version → ℕ → List Update → Question → List TalkEvent
