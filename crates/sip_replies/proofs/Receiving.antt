@@ -1,11 +1,12 @@
 -- Receiving one frame and keeping its bytes.
-use Rattle.std.proofs.Common.{◌≡◌, ◌≢◌, ℕ, inl, inr, Option, Result, Ok, Err, List, [], ◌∷◌, ◌++◌, ◌<◌, length, take, drop, refl, sym, ap}
+use Rattle.std.proofs.Common.{◌≡◌, ◌≢◌, ℕ, inl, inr, Option, Result, Ok, Err, List, [], ◌∷◌, ◌++◌, ◌<◌, length, take, drop, refl, sym, ap, subst, append-nil}
 use Rattle.std.specs.Prelude.{IsErrAnd}
 use Rattle.std.proofs.lemmas.List.{take-append-drop}
 use Rattle.sip_ports.specs.declared.port.PortStop.{PortStop}
 use Rattle.sip_ports.specs.declared.port.PortStop.TheVariants as ports
 use Rattle.sip_ports.specs.declared.port.TalkEvent.{TalkEvent}
-use Rattle.sip_ports.specs.Ports.{GoesOn, outs}
+use Rattle.sip_ports.specs.Ports.{GoesOn, ins, outs}
+use Rattle.sip_ports.proofs.TalkLemmas.{GoesOn-refl}
 use Rattle.sip_wire.specs.declared.kind.Place.{Place}
 use Rattle.sip_wire.specs.declared.message.Message.{Message}
 use Rattle.sip_wire.specs.declared.message.Reason.TheVariants as reasons
@@ -14,9 +15,10 @@ use Rattle.sip_wire.specs.declared.message.WireFault.TheVariants as faults
 use Rattle.sip_wire.specs.declared.version.Version.{Version}
 use Rattle.sip_wire.specs.Faults.{ended_by}
 use Rattle.sip_wire.specs.Decoding.{Decodes}
+use Rattle.sip_wire.specs.Reading.{read_frame}
 use Rattle.sip_replies.specs.declared.taking.ReplyStop.{ReplyStop}
 use Rattle.sip_replies.specs.Replies.{reasoned, read_one}
-use Rattle.sip_replies.specs.Asking.{stop_of_keeper, KeepsPart, MayEnd, IsUnkept, Shows, Takes, filled}
+use Rattle.sip_replies.specs.Asking.{stop_of_keeper, KeepsPart, MayEnd, IsPart, IsUnkept, Shows, Takes, filled}
 
 module _ (version : Version) (place : Place) (old new before now : Option (List TalkEvent)) (rose risen : ℕ) (got : List ℕ) where
   -- where the end of the link was found the frame is not whole
@@ -54,3 +56,19 @@ module _ (version : Version) (place : Place) (old new before now : Option (List 
     Takes-unkept port (n, less, part) message (Ok _) is = absurd is
     Takes-unkept ports.Failed (n, less, part) message (Err stop) is = rw is (IsUnkept-received (take n got, (drop n got, sym (take-append-drop n got)), part))
     Takes-unkept ports.OutOfMemory (n, less, part) message (Err stop) is = rw is (IsUnkept-received (take n got, (drop n got, sym (take-append-drop n got)), part))
+
+-- the link stopped inside the frame, and nothing was kept
+module _ (version : Version) (place : Place) (old new before : Option (List TalkEvent)) (rose risen : ℕ) (got : List ℕ) where
+  stopped : GoesOn old new (ins got ++ []) → read_frame version place got ≡ Err faults.Closed → IsPart (read_one version place) old new before before
+  stopped heard closed = record {
+    bytes = got;
+    heard = subst (λ (events : List TalkEvent). GoesOn old new events) (append-nil (ins got)) heard;
+    kept = ([], (got, refl), GoesOn-refl before);
+    says = ap reasoned closed;
+  }
+
+  pub IsPart-failed : Decodes version place old new rose risen got (Err faults.PeerFault) → IsPart (read_one version place) old new before before
+  IsPart-failed did = stopped did.heard did.answer.0
+
+  pub IsPart-no_memory : Decodes version place old new rose risen got (Err faults.OutOfMemory) → IsPart (read_one version place) old new before before
+  IsPart-no_memory did = stopped did.heard did.answer
