@@ -1,6 +1,7 @@
 //! Blocks of updates that look as if drawn.
 ghost use Rattle.std.specs.Prelude.{◌≡◌, ◌^◌, ◌<◌, ◌≤◌, All};
 
+use sip_field::{F31, Field, M61};
 use sip_vector::{Side, Update};
 
 // A pseudo-random word after another one (Knuth's multiplier for 64 bits).
@@ -31,4 +32,17 @@ pub(crate) fn block(depth: usize, count: usize) -> [Update; 500]
         };
     }
     updates
+}
+
+// Challenges of both fields.
+pub(crate) fn challenges() -> ([F31; 48], [M61; 48]) {
+    let mut small = [F31::of(0); 48];
+    let mut large = [M61::of(0); 48];
+    let mut word = 2;
+    for at in 0..48 {
+        word = next_word(word);
+        small[at] = F31::of(word >> 5);
+        large[at] = M61::of(word);
+    }
+    (small, large)
 }

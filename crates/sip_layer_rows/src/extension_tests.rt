@@ -1,9 +1,11 @@
 ghost use Rattle.std.specs.Prelude.{◌≡◌, ◌^◌, ◌<◌, ◌≤◌, All, length};
 
-use crate::block_tests::{block, next_word};
+use crate::block_tests::{block, challenges};
+use crate::facts::expect;
 use sip_field::{F31, Field, M61, Seat};
 use sip_mle::{IntervalFold, Point, chi, interval_at};
 use sip_vector::Depth;
+use std::process::Abort;
 
 fn two_and_ten() -> Seat<M61, 32>
     ensures { length result ≡ 2 }
@@ -14,47 +16,49 @@ fn two_and_ten() -> Seat<M61, 32>
 #[test]
 fn factors_are_products_over_the_bits(rt: HostRuntime) {
     let seat = two_and_ten();
-    for (index, factor) in [(0, 9), (1, -18), (2, -10), (3, 20)] {
-        assert_eq!(rt; chi(&seat, index), M61::of_signed(factor), "at {index}");
-    }
+    let facts = [
+        chi(&seat, 0) == M61::of_signed(9),
+        chi(&seat, 1) == M61::of_signed(-18),
+        chi(&seat, 2) == M61::of_signed(-10),
+        chi(&seat, 3) == M61::of_signed(20),
+        interval_at(&seat, 0, 3) == M61::of_signed(1),
+        interval_at(&seat, 3, 3) == M61::of_signed(20),
+        interval_at(&seat, 0, 0) == M61::of_signed(9),
+        interval_at(&seat, 1, 3) == M61::of_signed(-8),
+    ];
+    expect(&rt, 0, &facts);
 }
 
 #[test]
 fn a_point_follows_its_vector(rt: HostRuntime) {
     let mut point = Point::new(two_and_ten());
-    assert_eq!(rt; point.value().number(), 0);
+    let first = point.value().number() == 0;
     point.update(0, 3);
     point.update(2, 5);
     point.update(3, 1);
-    assert_eq!(rt; point.value(), M61::of_signed(-3));
+    let second = point.value() == M61::of_signed(-3);
     point.update(2, -5);
     point.update(3, -2);
     // 3 * 9 - 1 * 20
-    assert_eq!(rt; point.value().number(), 7);
-}
-
-#[test]
-fn intervals_have_the_sum_of_their_factors(rt: HostRuntime) {
-    let seat = two_and_ten();
-    for (lo, hi, sum) in [(0, 3, 1), (3, 3, 20), (0, 0, 9), (1, 3, -8)] {
-        assert_eq!(rt;
-            interval_at(&seat, lo, hi),
-            M61::of_signed(sum),
-            "from {lo} to {hi}"
-        );
-    }
+    let third = point.value().number() == 7;
+    expect(&rt, 0, &[first, second, third]);
 }
 
 #[test]
 fn an_interval_is_folded_by_its_two_ends(rt: HostRuntime) {
     let mut interval = IntervalFold::<M61>::new(Depth::new(2).unwrap(), 1, 3);
-    for (index, entry) in [(0, 0), (1, 1), (2, 1), (3, 1)] {
-        assert_eq!(rt; interval.at(index).number(), entry, "at {index}");
-    }
+    let facts = [
+        interval.at(0).number() == 0,
+        interval.at(1).number() == 1,
+        interval.at(2).number() == 1,
+        interval.at(3).number() == 1,
+    ];
+    expect(&rt, 0, &facts);
     interval.fold(M61::of(2));
-    assert_eq!(rt; (interval.at(0).number(), interval.at(1).number()), (2, 1));
+    let facts = [interval.at(0).number() == 2, interval.at(1).number() == 1];
+    expect(&rt, 1, &facts);
     interval.fold(M61::of(10));
-    assert_eq!(rt; interval.at(0), M61::of_signed(-8));
+    expect(&rt, 2, &[interval.at(0) == M61::of_signed(-8)]);
 }
 
 // The list of eight entries, by its own program.
@@ -90,25 +94,34 @@ fn begins_with(list: [F31; 8], interval: &IntervalFold<F31>, count: usize) -> bo
     true
 }
 
+fn folds_like_a_whole_list(rt: &impl Abort, challenges: [F31; 3], lo: u64, hi: u64)
+    requires order { lo ≤ hi }
+    requires within { hi < 8 }
+{
+    let seat = Seat::<F31, 3>::of(&challenges).unwrap();
+    let [first, second, third] = challenges;
+    let list = ones_and_zeros(lo, hi);
+    let mut interval = IntervalFold::<F31>::new(Depth::new(3).unwrap(), lo, hi);
+    let eight = begins_with(list, &interval, 8);
+    interval.fold(first);
+    let list = folded(list, first);
+    let four = begins_with(list, &interval, 4);
+    interval.fold(second);
+    let list = folded(list, second);
+    let two = begins_with(list, &interval, 2);
+    interval.fold(third);
+    let list = folded(list, third);
+    let one = begins_with(list, &interval, 1);
+    let facts = [eight, four, two, one, interval_at(&seat, lo, hi) == list[0]];
+    expect(rt, lo as usize, &facts);
+}
+
 #[test]
 fn intervals_fold_like_whole_lists(rt: HostRuntime) {
-    let (first, second, third) = (F31::of(2), F31::of(30), F31::of(7));
-    let seat = Seat::<F31, 3>::of(&[first, second, third]).unwrap();
+    let challenges = [F31::of(2), F31::of(30), F31::of(7)];
     for lo in 0..8 {
         for hi in lo..8 {
-            let list = ones_and_zeros(lo, hi);
-            let mut interval = IntervalFold::<F31>::new(Depth::new(3).unwrap(), lo, hi);
-            assert!(rt; begins_with(list, &interval, 8));
-            interval.fold(first);
-            let list = folded(list, first);
-            assert!(rt; begins_with(list, &interval, 4));
-            interval.fold(second);
-            let list = folded(list, second);
-            assert!(rt; begins_with(list, &interval, 2));
-            interval.fold(third);
-            let list = folded(list, third);
-            assert!(rt; begins_with(list, &interval, 1));
-            assert_eq!(rt; interval_at(&seat, lo, hi), list[0], "{lo} to {hi}");
+            folds_like_a_whole_list(&rt, challenges, lo, hi);
         }
     }
 }
@@ -131,24 +144,14 @@ fn block_is_its_updates<F: Field>(challenges: &[F], count: usize) -> bool
 
 #[test]
 fn a_block_gives_what_its_updates_give(rt: HostRuntime) {
-    let mut small = [F31::of(0); 48];
-    let mut large = [M61::of(0); 48];
-    let mut word = 2;
-    for at in 0..48 {
-        word = next_word(word);
-        small[at] = F31::of(word >> 5);
-        large[at] = M61::of(word);
-    }
+    let (small, large) = challenges();
     for depth in [1, 7, 8, 20, 48] {
         for count in [0, 1, 31, 32, 127, 500] {
-            assert!(rt;
+            let facts = [
                 block_is_its_updates(&small[..depth], count),
-                "{depth} {count}"
-            );
-            assert!(rt;
                 block_is_its_updates(&large[..depth], count),
-                "{depth} {count}"
-            );
+            ];
+            expect(&rt, count, &facts);
         }
     }
 }

@@ -1,5 +1,6 @@
-//! What each layer's public calls do over worked rows: vectors from outside, printed text, devices that fail, and that a call
-//! succeeds where memory is ample. Nothing but tests stands here, so that each of these layers is proved once.
+//! What each layer's public calls do over worked rows: vectors from outside, printed text, devices
+//! that fail, and that a call succeeds where memory is ample. Nothing but tests stands here, so
+//! that each of these layers is proved once.
 #![tactic(auto)]
 
 #[cfg(test)]
@@ -9,18 +10,30 @@ mod copy_tests;
 #[cfg(test)]
 mod extension_tests;
 #[cfg(test)]
+mod facts;
+#[cfg(test)]
+mod far_tests;
+#[cfg(test)]
 mod field_tests;
+#[cfg(test)]
+mod file_tests;
 #[cfg(test)]
 mod frame_tests;
 #[cfg(test)]
-mod line_tests;
+mod frames;
 #[cfg(test)]
 mod made_tests;
 #[cfg(test)]
+mod pending_tests;
+#[cfg(test)]
+mod port_tests;
+#[cfg(test)]
 mod reader_tests;
 #[cfg(test)]
-mod record_tests;
-#[cfg(test)]
-mod text_tests;
-#[cfg(test)]
 mod tree_tests;
+#[cfg(test)]
+mod vector_calls;
+#[cfg(test)]
+mod vector_tests;
+#[cfg(test)]
+mod writing_tests;

@@ -1,15 +1,17 @@
 // Made streams against tables that were computed by the generator's rule in another language.
 ghost use Rattle.std.specs.Prelude.{◌≤◌};
 
+use crate::facts::expect;
 use byteorder::{BigEndian, ByteOrder};
 use sip_ports::{Source, read_exact_into};
 use sip_stream::MadeSource;
 use sip_vector::Depth;
 use std::alloc::Global;
+use std::process::Abort;
 use std::test::Fail;
 
 // The first records of the number 7: side, item, delta.
-const AT_20: [(u8, u32, i64); 20] = [
+const AT_20: [(u8, u64, i64); 20] = [
     (0, 532219, 8),
     (1, 991056, 3),
     (1, 367341, 2),
@@ -32,7 +34,7 @@ const AT_20: [(u8, u32, i64); 20] = [
     (1, 859048, 7),
 ];
 
-const AT_1: [(u8, u32, i64); 20] = [
+const AT_1: [(u8, u64, i64); 20] = [
     (0, 1, 8),
     (1, 0, 3),
     (1, 1, 2),
@@ -55,7 +57,7 @@ const AT_1: [(u8, u32, i64); 20] = [
     (1, 0, 7),
 ];
 
-const AT_32: [(u8, u32, i64); 20] = [
+const AT_32: [(u8, u64, i64); 20] = [
     (0, 1366826747, 8),
     (1, 889134928, 3),
     (1, 3032849133, 2),
@@ -108,61 +110,77 @@ fn made(number: u64, count: u64, depth: u8) -> Result<MadeSource, Fail>
     Ok(MadeSource::new(number, count, depth))
 }
 
+// The records of a source at this depth are those of the table, whose items are cut to it.
+fn has_records(rt: &impl Abort, depth: u8, table: &[(u8, u64, i64)]) -> Result<(), Fail> {
+    let mut source = made(7, 20, depth)?;
+    let mut bytes = [0; 13];
+    for (row, (side, item, delta)) in table.iter().enumerate() {
+        let facts = [
+            read_exact_into(&mut source, &mut bytes) == Ok(13),
+            bytes[0] == *side,
+            u64::from(BigEndian::read_u32(&bytes[1..])) == *item,
+            BigEndian::read_i64(&bytes[5..]) == *delta,
+        ];
+        expect(rt, row, &facts);
+    }
+    expect(rt, 20, &[source.read(&mut bytes) == Ok(0)]);
+    Ok(())
+}
+
+// The same for wide records, whose items at a lower depth are the low bits of those of the table.
+fn has_wide_records(rt: &impl Abort, depth: u8, table: &[(u8, u64, i64)]) -> Result<(), Fail>
+    requires { depth ≤ 48 }
+{
+    let mut source = made(7, 20, depth)?;
+    let mut bytes = [0; 17];
+    for (row, (side, item, delta)) in table.iter().enumerate() {
+        let facts = [
+            read_exact_into(&mut source, &mut bytes) == Ok(17),
+            bytes[0] == *side,
+            BigEndian::read_u64(&bytes[1..]) == item % (1 << depth),
+            BigEndian::read_i64(&bytes[9..]) == *delta,
+        ];
+        expect(rt, row, &facts);
+    }
+    expect(rt, 20, &[source.read(&mut bytes) == Ok(0)]);
+    Ok(())
+}
+
 #[test]
 fn first_records_are_those_of_the_tables(rt: HostRuntime) -> Result<(), Fail> {
-    for (depth, rows) in [(20, AT_20), (1, AT_1), (32, AT_32)] {
-        let mut source = made(7, 20, depth)?;
-        let mut bytes = [0; 13];
-        for (side, item, delta) in rows {
-            assert_eq!(rt; read_exact_into(&mut source, &mut bytes), Ok(13));
-            assert_eq!(rt; bytes[0], side);
-            assert_eq!(rt; BigEndian::read_u32(&bytes[1..]), item);
-            assert_eq!(rt; BigEndian::read_i64(&bytes[5..]), delta);
-        }
-        assert_eq!(rt; source.read(&mut bytes), Ok(0));
+    has_records(&rt, 20, &AT_20)?;
+    has_records(&rt, 1, &AT_1)?;
+    has_records(&rt, 32, &AT_32)?;
+    for depth in 33..49 {
+        has_wide_records(&rt, depth, &AT_48)?;
     }
     Ok(())
 }
 
-// The items at a lower depth are the low bits of those of the table.
-#[test]
-fn first_wide_records_are_those_of_the_table(rt: HostRuntime) -> Result<(), Fail> {
-    for depth in 33..49 {
-        let mut source = made(7, 20, depth)?;
-        let mut bytes = [0; 17];
-        for (side, item, delta) in AT_48 {
-            assert_eq!(rt; read_exact_into(&mut source, &mut bytes), Ok(17));
-            assert_eq!(rt; bytes[0], side);
-            assert_eq!(rt; BigEndian::read_u64(&bytes[1..]), item % (1 << depth));
-            assert_eq!(rt; BigEndian::read_i64(&bytes[9..]), delta);
-        }
-        assert_eq!(rt; source.read(&mut bytes), Ok(0));
-    }
-    Ok(())
+// The first read of a stream, and what it gives.
+fn first_read(alloc: Global, number: u64, count: u64, depth: u8) -> Result<Vec<u8>, Fail>
+    requires { count ≤ 10_000_000 }
+{
+    let mut bytes = [0; 20];
+    let Ok(came) = made(number, count, depth)?.read(&mut bytes) else {
+        return Err("it never fails")?;
+    };
+    Ok(bytes[..came].to_vec(alloc)?)
 }
 
 #[test]
 fn one_record_of_7_and_of_0(rt: HostRuntime) -> Result<(), Fail> {
-    let mut bytes = [0; 20];
-    assert_eq!(rt; made(7, 1, 20)?.read(&mut bytes), Ok(13));
-    assert_eq!(rt;
-        &bytes[..13],
-        [0, 0, 8, 0x1e, 0xfb, 0, 0, 0, 0, 0, 0, 0, 8].as_slice()
-    );
-    assert_eq!(rt; made(0, 1, 20)?.read(&mut bytes), Ok(13));
-    assert_eq!(rt;
-        &bytes[..13],
-        [0, 0, 0x0d, 0xee, 0xcf, 0, 0, 0, 0, 0, 0, 0, 1].as_slice()
-    );
-    assert_eq!(rt; made(7, 1, 48)?.read(&mut bytes), Ok(17));
-    assert_eq!(rt;
-        &bytes[..17],
-        [
-            0, 0, 0, 0xfc, 0x86, 0x51, 0x78, 0x1e, 0xfb, 0, 0, 0, 0, 0, 0, 0, 8
-        ]
-        .as_slice()
-    );
-    assert_eq!(rt; made(7, 0, 20)?.read(&mut bytes), Ok(0));
+    let alloc = rt.alloc();
+    let seven = b"\0\0\x08\x1e\xfb\0\0\0\0\0\0\0\x08".as_slice();
+    let zero = b"\0\0\x0d\xee\xcf\0\0\0\0\0\0\0\x01".as_slice();
+    let wide = b"\0\0\0\xfc\x86\x51\x78\x1e\xfb\0\0\0\0\0\0\0\x08".as_slice();
+    let facts = [
+        first_read(alloc, 7, 1, 20)?.as_slice() == seven,
+        first_read(alloc, 0, 1, 20)?.as_slice() == zero,
+        first_read(alloc, 7, 1, 48)?.as_slice() == wide,
+        first_read(alloc, 7, 0, 20)?.is_empty(),
+    ];
+    expect(&rt, 0, &facts);
     Ok(())
 }
 
@@ -185,30 +203,45 @@ fn read_by(alloc: Global, depth: u8, chunk: usize) -> Result<(Vec<u8>, usize), F
     Err("it ends".into())
 }
 
-// The bytes of 1,000 records add up to these sums, and the last records are (0, 678910, 7) and (0, 229828307082238, 7).
+fn sum_of(bytes: &[u8]) -> u64 {
+    let mut sum = 0_u64;
+    for byte in bytes {
+        sum = sum.wrapping_add(*byte as u64);
+    }
+    sum
+}
+
+fn is_whole(
+    rt: &impl Abort,
+    alloc: Global,
+    depth: u8,
+    size: usize,
+    total: u64,
+    last: &[u8],
+) -> Result<(), Fail> {
+    let (whole, reads) = read_by(alloc, depth, 10_000)?;
+    let facts = [
+        reads == 2,
+        whole.len() == size,
+        sum_of(&whole) == total,
+        whole.ends_with(last),
+    ];
+    expect(rt, 0, &facts);
+    for chunk in [1, 5, 13, 17] {
+        let (pieces, reads) = read_by(alloc, depth, chunk)?;
+        let facts = [pieces == whole, reads == whole.len().div_ceil(chunk)];
+        expect(rt, chunk, &facts);
+    }
+    Ok(())
+}
+
+// The bytes of 1,000 records add up to these sums, and the last records are (0, 678910, 7) and (0,
+// 229828307082238, 7).
 #[test]
 fn pieces_of_any_size_are_the_same_bytes(rt: HostRuntime) -> Result<(), Fail> {
     let alloc = rt.alloc();
     let narrow = b"\0\0\x0a\x5b\xfe\0\0\0\0\0\0\0\x07".as_slice();
     let wide = b"\0\0\0\xd1\x07\x12\x9a\x5b\xfe\0\0\0\0\0\0\0\x07".as_slice();
-    for (depth, bytes, total, last) in [
-        (20, 13_000, 198_709, narrow),
-        (48, 17_000, 575_520, wide),
-    ] {
-        let (whole, reads) = read_by(alloc, depth, 10_000)?;
-        assert_eq!(rt; whole.len(), bytes);
-        let mut sum = 0_u64;
-        for byte in &whole {
-            sum = sum.wrapping_add(*byte as u64);
-        }
-        assert_eq!(rt; sum, total);
-        assert_eq!(rt; whole.ends_with(last), true);
-        assert_eq!(rt; reads, 2);
-        for chunk in [1, 5, 13, 17] {
-            let (pieces, reads) = read_by(alloc, depth, chunk)?;
-            assert_eq!(rt; pieces == whole, true);
-            assert_eq!(rt; reads, bytes.div_ceil(chunk));
-        }
-    }
-    Ok(())
+    is_whole(&rt, alloc, 20, 13_000, 198_709, narrow)?;
+    is_whole(&rt, alloc, 48, 17_000, 575_520, wide)
 }

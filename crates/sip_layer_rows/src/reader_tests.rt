@@ -1,10 +1,12 @@
 ghost use Rattle.std.specs.Prelude.{◌≡◌, ◌≤◌, IfOk};
 
+use crate::facts::expect;
 use arrayvec::ArrayVec;
 use sip_ports::{MemorySource, ReaderSource, Source};
 use sip_stream::{Form, Reader, StreamFault, Why};
 use sip_vector::{Depth, Side, Update};
 use std::alloc::Global;
+use std::process::Abort;
 use std::test::Fail;
 
 const HEAVIEST: i64 = (1 << 30) - 1;
@@ -72,7 +74,8 @@ fn read_all(
     read_from(alloc, levels, form, &mut source)
 }
 
-// Those of some bytes, which are held from the first one on, since a byte was read in front of them.
+// Those of some bytes, which are held from the first one on, since a byte was read in front of
+// them.
 fn read_held(
     alloc: Global,
     levels: u8,
@@ -102,118 +105,173 @@ fn ends(
     Ok(pieces == want && whole == want && held == want)
 }
 
-// A record of binary form is held that is not legal behind three that are, and the front of one more.
+// Whether a block of the first legal records that are held is read, in two calls, and then the
+// first record that is not legal.
+fn reads_a_block(alloc: Global, form: Form) -> Result<bool, Fail> {
+    let records = [(0, 5, 1), (1, 6, -2), (0, 7, 3), (0, 16, 1)];
+    let mut bytes = b"x".to_vec(alloc)?;
+    bytes.extend_from_slice(&stream(alloc, form, &records)?)?;
+    bytes.push(0)?;
+    let mut source = ReaderSource::new(Some(bytes.as_slice()));
+    let first = source.read(&mut [0; 1]);
+    let mut reader = Reader::new(depth(4)?, form);
+    let mut block: ArrayVec<Update, 8> = ArrayVec::new();
+    reader.read_held(&mut source, 2, &mut block);
+    let two = block.len();
+    reader.read_held(&mut source, 8, &mut block);
+    let three = [
+        update(Side::First, 5, 1),
+        update(Side::Second, 6, -2),
+        update(Side::First, 7, 3),
+    ];
+    if reader.spent() {
+        return Err("a block ends no reader")?;
+    }
+    let bad = StreamFault::Bad {
+        at: 3,
+        why: Why::BadItem,
+    };
+    let is_block = (first == Ok(1)) & (two == 2) & (block.as_slice() == three.as_slice());
+    Ok(is_block & (reader.next(&mut source) == Err(bad)))
+}
+
+// A record of binary form is held that is not legal behind three that are, and the front of one
+// more.
 #[test]
 fn held_records_are_read_together(rt: HostRuntime) -> Result<(), Fail> {
     let alloc = rt.alloc();
-    let records = [(0, 5, 1), (1, 6, -2), (0, 7, 3), (0, 16, 1)];
-    for form in [Form::Binary, Form::Wide] {
-        let mut bytes = b"x".to_vec(alloc)?;
-        bytes.extend_from_slice(&stream(alloc, form, &records)?)?;
-        bytes.push(0)?;
-        let mut source = ReaderSource::new(Some(bytes.as_slice()));
-        let first = source.read(&mut [0; 1]);
-        let mut reader = Reader::new(depth(4)?, form);
-        let mut block: ArrayVec<Update, 8> = ArrayVec::new();
-        reader.read_held(&mut source, 2, &mut block);
-        let two = block.len();
-        reader.read_held(&mut source, 8, &mut block);
-        let three = [
-            update(Side::First, 5, 1),
-            update(Side::Second, 6, -2),
-            update(Side::First, 7, 3),
-        ];
-        assert!(rt; first == Ok(1) && two == 2 && block.as_slice() == three.as_slice());
-        if reader.spent() {
-            return Err("a block ends no reader")?;
-        }
-        let next = reader.next(&mut source);
-        assert!(rt;
-            next == Err(StreamFault::Bad {
-                at: 3,
-                why: Why::BadItem
-            })
+    let facts = [
+        reads_a_block(alloc, Form::Binary)?,
+        reads_a_block(alloc, Form::Wide)?,
+    ];
+    expect(&rt, 0, &facts);
+    Ok(())
+}
+
+// Whether a stream of three records was read to its end.
+fn is_three(read: &(Vec<Update>, Option<(u64, Why)>)) -> bool {
+    let three = [
+        update(Side::First, 0, 3),
+        update(Side::First, 2, 5),
+        update(Side::Second, 3, -1),
+    ];
+    read.0.as_slice() == three.as_slice() && read.1.is_none()
+}
+
+fn is_read_in_any_chunks(
+    rt: &impl Abort,
+    alloc: Global,
+    form: Form,
+    bytes: &[u8],
+) -> Result<(), Fail> {
+    for chunk in 1..60 {
+        expect(
+            rt,
+            chunk,
+            &[is_three(&read_all(alloc, 2, form, bytes, chunk)?)],
         );
     }
+    let facts = [
+        is_three(&read_all(alloc, 2, form, bytes, 10_000)?),
+        is_three(&read_held(alloc, 2, form, bytes)?),
+    ];
+    expect(rt, 60, &facts);
     Ok(())
 }
 
 #[test]
 fn all_forms_are_read_in_any_chunks(rt: HostRuntime) -> Result<(), Fail> {
     let alloc = rt.alloc();
-    let three = [
-        update(Side::First, 0, 3),
-        update(Side::First, 2, 5),
-        update(Side::Second, 3, -1),
-    ];
     let records = [(0, 0, 3), (0, 2, 5), (1, 3, -1)];
-    let table = [
-        (Form::Binary, stream(alloc, Form::Binary, &records)?),
-        (Form::Wide, stream(alloc, Form::Wide, &records)?),
-        (Form::Text, b"0 0 3\n0 2 5\n1 3 -1\n".to_vec(alloc)?),
-    ];
-    for (form, bytes) in &table {
-        for chunk in 1..60 {
-            let (updates, end) = read_all(alloc, 2, *form, bytes, chunk)?;
-            assert!(rt; updates.as_slice() == three.as_slice() && end.is_none());
-        }
-        let (updates, end) = read_all(alloc, 2, *form, bytes, 10_000)?;
-        assert!(rt; updates.as_slice() == three.as_slice() && end.is_none());
-        let (updates, end) = read_held(alloc, 2, *form, bytes)?;
-        assert!(rt; updates.as_slice() == three.as_slice() && end.is_none());
-    }
-    Ok(())
+    let narrow = stream(alloc, Form::Binary, &records)?;
+    let wide = stream(alloc, Form::Wide, &records)?;
+    is_read_in_any_chunks(&rt, alloc, Form::Binary, &narrow)?;
+    is_read_in_any_chunks(&rt, alloc, Form::Wide, &wide)?;
+    is_read_in_any_chunks(&rt, alloc, Form::Text, b"0 0 3\n0 2 5\n1 3 -1\n")
 }
 
 // Each record fails one test, or several of which the first one is named.
+const BAD_RECORDS: [((u8, u64, i64), Why); 8] = [
+    ((2, 0, 1), Why::BadSide),
+    ((255, 9, 0), Why::BadSide),
+    ((0, 4, 1), Why::BadItem),
+    ((0, 4_294_967_295, 0), Why::BadItem),
+    ((1, 9, i64::MIN), Why::BadItem),
+    ((1, 0, 0), Why::ZeroDelta),
+    ((0, 0, i64::MIN), Why::TooHeavy(Side::First)),
+    ((1, 0, HEAVIEST + 1), Why::TooHeavy(Side::Second)),
+];
+
+fn have_faults(
+    rt: &impl Abort,
+    alloc: Global,
+    form: Form,
+    table: &[((u8, u64, i64), Why)],
+) -> Result<(), Fail> {
+    for (row, (record, why)) in table.iter().enumerate() {
+        let first = stream(alloc, form, &[*record])?;
+        let second = stream(alloc, form, &[(0, 3, -2), *record])?;
+        let facts = [
+            ends(alloc, 2, form, &first, Some((0, *why)))?,
+            ends(alloc, 2, form, &second, Some((1, *why)))?,
+        ];
+        expect(rt, row, &facts);
+    }
+    let heavy = stream(alloc, form, &[(0, 0, HEAVIEST), (0, 0, -1)])?;
+    let too_heavy = Some((1, Why::TooHeavy(Side::First)));
+    let facts = [
+        ends(alloc, 2, form, &heavy, too_heavy)?,
+        ends(alloc, 2, form, &[], None)?,
+    ];
+    expect(rt, 8, &facts);
+    Ok(())
+}
+
 #[test]
 fn records_with_a_fault(rt: HostRuntime) -> Result<(), Fail> {
     let alloc = rt.alloc();
-    let table = [
-        ((2, 0, 1), Why::BadSide),
-        ((255, 9, 0), Why::BadSide),
-        ((0, 4, 1), Why::BadItem),
-        ((0, 4_294_967_295, 0), Why::BadItem),
-        ((1, 9, i64::MIN), Why::BadItem),
-        ((1, 0, 0), Why::ZeroDelta),
-        ((0, 0, i64::MIN), Why::TooHeavy(Side::First)),
-        ((1, 0, HEAVIEST + 1), Why::TooHeavy(Side::Second)),
-    ];
-    for form in [Form::Binary, Form::Wide] {
-        for (record, why) in table {
-            let first = stream(alloc, form, &[record])?;
-            assert!(rt; ends(alloc, 2, form, &first, Some((0, why)))?);
-            let second = stream(alloc, form, &[(0, 3, -2), record])?;
-            assert!(rt; ends(alloc, 2, form, &second, Some((1, why)))?);
-        }
-        let heavy = stream(alloc, form, &[(0, 0, HEAVIEST), (0, 0, -1)])?;
-        let why = Why::TooHeavy(Side::First);
-        assert!(rt; ends(alloc, 2, form, &heavy, Some((1, why)))?);
-        assert!(rt; ends(alloc, 2, form, &[], None)?);
-    }
-    Ok(())
+    have_faults(&rt, alloc, Form::Binary, &BAD_RECORDS)?;
+    have_faults(&rt, alloc, Form::Wide, &BAD_RECORDS)
+}
+
+// Whether a wide record of this item is legal at a depth, or else its item is bad.
+fn is_item(alloc: Global, levels: u8, item: u64, fits: bool) -> Result<bool, Fail> {
+    let bytes = stream(alloc, Form::Wide, &[(1, item, 7)])?;
+    let want = (!fits).then_some((0, Why::BadItem));
+    ends(alloc, levels, Form::Wide, &bytes, want)
 }
 
 // Items whose low four bytes are those of another item.
 #[test]
 fn wide_items_have_eight_bytes(rt: HostRuntime) -> Result<(), Fail> {
     let alloc = rt.alloc();
-    let table = [
-        (2, 1 << 32, Some((0, Why::BadItem))),
-        (2, u64::MAX, Some((0, Why::BadItem))),
-        (33, 1 << 32, None),
-        (33, 1 << 33, Some((0, Why::BadItem))),
-        (48, (1 << 48) - 1, None),
-        (48, 1 << 48, Some((0, Why::BadItem))),
-    ];
-    for (levels, item, want) in table {
-        let bytes = stream(alloc, Form::Wide, &[(1, item, 7)])?;
-        assert!(rt; ends(alloc, levels, Form::Wide, &bytes, want)?);
-    }
     let bytes = b"\0\0\0\x80\0\0\0\0\0\0\0\0\0\0\0\0\x07";
     let (updates, end) = read_all(alloc, 48, Form::Wide, bytes, 1)?;
-    assert!(rt; end.is_none());
-    assert!(rt; updates.as_slice() == [update(Side::First, 140_737_488_355_328, 7)].as_slice());
+    let one = [update(Side::First, 140_737_488_355_328, 7)];
+    let facts = [
+        is_item(alloc, 2, 1 << 32, false)?,
+        is_item(alloc, 2, u64::MAX, false)?,
+        is_item(alloc, 33, 1 << 32, true)?,
+        is_item(alloc, 33, 1 << 33, false)?,
+        is_item(alloc, 48, (1 << 48) - 1, true)?,
+        is_item(alloc, 48, 1 << 48, false)?,
+        end.is_none(),
+        updates.as_slice() == one.as_slice(),
+    ];
+    expect(&rt, 0, &facts);
+    Ok(())
+}
+
+fn is_cut_short(rt: &impl Abort, alloc: Global, form: Form, size: usize) -> Result<(), Fail>
+    requires { 1 ≤ size }
+{
+    let bytes = stream(alloc, form, &[(0, 3, -2), (1, 1, 5)])?;
+    expect(rt, 0, &[(bytes.len() / size, bytes.len() % size) == (2, 0)]);
+    for len in 0..bytes.len() {
+        let at = (len / size) as u64;
+        let want = (len % size > 0).then_some((at, Why::Truncated));
+        expect(rt, len, &[ends(alloc, 2, form, &bytes[..len], want)?]);
+    }
     Ok(())
 }
 
@@ -221,19 +279,76 @@ fn wide_items_have_eight_bytes(rt: HostRuntime) -> Result<(), Fail> {
 #[test]
 fn a_part_of_a_record_is_cut_short(rt: HostRuntime) -> Result<(), Fail> {
     let alloc = rt.alloc();
-    for (form, size) in [(Form::Binary, 13), (Form::Wide, 17)] {
-        let bytes = stream(alloc, form, &[(0, 3, -2), (1, 1, 5)])?;
-        assert_eq!(rt; bytes.len(), 2 * size);
-        for len in 0..bytes.len() {
-            let at = (len / size) as u64;
-            let want = (len % size > 0).then_some((at, Why::Truncated));
-            assert!(rt; ends(alloc, 2, form, &bytes[..len], want)?);
-        }
-    }
-    Ok(())
+    is_cut_short(&rt, alloc, Form::Binary, 13)?;
+    is_cut_short(&rt, alloc, Form::Wide, 17)
 }
 
-fn expect_line(alloc: Global, line: &str, why: Option<Why>) -> Result<bool, Fail> {
+const BAD_LINES: [&str; 31] = [
+    "2 x 5\n",
+    "00 0 5\n",
+    "01 0 5\n",
+    "-1 0 5\n",
+    "0 01 5\n",
+    "0 +1 5\n",
+    "0 -1 5\n",
+    "0 1 +5\n",
+    "0 1 -0\n",
+    "0 1 -01\n",
+    "0 1 00\n",
+    "0 1 -\n",
+    "0 1 --5\n",
+    "0 1 5\r\n",
+    "\n",
+    " \n",
+    "  \n",
+    "0  1 5\n",
+    "0 1  5\n",
+    " 0 1 5\n",
+    "0 1 5 \n",
+    "0 1\n",
+    "0 1 5 6\n",
+    "0,1,5\n",
+    "0\t1\t5\n",
+    "0 18446744073709551616 5\n",
+    "0 1 9223372036854775808\n",
+    "1 1 -9223372036854775809\n",
+    "0000000000000000000000000000000000000000\n",
+    "999999999999999999999999999999999999 0 5\n",
+    "0 18446744073709551615 -9223372036854775808\n",
+];
+
+const LINES: [(&str, Option<Why>); 16] = [
+    ("0 0 3\n", None),
+    ("1 3 -1073741823\n", None),
+    ("0 3 1073741823\n", None),
+    ("2 0 5\n", Some(Why::BadSide)),
+    ("10 9 0\n", Some(Why::BadSide)),
+    (
+        "99999999999999999999999999999999999 0 5\n",
+        Some(Why::BadSide),
+    ),
+    ("0 4 5\n", Some(Why::BadItem)),
+    ("0 9 0\n", Some(Why::BadItem)),
+    ("0 18446744073709551615 5\n", Some(Why::BadItem)),
+    ("0 1 0\n", Some(Why::ZeroDelta)),
+    ("0 1 1073741824\n", Some(Why::TooHeavy(Side::First))),
+    (
+        "0 1 9223372036854775807\n",
+        Some(Why::TooHeavy(Side::First)),
+    ),
+    (
+        "1 1 -9223372036854775808\n",
+        Some(Why::TooHeavy(Side::Second)),
+    ),
+    ("0 1 5", Some(Why::Truncated)),
+    ("x", Some(Why::Truncated)),
+    (
+        "0000000000000000000000000000000000000000",
+        Some(Why::Truncated),
+    ),
+];
+
+fn line_ends(alloc: Global, line: &str, why: Option<Why>) -> Result<bool, Fail> {
     let want = match why {
         Some(why) => Some((0, why)),
         None => None,
@@ -241,104 +356,54 @@ fn expect_line(alloc: Global, line: &str, why: Option<Why>) -> Result<bool, Fail
     ends(alloc, 2, Form::Text, line.as_bytes(), want)
 }
 
-#[test]
-fn lines_of_another_shape(rt: HostRuntime) -> Result<(), Fail> {
-    let alloc = rt.alloc();
-    let lines = [
-        "2 x 5\n",
-        "00 0 5\n",
-        "01 0 5\n",
-        "-1 0 5\n",
-        "0 01 5\n",
-        "0 +1 5\n",
-        "0 -1 5\n",
-        "0 1 +5\n",
-        "0 1 -0\n",
-        "0 1 -01\n",
-        "0 1 00\n",
-        "0 1 -\n",
-        "0 1 --5\n",
-        "0 1 5\r\n",
-        "\n",
-        " \n",
-        "  \n",
-        "0  1 5\n",
-        "0 1  5\n",
-        " 0 1 5\n",
-        "0 1 5 \n",
-        "0 1\n",
-        "0 1 5 6\n",
-        "0,1,5\n",
-        "0\t1\t5\n",
-        "0 18446744073709551616 5\n",
-        "0 1 9223372036854775808\n",
-        "1 1 -9223372036854775809\n",
-        "0000000000000000000000000000000000000000\n",
-        "999999999999999999999999999999999999 0 5\n",
-        "0 18446744073709551615 -9223372036854775808\n",
-    ];
-    for line in lines {
-        assert!(rt; expect_line(alloc, line, Some(Why::BadLine))?);
+fn lines_end(rt: &impl Abort, alloc: Global, table: &[(&str, Option<Why>)]) -> Result<(), Fail> {
+    for (row, (line, why)) in table.iter().enumerate() {
+        expect(rt, row, &[line_ends(alloc, line, *why)?]);
+    }
+    Ok(())
+}
+
+fn lines_are_bad(rt: &impl Abort, alloc: Global, lines: &[&str]) -> Result<(), Fail> {
+    for (row, line) in lines.iter().enumerate() {
+        expect(rt, row, &[line_ends(alloc, line, Some(Why::BadLine))?]);
     }
     Ok(())
 }
 
 #[test]
-fn lines_of_the_right_shape(rt: HostRuntime) -> Result<(), Fail> {
+fn lines_of_another_shape_and_of_the_right_one(rt: HostRuntime) -> Result<(), Fail> {
     let alloc = rt.alloc();
-    let table = [
-        ("0 0 3\n", None),
-        ("1 3 -1073741823\n", None),
-        ("0 3 1073741823\n", None),
-        ("2 0 5\n", Some(Why::BadSide)),
-        ("10 9 0\n", Some(Why::BadSide)),
-        (
-            "99999999999999999999999999999999999 0 5\n",
-            Some(Why::BadSide),
-        ),
-        ("0 4 5\n", Some(Why::BadItem)),
-        ("0 9 0\n", Some(Why::BadItem)),
-        ("0 18446744073709551615 5\n", Some(Why::BadItem)),
-        ("0 1 0\n", Some(Why::ZeroDelta)),
-        ("0 1 1073741824\n", Some(Why::TooHeavy(Side::First))),
-        (
-            "0 1 9223372036854775807\n",
-            Some(Why::TooHeavy(Side::First)),
-        ),
-        (
-            "1 1 -9223372036854775808\n",
-            Some(Why::TooHeavy(Side::Second)),
-        ),
-        ("0 1 5", Some(Why::Truncated)),
-        ("x", Some(Why::Truncated)),
-        (
-            "0000000000000000000000000000000000000000",
-            Some(Why::Truncated),
-        ),
-    ];
-    for (line, why) in table {
-        assert!(rt; expect_line(alloc, line, why)?);
-    }
-    Ok(())
+    lines_are_bad(&rt, alloc, &BAD_LINES)?;
+    lines_end(&rt, alloc, &LINES)
 }
 
-// Call 2 fails: after one record of 13 bytes, and after the first byte of a line.
-#[test]
-fn a_source_that_fails_is_no_end(rt: HostRuntime) -> Result<(), Fail> {
-    let alloc = rt.alloc();
+// Call 2 fails after one record of 13 bytes.
+fn record_source_fails(rt: &impl Abort, alloc: Global) -> Result<(), Fail> {
     let records = stream(alloc, Form::Binary, &[(0, 0, 3), (0, 2, 5)])?;
     let mut source = MemorySource::new(records, 13, vec![in alloc; 2]?);
     let mut reader = Reader::new(depth(2)?, Form::Binary);
-    assert!(rt; reader.next(&mut source) == Ok(Some(update(Side::First, 0, 3))));
-    if !reader.spent() {
-        assert!(rt; reader.next(&mut source) == Err(StreamFault::ReadFault));
+    let first = reader.next(&mut source) == Ok(Some(update(Side::First, 0, 3)));
+    if reader.spent() {
+        return Err("one record ends no reader")?;
     }
-    assert!(rt; reader.spent());
+    let second = reader.next(&mut source) == Err(StreamFault::ReadFault);
+    expect(rt, 0, &[first, second, reader.spent()]);
+    Ok(())
+}
+
+// Call 2 fails after the first byte of a line.
+fn line_source_fails(rt: &impl Abort, alloc: Global) -> Result<(), Fail> {
     let mut source = MemorySource::new(b"0 0 3\n".to_vec(alloc)?, 1, vec![in alloc; 2]?);
     let mut reader = Reader::new(depth(2)?, Form::Text);
-    assert!(rt; reader.next(&mut source) == Err(StreamFault::ReadFault));
-    assert!(rt; reader.spent());
+    let first = reader.next(&mut source) == Err(StreamFault::ReadFault);
+    expect(rt, 1, &[first, reader.spent()]);
     Ok(())
+}
+
+#[test]
+fn a_source_that_fails_is_no_end(rt: HostRuntime) -> Result<(), Fail> {
+    record_source_fails(&rt, rt.alloc())?;
+    line_source_fails(&rt, rt.alloc())
 }
 
 #[test]
@@ -348,17 +413,11 @@ fn faults_have_texts(rt: HostRuntime) -> Result<(), Fail> {
         at: 7,
         why: Why::BadItem,
     };
-    assert_eq!(rt;
-        bad.to_string(alloc)?.as_str(),
-        "record 7 is not legal: BadItem"
-    );
-    assert_eq!(rt;
-        StreamFault::ReadFault.to_string(alloc)?.as_str(),
-        "the source failed"
-    );
-    assert_eq!(rt;
-        StreamFault::OutOfMemory.to_string(alloc)?.as_str(),
-        "out of memory"
-    );
+    let facts = [
+        bad.to_string(alloc)?.as_str() == "record 7 is not legal: BadItem",
+        StreamFault::ReadFault.to_string(alloc)?.as_str() == "the source failed",
+        StreamFault::OutOfMemory.to_string(alloc)?.as_str() == "out of memory",
+    ];
+    expect(&rt, 0, &facts);
     Ok(())
 }

@@ -1,6 +1,7 @@
 ghost use Rattle.std.specs.Prelude.{◌≡◌, ◌<◌, ◌≤◌, length};
 
-use crate::block_tests::{block, next_word};
+use crate::block_tests::{block, challenges, next_word};
+use crate::facts::expect;
 use sip_field::{F31, Field, M61, Seat};
 use sip_tree::{AugRoot, Root, up};
 use std::alloc::{AllocError, Global};
@@ -15,25 +16,29 @@ fn two_and_ten() -> Seat<M61, 32>
 #[test]
 fn weights_are_products_of_the_challenges_above(rt: HostRuntime) {
     let root = Root::new(two_and_ten());
-    assert_eq!(rt; root.weight_above(0, 1).number(), 2);
-    assert_eq!(rt; root.weight_above(0, 2).number(), 10);
-    assert_eq!(rt; root.weight_above(0, 3).number(), 20);
-    assert_eq!(rt; root.weight_above(1, 1).number(), 10);
-    assert_eq!(rt; root.weight_above(2, 0).number(), 1);
+    let facts = [
+        root.weight_above(0, 1).number() == 2,
+        root.weight_above(0, 2).number() == 10,
+        root.weight_above(0, 3).number() == 20,
+        root.weight_above(1, 1).number() == 10,
+        root.weight_above(2, 0).number() == 1,
+    ];
+    expect(&rt, 0, &facts);
 }
 
 #[test]
 fn a_root_follows_its_vector(rt: HostRuntime) {
     let mut root = Root::new(two_and_ten());
-    assert_eq!(rt; root.value().number(), 0);
+    let first = root.value().number() == 0;
     root.update(0, 3);
     root.update(2, 5);
     root.update(3, 1);
-    assert_eq!(rt; root.value().number(), 73);
+    let second = root.value().number() == 73;
     root.update(2, -5);
     root.update(3, -2);
     // 3 - 1 * 20
-    assert_eq!(rt; root.value(), M61::of_signed(-17));
+    let third = root.value() == M61::of_signed(-17);
+    expect(&rt, 0, &[first, second, third]);
 }
 
 #[test]
@@ -42,27 +47,28 @@ fn an_augmented_root_follows_its_vector_in_any_order(rt: HostRuntime) {
     forwards.update(0, 3);
     forwards.update(2, 5);
     forwards.update(3, 1);
-    assert_eq!(rt; (forwards.hash().number(), forwards.total()), (8739, 9));
+    let first = (forwards.hash().number(), forwards.total()) == (8739, 9);
     let mut backwards = AugRoot::new(two_and_ten());
     backwards.update(3, 1);
     backwards.update(2, 5);
     backwards.update(0, 3);
-    assert_eq!(rt; (backwards.hash().number(), backwards.total()), (8739, 9));
+    let second = (backwards.hash().number(), backwards.total()) == (8739, 9);
     backwards.update(1, -9);
     // 8739 - 9 * 22
-    assert_eq!(rt; (backwards.hash().number(), backwards.total()), (8541, 0));
+    let third = (backwards.hash().number(), backwards.total()) == (8541, 0);
+    expect(&rt, 0, &[first, second, third]);
 }
 
 #[test]
 fn a_level_is_folded_in_place(rt: HostRuntime) -> Result<(), Fail> {
     let mut level = vec![in rt.alloc(); M61::of(3), M61::of(0), M61::of(5), M61::of(1)]?;
     up(&mut level, M61::of(2));
-    assert!(rt; level.as_slice() == [M61::of(3), M61::of(7)].as_slice());
+    let two = level.as_slice() == [M61::of(3), M61::of(7)].as_slice();
     up(&mut level, M61::of(10));
-    assert!(rt; level.as_slice() == [M61::of(73)].as_slice());
+    let one = level.as_slice() == [M61::of(73)].as_slice();
     let mut empty: Vec<M61> = Vec::new(rt.alloc());
     up(&mut empty, M61::of(2));
-    assert!(rt; empty.is_empty());
+    expect(&rt, 0, &[two, one, empty.is_empty()]);
     Ok(())
 }
 
@@ -132,26 +138,24 @@ fn roots_are_those_of_a_plain_fold(rt: HostRuntime) -> Result<(), Fail> {
     let mut counting = AugRoot::new(Seat::<F31, 5>::of(&challenges).unwrap());
     let mut numbers = [0i64; 32];
     let mut word = 1;
-    for _ in 0..48 {
+    for round in 0..48 {
         word = next_word(word);
         let index = word >> 59;
         let delta = ((word >> 32) % 128) as i8 - 64;
         root.update(index, i64::from(delta));
-        assert!(rt; feed(&mut counting, index, delta));
+        let is_fed = feed(&mut counting, index, delta);
         let number = &mut numbers[index as usize];
         *number = number.wrapping_add(i64::from(delta));
         let sum = numbers
             .iter()
             .fold(0i64, |sum, number| sum.wrapping_add(*number));
-        assert_eq!(rt; counting.total(), sum);
-        assert_eq!(rt;
-            root.value().number(),
-            top(rt.alloc(), &numbers, &challenges, false)?
-        );
-        assert_eq!(rt;
-            counting.hash().number(),
-            top(rt.alloc(), &numbers, &challenges, true)?
-        );
+        let facts = [
+            is_fed,
+            counting.total() == sum,
+            root.value().number() == top(rt.alloc(), &numbers, &challenges, false)?,
+            counting.hash().number() == top(rt.alloc(), &numbers, &challenges, true)?,
+        ];
+        expect(&rt, round, &facts);
     }
     Ok(())
 }
@@ -174,24 +178,14 @@ fn block_is_its_updates<F: Field>(challenges: &[F], count: usize) -> bool
 
 #[test]
 fn a_block_gives_what_its_updates_give(rt: HostRuntime) {
-    let mut small = [F31::of(0); 48];
-    let mut large = [M61::of(0); 48];
-    let mut word = 2;
-    for at in 0..48 {
-        word = next_word(word);
-        small[at] = F31::of(word >> 5);
-        large[at] = M61::of(word);
-    }
+    let (small, large) = challenges();
     for depth in [1, 7, 8, 20, 48] {
         for count in [0, 1, 31, 32, 127, 500] {
-            assert!(rt;
+            let facts = [
                 block_is_its_updates(&small[..depth], count),
-                "{depth} {count}"
-            );
-            assert!(rt;
                 block_is_its_updates(&large[..depth], count),
-                "{depth} {count}"
-            );
+            ];
+            expect(&rt, count, &facts);
         }
     }
 }

@@ -37,6 +37,3 @@ pub use stream::{StderrSink, StdoutSink, StreamSink};
 pub use two_way::TwoWayLink;
 pub use whole::{read_exact_into, recv_whole, write_whole};
 pub use writer_sink::WriterSink;
-
-#[cfg(test)]
-mod tests;

@@ -1,7 +1,8 @@
-//! Laws of the definitions, and worked examples that hold by computation. These functions do nothing: each contract is a
-//! fact that holds.
+//! Laws of the definitions, and worked examples that hold by computation. These functions do
+//! nothing: each contract is a fact that holds.
 //!
-//! In the examples the vector is (3, 0, 5, 1) over four items, and the challenges are (2, 10) modulo 2^61 - 1.
+//! In the examples the vector is (3, 0, 5, 1) over four items, and the challenges are (2, 10)
+//! modulo 2^61 - 1.
 
 ghost use Rattle.std.specs.Prelude.{◌≡◌, ℕ, ◌+◌, ◌-◌, ◌^◌, ◌<◌, List, [], ◌∷◌, ◌++◌, pos, ℤ, Some, None, slice_get, fold, All};
 ghost use Rattle.sip_field.specs.Moduli.{m61_modulus as p};
@@ -18,8 +19,8 @@ ghost use Rattle.sip_vector.specs.Examples.{stream, both_sides, four};
 ghost use Rattle.sip_vector.specs.declared.update.Side.TheVariants as sides;
 ghost use Rattle.sip_vector.specs.declared.query.Query.TheVariants as queries;
 
-/// The vector of a side of a stream is what its updates add up to, one after another, and the sum of its numbers is the
-/// total of the side.
+/// The vector of a side of a stream is what its updates add up to, one after another, and the sum
+/// of its numbers is the total of the side.
 pub fn vectors_add_up()
     ensures nothing { (depth : ℕ) (side : Side) → side_vector depth [] side ≡ zero_vector depth }
     ensures update { (depth : ℕ) (stream : List Update) (u : Update) (side : Side)
@@ -32,7 +33,8 @@ pub fn vectors_add_up()
         → total stream side ≡ int_sum (vector depth stream side) }
 {}
 
-/// More of a stream raises the entries of a side's vector by the updates of that side, one after another.
+/// More of a stream raises the entries of a side's vector by the updates of that side, one after
+/// another.
 pub fn vectors_go_on()
     ensures { (depth : ℕ) (stream updates : List Update) (side : Side)
         → vector depth (stream ++ updates) side

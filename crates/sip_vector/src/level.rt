@@ -48,8 +48,9 @@ impl Rule {
 
 /// The nodes of one height over a vector: at first its residues, and half as many after each fold.
 ///
-/// A contract sees the list of all their residues. Only the nodes that are not 0 take memory, no call goes over the others, and
-/// no fold takes memory or makes their list longer. In the costs below m is their number.
+/// A contract sees the list of all their residues. Only the nodes that are not 0 take memory, no
+/// call goes over the others, and no fold takes memory or makes their list longer. In the costs
+/// below m is their number.
 #[derive(Drop)]
 pub struct Level<F: Field> {
     folds_left: u8,
@@ -73,8 +74,8 @@ impl<F: Field> Model for Level<F> {
 }
 
 impl<F: Field> Level<F> {
-    /// The residues of a vector's numbers. O(m) in time and memory. Where additions are pending in the vector they are
-    /// sorted and merged in a copy first.
+    /// The residues of a vector's numbers. O(m) in time and memory. Where additions are pending in
+    /// the vector they are sorted and merged in a copy first.
     pub fn of(alloc: Global, vector: &Vector) -> Result<Level<F>, OutOfMemory>
         ensures residues { IfOk result (λ level. level
             ≡ map (residue F.MODULUS) vector.now.numbers) }
@@ -113,7 +114,8 @@ impl<F: Field> Level<F> {
         })
     }
 
-    /// The level above by the rule of the hash tree: each pair becomes `left + r * right`. O(m), one `times` a pair.
+    /// The level above by the rule of the hash tree: each pair becomes `left + r * right`. O(m),
+    /// one `times` a pair.
     pub fn fold_tree(&mut self, r: F)
         requires { 2 ≤ length self.old }
         ensures above { self.new ≡ up F.MODULUS self.old (F.number r) }
@@ -122,8 +124,8 @@ impl<F: Field> Level<F> {
         self.fold(Rule::Tree, r);
     }
 
-    /// The level above by the rule of the multilinear extension: each pair becomes `left + r * (right - left)`. O(m), one
-    /// `times` a pair.
+    /// The level above by the rule of the multilinear extension: each pair becomes `left + r *
+    /// (right - left)`. O(m), one `times` a pair.
     pub fn fold_line(&mut self, r: F)
         requires { 2 ≤ length self.old }
         ensures above { self.new ≡ line F.MODULUS self.old (F.number r) }
@@ -172,7 +174,8 @@ impl<F: Field> Level<F> {
         &self.spots
     }
 
-    /// The first node that is not 0, at `from` or after it. `None` where there is none. O(log m), without memory.
+    /// The first node that is not 0, at `from` or after it. `None` where there is none. O(log m),
+    /// without memory.
     pub fn next_nonzero(&self, from: u64) -> Option<Spot<F>>
         ensures { option_map (index_and_residue F.number) result
             ≡ slice_get (nonzero_from from self.now) 0 }
@@ -182,8 +185,8 @@ impl<F: Field> Level<F> {
     }
 }
 
-// Writes the spots above over these. A spot above comes after one spot or two, so it never takes the place of one that is
-// still to be read.
+// Writes the spots above over these. A spot above comes after one spot or two, so it never takes
+// the place of one that is still to be read.
 fn fold_spots<F: Field>(spots: &mut Vec<Spot<F>>, rule: Rule, r: F)
     ensures { map (index_and_residue F.number) spots.new.items
         ≡ folded (residue_above F.MODULUS rule (F.number r))
@@ -202,7 +205,8 @@ fn fold_spots<F: Field>(spots: &mut Vec<Spot<F>>, rule: Rule, r: F)
     spots.truncate(written);
 }
 
-// The spot above the first one, and how many lie below it: 2 where the second is the first one's neighbour, and else 1.
+// The spot above the first one, and how many lie below it: 2 where the second is the first one's
+// neighbour, and else 1.
 fn spot_above<F: Field>(spots: &[Spot<F>], rule: Rule, r: F) -> (Spot<F>, usize)
     requires { 0 < length spots.now }
     ensures some { 1 ≤ result.1 }
@@ -223,7 +227,8 @@ fn spot_above<F: Field>(spots: &[Spot<F>], rule: Rule, r: F) -> (Spot<F>, usize)
     (Spot { index, value }, 1)
 }
 
-// A spot's value on its side, and 0 on the other. There is no branch on the side, which is as good as random.
+// A spot's value on its side, and 0 on the other. There is no branch on the side, which is as good
+// as random.
 fn with_zero<F: Field>(spot: Spot<F>) -> (F, F)
     ensures { (join : ℕ → ℕ → ℕ) → join (F.number result.0) (F.number result.1)
         ≡ above_one join (index_and_residue F.number spot) }

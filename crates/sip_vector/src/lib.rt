@@ -1,10 +1,11 @@
-//! Streams of updates of two vectors, the answers to queries about them, and the folds that a verifier checks them by.
+//! Streams of updates of two vectors, the answers to queries about them, and the folds that a
+//! verifier checks them by.
 //!
-//! - [`Update`] is a record of a stream, [`Query`] a question about the vectors, and [`Entry`] a part of an answer. [`Depth`]
-//!   says how many items there are.
+//! - [`Update`] is a record of a stream, [`Query`] a question about the vectors, and [`Entry`] a
+//!   part of an answer. [`Depth`] says how many items there are.
 //! - [`Vector`] is one side's vector, for whoever keeps it: the helper.
-//! - [`Level`] is the list of the nodes of one height over a vector, folded in place by the rule of the hash tree or by that of
-//!   the multilinear extension.
+//! - [`Level`] is the list of the nodes of one height over a vector, folded in place by the rule of
+//!   the hash tree or by that of the multilinear extension.
 //!
 //! # What the contracts say
 //!
@@ -20,14 +21,16 @@
 //! | `Trees`, `Extensions`, `Levels` | the two hash trees over a vector; its multilinear extension; the level above |
 //! | `Sparse` | lists that are kept by the entries at which they are not 0 |
 //!
-//! A contract sees a [`Vector`] as the list of its `2^depth` numbers with its weight, and a [`Level`] as the list of all its
-//! residues, though both keep only what is not 0. [`laws::vectors_add_up`] ties a vector to a stream: the vector to which the
-//! updates of a side were added is `side_vector` of the stream.
+//! A contract sees a [`Vector`] as the list of its `2^depth` numbers with its weight, and a
+//! [`Level`] as the list of all its residues, though both keep only what is not 0.
+//! [`laws::vectors_add_up`] ties a vector to a stream: the vector to which the updates of a side
+//! were added is `side_vector` of the stream.
 //!
 //! # Cost
 //!
-//! In these m is the length of the list of entries, or of nodes, that are not 0, and p the number of additions to a vector
-//! that are pending: none after `Vector::settle`, and else at most 2^18 or m, whichever is more.
+//! In these m is the length of the list of entries, or of nodes, that are not 0, and p the number
+//! of additions to a vector that are pending: none after `Vector::settle`, and else at most 2^18 or
+//! m, whichever is more.
 //!
 //! | Call | Time | Memory |
 //! |---|---|---|
@@ -60,10 +63,3 @@ pub use query::Query;
 pub use threshold::{is_wide, share_of};
 pub use update::{Entry, Side, Update};
 pub use vector::Vector;
-
-#[cfg(test)]
-mod far_tests;
-#[cfg(test)]
-mod tests;
-#[cfg(test)]
-mod vector_tests;

@@ -72,7 +72,8 @@ pub(crate) fn merged(
     Ok(out)
 }
 
-// The list once what is pending is merged into it. Whatever comes of it, what is pending is only put into another order.
+// The list once what is pending is merged into it. Whatever comes of it, what is pending is only
+// put into another order.
 pub(crate) fn settled(
     alloc: Global,
     list: &[Entry],

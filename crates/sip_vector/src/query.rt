@@ -19,7 +19,8 @@ pub enum Query {
     Inner,
     /// The entries of a side that are at least `at_least`.
     Heavy { side: Side, at_least: u64 },
-    /// The entries of a side that are at least `num`/`den` of its total, none where the total is not above 0.
+    /// The entries of a side that are at least `num`/`den` of its total, none where the total is
+    /// not above 0.
     Share { side: Side, num: u32, den: u32 },
 }
 
@@ -27,8 +28,9 @@ impl Query {
     /// The greatest denominator of a share.
     pub const MOST_SHARE: u32 = 1_000_000;
 
-    /// Whether the query can be asked at this depth: an interval is in order and within the items, a threshold is
-    /// from 1 to 2^63 - 1, and a share is above 0, 1 at the most, and has a denominator up to 1,000,000.
+    /// Whether the query can be asked at this depth: an interval is in order and within the items,
+    /// a threshold is from 1 to 2^63 - 1, and a share is above 0, 1 at the most, and has a
+    /// denominator up to 1,000,000.
     pub fn fits(&self, depth: Depth) -> bool
         ensures { IsTrue result ↔ Fits depth self.now }
     {
@@ -43,7 +45,8 @@ impl Query {
         }
     }
 
-    /// Whether the query's kind is built: a verifier can check its answer, and a helper can give one.
+    /// Whether the query's kind is built: a verifier can check its answer, and a helper can give
+    /// one.
     ///
     /// A query of a kind that is not built is never asked, and one that comes from outside is not
     /// answered, whatever its numbers are.

@@ -19,7 +19,8 @@ pub fn share_of(total: i64, num: u32, den: u32) -> u64
     (u64::from(num) * total as u64 + u64::from(den) - 1) / u64::from(den)
 }
 
-/// Whether a total may have more than 65,536 entries of at least a threshold: then no answer is given.
+/// Whether a total may have more than 65,536 entries of at least a threshold: then no answer is
+/// given.
 pub fn is_wide(total: i64, at_least: u64) -> bool
     requires total { nat_abs total ≤ most_weight }
     requires some { 1 ≤ at_least }

@@ -14,19 +14,20 @@ use sip_field::OutOfMemory;
 use std::alloc::Global;
 use std::marker::Model;
 
-// As many additions may wait in any vector, which take 4 MiB. In one with a longer list as many may wait as the list has
-// entries, so that a merge is paid by the additions before it.
+// As many additions may wait in any vector, which take 4 MiB. In one with a longer list as many may
+// wait as the list has entries, so that a merge is paid by the additions before it.
 const MOST_PENDING: usize = 1 << 18;
 
 /// The vector that one side's updates add up to: `2^depth` numbers.
 ///
-/// A contract sees the list of these numbers, and the weight: the sum of the absolute values of all that was added. A
-/// weight is at most 2^30 - 1, so no sum over the numbers overflows.
+/// A contract sees the list of these numbers, and the weight: the sum of the absolute values of all
+/// that was added. A weight is at most 2^30 - 1, so no sum over the numbers overflows.
 ///
-/// Only the entries that are not 0 take memory, as a list that rises, and the additions that are pending, in the order in
-/// which they came. Every call is right while additions are pending, and quick where none is, as after `settle`. In the
-/// costs below m is the length of the list and p the number of additions that are pending: none after `settle`, and else
-/// at most 2^18 or m, whichever is more.
+/// Only the entries that are not 0 take memory, as a list that rises, and the additions that are
+/// pending, in the order in which they came. Every call is right while additions are pending, and
+/// quick where none is, as after `settle`. In the costs below m is the length of the list and p the
+/// number of additions that are pending: none after `settle`, and else at most 2^18 or m, whichever
+/// is more.
 #[derive(Drop)]
 pub struct Vector {
     depth: Depth,
@@ -68,8 +69,8 @@ impl Vector {
         })
     }
 
-    /// Adds `delta` to the entry at `index`. Want of memory leaves the vector as it was. O(log p) over many calls; one call
-    /// in many merges what is pending.
+    /// Adds `delta` to the entry at `index`. Want of memory leaves the vector as it was. O(log p)
+    /// over many calls; one call in many merges what is pending.
     pub fn add(&mut self, index: u64, delta: i64) -> Result<(), OutOfMemory>
         requires within { index < 2 ^ self.old.depth }
         requires light { self.old.weight + nat_abs delta ≤ most_weight }
@@ -101,8 +102,9 @@ impl Vector {
         Ok(())
     }
 
-    /// Merges what is pending into the list of entries. The numbers stay the same, also where memory is wanted; then what
-    /// was pending still is. O(m + p log p), and memory for m + p entries. To be called at the end of a stream.
+    /// Merges what is pending into the list of entries. The numbers stay the same, also where
+    /// memory is wanted; then what was pending still is. O(m + p log p), and memory for m + p
+    /// entries. To be called at the end of a stream.
     pub fn settle(&mut self) -> Result<(), OutOfMemory>
         ensures ok { OnOk result (self.new ≡ record self.old { is_settled = true }) }
         ensures err { OnErr result (self.new ≡ self.old) }
@@ -126,14 +128,16 @@ impl Vector {
         Ok(())
     }
 
-    /// Whether no addition is pending, as is so after a `settle` that gave `Ok` until the next `add`.
+    /// Whether no addition is pending, as is so after a `settle` that gave `Ok` until the next
+    /// `add`.
     pub fn is_settled(&self) -> bool
         ensures { result ≡ self.now.is_settled }
     {
         self.pending.is_empty()
     }
 
-    /// The entries that are not 0, in the order of their indices; `None` exactly where additions are pending.
+    /// The entries that are not 0, in the order of their indices; `None` exactly where additions
+    /// are pending.
     pub fn entries(&self) -> Option<&[Entry]>
         ensures exact { IfSome result (λ entries. entries.now ≡ nonzero self.now.numbers) }
         ensures settled { IsSome result ↔ (self.now.is_settled ≡ true) }
@@ -141,8 +145,8 @@ impl Vector {
         self.settled_list()
     }
 
-    /// A copy of the entries that are not 0, in the order of their indices, also where additions are pending.
-    /// O(m + p log p), and memory for m + p entries.
+    /// A copy of the entries that are not 0, in the order of their indices, also where additions
+    /// are pending. O(m + p log p), and memory for m + p entries.
     pub fn entries_with_pending(&self, alloc: Global) -> Result<Vec<Entry>, OutOfMemory>
         ensures { IfOk result (λ list. list.items ≡ nonzero self.now.numbers) }
     {
@@ -204,8 +208,8 @@ impl Vector {
         self.weight
     }
 
-    /// Whether no number is negative. O(m) where nothing is pending, and else O(log m + p) for each index at which something
-    /// was added.
+    /// Whether no number is negative. O(m) where nothing is pending, and else O(log m + p) for each
+    /// index at which something was added.
     pub fn is_strict(&self) -> bool
         ensures { IsTrue result ↔ All (λ a. pos 0 ≤ℤ a) self.now.numbers }
     {
@@ -238,8 +242,9 @@ impl Vector {
         true
     }
 
-    /// The first entry that is not 0 at an index from `from` to `hi`. `None` where there is none, also where `from` is
-    /// above `hi`. O(log m) where nothing is pending, and else O(log m + p) for each index that is tried; without memory.
+    /// The first entry that is not 0 at an index from `from` to `hi`. `None` where there is none,
+    /// also where `from` is above `hi`. O(log m) where nothing is pending, and else O(log m + p)
+    /// for each index that is tried; without memory.
     pub fn next_entry(&self, from: u64, hi: u64) -> Option<Entry>
         requires { hi < 2 ^ self.now.depth }
         ensures { result ≡ slice_get (nonzero_within from hi self.now.numbers) 0 }
@@ -252,8 +257,8 @@ impl Vector {
         self.first_nonzero(from, hi)
     }
 
-    /// How many entries from `lo` to `hi` are not 0. O(log m) where nothing is pending, and else O(log m + p) for each index
-    /// that is tried; without memory.
+    /// How many entries from `lo` to `hi` are not 0. O(log m) where nothing is pending, and else
+    /// O(log m + p) for each index that is tried; without memory.
     pub fn count_in(&self, lo: u64, hi: u64) -> u64
         requires order { lo ≤ hi }
         requires within { hi < 2 ^ self.now.depth }

@@ -1,4 +1,4 @@
-use Rattle.std.proofs.Common.{◌≡◌, ◌^◌, ◌<◌, length}
+use Rattle.std.proofs.Common.{◌^◌, ◌<◌}
 use Rattle.std.specs.Prelude.{All}
 use Rattle.sip_layer_rows.proofs.block_tests.block.Given as goal
 

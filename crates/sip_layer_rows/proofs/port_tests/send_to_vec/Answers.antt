@@ -3,7 +3,7 @@ use Rattle.std.specs.Prelude.{option_map}
 use Rattle.std.specs.Io.KnownBytes.{Appends}
 use Rattle.sip_ports.specs.Ports.{SendsWhole, outs}
 use Rattle.sip_ports.proofs.TalkLemmas.{Appends-of_GoesOn}
-use Rattle.sip_ports.proofs.tests.send_to_vec.Goals as goal
+use Rattle.sip_layer_rows.proofs.port_tests.send_to_vec.Goals as goal
 
 -- a whole write appended all at `Ok`
 sent : {T E : Type 0} (r : Result T E) (old new : Option (List ℕ)) (bytes : List ℕ)

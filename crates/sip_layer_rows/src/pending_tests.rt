@@ -1,10 +1,12 @@
-use crate::{Depth, Entry, Level, Vector};
-use sip_field::{Field, M61, OutOfMemory};
+// What a vector shows while additions are pending, and after memory was refused to it.
+
+use crate::facts::expect;
+use crate::vector_calls::{added, count_between, first_entry, node_at, number_at};
+use sip_field::{Field, M61};
+use sip_vector::{Depth, Entry, Level, Vector};
 use std::alloc::Global;
 use std::process::Abort;
 use std::test::Fail;
-
-const MOST_WEIGHT: u64 = (1 << 30) - 1;
 
 // Eight numbers, as they are and in a vector to which the same was added.
 #[derive(Drop)]
@@ -24,8 +26,8 @@ impl Pair {
         })
     }
 
-    // Adds -3 to 3 to one of the numbers, by the linear congruential generator of Knuth's MMIX. Where memory is refused the
-    // vector must be as it was, and take the addition then.
+    // Adds -3 to 3 to one of the numbers, by the linear congruential generator of Knuth's MMIX.
+    // Where memory is refused the vector must be as it was, and take the addition then.
     fn add(&mut self, rt: &impl Abort) -> Result<(), Fail> {
         self.state = self
             .state
@@ -33,13 +35,9 @@ impl Pair {
             .wrapping_add(1_442_695_040_888_963_407);
         let index = self.state >> 61;
         let delta = (self.state >> 32) as i64 % 4;
-        assert!(rt; index < 1 << self.vector.depth().get());
-        assert!(rt; self.vector.weight() + delta.unsigned_abs() <= MOST_WEIGHT);
-        if self.vector.add(index, delta).is_err() {
-            self.shows(rt)?;
-            assert!(rt; index < 1 << self.vector.depth().get());
-            assert!(rt; self.vector.weight() + delta.unsigned_abs() <= MOST_WEIGHT);
-            self.vector.add(index, delta)?;
+        if !added(&mut self.vector, index, delta)? {
+            self.shows(rt);
+            expect(rt, 0, &[added(&mut self.vector, index, delta)?]);
         }
         if let Some(number) = self.numbers.get_mut(index as usize) {
             *number = number.wrapping_add(delta);
@@ -50,7 +48,7 @@ impl Pair {
     // The same for what is pending.
     fn settle(&mut self, rt: &impl Abort) -> Result<(), Fail> {
         if self.vector.settle().is_err() {
-            self.shows(rt)?;
+            self.shows(rt);
             self.vector.settle()?;
         }
         Ok(())
@@ -77,50 +75,44 @@ impl Pair {
     }
 
     // Each call that takes no memory.
-    fn shows(&self, rt: &impl Abort) -> Result<(), Fail> {
+    fn shows(&self, rt: &impl Abort) {
         let mut total = 0i64;
         let mut is_strict = true;
-        let mut index = 0u64;
-        for number in &self.numbers {
-            assert!(rt; index < 1 << self.vector.depth().get());
-            assert_eq!(rt; self.vector.get(index), *number, "at {index}");
+        for (index, number) in self.numbers.iter().enumerate() {
+            let shown = number_at(&self.vector, index as u64);
+            expect(rt, index, &[shown == Some(*number)]);
             total = total.wrapping_add(*number);
-            is_strict = is_strict && *number >= 0;
-            index = index.wrapping_add(1);
+            is_strict &= *number >= 0;
         }
-        assert_eq!(rt;
-            (self.vector.total(), self.vector.is_strict()),
-            (total, is_strict)
-        );
+        let facts = [
+            self.vector.total() == total,
+            self.vector.is_strict() == is_strict,
+        ];
+        expect(rt, 8, &facts);
         for from in 0..8u64 {
             for hi in 0..8u64 {
-                assert!(rt; hi < 1 << self.vector.depth().get());
-                let (first, count) = self.found(from, hi);
-                assert_eq!(rt;
-                    self.vector.next_entry(from, hi),
-                    first,
-                    "from {from} to {hi}"
-                );
-                if from <= hi {
-                    assert_eq!(rt;
-                        self.vector.count_in(from, hi),
-                        count,
-                        "from {from} to {hi}"
-                    );
-                }
+                self.finds(rt, from, hi);
             }
         }
-        Ok(())
+    }
+
+    fn finds(&self, rt: &impl Abort, from: u64, hi: u64) {
+        let (first, count) = self.found(from, hi);
+        let counted = count_between(&self.vector, from, hi);
+        let facts = [
+            first_entry(&self.vector, from, hi) == first,
+            counted == (from <= hi).then_some(count),
+        ];
+        expect(rt, hi as usize, &facts);
     }
 
     // The residues are those of the numbers.
     fn has_level(&self, rt: &impl Abort, alloc: Global) -> Result<(), Fail> {
         let level = Level::<M61>::of(alloc, &self.vector)?;
-        let mut index = 0u64;
-        for number in &self.numbers {
-            assert!(rt; index < 1 << self.vector.depth().get());
-            assert_eq!(rt; level.at(index), M61::of_signed(*number), "at {index}");
-            index = index.wrapping_add(1);
+        for (index, number) in self.numbers.iter().enumerate() {
+            let node = node_at(&level, index as u64);
+            let residue = M61::of_signed(*number).number();
+            expect(rt, index, &[node == Some(residue)]);
         }
         Ok(())
     }
@@ -128,20 +120,18 @@ impl Pair {
     // A settled vector lends the numbers that are not 0.
     fn lends(&self, rt: &impl Abort) -> Result<(), Fail> {
         let entries = self.vector.entries().ok_or(())?;
-        let mut index = 0;
         let mut count = 0usize;
-        for number in &self.numbers {
+        for (index, number) in self.numbers.iter().enumerate() {
             if *number != 0 {
                 let entry = Entry {
-                    index,
+                    index: index as u64,
                     value: *number,
                 };
-                assert_eq!(rt; entries.get(count).copied(), Some(entry));
+                expect(rt, index, &[entries.get(count) == Some(&entry)]);
                 count = count.wrapping_add(1);
             }
-            index = index.wrapping_add(1);
         }
-        assert_eq!(rt; entries.len(), count);
+        expect(rt, 8, &[entries.len() == count]);
         Ok(())
     }
 }
@@ -151,12 +141,12 @@ fn each_call_sees_what_is_pending(rt: HostRuntime) -> Result<(), Fail> {
     let mut pair = Pair::new(rt.alloc())?;
     for round in 0..200 {
         pair.add(&rt)?;
-        assert!(rt; pair.vector.entries().is_none());
-        pair.shows(&rt)?;
+        expect(&rt, round, &[pair.vector.entries().is_none()]);
+        pair.shows(&rt);
         pair.has_level(&rt, rt.alloc())?;
         if round % 5 == 0 {
             pair.settle(&rt)?;
-            pair.shows(&rt)?;
+            pair.shows(&rt);
             pair.has_level(&rt, rt.alloc())?;
             pair.lends(&rt)?;
         }
@@ -171,8 +161,8 @@ fn want_of_memory_leaves_a_vector_as_it_was(rt: HostRuntime) -> Result<(), Fail>
     for _ in 0..270_000 {
         pair.add(&rt)?;
     }
-    pair.shows(&rt)?;
+    pair.shows(&rt);
     pair.settle(&rt)?;
-    pair.shows(&rt)?;
+    pair.shows(&rt);
     pair.lends(&rt)
 }

@@ -4,7 +4,7 @@ use Rattle.sip_ports.specs.Ports.{SendsWhole, outs}
 use Rattle.sip_ports.specs.Memory.{sink_bytes, sink_fails, sink_calls, sink_faults, sink_wants, sink_is_sure}
 use Rattle.sip_ports.proofs.FaultLemmas.{HasCause-sure}
 use Rattle.sip_ports.proofs.TalkLemmas.{outs-append, outs-injective}
-use Rattle.sip_ports.proofs.tests.send_all.Goals as goal
+use Rattle.sip_layer_rows.proofs.port_tests.send_all.Goals as goal
 
 pub returns-clause-sure : goal.returns-clause-sure
 returns-clause-sure c = λ sure.

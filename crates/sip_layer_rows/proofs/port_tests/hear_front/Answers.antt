@@ -1,7 +1,7 @@
 use Rattle.sip_ports.specs.Calls.{failed_of-sure}
 use Rattle.sip_ports.specs.Memory.{link_fails, link_calls, link_faults, link_wants, link_is_sure}
 use Rattle.sip_ports.proofs.FaultLemmas.{HasCause-sure}
-use Rattle.sip_ports.proofs.tests.hear_front.Goals as goal
+use Rattle.sip_layer_rows.proofs.port_tests.hear_front.Goals as goal
 
 pub returns-clause-sure : goal.returns-clause-sure
 returns-clause-sure c = λ sure.

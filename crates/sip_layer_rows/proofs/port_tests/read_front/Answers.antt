@@ -2,7 +2,7 @@ use Rattle.std.specs.Prelude.{refl}
 use Rattle.sip_ports.specs.Calls.{failed_of-sure}
 use Rattle.sip_ports.specs.Memory.{source_fails, source_calls, source_faults, source_is_sure}
 use Rattle.sip_ports.proofs.FaultLemmas.{HasCause-sure, HasCause-no_wants}
-use Rattle.sip_ports.proofs.tests.read_front.Goals as goal
+use Rattle.sip_layer_rows.proofs.port_tests.read_front.Goals as goal
 
 pub returns-clause-sure : goal.returns-clause-sure
 returns-clause-sure c = λ sure.

@@ -1,16 +1,19 @@
-use crate::{Depth, Vector};
+// A vector of the greatest depth with many entries far from each other.
+
+use crate::facts::expect;
+use crate::vector_calls::{added, number_at};
+use sip_vector::{Depth, Vector};
 use std::alloc::Global;
 use std::process::Abort;
 use std::test::Fail;
-
-const MOST_WEIGHT: u64 = (1 << 30) - 1;
 
 const ITEMS: u64 = 1 << Depth::MOST;
 
 // More than two merges want, of which the second is of two long lists.
 const ADDITIONS: u64 = 600_000;
 
-// The item of an addition, far from those of the additions before it. The factor is odd, so that each has an item of its own.
+// The item of an addition, far from those of the additions before it. The factor is odd, so that
+// each has an item of its own.
 fn item(addition: u64) -> u64 {
     addition.wrapping_mul(0x9E37_79B9_7F4A_7C15) % ITEMS
 }
@@ -19,7 +22,7 @@ fn delta(addition: u64) -> i64 {
     (addition % 3) as i64 + 1
 }
 
-// A vector of the greatest depth, to which each addition is made at an item of its own.
+// A vector to which each addition is made at an item of its own.
 #[derive(Drop)]
 struct Far {
     vector: Vector,
@@ -37,20 +40,14 @@ impl Far {
         })
     }
 
-    fn add_once(&mut self, rt: &impl Abort) -> Result<bool, Fail> {
-        let (index, delta) = (item(self.count), delta(self.count));
-        assert!(rt; index < 1 << self.vector.depth().get());
-        assert!(rt; self.vector.weight() + delta.unsigned_abs() <= MOST_WEIGHT);
-        Ok(self.vector.add(index, delta).is_ok())
-    }
-
     // Where memory is refused the vector must be as it was, and take the addition then.
     fn add(&mut self, rt: &impl Abort) -> Result<(), Fail> {
-        if !self.add_once(rt)? {
-            self.shows(rt)?;
-            assert!(rt; self.add_once(rt)?);
+        let (index, delta) = (item(self.count), delta(self.count));
+        if !added(&mut self.vector, index, delta)? {
+            self.shows(rt);
+            expect(rt, 16, &[added(&mut self.vector, index, delta)?]);
         }
-        self.total = self.total.wrapping_add(delta(self.count));
+        self.total = self.total.wrapping_add(delta);
         self.count = self.count.wrapping_add(1);
         Ok(())
     }
@@ -58,15 +55,16 @@ impl Far {
     // The same for what is pending.
     fn settle(&mut self, rt: &impl Abort) -> Result<(), Fail> {
         if self.vector.settle().is_err() {
-            self.shows(rt)?;
+            self.shows(rt);
             self.vector.settle()?;
         }
         Ok(())
     }
 
-    // The total, and the numbers at some items: those of the first additions, of later ones, and of some that were not made.
-    fn shows(&self, rt: &impl Abort) -> Result<(), Fail> {
-        assert_eq!(rt; self.vector.total(), self.total);
+    // The total, and the numbers at some items: those of the first additions, of later ones, and of
+    // some that were not made.
+    fn shows(&self, rt: &impl Abort) {
+        expect(rt, 16, &[self.vector.total() == self.total]);
         for eighth in 0..16u64 {
             let addition = (self.count / 8).wrapping_mul(eighth);
             let number = if addition < self.count {
@@ -74,11 +72,9 @@ impl Far {
             } else {
                 0
             };
-            let index = item(addition);
-            assert!(rt; index < 1 << self.vector.depth().get());
-            assert_eq!(rt; self.vector.get(index), number, "of addition {addition}");
+            let shown = number_at(&self.vector, item(addition));
+            expect(rt, eighth as usize, &[shown == Some(number)]);
         }
-        Ok(())
     }
 }
 
@@ -88,10 +84,10 @@ fn want_of_memory_leaves_far_entries_as_they_were(rt: HostRuntime) -> Result<(),
     for _ in 0..ADDITIONS {
         far.add(&rt)?;
     }
-    far.shows(&rt)?;
+    far.shows(&rt);
     far.settle(&rt)?;
-    far.shows(&rt)?;
+    far.shows(&rt);
     let entries = far.vector.entries().ok_or(())?;
-    assert_eq!(rt; entries.len() as u64, ADDITIONS);
+    expect(&rt, 0, &[entries.len() as u64 == ADDITIONS]);
     Ok(())
 }

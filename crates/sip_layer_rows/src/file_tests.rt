@@ -1,0 +1,115 @@
+// Ports at files of the machine and at the writers of the runtime.
+
+use crate::facts::expect;
+use sip_ports::{
+    FileLink, FileSink, FileSource, Link, PortStop, Sink, Source, StderrSink, StdoutSink,
+    read_exact_into, recv_whole, write_whole,
+};
+use std::fs::File;
+use std::io;
+
+#[test]
+fn a_file_that_could_not_be_opened_fails_at_every_call(rt: HostRuntime) {
+    let missing: Option<File> = std::fs::open(&rt, "no/such/file").ok();
+    let is_missing = missing.is_none();
+    let mut buf = [0; 4];
+    let mut source = FileSource::new(missing);
+    let mut link = FileLink::new(None, None);
+    let facts = [
+        is_missing,
+        source.read(&mut buf) == Err(PortStop::Failed),
+        source.read(&mut buf) == Err(PortStop::Failed),
+        FileSink::new(None).write(b"a") == Err(PortStop::Failed),
+        link.recv(&mut buf) == Err(PortStop::Failed),
+        link.write(b"a") == Err(PortStop::Failed),
+        link.recv(&mut []) == Err(PortStop::Failed),
+    ];
+    expect(&rt, 0, &facts);
+}
+
+// Files of the machine that open and then refuse: one opened to read is written, a full device, and
+// a folder.
+#[test]
+fn files_that_refuse(rt: HostRuntime) {
+    let mut target = FileSink::new(std::fs::create(&rt, "target").ok());
+    let written = write_whole(&mut target, b"a");
+    let mut read_only = FileSink::new(std::fs::open(&rt, "target").ok());
+    let mut full = FileSink::new(std::fs::create(&rt, "/dev/full").ok());
+    let mut link = FileLink::new(
+        std::fs::open(&rt, "/").ok(),
+        std::fs::create(&rt, "/dev/full").ok(),
+    );
+    let facts = [
+        written == Ok(()),
+        read_only.write(b"a") == Err(PortStop::Failed),
+        full.write(&[]) == Ok(0),
+        write_whole(&mut full, b"a") == Err(PortStop::Failed),
+        link.recv(&mut [0; 1]) == Err(PortStop::Failed),
+        link.write(b"a") == Err(PortStop::Failed),
+    ];
+    expect(&rt, 0, &facts);
+}
+
+// A file of 12 bytes ends in the middle of a record of 13.
+#[test]
+fn a_file_ends_in_mid_record(rt: HostRuntime) {
+    let mut sink = FileSink::new(std::fs::create(&rt, "short").ok());
+    let written = write_whole(&mut sink, b"twelve bytes");
+    let mut buf = [0; 13];
+    let mut source = FileSource::new(std::fs::open(&rt, "short").ok());
+    let facts = [
+        written == Ok(()),
+        read_exact_into(&mut source, &mut buf) == Ok(12),
+        buf == *b"twelve bytes\0",
+        read_exact_into(&mut source, &mut buf) == Ok(0),
+    ];
+    expect(&rt, 0, &facts);
+    let mut link = FileLink::new(
+        std::fs::open(&rt, "short").ok(),
+        std::fs::create(&rt, "answer").ok(),
+    );
+    let heard = recv_whole(&mut link, &mut buf);
+    let answered = write_whole(&mut link, b"ok");
+    let mut answer = FileSource::new(std::fs::open(&rt, "answer").ok());
+    let facts = [
+        heard == Ok(12),
+        answered == Ok(()),
+        read_exact_into(&mut answer, &mut buf) == Ok(2),
+        buf[..2] == [b'o', b'k'],
+    ];
+    expect(&rt, 1, &facts);
+}
+
+// 1,000 records of 13 bytes, each full of its number modulo 251, fill the read-ahead more than
+// once.
+#[test]
+fn a_long_file_is_read_in_records(rt: HostRuntime) {
+    let mut sink = FileSink::new(std::fs::create(&rt, "long").ok());
+    for number in 0..1000u32 {
+        let written = write_whole(&mut sink, &[(number % 251) as u8; 13]);
+        expect(&rt, number as usize, &[written == Ok(())]);
+    }
+    let mut source = FileSource::new(std::fs::open(&rt, "long").ok());
+    let mut record = [0; 13];
+    for number in 0..1000u32 {
+        let facts = [
+            read_exact_into(&mut source, &mut record) == Ok(13),
+            record == [(number % 251) as u8; 13],
+        ];
+        expect(&rt, number as usize, &facts);
+    }
+    expect(
+        &rt,
+        1000,
+        &[read_exact_into(&mut source, &mut record) == Ok(0)],
+    );
+}
+
+#[test]
+fn the_writers_of_the_runtime_take_bytes(rt: HostRuntime) {
+    let facts = [
+        write_whole(&mut StdoutSink::new(io::writer(&rt)), b"out\n") == Ok(()),
+        write_whole(&mut StderrSink::new(rt.stderr()), b"err\n") == Ok(()),
+    ];
+    expect(&rt, 0, &facts);
+}
