@@ -1,4 +1,5 @@
--- Two polynomials that differ in a coefficient have the same value for no more numbers than their degree.
+-- Two polynomials that differ in a coefficient have the same value for no more numbers than their
+-- degree.
 use Rattle.std.proofs.Common.{◌≡◌, ◌≢◌, ℕ, zero, suc, ◌+◌, ◌*◌, ◌-◌, ◌%◌, ◌<◌, ◌≤◌, eqb, List, [], ◌∷◌, length, get_or, refl, ap, sym, ◌∙◌, arith, zero-add}
 use Rattle.std.proofs.Math.Nat.{mod-add-mod, mul-mod_right, add-mul-mod_self_left}
 use Rattle.std.proofs.lemmas.Bool.{eqb-true, eq-eqb}

@@ -14,7 +14,8 @@ one_fewer p c (suc n) =
     let e : suc n - 1 ≡ n = omega arith in
     rw (e, pow-suc, mul_comm p (c * suc n * p ^ n), mul_assoc) (omega arith)
 
--- good fails at the empty prefix, and where it fails it holds for few continuations: then it holds for few vectors
+-- good fails at the empty prefix, and where it fails it holds for few continuations: then it holds
+-- for few vectors
 few_by_first : (p c d : ℕ) (good : List ℕ → Bool) → good [] ≡ false → ((v : List ℕ) → length v < d → AllByRecursion (λ x. x < p) v → good v ≡ false → count_below p (λ x. good (v ++ x ∷ [])) ≤ c) → by_first p good d ≤ c * d * p ^ (d - 1)
 unfolding by_first
 few_by_first p c zero good b h = rw b (omega arith)

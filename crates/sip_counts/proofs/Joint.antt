@@ -8,7 +8,8 @@ use Rattle.sip_counts.specs.Strategies.{Strategy, IsOfBytes, takes_wrong}
 use Rattle.sip_counts.specs.Joint.{Asked, after, is_misled, misled, bounds, IsBounded}
 use Rattle.sip_counts.proofs.Vectors.{by_first, counted-by_first, by_first-none, by_first-or, by_first-front, by_first-back, by_first-grows}
 
--- a query before others: its a vectors of a block of e + 1 challenges, and the others' of n challenges
+-- a query before others: its a vectors of a block of e + 1 challenges, and the others' of n
+-- challenges
 joint_step : (p e n f g a : ℕ) → (n ≡ 0 → g ≡ 0) → a ≤ f * p ^ e → a * p ^ n + p ^ suc e * (g * p ^ (n - 1)) ≤ (f + g) * p ^ (n + e)
 joint_step p e zero f g a h le =
     let z : g ≡ 0 = h refl in

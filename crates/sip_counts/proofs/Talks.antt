@@ -12,7 +12,8 @@ map_range-more : {R : Type 0} (f : ℕ → R) (a n : ℕ) → map f (range_with_
 map_range-more f a zero = refl
 map_range-more f a (suc n) = let e : suc a + 1 ≡ suc (a + 1) = omega arith in ap (λ k. f (suc a) ∷ k) (rw e (map_range-more f (a + 1) n))
 
--- the reply to nothing revealed, and then those of what the strategy does from the first challenge on
+-- the reply to nothing revealed, and then those of what the strategy does from the first challenge
+-- on
 pub replies-more : {R : Type 0} (strategy : List ℕ → R) (x : ℕ) (r : List ℕ) → replies strategy (x ∷ r) ≡ strategy [] ∷ replies (λ v. strategy (x ∷ v)) r
 replies-more strategy x r = ap (λ k. strategy [] ∷ k) (map_range-more (λ j. strategy (take j (x ∷ r))) 0 (length r))
 

@@ -59,7 +59,8 @@ by_first-none p (suc d) t h =
     let le = sum_below-at_most p (λ x. by_first p (λ v. t (x ∷ v)) d) 0 (λ x _. omega (arith, by_first-none p d (λ v. t (x ∷ v)) (λ v e. h (x ∷ v) (ap suc e)))) in
     omega arith
 
--- the vectors that pass one of two tests are no more than those that pass the first and those that pass the second
+-- the vectors that pass one of two tests are no more than those that pass the first and those that
+-- pass the second
 pub by_first-or : (p : ℕ) (s t : List ℕ → Bool) (d : ℕ) → by_first p (λ v. s v || t v) d ≤ by_first p s d + by_first p t d
 unfolding by_first
 by_first-or p s t zero = elim (cases_Bool (s [])) [ inl e ↦ rw e (omega arith) | inr e ↦ rw e (omega arith) ]

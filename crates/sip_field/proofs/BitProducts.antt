@@ -42,7 +42,8 @@ module _ (p : ℕ) (zero_of : ℕ → ℕ) (above : 1 < p) where
   product_below i [] = above
   product_below i (r ∷ rs) = let some : 0 < p = omega arith in mod-lt _ some
 
-  -- the product of an index is that of its low n bits under the first n challenges, times that of the others under the others
+  -- the product of an index is that of its low n bits under the first n challenges, times that of
+  -- the others under the others
   pub split_product : (i n : ℕ) (rs : List ℕ) →
       bits_product p zero_of i rs ≡ product_mod p (bits_product p zero_of (i % 2 ^ n) (take n rs)) (bits_product p zero_of (i / 2 ^ n) (drop n rs))
   split_product i zero rs =
@@ -83,7 +84,8 @@ module _ (p : ℕ) (zero_of : ℕ → ℕ) (above : 1 < p) where
         split_product (2 ^ n + e) n (take (n + 1) rs)
         ∙ rw (inside, one, take_shorter n rs, drop-take n 1 rs, alone) (once (bits_product p zero_of e (take n rs)) r)
 
-  -- one table more, where v is the product of what there was and the table's entry for the low bits of the path
+  -- one table more, where v is the product of what there was and the table's entry for the low bits
+  -- of the path
   pub one_table : (start index : ℕ) (seat : List ℕ) (tables : List (List ℕ)) (k path u v : ℕ) → AreTables p zero_of seat tables → k < length tables →
       path < 2 ^ length (drop (7 * k) seat) →
       v ≡ product_mod p u (get_or (get_or tables k []) (path % 128) 0) →
@@ -98,7 +100,8 @@ module _ (p : ℕ) (zero_of : ℕ → ℕ) (above : 1 < p) where
       (mul-mod_first (u * a) b p ∙ ap (λ y. y % p) (let same : u * a * b ≡ u * (a * b) = omega arith in same) ∙ sym (mul-mod_second u (a * b) p)
       ∙ ap (λ w. (u * w) % p) (sym (split_product path 7 rs)) ∙ before)
 
--- a product with one less the challenge is the difference of the number and its product with the challenge
+-- a product with one less the challenge is the difference of the number and its product with the
+-- challenge
 pub less_product : (p c r : ℕ) → 0 < p → r ≤ p → difference_mod p c (product_mod p c r) ≡ product_mod p c (difference_mod p 1 r)
 less_product p c r some small =
     let q : ℕ = p - r in

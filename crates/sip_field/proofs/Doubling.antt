@@ -1,4 +1,5 @@
--- A table that one level more doubles: each of its entries is split into two, one in its place and one behind.
+-- A table that one level more doubles: each of its entries is split into two, one in its place and
+-- one behind.
 use Rattle.std.proofs.Common.{◌≡◌, ℕ, zero, suc, ◌+◌, ◌-◌, ◌*◌, ◌/◌, ◌%◌, ◌^◌, ◌<◌, ◌≤◌, List, [], ◌∷◌, length, get_or, set, take, ◌⊎◌, inl, inr, refl, sym, ◌∙◌, ap, subst, arith}
 use Rattle.std.proofs.Math.Arith.{mod-mul}
 use Rattle.std.proofs.Math.Nat.{pow-le-pow_right}

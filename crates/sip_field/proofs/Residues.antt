@@ -6,7 +6,8 @@ use Rattle.std.proofs.lemmas.Bool.{cases_lt}
 use Rattle.std.proofs.lemmas.Int.{ints}
 use Rattle.sip_field.specs.Residue.{ResiduesAreRemainders, DifferencesAreResidues}
 
--- a remainder of a part is the remainder of the whole: with these a contract over remainders follows from those of the calls
+-- a remainder of a part is the remainder of the whole: with these a contract over remainders
+-- follows from those of the calls
 pub ruleset residues = (add-mod-mod, mod-add-mod, mul-mod_first, mul-mod_second)
 
 pub residues_are_remainders : ResiduesAreRemainders

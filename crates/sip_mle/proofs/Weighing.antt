@@ -47,7 +47,8 @@ weigh_raised p e challenges (x ∷ level) k (suc i) j at h =
     mod_plus p (x * c) (x * c) (weigh p challenges (k + 1) (raise p level i e)) (rest + more) refl (weigh_raised p e challenges level (k + 1) i j next within)
     ∙ ap (λ n. n % p) (let same : x * c + (rest + more) ≡ x * c + rest + more = omega arith in same)
 
--- an entry that is raised by a signed number raises the extension by the number times the entry's factor
+-- an entry that is raised by a signed number raises the extension by the number times the entry's
+-- factor
 pub ext_raised : (p : ℕ) (numbers : List ℤ) (challenges : List ℕ) (i : ℕ) (delta : ℤ) → 0 < p → i < length numbers →
     ext p (raised_numbers numbers i delta) challenges ≡ (ext p numbers challenges + residue p delta * chi p i challenges) % p
 ext_raised p numbers challenges i delta some h =

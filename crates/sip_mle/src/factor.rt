@@ -4,8 +4,8 @@ ghost use Rattle.sip_vector.specs.Extensions.{chi};
 
 use sip_field::{Field, Seat};
 
-/// The factor of the entry `index` in the extension: the product of the challenges for which the index has the bit 1,
-/// the lowest bit first, and of one less the challenge for which it has 0.
+/// The factor of the entry `index` in the extension: the product of the challenges for which the
+/// index has the bit 1, the lowest bit first, and of one less the challenge for which it has 0.
 ///
 /// d `times`.
 pub fn chi<F: Field, const CAP: usize>(seat: &Seat<F, CAP>, index: u64) -> F
@@ -15,7 +15,8 @@ pub fn chi<F: Field, const CAP: usize>(seat: &Seat<F, CAP>, index: u64) -> F
     times_chi(F::of(1), seat, index)
 }
 
-/// `start` times the factor of an entry. d `times`, so that a factor that is wanted in a product costs no more.
+/// `start` times the factor of an entry. d `times`, so that a factor that is wanted in a product
+/// costs no more.
 pub(crate) fn times_chi<F: Field, const CAP: usize>(start: F, seat: &Seat<F, CAP>, index: u64) -> F
     ensures { F.number result ≡ (F.number start * chi F.MODULUS index seat.now) % F.MODULUS }
 {

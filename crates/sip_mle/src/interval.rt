@@ -7,8 +7,8 @@ use sip_field::{Field, Seat};
 use sip_vector::Depth;
 use std::marker::Model;
 
-/// The extension, at a seat, of the list that is 1 from `lo` to `hi`, both included, and 0 elsewhere: the sum of the
-/// factors of these entries.
+/// The extension, at a seat, of the list that is 1 from `lo` to `hi`, both included, and 0
+/// elsewhere: the sum of the factors of these entries.
 ///
 /// 2d `times`, however many entries there are.
 pub fn interval_at<F: Field, const CAP: usize>(seat: &Seat<F, CAP>, lo: u64, hi: u64) -> F
@@ -25,8 +25,8 @@ pub fn interval_at<F: Field, const CAP: usize>(seat: &Seat<F, CAP>, lo: u64, hi:
 
 /// The list that is 1 from `lo` to `hi` and 0 elsewhere, folded by none, one or several challenges.
 ///
-/// A contract sees the list of residues. Folds leave 1 inside the interval and 0 outside it, so that two indexes and the
-/// values there are all that is kept.
+/// A contract sees the list of residues. Folds leave 1 inside the interval and 0 outside it, so
+/// that two indexes and the values there are all that is kept.
 #[derive(Drop)]
 pub struct IntervalFold<F: Field> {
     levels: usize,

@@ -1,21 +1,23 @@
-//! The multilinear extension of a vector at a secret point, kept up to date as one number while the vector's updates
-//! stream by (Cormode, Thaler, Yi, PVLDB 5(1), section 2).
+//! The multilinear extension of a vector at a secret point, kept up to date as one number while the
+//! vector's updates stream by (Cormode, Thaler, Yi, PVLDB 5(1), section 2).
 //!
 //! - [`chi`] is the factor of an entry in the extension.
 //! - [`Point`] is the extension of a vector that is never kept.
 //! - [`interval_at`] is the extension of the list that is 1 from `lo` to `hi` and 0 elsewhere.
 //! - [`IntervalFold`] is that list itself, folded by one challenge after another.
 //!
-//! No call takes memory: a point is a seat and one number, and an interval is two values and two indexes, however long
-//! its list is. `Point::update_all` has its tables on the stack for one call, 7 KB.
+//! No call takes memory: a point is a seat and one number, and an interval is two values and two
+//! indexes, however long its list is. `Point::update_all` has its tables on the stack for one call,
+//! 7 KB.
 //!
 //! # What the contracts say
 //!
-//! `Extensions` of `sip_vector` defines the extension, as a sum over all entries, its factors and the fold. A contract
-//! here gives the exact value, for every vector. `StandsFor` says which vectors a point stands for, and `Intervals` how
-//! the list of an interval looks between two folds. [`laws`] has the facts about the definitions alone: how a raised
-//! entry raises an extension, that folding a list by all challenges leaves its extension, and that the extension of an
-//! interval is the sum of the factors of its entries.
+//! `Extensions` of `sip_vector` defines the extension, as a sum over all entries, its factors and
+//! the fold. A contract here gives the exact value, for every vector. `StandsFor` says which
+//! vectors a point stands for, and `Intervals` how the list of an interval looks between two folds.
+//! [`laws`] has the facts about the definitions alone: how a raised entry raises an extension, that
+//! folding a list by all challenges leaves its extension, and that the extension of an interval is
+//! the sum of the factors of its entries.
 //!
 //! # Cost
 //!

@@ -56,8 +56,9 @@ impl<F: Field, const CAP: usize> Point<F, CAP> {
 
     /// The extension after each of these updates, whatever their sides.
     ///
-    /// One `times` for an update and seven challenges, and 127 for seven challenges, whose table of products is on the stack
-    /// for this call. A block of less than 32 updates is `update` for each.
+    /// One `times` for an update and seven challenges, and 127 for seven challenges, whose table of
+    /// products is on the stack for this call. A block of less than 32 updates is `update` for
+    /// each.
     pub fn update_all(&mut self, updates: &[Update])
         requires depth { length self.old.seat ≤ most_depth }
         requires items { All (λ u. u.item < 2 ^ length self.old.seat) updates.now }

@@ -1,5 +1,6 @@
--- What several calls do to a talk together, for callers of ports. `Consumes-nil`, `Consumes-trans` and `Consumes-kept`
--- of `Rattle.std.proofs.KnownBytes` say the same of the bytes that a source has left.
+-- What several calls do to a talk together, for callers of ports. `Consumes-nil`, `Consumes-trans`
+-- and `Consumes-kept` of `Rattle.std.proofs.KnownBytes` say the same of the bytes that a source has
+-- left.
 use Rattle.std.proofs.Common.{◌≡◌, ℕ, zero, suc, ◌<◌, ◌≤◌, List, [], ◌∷◌, ◌++◌, length, take, None, Some, refl, sym, ap, ◌∙◌, arith, append_assoc, append-nil}
 use Rattle.std.specs.declared.option.Option.{Option}
 use Rattle.std.proofs.lemmas.List.{map-append}

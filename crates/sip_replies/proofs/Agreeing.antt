@@ -1,5 +1,5 @@
--- Whole replies whose bytes, one after another, agree are the same replies; and bytes that agree with whole replies show no fault
--- but that of the end of the link. Whatever the protocol.
+-- Whole replies whose bytes, one after another, agree are the same replies; and bytes that agree
+-- with whole replies show no fault but that of the end of the link. Whatever the protocol.
 use Rattle.std.proofs.Common.{◌≡◌, ◌≢◌, ◌⊎◌, ℕ, suc, ◌+◌, ◌≤◌, Result, Ok, Err, List, [], ◌∷◌, ◌++◌, length, drop, inl, inr, refl, sym, ap, ◌∙◌, arith, append_assoc, append-nil}
 use Rattle.std.proofs.lemmas.List.{append_cancel_left, nil_from_length}
 use Rattle.sip_vector.specs.Steps.{◌>>=◌}
@@ -54,7 +54,8 @@ module _ {X : Type 0} (read : List ℕ → Result X Reason) (reads : IsReader re
 
   module _ (whole reply : List ℕ) (x : X) (reason : Reason) (first : read whole ≡ Ok x) (fault : read reply ≡ Err reason) (other : reason ≢ reasons.Closed)
       (shortest : (front : List ℕ) (byte : ℕ) → reply ≡ front ++ byte ∷ [] → read front ≡ Err reasons.Closed) where
-    -- a fault is not shown by the bytes of a whole reply and one more, and no more by still more of them
+    -- a fault is not shown by the bytes of a whole reply and one more, and no more by still more of
+    -- them
     beyond : (init : List ℕ) (byte : ℕ) → reply ≡ whole ++ (init ++ byte ∷ []) → ⊥
     beyond [] byte is = ok_not_err whole x reasons.Closed first (shortest whole byte is)
     beyond (i ∷ init) byte is =
@@ -150,7 +151,8 @@ module _ {S : Type 0} (R : Rules S) (j : ℕ) (block : List ℕ) (s : S) (h : Li
         | inr m ↦ absurd (ok_not_err (read_reply R s) (reads R s) r y m.0 is m.1)
       ]
 
--- bytes that agree with whole replies have no fault in the last of them, but that of the end of the link
+-- bytes that agree with whole replies have no fault in the last of them, but that of the end of the
+-- link
 pub run_fault : {S : Type 0} (R : Rules S) (j : ℕ) (block : List ℕ) (s : S) (hs rs : List (List ℕ)) (b a : List ℕ) (t : S) (fault : Fault) → run_from R j block s hs ≡ Ok t → run_from R j block s rs ≡ Err fault → length rs ≤ length hs → j + length rs ≤ suc fault.round
     → fault.reason ≢ reasons.Closed → IsShortest (λ l f. run_from R j block s l ≡ Err f) rs → joined hs ++ b ≡ joined rs ++ a → ⊥
 run_fault R j block s hs [] b a t fault first second count last other shortest e = run-none R j block s fault second

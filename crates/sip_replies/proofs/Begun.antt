@@ -1,4 +1,5 @@
--- A reply of which some whole frames came: what the next frame does, and what it makes of the reply.
+-- A reply of which some whole frames came: what the next frame does, and what it makes of the
+-- reply.
 use Rattle.std.proofs.Common.{◌≡◌, ℕ, inl, inr, Option, Result, Ok, Err, List, [], ◌∷◌, ◌++◌, refl, sym, ap, subst, ◌∙◌, append_assoc, append-nil}
 use Rattle.std.specs.Prelude.{IsErrAnd}
 use Rattle.std.proofs.lemmas.List.{map-append}
@@ -14,7 +15,8 @@ use Rattle.sip_replies.specs.Talks.{ending}
 use Rattle.sip_replies.specs.Asking.{KeepsPart, MayEnd, HasFault, IsPart, IsUnkept, Takes}
 use Rattle.sip_replies.proofs.Ends.{last_of, snoc_same, no_snoc}
 
--- these bytes of a reply came and were kept; the rest is read by `rest`, and no byte less ends the reply or shows a fault
+-- these bytes of a reply came and were kept; the rest is read by `rest`, and no byte less ends the
+-- reply or shows a fault
 pub record Begun {X : Type 0} (read : List ℕ → Result X Reason) (old mid before during : Option (List TalkEvent)) (rest : List ℕ → Result X Reason) : Type 0 where
   pub bytes : List ℕ
   pub heard : GoesOn old mid (ins bytes)

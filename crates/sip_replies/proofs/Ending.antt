@@ -1,4 +1,5 @@
--- How the turn of one query ends: with an answer, by the tests behind the last reply, or where the link stops.
+-- How the turn of one query ends: with an answer, by the tests behind the last reply, or where the
+-- link stops.
 use Rattle.std.proofs.Common.{◌≡◌, ◌≢◌, inl, inr, ℕ, ◌-◌, ◌<◌, Option, Result, Ok, Err, List, [], ◌∷◌, ◌++◌, length, take, drop, refl, sym, ap, subst, ◌∙◌, arith, append_assoc, append-nil}
 use Rattle.std.specs.Prelude.{Some, None, IsErrAnd, slice_index}
 use Rattle.std.proofs.lemmas.List.{map-append, take-append-drop}

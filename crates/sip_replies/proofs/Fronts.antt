@@ -1,4 +1,5 @@
--- A front of a reply that is read whole has no fault but that more is to come, and a whole reply has too many bytes with one more.
+-- A front of a reply that is read whole has no fault but that more is to come, and a whole reply
+-- has too many bytes with one more.
 use Rattle.std.proofs.Common.{◌≡◌, ◌≢◌, ◌⊎◌, ℕ, zero, suc, ◌≤◌, Result, Ok, Err, List, [], ◌∷◌, ◌++◌, length, inl, inr, refl, sym, ap, ◌∙◌, arith}
 use Rattle.sip_wire.specs.declared.message.Message.{Message}
 use Rattle.sip_wire.specs.declared.message.Reason.{Reason}
@@ -13,7 +14,8 @@ use Rattle.sip_replies.specs.Replies.{reason_of, at_end, goes_on, step_says, rea
 use Rattle.sip_wire.proofs.ReadingLaws.{read_frame-shrinks, read_frame-append, read_frame-append_fault}
 use Rattle.sip_replies.proofs.Reading.{read_reply-fault, read_reply-step}
 
--- an answer and the one with more bytes behind: a fault but Closed stays, and what was whole has too many bytes
+-- an answer and the one with more bytes behind: a fault but Closed stays, and what was whole has
+-- too many bytes
 pub record Grows {X : Type 0} (less more : Result X Reason) : Type 0 where
   pub stays : (reason : Reason) → less ≡ Err reason → reason ≢ reasons.Closed → more ≡ Err reason
   pub full : (x : X) → less ≡ Ok x → more ≡ Err reasons.BadLength

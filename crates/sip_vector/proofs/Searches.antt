@@ -128,7 +128,8 @@ is_first least start (x ∷ xs) = elim (leb_tells least start) [
   | inr t ↦ rw t.0 (is_first_later least start x xs _ (λ le. absurd (omega (arith, t.1))) (is_first least (start + 1) xs))
 ]
 
--- where there is none, or the first one comes later, the node is 0; where it comes there, it is that one
+-- where there is none, or the first one comes later, the node is 0; where it comes there, it is
+-- that one
 pub node-none : (xs : List ℕ) (i : ℕ) → None ≡ slice_get (nonzero_from i xs) 0 → get_or xs i 0 ≡ 0
 node-none xs i e = (subst (IsFirst i 0 xs) (sym e) (is_first i 0 xs)) i (omega arith)
 

@@ -1,4 +1,5 @@
--- The spots of a vector's entries, and the spots above a list of spots, taken from the first one on.
+-- The spots of a vector's entries, and the spots above a list of spots, taken from the first one
+-- on.
 use Rattle.std.proofs.Common.{◌≡◌, ◌≢◌, ℕ, ◌/◌, ◌%◌, ◌<◌, true, false, List, [], ◌∷◌, ◌++◌, length, get_or, set, take, drop, map, ◌+◌, ◌≤◌, ℤ, refl, sym, ap, ◌∙◌, arith, eq-eqb, ne_eqb}
 use Rattle.std.proofs.lemmas.List.{append-nil, append_assoc, length-map, map-append, map-set, take-map, take_more_set, drop-map, drop-drop, drop-set-lt, drop_all}
 use Rattle.sip_field.specs.Residue.{residue}

@@ -1,4 +1,5 @@
--- A raised number raises the hash of each augmented node above it by its weight, and the count by itself.
+-- A raised number raises the hash of each augmented node above it by its weight, and the count by
+-- itself.
 use Rattle.std.proofs.Common.{◌≡◌, ℕ, zero, suc, ◌+◌, ◌-◌, ◌*◌, ◌/◌, ◌%◌, ◌^◌, ◌<◌, ◌==◌, if◌then◌else◌, ℤ, pos, ◌+ℤ◌, List, [], ◌∷◌, length, get_or, set, map, fold, refl, sym, ◌∙◌, ap, arith}
 use Rattle.std.proofs.Math.Nat.{mod-mod, pow-succ'}
 use Rattle.std.proofs.lemmas.Nat.{mul-mod_first, mul-mod_second}
@@ -89,7 +90,8 @@ top_raise3 p h delta (r ∷ challenges) level i some l within =
     rw (raise_up3 p r level _ i h delta some twice within)
     (top_raise3 p (climbed p h i r) delta challenges (up3 p level r) (i / 2) some above inside)
 
--- an entry raised by a signed number raises the hash by the number times the entry's weight, and the count by the number
+-- an entry raised by a signed number raises the hash by the number times the entry's weight, and
+-- the count by the number
 pub augroot_raised : (p : ℕ) (numbers : List ℤ) (challenges : List ℕ) (i : ℕ) (delta : ℤ) → 0 < p → length numbers ≡ 2 ^ length challenges → i < length numbers →
     augroot p (raised_numbers numbers i delta) challenges ≡ raised_node p (augroot p numbers challenges) (hash_weight p i challenges) delta
 augroot_raised p numbers challenges i delta some l within =

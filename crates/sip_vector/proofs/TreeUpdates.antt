@@ -65,7 +65,8 @@ top_raise p e (r ∷ challenges) level i l h =
     (top_raise p (e * factor i r) challenges (up p level r) (i / 2) above within
     ∙ weighted p (top p (up p level r) challenges) e (factor i r) (node_weight p (i / 2) challenges))
 
--- the residues of numbers, one of them raised by a signed number, are the residues of the numbers with its residue added to that one
+-- the residues of numbers, one of them raised by a signed number, are the residues of the numbers
+-- with its residue added to that one
 pub residues_raised : (p : ℕ) (numbers : List ℤ) (i : ℕ) (delta : ℤ) → 0 < p → i < length numbers →
     map (residue p) (raised_numbers numbers i delta) ≡ raise p (map (residue p) numbers) i (residue p delta)
 residues_raised p numbers i delta some h =

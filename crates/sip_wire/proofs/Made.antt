@@ -1,4 +1,5 @@
--- A message that is made of a kind, a mark and numbers that fit has that kind, that mark and those numbers.
+-- A message that is made of a kind, a mark and numbers that fit has that kind, that mark and those
+-- numbers.
 use Rattle.std.proofs.Common.{◌≡◌, ℕ, zero, suc, ◌<◌, ◌≤◌, ◌^◌, true, ◌&&◌, nat_lt, nat_le, List, [], ◌∷◌, ◌++◌, length, length-append, subst, All, FitsSigned, refl, sym, ◌∙◌, arith}
 use Rattle.std.specs.Int.{w64, cast_signed, cast_unsigned}
 use Rattle.std.specs.List.{flat_map}
@@ -20,7 +21,8 @@ use Rattle.sip_wire.specs.Values.{InRange, side_at, updates_from, entries_from, 
 use Rattle.sip_wire.proofs.EntryValues.{value_range}
 use Rattle.sip_wire.proofs.Shapes.{FitsAll, fit_parts}
 
--- what is made of a kind, a mark and numbers has them, and its signed numbers are values of their type
+-- what is made of a kind, a mark and numbers has them, and its signed numbers are values of their
+-- type
 pub record Made (kind : Kind) (mark : ℕ) (ns : List ℕ) : Type 0 where
   pub its_kind : kind_of (message_from kind mark ns) ≡ kind
   pub its_mark : mark_of (message_from kind mark ns) ≡ mark

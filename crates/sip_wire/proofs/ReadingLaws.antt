@@ -1,4 +1,5 @@
--- What reading the message at the front of bytes answers: at a spelling, at a fault, and where the frame isn't whole.
+-- What reading the message at the front of bytes answers: at a spelling, at a fault, and where the
+-- frame isn't whole.
 use Rattle.std.proofs.Common.{◌≡◌, ◌≢◌, ℕ, ◌+◌, ◌<◌, ◌≤◌, Bool, true, false, ◌&&◌, cond, Option, Some, None, Result, Ok, Err, List, [], ◌∷◌, ◌++◌, length, take, drop, refl, sym, ap, ◌∙◌, arith, inl, inr, length-append, length-drop, take_all, take_at, drop_at}
 use Rattle.std.specs.Prelude.{IsTrue, slice_index}
 use Rattle.std.proofs.lemmas.Bool.{cases_lt}
@@ -84,7 +85,8 @@ frame_fault-closed version place bytes lt =
       | inr le ↦ past_length version place bytes le ∙ by_kind version place (kind_at (slice_index bytes 0)) bytes lt le
     ]
 
--- The fault of bytes of which a frame takes all is what reading answers; Closed too, where it is their fault.
+-- The fault of bytes of which a frame takes all is what reading answers; Closed too, where it is
+-- their fault.
 pub read_frame-fault : (version : Version) (place : Place) (bytes : List ℕ) (f : WireFault) → frame_fault version place bytes ≡ Some f → length bytes ≤ asked version place bytes → read_frame version place bytes ≡ Err f
 unfolding read_frame
 read_frame-fault version place bytes f fault le =
@@ -97,7 +99,8 @@ read_frame-fault version place bytes f fault le =
 pub read_frame-closed : (version : Version) (place : Place) (bytes : List ℕ) → length bytes < asked version place bytes → read_frame version place bytes ≡ Err faults.Closed
 read_frame-closed version place bytes lt = read_frame-fault version place bytes faults.Closed (frame_fault-closed version place bytes lt) (omega arith)
 
--- A proper front of the bytes that a frame takes is no whole frame: no byte is taken that the answer does not need.
+-- A proper front of the bytes that a frame takes is no whole frame: no byte is taken that the
+-- answer does not need.
 pub read_frame-short : (version : Version) (place : Place) (front more : List ℕ) → more ≢ [] → length (front ++ more) ≤ asked version place (front ++ more) → read_frame version place front ≡ Err faults.Closed
 read_frame-short version place front [] some le = absurd (some refl)
 read_frame-short version place front (x ∷ more) some le =

@@ -1,4 +1,5 @@
--- What is read off bytes is spelled by them: reading answers no other message than the one whose spelling stands in front.
+-- What is read off bytes is spelled by them: reading answers no other message than the one whose
+-- spelling stands in front.
 use Rattle.std.proofs.Common.{◌≡◌, ℕ, ◌+◌, ◌≤◌, Bool, true, false, not, cond, nat_lt, Option, Some, None, Ok, List, ◌++◌, length, take, drop, refl, sym, ap, subst, ◌∙◌, arith, length-take-le}
 use Rattle.std.specs.Prelude.{IsTrue, slice_index}
 use Rattle.std.proofs.lemmas.Bool.Decides.{nat_tests}

@@ -11,7 +11,8 @@ use Rattle.sip_wire.proofs.Fields.{size-append, numbers_in-append, all_hold-appe
 abbrev pub holds_in : List Field → List ℕ → Bool
 holds_in fs bytes = all_hold fs (numbers_in fs bytes)
 
--- i rows were read: their numbers and those of the rest are those of all, and all hold theirs where the rest does
+-- i rows were read: their numbers and those of the rest are those of all, and all hold theirs where
+-- the rest does
 pub record SoFar {T : Type 0} (said : T → List ℕ) (layout : List Field) (count : ℕ) (bytes : List ℕ) (i : ℕ) (items : List T) (rest : List ℕ) : Type 0 where
   pub count_is : length items ≡ i
   pub rest_len : length rest ≡ size (repeat (count - i) layout)

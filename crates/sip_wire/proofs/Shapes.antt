@@ -18,7 +18,8 @@ use Rattle.sip_wire.proofs.Bytes.{IsBytes, IsBytes-drop, bytes_back}
 use Rattle.sip_wire.proofs.Fields.{fields_back, fields_room, fields_size, fields_again}
 use Rattle.sip_wire.proofs.Counting.{size_repeat}
 
--- a mark has room in its bytes and its body has a length of the kind, and no body is too long for two bytes
+-- a mark has room in its bytes and its body has a length of the kind, and no body is too long for
+-- two bytes
 pub record IsShape (s : Shape) : Type 0 where
   pub mark_room : (m : ℕ) → s.is_mark m ≡ true → m < 256 ^ s.mark_width
   pub lengths : (m : ℕ) → s.is_mark m ≡ true → s.has_length (s.mark_width + size (s.fields m)) ≡ true

@@ -41,7 +41,8 @@ same_body s m n xs ys is fm fn e =
     let b = body_again s n ys is fn in
     (a.its_mark ∙ ap (mark_in s) e ∙ sym b.its_mark, a.its_numbers ∙ ap (said_in s) e ∙ sym b.its_numbers)
 
--- two spellings with whatever follows that are the same bytes have one kind, one mark and one list of numbers
+-- two spellings with whatever follows that are the same bytes have one kind, one mark and one list
+-- of numbers
 pub prefix_free : (version : Version) (m n : Message) (x y : List ℕ) → IsTrue (fits version m) → IsTrue (fits version n) → spelling version m ++ x ≡ spelling version n ++ y → (kind_of m ≡ kind_of n) × (mark_of m ≡ mark_of n) × (numbers m ≡ numbers n) × (x ≡ y)
 unfolding fits
 prefix_free version m n x y fm fn e =

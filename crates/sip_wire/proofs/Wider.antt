@@ -1,4 +1,5 @@
--- What has a spelling in version 1 has one in version 2: no field is narrower there, and no mark is missing.
+-- What has a spelling in version 1 has one in version 2: no field is narrower there, and no mark is
+-- missing.
 use Rattle.std.proofs.Common.{◌≡◌, ℕ, zero, suc, ◌^◌, ◌≤◌, true, ◌&&◌, nat_lt, List, [], ◌∷◌, ◌++◌, refl, ◌∙◌, arith}
 use Rattle.std.specs.Prelude.{IsTrue}
 use Rattle.std.proofs.lemmas.Bool.{and_from, and_parts, ltb-true, lt-ltb}

@@ -1,4 +1,5 @@
--- No two of the powers of 2 + √3 below the 2^(e + 1)-th are the same modulo q, where the 2^e-th is -1.
+-- No two of the powers of 2 + √3 below the 2^(e + 1)-th are the same modulo q, where the 2^e-th is
+-- -1.
 use Rattle.std.proofs.Common.{◌≡◌, ◌≢◌, ℕ, zero, suc, ◌+◌, ◌-◌, ◌*◌, ◌%◌, ◌/◌, ◌^◌, ◌<◌, ◌≤◌, ◌⊎◌, inl, inr, refl, sym, ◌∙◌, ap, subst, arith}
 use Rattle.std.proofs.Math.Nat.{mod-lt, mul-le-mul_left, mod-eq_of_lt, pow-zero, pow-suc}
 use Rattle.std.proofs.lemmas.Nat.{pow-add}
@@ -65,7 +66,8 @@ module _ (q e : ℕ) (big : 2 < q) (minus : Near q (power (2 ^ e)) (minus_one q)
       let d : 2 ^ s * k * 2 ^ t ≡ 2 ^ e * (1 + 2 * h) = omega (arith, ap (λ n. n * k) p, ap (λ n. 2 ^ e * n) ke) in
       not_one (near_trans q _ _ _ (near_sym q _ _ (subst (λ n. Near q (power n) (minus_one q)) (sym d) (odd_power h))) (power_of_one q (2 ^ s * k) one (2 ^ t)))
 
-  -- no power is 1 whose exponent is 2^s * k, for k above 0 and below 2^(t + 1): by halving k until it is odd
+  -- no power is 1 whose exponent is 2^s * k, for k above 0 and below 2^(t + 1): by halving k until
+  -- it is odd
   descend : (t s k : ℕ) → t + s ≡ e → 0 < k → k < 2 ^ suc t → Near q (power (2 ^ s * k)) (power 0) → ⊥
   descend zero s k te pos lt one = elim (parity k) [
     | inl h ↦ (let two : 2 ^ suc 0 ≡ 2 = refl in let d = h.1 in omega (arith, d, two))

@@ -2,7 +2,8 @@ use Rattle.std.proofs.Common.{◌≡◌, ℕ, List, ◌+◌, ◌*◌, ◌%◌, �
 use Rattle.sip_field.specs.Products.{bits_product, AreTables}
 use Rattle.sip_field.proofs.factors.loosely_by_tables.Given as goal
 
--- the product, times that of what is left of the path, is what is wanted, and it has grown by less than 2^61 for each table
+-- the product, times that of what is left of the path, is what is wanted, and it has grown by less
+-- than 2^61 for each table
 abbrev pub invariant-loop-group : goal.invariant-loop-group
 invariant-loop-group g l =
     let p = g.F.Field.MODULUS in

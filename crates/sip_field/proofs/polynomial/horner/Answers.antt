@@ -1,4 +1,5 @@
--- The last of the lower coefficients becomes the first of the upper ones, by one step of Horner's rule.
+-- The last of the lower coefficients becomes the first of the upper ones, by one step of Horner's
+-- rule.
 use Rattle.std.proofs.Common.{◌∷◌, [], sym, ◌∙◌, append_assoc}
 use Rattle.sip_field.proofs.PolynomialLemmas.{drop_shorter, horner_step}
 use Rattle.sip_field.proofs.polynomial.horner.Goals as goal

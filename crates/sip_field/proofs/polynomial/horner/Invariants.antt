@@ -2,7 +2,8 @@ use Rattle.std.proofs.Common.{◌≡◌, ◌%◌, ◌++◌, map, length, drop}
 use Rattle.sip_field.specs.Polynomial.{polynomial}
 use Rattle.sip_field.proofs.polynomial.horner.Given as goal
 
--- the iterator has the lower coefficients left, and the value is that of the polynomial of the upper ones
+-- the iterator has the lower coefficients left, and the value is that of the polynomial of the
+-- upper ones
 abbrev pub invariant-loop-coefficient : goal.invariant-loop-coefficient
 invariant-loop-coefficient g l =
     let lower = l.coefficient-iterator.iter.rest.now in

@@ -1,6 +1,5 @@
 -- The new value by the clauses of the calls, and from it what the point stands for.
-use Rattle.std.proofs.Common.{rules, ◌≡◌, ℕ, List, pos, FitsSigned, w64, to_z, of_z, ◌+◌, ◌*◌, ◌%◌, ◌^◌, ◌<◌, ◌≤◌, take, length, get_or, refl, sym, ◌∙◌, ap, subst, arith}
-use Rattle.std.specs.Prelude.{All}
+use Rattle.std.proofs.Common.{rules, ◌≡◌, ℕ, List, pos, FitsSigned, w64, to_z, of_z, ◌+◌, ◌*◌, ◌%◌, ◌^◌, ◌<◌, take, length, get_or, refl, sym, ◌∙◌, ap, subst, arith}
 use Rattle.std.proofs.Math.Nat.{add-mod-mod}
 use Rattle.std.proofs.lemmas.Int.{to_z-of_z}
 use Rattle.std.proofs.lemmas.List.{take_all, length-take-le}

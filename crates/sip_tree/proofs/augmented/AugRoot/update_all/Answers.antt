@@ -1,6 +1,5 @@
 -- The new hash and total by the clauses of the calls, and from them what the root stands for.
 use Rattle.std.proofs.Common.{rules, ◌≡◌, ℕ, ℤ, List, pos, ◌+ℤ◌, nat_abs, FitsSigned, w64, to_z, of_z, ◌+◌, ◌*◌, ◌%◌, ◌^◌, ◌<◌, ◌≤◌, take, length, get_or, refl, sym, ◌∙◌, ap, subst, arith}
-use Rattle.std.specs.Prelude.{All}
 use Rattle.std.proofs.Math.Nat.{add-mod-mod}
 use Rattle.std.proofs.lemmas.Int.{to_z-of_z, fits_signed_from_abs}
 use Rattle.std.proofs.lemmas.List.{take_all, length-take-le}
