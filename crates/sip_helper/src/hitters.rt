@@ -1,9 +1,12 @@
 //! The replies about heavy hitters: leaves or nodes, level by level.
 
 ghost use Rattle.std.specs.Prelude.{◌≡◌, ◌≤◌, ℕ, nat_abs};
+ghost use Rattle.sip_ports.specs.Ports.{HasCause, SendsWhole};
 ghost use Rattle.sip_vector.specs.Answers.{Fits};
 ghost use Rattle.sip_vector.specs.Streams.{most_weight};
 ghost use Rattle.sip_vector.specs.declared.update.Side.{Side as AnySide};
+ghost use Rattle.sip_wire.specs.Spelling.{spelling};
+ghost use Rattle.sip_wire.specs.declared.message.Message.TheVariants as messages;
 ghost use Rattle.sip_helper.specs.inside.Starting.{StartsProver};
 ghost use Rattle.sip_helper.specs.Hitters.{HasNodes, heavy_query, hitters_query, threshold};
 
@@ -82,6 +85,16 @@ impl HittersProver {
     }
 }
 
+/// Sends the end of a level. Its message is made in a call of its own, so that the stack does not have it while nodes are sent.
+#[inline(never)]
+fn put_level_end<K: Sink>(version: Version, out: &mut K) -> Result<(), PortStop>
+    ensures talk { SendsWhole (K.talk out.old) (K.talk out.new) result
+        (spelling version messages.LevelEnd) }
+    ensures cause { HasCause K.faults K.wants K.is_sure out.old out.new result }
+{
+    encode(&Message::LevelEnd, version, out)
+}
+
 impl Prover for HittersProver {
     ghost query = { hitters_query };
 
@@ -99,6 +112,6 @@ impl Prover for HittersProver {
         out: &mut K,
     ) -> Result<(), PortStop> {
         put_level(version, &self.prover, revealed.is_empty(), out)?;
-        encode(&Message::LevelEnd, version, out)
+        put_level_end(version, out)
     }
 }

@@ -63,7 +63,10 @@ fn next_nodes(prover: &HeavyProver<M61>, from: u64) -> (ArrayVec<Node, MOST_NODE
     (rows, next)
 }
 
+// The rows of a frame lie on the stack, so each kind is sent by a call of its own: the stack never has those of both.
+
 /// Sends the leaves that are shown of the lowest level, in full frames and a last one of the rest. It takes no memory.
+#[inline(never)]
 fn put_leaves<K: Sink>(
     version: Version,
     prover: &HeavyProver<M61>,
@@ -90,6 +93,7 @@ fn put_leaves<K: Sink>(
 }
 
 /// Sends the nodes that are shown of a level, in full frames and a last one of the rest. It takes no memory.
+#[inline(never)]
 fn put_nodes<K: Sink>(
     version: Version,
     prover: &HeavyProver<M61>,

@@ -7,7 +7,6 @@ use Rattle.sip_ports.specs.Ports.{SendsWhole}
 use Rattle.sip_wire.specs.declared.message.Message.TheVariants as messages
 use Rattle.sip_wire.specs.Spelling.{spelling}
 use Rattle.sip_heavy.specs.Honest.{opening_frames}
-use Rattle.sip_heavy.proofs.HonestFrames.{end_fits}
 use Rattle.sip_helper.proofs.HitterReplies.{level_fits, reply_is}
 use Rattle.sip_helper.proofs.Sending.{sends_after, stopped_in}
 use Rattle.sip_helper.proofs.hitters.HittersProverProver.put_reply.Goals as goal
@@ -16,9 +15,6 @@ pub put_level-requires-clause-fit : goal.put_level-requires-clause-fit
 put_level-requires-clause-fit g c =
     let stands = c.requires.stands in
     level_fits c.args.version stands.0 c.args._vectors.now c.args.revealed.now c.args.self.now stands.4 stands.1 stands.3
-
-pub encode-requires : goal.encode-requires
-encode-requires g c = end_fits c.args.version
 
 pub returns-in_err-put_level-clause-talk : goal.returns-in_err-put_level-clause-talk
 returns-in_err-put_level-clause-talk g c =
@@ -40,7 +36,7 @@ returns-clause-talk g c =
     let stands = c.requires.stands in
     let before = g.K.Sink.talk c.args.out.now in
     let now = g.K.Sink.talk c.put_level.new.out in
-    let after = g.K.Sink.talk c.encode.new.sink in
+    let after = g.K.Sink.talk c.put_level_end.new.out in
     let reply = reply_is version stands.0 c.args._vectors.now c.args.revealed.now s stands.4 in
-    subst (SendsWhole before after c.encode.result) (sym reply)
-    (sends_after before now after c.encode.result (flat_map (spelling version) (opening_frames s.prover)) (spelling version messages.LevelEnd) c.in_ok-put_level.ensures.talk c.encode.ensures.talk)
+    subst (SendsWhole before after c.put_level_end.result) (sym reply)
+    (sends_after before now after c.put_level_end.result (flat_map (spelling version) (opening_frames s.prover)) (spelling version messages.LevelEnd) c.in_ok-put_level.ensures.talk c.put_level_end.ensures.talk)
