@@ -21,7 +21,7 @@ use sip_vector::Depth;
 use thiserror::Error;
 
 /// How many bytes are gathered before they are written.
-const BLOCK: usize = 8192;
+const BLOCK: usize = 32_768;
 
 /// Why a copy is not whole.
 #[derive(Clone, Copy, Debug, PartialEq, Eq, Error)]

@@ -5,8 +5,6 @@ ghost use Rattle.sip_stream.specs.Layouts.{layout_of, made_form, of_bytes};
 
 use crate::generator::{next_state, update_at};
 use crate::record_bytes::{NARROW, WIDE, put_at, size_of};
-use crate::text::put;
-use arrayvec::ArrayVec;
 use sip_ports::{PortStop, Source};
 use sip_vector::Depth;
 
@@ -22,10 +20,11 @@ pub struct MadeSource {
     // the state of the last record that was made, and how many records come after it
     state: u64,
     more: u64,
-    // the records that were made last, and how many of their bytes were read
-    under_way: ArrayVec<u8, BLOCK>,
+    // the records that were made last, how many bytes they have, and how many of these were read
+    block: [u8; BLOCK],
+    end: usize,
     at: usize,
-    ghost within: { at ≤ length under_way.items },
+    ghost within: { (at ≤ end) × (end ≤ length block) × (length block ≡ 4096) },
 }
 
 impl MadeSource {
@@ -51,51 +50,47 @@ impl MadeSource {
             depth,
             state: number,
             more: count,
-            under_way: ArrayVec::new(),
+            block: [0; BLOCK],
+            end: 0,
             at: 0,
         }
     }
 
-    // Makes the next records, as many as there is room for, whose item has so many bytes. Those
-    // that were made were read. They are written in a block of their own first, since a vector's
-    // length is waited for at each part of a record.
+    // Makes the next records, as many as there is room for, whose item has so many bytes, over those
+    // that were made before and were read.
     fn make<const WIDTH: usize>(&mut self)
         requires some { 1 ≤ WIDTH }
         requires most { WIDTH ≤ 8 }
         requires form { layout_of (made_form self.old.depth) ≡ of_bytes WIDTH }
         requires room { 2 ^ self.old.depth ≤ 256 ^ WIDTH }
-        requires read { length self.old.under_way.items ≤ self.old.at }
+        requires read { self.old.end ≤ self.old.at }
         ensures same { made_left self.new ≡ made_left self.old }
-        ensures under_way { self.new.at ≡ length self.new.under_way.items
-            → made_left self.new ≡ [] }
+        ensures under_way { self.new.at ≡ self.new.end → made_left self.new ≡ [] }
     {
         let size = size_of(WIDTH);
         let depth = self.depth;
         let mut state = self.state;
         let mut more = self.more;
-        let mut block = [0; BLOCK];
         let mut end = 0;
         while more > 0 && BLOCK - end >= size {
             state = next_state(state);
             more -= 1;
-            put_at::<WIDTH>(&update_at(depth, state), &mut block, end);
+            put_at::<WIDTH>(&update_at(depth, state), &mut self.block, end);
             end += size;
         }
         self.state = state;
         self.more = more;
+        self.end = end;
         self.at = 0;
-        self.under_way.clear();
-        put(&mut self.under_way, &block[..end]);
     }
 
     // Makes the next records where those that were made were read.
     #[inline(never)]
     fn go_on(&mut self)
         ensures same { made_left self.new ≡ made_left self.old }
-        ensures under_way { self.new.at ≡ length self.new.under_way.items
-            → made_left self.new ≡ [] }
+        ensures under_way { self.new.at ≡ self.new.end → made_left self.new ≡ [] }
     {
-        if self.at < self.under_way.len() {
+        if self.at < self.end {
             return;
         }
         if self.depth.get() <= Depth::MOST_NARROW {
@@ -114,9 +109,9 @@ impl MadeSource {
         ensures end { result ≡ 0 → filled < length buf.old → made_left self.old ≡ [] }
     {
         self.go_on();
-        let record = self.under_way.as_slice();
-        let count = (record.len() - self.at).min(buf.len() - filled);
-        buf[filled..filled + count].copy_from_slice(&record[self.at..self.at + count]);
+        let ahead = self.held();
+        let count = ahead.len().min(buf.len() - filled);
+        buf[filled..filled + count].copy_from_slice(&ahead[..count]);
         self.at += count;
         count
     }
@@ -166,7 +161,7 @@ impl Source for MadeSource {
     fn held(&self) -> &[u8]
         ensures bytes { result.now ≡ made_ahead self.now }
     {
-        &self.under_way.as_slice()[self.at..]
+        &self.block[self.at..self.end]
     }
 
     fn skip(&mut self, count: usize)
@@ -174,7 +169,7 @@ impl Source for MadeSource {
         ensures bytes { made_left self.old
             ≡ take count (made_ahead self.old) ++ made_left self.new }
     {
-        prove!(count <= self.under_way.len() - self.at);
+        prove!(count <= self.end - self.at);
         self.at += count;
         self.go_on();
     }

@@ -1,5 +1,5 @@
 -- One more record is made, behind those of the block.
-use Rattle.std.proofs.Common.{◌≡◌, ◌+◌, ◌-◌, ◌++◌, ap, refl, sym, ◌∙◌, arith, append_assoc, take}
+use Rattle.std.proofs.Common.{◌≡◌, ◌+◌, ◌-◌, ◌++◌, ap, refl, sym, ◌∙◌, arith, append_assoc, length-take, take}
 use Rattle.std.proofs.lemmas.List.{drop_all}
 use Rattle.sip_stream.specs.Layouts.{made_form}
 use Rattle.sip_stream.specs.Made.{made_bytes}
@@ -26,7 +26,7 @@ loop-more-preserved g c =
     let y = c.next_state-state.result in
     let more = c.loop-more.more in
     let u = c.update_at.result in
-    let made = take end c.loop-more.block in
+    let made = take end c.loop-more.self.block in
     let rest = made_bytes y (more - 1) self.depth in
     let form = ap (λ l. spelled l u) c.requires.form in
     let step = made_step x y more self.depth (made_form self.depth) u (omega (arith, c.loop-more-test.true)) refl c.next_state-state.ensures c.update_at.ensures.update in
@@ -36,11 +36,15 @@ loop-more-preserved g c =
       long = c.put_at.ensures.len ∙ c.loop-more.invariant.long;
       same = ap (λ l. l ++ rest) put ∙ append_assoc made (record_bytes width u) rest ∙ ap (λ l. made ++ (l ++ rest)) (sym form) ∙ ap (λ l. made ++ l) (sym step) ∙ c.loop-more.invariant.same;
       depth = c.loop-more.invariant.depth;
+      kept = c.loop-more.invariant.kept;
     }
 
 pub returns-clause-same : goal.returns-clause-same
 returns-clause-same g c =
     let self = c.args.self.now in
-    let after = made_bytes c.loop-more.state c.loop-more.more self.depth in
-    let none = drop_all self.at self.under_way.items c.requires.read in
-    ap (λ l. l ++ after) c.put.ensures.items ∙ ap (λ l. (l ++ take c.loop-more.end c.loop-more.block) ++ after) c.clear.ensures ∙ c.loop-more.invariant.same ∙ ap (λ l. l ++ made_bytes self.state self.more self.depth) (sym none)
+    let so = c.loop-more.invariant in
+    let made = take c.loop-more.end c.loop-more.self.block in
+    let none = drop_all self.at (take self.end self.block) (omega (arith, length-take self.end self.block, c.requires.read)) in
+    ap (λ depth. made ++ made_bytes c.loop-more.state c.loop-more.more depth) (so.kept ∙ sym so.depth)
+    ∙ so.same
+    ∙ ap (λ l. l ++ made_bytes self.state self.more self.depth) (sym none)

@@ -8,6 +8,6 @@ pub returns : goal.returns
 returns c =
     let source = c.args.self.now in
     record {
-      bytes = dropped_more source.at c.args.count source.under_way.items (made_bytes source.state source.more source.depth)
-          ∙ ap (λ left. take c.args.count (drop source.at source.under_way.items) ++ left) (sym c.go_on.ensures.same);
+      bytes = dropped_more source.at c.args.count (take source.end source.block) (made_bytes source.state source.more source.depth)
+          ∙ ap (λ left. take c.args.count (drop source.at (take source.end source.block)) ++ left) (sym c.go_on.ensures.same);
     }
