@@ -12,7 +12,8 @@ use Rattle.sip_wire.specs.declared.message.Reason.TheVariants as reasons
 use Rattle.sip_replies.specs.declared.taking.ReplyStop.{ReplyStop}
 use Rattle.sip_replies.specs.declared.taking.ReplyStop.TheVariants as stops
 use Rattle.sip_replies.specs.Talks.{ending}
-use Rattle.sip_replies.specs.Asking.{KeepsPart, MayEnd, HasFault, IsPart, IsUnkept, Takes}
+use Rattle.sip_replies.specs.Replies.{MayEnd}
+use Rattle.sip_replies.specs.Asking.{KeepsPart, HasFault, IsPart, IsUnkept, Takes}
 use Rattle.sip_replies.proofs.Ends.{last_of, snoc_same, no_snoc}
 
 -- these bytes of a reply came and were kept; the rest is read by `rest`, and no byte less ends the

@@ -7,7 +7,7 @@ use Rattle.sip_ports.specs.declared.port.PortStop.{PortStop}
 use Rattle.sip_ports.specs.declared.port.PortStop.TheVariants as ports
 use Rattle.sip_ports.specs.declared.port.TalkEvent.{TalkEvent}
 use Rattle.sip_ports.specs.declared.port.TalkEvent.TheVariants.{Out}
-use Rattle.sip_ports.specs.Ports.{GoesOn, outs}
+use Rattle.sip_ports.specs.Ports.{GoesOn, heard, outs}
 use Rattle.sip_ports.proofs.TalkLemmas.{GoesOn-refl, GoesOn-trans}
 use Rattle.sip_vector.specs.declared.query.Query.{Query}
 use Rattle.sip_vector.specs.declared.update.Entry.{Entry}
@@ -26,7 +26,8 @@ use Rattle.sip_replies.specs.Talks.{ending, sent, asked}
 use Rattle.sip_replies.specs.Asking.{stop_of_port, IsAnswered, IsRejected, IsInterrupted, Answers}
 use Rattle.sip_replies.proofs.Reading.{read_reply-nil}
 use Rattle.sip_replies.proofs.Running.{run-none, run-fault}
-use Rattle.sip_replies.proofs.Saying.{joined-snoc, sent-one, asked-snoc}
+use Rattle.sip_replies.proofs.Hearing.{before_sent, heard-asked}
+use Rattle.sip_replies.proofs.Saying.{sent-one, asked-snoc}
 use Rattle.sip_replies.proofs.Turns.{Going, closed_next}
 
 -- ---- where the link stops
@@ -48,7 +49,7 @@ module _ {S : Type 0} (P : Protocol S) (due : P.unasked ≡ None) (query : Query
               ∙ ap outs (sym (take-append-drop n m))
               ∙ map-append Out (take n m) (drop n m),
         );
-        kept = ([], ([], refl), GoesOn-refl before);
+        kept = ([], (heard (outs (take n m)), refl), GoesOn-refl before);
         unfinished = record { few = omega arith; passes = λ fault e. absurd (let is = run-none P.rules block in cc) };
         missing = inl some;
       }
@@ -75,7 +76,7 @@ module _ {S : Type 0} (P : Protocol S) (due : P.unasked ≡ None) (query : Query
               ∙ ap (λ (l : List TalkEvent). so_far ++ l) (sent-one version (messages.Reveal (slice_index block (count - 1))) ∙ whole)
               ∙ sym (append_assoc so_far (outs (take n m)) (outs (drop n m))),
         );
-        kept = (joined going.replies, ([], joined-snoc going.replies []), going.kept);
+        kept = (joined going.replies, ([], before_sent so_far (take n m) ∙ heard-asked version query block going.replies (omega (arith, going.counted, going.within)) ∙ sym (append-nil (joined going.replies))), going.kept);
         unfinished = closed_next P block going.replies state going.passed (omega (arith, going.counted)) [] none;
         missing = inr (record { round = length going.replies; reason = reasons.Closed }, run-fault P.rules block going.replies state going.passed [] reasons.Closed none);
       }

@@ -7,6 +7,7 @@ pub mod Receiving
 pub mod Entering
 pub mod Running
 pub mod Saying
+pub mod Hearing
 pub mod Turns
 pub mod Ending
 pub mod Passing

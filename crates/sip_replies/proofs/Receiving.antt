@@ -17,8 +17,8 @@ use Rattle.sip_wire.specs.Faults.{ended_by}
 use Rattle.sip_wire.specs.Decoding.{Decodes}
 use Rattle.sip_wire.specs.Reading.{read_frame}
 use Rattle.sip_replies.specs.declared.taking.ReplyStop.{ReplyStop}
-use Rattle.sip_replies.specs.Replies.{reasoned, read_one}
-use Rattle.sip_replies.specs.Asking.{stop_of_keeper, KeepsPart, MayEnd, IsPart, IsUnkept, Shows, Takes, filled}
+use Rattle.sip_replies.specs.Replies.{MayEnd, reasoned, read_one}
+use Rattle.sip_replies.specs.Asking.{stop_of_keeper, KeepsPart, IsPart, IsUnkept, Shows, Takes, filled}
 
 module _ (version : Version) (place : Place) (old new before now : Option (List TalkEvent)) (rose risen : ℕ) (got : List ℕ) where
   -- where the end of the link was found the frame is not whole

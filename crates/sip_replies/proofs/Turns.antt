@@ -19,11 +19,12 @@ use Rattle.sip_replies.specs.declared.asking.AskStop.{AskStop}
 use Rattle.sip_replies.specs.declared.taking.ReplyStop.{ReplyStop}
 use Rattle.sip_replies.specs.declared.taking.ReplyStop.TheVariants as reply_stops
 use Rattle.sip_replies.specs.Protocols.{Protocol}
-use Rattle.sip_replies.specs.Replies.{Fault, in_round, joined, learnt, read_reply, run, verdict, IsUnfinished}
+use Rattle.sip_replies.specs.Replies.{Fault, MayEnd, in_round, joined, learnt, read_reply, run, verdict, IsUnfinished}
 use Rattle.sip_replies.specs.Talks.{ending, sent, asked}
-use Rattle.sip_replies.specs.Asking.{KeepsPart, MayEnd, stop_in_round, Came, HasFault, IsPart, IsUnkept, Takes, IsRejected, IsInterrupted, IsUnrecorded, Answers}
+use Rattle.sip_replies.specs.Asking.{KeepsPart, stop_in_round, Came, HasFault, IsPart, IsUnkept, Takes, IsRejected, IsInterrupted, IsUnrecorded, Answers}
 use Rattle.sip_replies.proofs.Ends.{snoc_same}
 use Rattle.sip_replies.proofs.Running.{run-none, run-fault, run-whole}
+use Rattle.sip_replies.proofs.Hearing.{heard-asked}
 use Rattle.sip_replies.proofs.Saying.{joined-snoc, sent-one, asked-snoc}
 
 -- no byte less of the last reply ends it or shows a fault
@@ -139,7 +140,7 @@ module _ {S : Type 0} (P : Protocol S) (due : P.unasked ≡ None) (query : Query
     said = asked P.rules.version query block (replies ++ p.bytes ∷ []);
     talk = came_whole p.bytes p.heard;
     order = ([], sym (append-nil (asked P.rules.version query block (replies ++ p.bytes ∷ []))));
-    kept = kept_part p.bytes p.kept;
+    kept = subst (KeepsPart before now) (sym (heard-asked P.rules.version query block (replies ++ p.bytes ∷ []) (omega (arith, length-append replies (p.bytes ∷ []), ready.few)))) (kept_part p.bytes p.kept);
     unfinished = closed_next P block replies s ready.passed ready.few p.bytes p.says;
     missing = inr (record { round = length replies; reason = reasons.Closed }, run-fault P.rules block replies s ready.passed p.bytes reasons.Closed p.says);
   }
@@ -152,16 +153,20 @@ module _ {S : Type 0} (P : Protocol S) (due : P.unasked ≡ None) (query : Query
   -- what came of the reply was not kept
   IsUnrecorded-reply : IsUnkept (read_reply P.rules s) mid new during now → IsUnrecorded P query block old new before now
   IsUnrecorded-reply u = record {
-    due = due;
-    earlier = replies;
-    last = u.bytes;
+    replies = replies ++ u.bytes ∷ [];
     ended = u.ended;
     talk = came_talk u.bytes u.ended u.heard;
-    may_end = may_end u.bytes u.ended u.may_end;
     kept = kept_part u.bytes u.kept;
-    few = ready.few;
-    passed = rw ready.passed refl;
-    shortest = λ front byte e. run-fault P.rules block replies s ready.passed front reasons.Closed (u.shortest front byte e);
+    unjudged = record {
+      asked = due;
+      earlier = replies;
+      last = u.bytes;
+      taken = refl;
+      few = ready.few;
+      passed = rw ready.passed refl;
+      shortest = λ front byte e. run-fault P.rules block replies s ready.passed front reasons.Closed (u.shortest front byte e);
+      may_end = may_end u.bytes u.ended u.may_end;
+    };
   }
 
   -- the call that took the reply had no answer

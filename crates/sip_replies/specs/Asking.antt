@@ -1,11 +1,10 @@
 -- What the calls did that ask: what was said on the link, and what was written to the keeper of
 -- what is received.
-use Rattle.std.specs.Prelude.{◌≡◌, ◌≢◌, ◌<◌, ◌⊎◌, ℕ, List, [], ◌∷◌, ◌++◌, length, Option, None, Result, Ok, Err, is_ok, IsTrue}
+use Rattle.std.specs.Prelude.{◌≡◌, ◌≢◌, ℕ, List, [], ◌∷◌, ◌++◌, Option, None, Result, Ok, Err, IsTrue}
 use Rattle.sip_ports.specs.declared.port.PortStop.{PortStop}
 use Rattle.sip_ports.specs.declared.port.PortStop.TheVariants as ports
 use Rattle.sip_ports.specs.declared.port.TalkEvent.{TalkEvent}
-use Rattle.sip_ports.specs.declared.port.TalkEvent.TheVariants.{Ended}
-use Rattle.sip_ports.specs.Ports.{GoesOn, ins, outs}
+use Rattle.sip_ports.specs.Ports.{GoesOn, heard, ins, outs}
 use Rattle.sip_vector.specs.declared.query.Query.{Query}
 use Rattle.sip_vector.specs.declared.update.Entry.{Entry}
 use Rattle.sip_vector.specs.Answers.{Answer}
@@ -24,7 +23,7 @@ use Rattle.sip_replies.specs.declared.taking.ReplyStop.{ReplyStop}
 use Rattle.sip_replies.specs.declared.taking.ReplyStop.TheVariants as reply_stops
 use Rattle.sip_replies.specs.Checks.{answer_of}
 use Rattle.sip_replies.specs.Protocols.{Protocol}
-use Rattle.sip_replies.specs.Replies.{reason_of, joined, run, IsUnfinished, IsMissing, IsFaulty, IsAccepted}
+use Rattle.sip_replies.specs.Replies.{reason_of, joined, MayEnd, IsUnfinished, IsMissing, IsUnjudged, IsFaulty, IsAccepted}
 use Rattle.sip_replies.specs.Talks.{IsPrefix, asked, asked_unless, ending}
 
 -- ---- why a call stopped
@@ -61,10 +60,6 @@ filled x (Err stop) = Err stop
 -- a front of these bytes was kept
 abbrev pub KeepsPart : Option (List TalkEvent) → Option (List TalkEvent) → List ℕ → Type 0
 KeepsPart before now bytes = (part : List ℕ) × IsPrefix part bytes × GoesOn before now (outs part)
-
--- the link's end may have been found behind bytes that are read so: then they are not whole
-abbrev pub MayEnd : Type 0 → List TalkEvent → Type 0
-MayEnd IsOpen ended = (ended ≡ []) ⊎ ((ended ≡ Ended ∷ []) × IsOpen)
 
 -- ---- one reply, or one frame of it, of which `read` is what its bytes say
 
@@ -146,26 +141,17 @@ module _ {S : Type 0} (P : Protocol S) (query : Query) (block : List ℕ)
     pub said : List TalkEvent
     pub talk : GoesOn old new said
     pub order : IsPrefix said (asked P.rules.version query block replies)
-    pub kept : KeepsPart before now (joined replies)
+    pub kept : KeepsPart before now (heard said)
     pub unfinished : IsUnfinished P.rules block replies
     pub missing : IsMissing P.rules block replies
 
-  -- What came of the last reply could not be kept. The replies before it are whole and have no
-  -- fault, and no byte less ends the last one or shows a fault.
+  -- what came of the last reply could not be kept, and so was not judged
   pub record IsUnrecorded : Type 0 where
-    pub due : P.unasked ≡ None
-    pub earlier : List (List ℕ)
-    pub last : List ℕ
+    pub replies : List (List ℕ)
     pub ended : List TalkEvent
-    pub talk : GoesOn old new (asked P.rules.version query block (earlier ++ last ∷ []) ++ ended)
-    pub may_end : MayEnd (run P.rules block (earlier ++ last ∷ [])
-        ≡ Err (record { round = length earlier; reason = reasons.Closed })) ended
-    pub kept : KeepsPart before now (joined (earlier ++ last ∷ []))
-    pub few : length earlier < length block
-    pub passed : IsTrue (is_ok (run P.rules block earlier))
-    pub shortest : (front : List ℕ) (byte : ℕ) → last ≡ front ++ byte ∷ []
-        → run P.rules block (earlier ++ front ∷ [])
-        ≡ Err (record { round = length earlier; reason = reasons.Closed })
+    pub talk : GoesOn old new (asked P.rules.version query block replies ++ ended)
+    pub kept : KeepsPart before now (joined replies)
+    pub unjudged : IsUnjudged P block replies ended
 
   -- what was answered, where these are the places of the pairs
   abbrev pub Answers : List Entry → Result Said AskStop → Type 0

@@ -1,5 +1,7 @@
 -- Replies as bytes, by any protocol: what they state, their first fault, when they are accepted.
-use Rattle.std.specs.Prelude.{◌≡◌, ◌≢◌, ◌≤◌, ◌<◌, ◌⊎◌, min, ℕ, zero, suc, ◌+◌, ◌==◌, Bool, true, ◌&&◌, List, [], ◌∷◌, ◌++◌, length, drop, flat_map, Some, None, Result, Ok, Err, is_ok}
+use Rattle.std.specs.Prelude.{◌≡◌, ◌≢◌, ◌≤◌, ◌<◌, ◌⊎◌, min, ℕ, zero, suc, ◌+◌, ◌==◌, Bool, true, ◌&&◌, List, [], ◌∷◌, ◌++◌, length, drop, flat_map, Some, None, Result, Ok, Err, is_ok, IsTrue}
+use Rattle.sip_ports.specs.declared.port.TalkEvent.{TalkEvent}
+use Rattle.sip_ports.specs.declared.port.TalkEvent.TheVariants.{Ended}
 use Rattle.sip_wire.specs.declared.kind.Place.{Place}
 use Rattle.sip_wire.specs.declared.message.Message.{Message}
 use Rattle.sip_wire.specs.declared.message.WireFault.{WireFault}
@@ -122,6 +124,26 @@ pub record IsUnfinished {S : Type 0} (R : Rules S) (rs : List ℕ) (replies : Li
 abbrev pub IsMissing : {S : Type 0} → Rules S → List ℕ → List (List ℕ) → Type 0
 IsMissing R rs replies =
     (length replies < length rs) ⊎ ((fault : Fault) × (run R rs replies ≡ Err fault))
+
+-- the link's end may have been found behind bytes that are read so: then they are not whole
+abbrev pub MayEnd : Type 0 → List TalkEvent → Type 0
+MayEnd IsOpen ended = (ended ≡ []) ⊎ ((ended ≡ Ended ∷ []) × IsOpen)
+
+-- What came of the last reply was not judged. The replies before it are whole and have no fault, and
+-- no byte less of it ends it or shows a fault. The link's end may have been found behind it.
+pub record IsUnjudged {S : Type 0} (P : Protocol S) (rs : List ℕ) (replies : List (List ℕ))
+    (ended : List TalkEvent) : Type 0 where
+  pub asked : P.unasked ≡ None
+  pub earlier : List (List ℕ)
+  pub last : List ℕ
+  pub taken : replies ≡ earlier ++ last ∷ []
+  pub few : length earlier < length rs
+  pub passed : IsTrue (is_ok (run P.rules rs earlier))
+  pub shortest : (front : List ℕ) (byte : ℕ) → last ≡ front ++ byte ∷ []
+      → run P.rules rs (earlier ++ front ∷ [])
+      ≡ Err (record { round = length earlier; reason = reasons.Closed })
+  pub may_end : MayEnd (run P.rules rs replies
+      ≡ Err (record { round = length earlier; reason = reasons.Closed })) ended
 
 -- The replies taken have this first fault, and no byte less shows it. The last of them is the reply
 -- of its round; a fault Closed is shown by the end of the link behind them.

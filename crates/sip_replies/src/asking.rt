@@ -9,9 +9,8 @@ ghost use Rattle.sip_replies.specs.declared.taking.ReplyStop.{ReplyStop as AnyRe
 ghost use Rattle.sip_replies.specs.declared.taking.ReplyStop.TheVariants as reply_stops;
 
 use crate::check::{Check, Said};
-use crate::keeper::Keeper;
 use crate::taking::{ReplyStop, take_reply};
-use sip_ports::{Link, PortStop};
+use sip_ports::{Link, PortStop, Sink};
 use sip_vector::{Entry, Query};
 use sip_wire::{Frame, Message, Reason, Version, encode};
 
@@ -103,7 +102,7 @@ fn send_reveal<L: Link>(challenge: u64, version: Version, link: &mut L) -> Resul
 ///
 /// [`AskStop::Rejected`] with the first fault of the replies; the others are those of the ports,
 /// each only where that port's own count of them rose.
-pub fn ask<C: Check, L: Link, K: Keeper>(
+pub fn ask<C: Check, L: Link, K: Sink>(
     check: &mut C,
     version: Version,
     query: Query,

@@ -11,12 +11,10 @@
 
 mod asking;
 mod check;
-mod keeper;
 pub mod laws;
 mod rising;
 mod taking;
 
 pub use asking::{AskStop, ask};
 pub use check::{Check, More, Said};
-pub use keeper::Keeper;
 pub use rising::is_above;

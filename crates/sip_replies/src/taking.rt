@@ -7,8 +7,7 @@ ghost use Rattle.sip_replies.specs.Asking.{Shows, Takes, filled};
 ghost use Rattle.sip_replies.specs.declared.check.More.TheVariants.{Complete};
 
 use crate::check::{Check, More};
-use crate::keeper::Keeper;
-use sip_ports::{Link, PortStop};
+use sip_ports::{Link, PortStop, Sink, write_whole};
 use sip_vector::Entry;
 use sip_wire::{Frame, Message, Place, Reason, Version, WireFault, decode_into};
 
@@ -75,7 +74,7 @@ impl From<Reason> for ReplyStop {
 /// Receives one frame, writes its bytes to `keep`, and then judges it. Where the link stopped
 /// inside the frame nothing is kept. What the frame says is read into `message`, so that nothing is
 /// moved.
-pub(crate) fn receive<L: Link, K: Keeper>(
+pub(crate) fn receive<L: Link, K: Sink>(
     version: Version,
     place: Place,
     frame: &mut Frame,
@@ -99,7 +98,7 @@ pub(crate) fn receive<L: Link, K: Keeper>(
         Err(WireFault::PeerFault) => Err(ReplyStop::PeerFault),
         Err(WireFault::OutOfMemory) => Err(ReplyStop::OutOfMemory),
         judged => {
-            keep.keep(frame.bytes())?;
+            write_whole(keep, frame.bytes())?;
             Ok(judged?)
         }
     }
@@ -107,7 +106,7 @@ pub(crate) fn receive<L: Link, K: Keeper>(
 
 /// Takes one reply, frame by frame. The bytes of each frame are written to `keep` before they are
 /// judged.
-pub(crate) fn take_reply<C: Check, L: Link, K: Keeper>(
+pub(crate) fn take_reply<C: Check, L: Link, K: Sink>(
     check: &mut C,
     version: Version,
     places: &mut [Entry],

@@ -108,6 +108,7 @@ module _ (task : Task) (x : Exchange) (some : 1 ≤ task.depth) (most : task.dep
   completes before now (statuses.ReadFault ports.First) v cause is = λ honest none. absurd (none.first cause.1)
   completes before now (statuses.ReadFault ports.Second) v cause is = λ honest none. absurd (none.second cause)
   completes before now (statuses.WriteFault ports.Report) v cause is = λ honest none. absurd (none.report cause.1)
+  completes before now (statuses.WriteFault ports.Keep) v cause is = λ honest none. absurd (none.keep cause.2)
   completes before now statuses.PeerFault v cause is = λ honest none. absurd (none.peer cause.1)
   completes before now statuses.OutOfMemory v cause is = λ honest none. inr refl
   completes before now (statuses.WriteFault _) v cause is = absurd cause.1

@@ -22,7 +22,7 @@ use Rattle.sip_verifier.specs.Statuses.{IsListed}
 use Rattle.sip_verifier.specs.Talks.{bye_sent}
 use Rattle.sip_verifier.specs.Tasks.{CanBeAsked}
 use Rattle.sip_verifier.specs.Questions.{Question, updates, Done, questions_of, lines, Reached}
-use Rattle.sip_verifier.specs.VerdictClause.{OneFaulty, WereReached, PartWritten, PartRejected, CutInLine, VerdictClause}
+use Rattle.sip_verifier.specs.VerdictClause.{OneFaulty, WereReached, PartWritten, PartRejected, CutInLine, UnjudgedWritten, VerdictClause}
 use Rattle.sip_verifier.proofs.CountedQuestions.{few_wrong, question_counts}
 use Rattle.sip_stream.proofs.LegalRecords.{records_legal}
 
@@ -127,6 +127,10 @@ module _ (task : Task) (x : Exchange) (can : All (CanBeAsked task.depth) task.qu
   cut_in_line w (inl written) = part_written w.done w.part written w.report
   cut_in_line w (inr other) = part_rejected w.done w.part other w.report
 
+  -- a report that has the lines of the queries before one that was not judged
+  unjudged : UnjudgedWritten task x → CountClause task x
+  unjudged (end, report) = whole end.done (inr (Some end.last, end.ended, end.reached)) report
+
   pub report_counts : (status : Status) → VerdictClause task x status → IsListed status → CountClause task x
   report_counts statuses.Accepted v is = whole v.done (were_in_talk v.done (inr (bye_sent (version_of task), v.reached))) v.report
   report_counts (statuses.Rejected query round reason) v is = rejected query round reason v
@@ -137,7 +141,10 @@ module _ (task : Task) (x : Exchange) (can : All (CanBeAsked task.depth) task.qu
   report_counts (statuses.TooWide query) v is = nothing v
   report_counts (statuses.ReadFault port) v is = nothing v
   report_counts (statuses.WriteFault ports.Report) v is = cut_in_line v v.verdict
+  report_counts (statuses.WriteFault ports.Keep) (inl none) is = nothing none.1
+  report_counts (statuses.WriteFault ports.Keep) (inr v) is = unjudged v
   report_counts statuses.PeerFault v is = whole v.done (were_in_talk v.done v.reached) v.report
   report_counts statuses.OutOfMemory (inl v) is = whole v.done (were_in_talk v.done v.reached) v.report
-  report_counts statuses.OutOfMemory (inr v) is = cut_in_line v v.verdict
+  report_counts statuses.OutOfMemory (inr (inl v)) is = cut_in_line v v.verdict
+  report_counts statuses.OutOfMemory (inr (inr v)) is = unjudged v
   report_counts _ v is = absurd v

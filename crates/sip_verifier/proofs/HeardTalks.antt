@@ -1,48 +1,34 @@
--- What is heard in a talk: the replies, one after another.
-use Rattle.std.proofs.Common.{◌≡◌, ℕ, ◌+◌, ◌≤◌, List, [], ◌∷◌, ◌++◌, length, All, refl, sym, ap, ◌∙◌, arith, append-nil}
+-- What is heard in a talk of several questions: their replies, one after another.
+use Rattle.std.proofs.Common.{◌≡◌, ℕ, Option, Some, None, List, [], ◌∷◌, ◌++◌, All, refl, sym, ap, ◌∙◌, arith, append-nil}
 use Rattle.std.specs.Prelude.{flat_map}
 use Rattle.std.proofs.lemmas.List.Elements.{All-head, All-tail}
 use Rattle.sip_ports.specs.declared.port.TalkEvent.{TalkEvent}
-use Rattle.sip_ports.specs.Ports.{outs, ins, heard}
-use Rattle.sip_ports.proofs.TalkLemmas.{heard-append, heard-ins, heard-outs}
+use Rattle.sip_ports.specs.Ports.{heard}
+use Rattle.sip_ports.proofs.TalkLemmas.{heard-append, heard-outs}
 use Rattle.sip_vector.specs.declared.query.Query.{Query}
 use Rattle.sip_vector.specs.declared.update.Update.{Update}
+use Rattle.sip_vector.specs.Answers.{Answer}
 use Rattle.sip_wire.specs.Versions.{number_of}
 use Rattle.sip_wire.specs.declared.message.Message.TheVariants as messages
 use Rattle.sip_wire.specs.declared.version.Version.{Version}
 use Rattle.sip_wire.specs.Spelling.{spelling}
-use Rattle.sip_replies.specs.Talks.{sent, exchanged, asked}
+use Rattle.sip_replies.specs.Protocols.{Protocol}
+use Rattle.sip_replies.specs.Replies.{IsStated, joined}
+use Rattle.sip_replies.specs.Talks.{asked_unless}
+use Rattle.sip_replies.proofs.Hearing.{before_sent, heard-asked}
 use Rattle.sip_verifier.specs.Talks.{stream_sent, opening_sent, update_frames}
 use Rattle.sip_verifier.specs.Questions.{Question, said_for}
-use Rattle.sip_replies.specs.Replies.{joined}
 
--- what follows something that was sent
-after_sent : (bytes : List ℕ) (talk : List TalkEvent) → heard (outs bytes ++ talk) ≡ heard talk
-after_sent bytes talk = heard-append (outs bytes) talk ∙ ap (λ l. l ++ heard talk) (heard-outs bytes)
-
--- what stands before it
-before_sent : (talk : List TalkEvent) (bytes : List ℕ) → heard (talk ++ outs bytes) ≡ heard talk
-before_sent talk bytes = heard-append talk (outs bytes) ∙ ap (λ l. heard talk ++ l) (heard-outs bytes) ∙ append-nil (heard talk)
-
-heard-exchanged : (version : Version) (replies : List (List ℕ)) (challenges : List ℕ)
-    → length replies ≤ length challenges + 1 → heard
-    (exchanged version replies challenges) ≡ joined replies
-heard-exchanged version [] challenges few = refl
-heard-exchanged version (r ∷ []) challenges few = heard-ins r ∙ sym (append-nil r)
-heard-exchanged version (r ∷ next ∷ more) [] few = absurd (omega arith)
-heard-exchanged version (r ∷ next ∷ more) (c ∷ challenges) few =
-    heard-append (ins r ++ sent version (messages.Reveal c ∷ []))
-    (exchanged version (next ∷ more) challenges)
-    ∙ ap (λ l. l ++ heard (exchanged version (next ∷ more) challenges))
-    (before_sent (ins r) (flat_map (spelling version) (messages.Reveal c ∷ [])) ∙ heard-ins r)
-    ∙ ap (λ l. r ++ l) (heard-exchanged version (next ∷ more) challenges (omega arith))
-
--- where no more replies came than there are challenges
-pub heard-asked : (version : Version) (query : Query) (block : List ℕ) (replies : List (List ℕ))
-    → length replies ≤ length block → heard (asked version query block replies) ≡ joined replies
-heard-asked version query block replies few =
-    after_sent (flat_map (spelling version) (messages.Query query ∷ [])) (exchanged version replies block)
-    ∙ heard-exchanged version replies block (omega arith)
+-- where replies are accepted, they are what was heard
+pub heard_accepted : {S : Type 0} (P : Protocol S) (query : Query) (block : List ℕ)
+    (replies : List (List ℕ)) (given : Answer) (unasked : Option Answer)
+    → elim unasked as (λ _. Type 0) [
+      | None ↦ IsStated P block replies given
+      | Some known ↦ (replies ≡ []) × (given ≡ known)
+    ] → heard (asked_unless unasked P.rules.version query block replies) ≡ joined replies
+heard_accepted P query block replies given None stated =
+    heard-asked P.rules.version query block replies (omega (arith, stated.all))
+heard_accepted P query block replies given (Some known) none = sym (ap joined none.0)
 
 -- what was heard in a question are its replies
 abbrev pub IsHeard : (version : Version) → ℕ → List Update → Question → Type 0
@@ -63,8 +49,12 @@ heard-questions version depth stream (t ∷ questions) each =
     ∙ ap (λ l. joined t.replies ++ l)
     (heard-questions version depth stream questions (All-tail (IsHeard version depth stream) t questions each))
 
-heard-stream : (version : Version) (depth : ℕ) (stream : List Update) → heard (stream_sent version depth stream) ≡ []
-heard-stream version depth stream = before_sent (opening_sent version depth stream) (flat_map (spelling version) (messages.EndStream ∷ [])) ∙ heard-outs (flat_map (spelling version) (messages.Open (number_of version) depth ∷ update_frames stream))
+-- no byte is heard while a stream is sent
+pub heard-opening : (version : Version) (depth : ℕ) (stream : List Update) → heard (opening_sent version depth stream) ≡ []
+heard-opening version depth stream = heard-outs (flat_map (spelling version) (messages.Open (number_of version) depth ∷ update_frames stream))
+
+pub heard-stream : (version : Version) (depth : ℕ) (stream : List Update) → heard (stream_sent version depth stream) ≡ []
+heard-stream version depth stream = before_sent (opening_sent version depth stream) (flat_map (spelling version) (messages.EndStream ∷ [])) ∙ heard-opening version depth stream
 
 pub heard-talk : (version : Version) (depth : ℕ) (stream : List Update) (questions : List Question) (rest : List TalkEvent)
     → All (IsHeard version depth stream) questions

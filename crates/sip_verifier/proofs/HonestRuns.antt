@@ -19,21 +19,12 @@ use Rattle.sip_verifier.specs.Kinds.{KindRow, built, missing, kind_row, Holds}
 use Rattle.sip_verifier.specs.Reports.{line, report_of}
 use Rattle.sip_verifier.specs.Questions.{Question, Accepted, IsFaulty, said_by_kind}
 use Rattle.sip_wire.specs.Versions.{Speaks}
-use Rattle.sip_verifier.proofs.HeardTalks.{IsHeard, heard-asked, replied}
+use Rattle.sip_verifier.proofs.HeardTalks.{IsHeard, heard_accepted, replied}
+use Rattle.sip_replies.proofs.Hearing.{heard-asked}
 use Rattle.sip_verifier.proofs.Blocks.{IsBlock}
 use Rattle.sip_verifier.proofs.HonestQuestions.{question_done, question_faulty}
 
 -- ---- what is heard for a question
-
-heard_accepted : {S : Type 0} (P : Protocol S) (query : Query) (block : List ℕ)
-    (replies : List (List ℕ)) (given : Answer) (unasked : Option Answer)
-    → elim unasked as (λ _. Type 0) [
-      | None ↦ IsStated P block replies given
-      | Some known ↦ (replies ≡ []) × (given ≡ known)
-    ] → heard (asked_unless unasked P.rules.version query block replies) ≡ joined replies
-heard_accepted P query block replies given None stated =
-    heard-asked P.rules.version query block replies (omega (arith, stated.all))
-heard_accepted P query block replies given (Some known) none = sym (ap joined none.0)
 
 question_heard : (row : KindRow) (query : Query) (block : List ℕ) (replies : List (List ℕ)) (given : Answer)
     → Holds (λ kind. IsAccepted (kind.protocol block) block replies given) row

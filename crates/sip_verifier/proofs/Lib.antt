@@ -29,6 +29,10 @@ pub mod CountedQuestions
 pub mod CountedReports
 pub mod Blocks
 pub mod HeardTalks
+mod KeptHead
+pub mod KeptReplies
+pub mod KeptQueries
+pub mod KeptRuns
 pub mod HonestReplies
 pub mod HonestQuestions
 pub mod HonestRuns

@@ -76,8 +76,9 @@ module _ (version : Version) (depth : ℕ) (stream : List Update) (query : Query
 pub fault_checked : (version : Version) (depth : ℕ) (stream : List Update) (query : Query) (block : List ℕ) (number : ℕ) (old new blank : Option (List TalkEvent)) (entries : List Entry) (fault : SessionFault)
     → Asks version depth stream query block old new entries (Err fault) → Checks version depth stream query block number old new blank blank (Err (status_of_fault fault))
 fault_checked version depth stream query block number old new blank entries faults.PeerFault asks = record { interrupted = asks; same = refl }
-fault_checked version depth stream query block number old new blank entries faults.KeepFault asks = absurd asks
-fault_checked version depth stream query block number old new blank entries faults.OutOfMemory asks = inr (inr (record { interrupted = asks; same = refl }))
+fault_checked version depth stream query block number old new blank entries faults.KeepFault asks = record { unrecorded = asks; same = refl }
+fault_checked version depth stream query block number old new blank entries faults.OutOfMemory (inl asks) = inr (inr (inl (record { interrupted = asks; same = refl })))
+fault_checked version depth stream query block number old new blank entries faults.OutOfMemory (inr asks) = inr (inr (inr (record { unrecorded = asks; same = refl })))
 
 -- ---- the queries so far
 
@@ -205,16 +206,16 @@ all_checked task stream challenges seats version depth left queries old new blan
     (subst (λ (n : ℕ). ChecksAll (version_of task) n stream task.queries.items (blocks task challenges) old new blank full r) levels
     (subst (λ (qs : List Query). ChecksAll (version_of task) depth stream qs (blocks task challenges) old new blank full r) same (subst (λ (bs : List (List ℕ)). ChecksAll (version_of task) depth stream queries bs old new blank full r) at_blocks checks)))
 
--- a fault of a port has its cause, since an earlier moment of the link
-pub since_before : (first firsts second seconds earlier peer peers report reports : ℕ) (status : Status) → earlier ≤ peer → FaultClause (counts first second peer report) (counts firsts seconds peers reports) status
-    → FaultClause (counts first second earlier report) (counts firsts seconds peers reports) status
-since_before first firsts second seconds earlier peer peers report reports (statuses.ReadFault ports.First) later fault = fault
-since_before first firsts second seconds earlier peer peers report reports (statuses.ReadFault ports.Second) later fault = fault
-since_before first firsts second seconds earlier peer peers report reports (statuses.ReadFault ports.Report) later fault = fault
-since_before first firsts second seconds earlier peer peers report reports (statuses.ReadFault ports.Keep) later fault = fault
-since_before first firsts second seconds earlier peer peers report reports (statuses.WriteFault ports.First) later fault = fault
-since_before first firsts second seconds earlier peer peers report reports (statuses.WriteFault ports.Second) later fault = fault
-since_before first firsts second seconds earlier peer peers report reports (statuses.WriteFault ports.Report) later fault = fault
-since_before first firsts second seconds earlier peer peers report reports (statuses.WriteFault ports.Keep) later fault = fault
-since_before first firsts second seconds earlier peer peers report reports statuses.PeerFault later fault = Rose-since earlier peer peers later fault
-since_before first firsts second seconds earlier peer peers report reports _ later fault = tt
+-- a fault of a port has its cause, since an earlier moment of the link and of the record of the talk
+pub since_before : (first firsts second seconds earlier peer peers report reports sooner keep keeps : ℕ) (status : Status) → earlier ≤ peer → sooner ≤ keep
+    → FaultClause (counts first second peer report keep) (counts firsts seconds peers reports keeps) status → FaultClause (counts first second earlier report sooner) (counts firsts seconds peers reports keeps) status
+since_before first firsts second seconds earlier peer peers report reports sooner keep keeps (statuses.ReadFault ports.First) later still fault = fault
+since_before first firsts second seconds earlier peer peers report reports sooner keep keeps (statuses.ReadFault ports.Second) later still fault = fault
+since_before first firsts second seconds earlier peer peers report reports sooner keep keeps (statuses.ReadFault ports.Report) later still fault = fault
+since_before first firsts second seconds earlier peer peers report reports sooner keep keeps (statuses.ReadFault ports.Keep) later still fault = fault
+since_before first firsts second seconds earlier peer peers report reports sooner keep keeps (statuses.WriteFault ports.First) later still fault = fault
+since_before first firsts second seconds earlier peer peers report reports sooner keep keeps (statuses.WriteFault ports.Second) later still fault = fault
+since_before first firsts second seconds earlier peer peers report reports sooner keep keeps (statuses.WriteFault ports.Report) later still fault = fault
+since_before first firsts second seconds earlier peer peers report reports sooner keep keeps (statuses.WriteFault ports.Keep) later still fault = Rose-since sooner keep keeps still fault
+since_before first firsts second seconds earlier peer peers report reports sooner keep keeps statuses.PeerFault later still fault = Rose-since earlier peer peers later fault
+since_before first firsts second seconds earlier peer peers report reports sooner keep keeps _ later still fault = tt

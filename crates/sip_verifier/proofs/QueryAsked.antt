@@ -1,5 +1,5 @@
 -- What the general talk did for a query is what a session promises of it, by the protocol of the query's kind.
-use Rattle.std.proofs.Common.{◌≡◌, ◌≢◌, ℕ, None, Option, Result, Ok, Err, List, [], ◌∷◌, ◌++◌, length, min, zero, suc, take, refl, sym, ap, subst, ◌∙◌, arith}
+use Rattle.std.proofs.Common.{◌≡◌, inl, inr, ℕ, None, Option, Result, Ok, Err, List, [], ◌∷◌, ◌++◌, length, min, zero, suc, take, refl, sym, ap, subst, ◌∙◌, arith}
 use Rattle.sip_wire.specs.declared.version.Version.{Version}
 use Rattle.sip_ports.specs.declared.port.TalkEvent.{TalkEvent}
 use Rattle.sip_ports.specs.Ports.{GoesOn}
@@ -15,7 +15,7 @@ use Rattle.sip_replies.specs.declared.check.Said.TheVariants as saids
 use Rattle.sip_replies.specs.Asking as general
 use Rattle.sip_replies.specs.Protocols.{Protocol}
 use Rattle.sip_replies.specs.Talks.{IsPrefix, asked, asked_unless, ending}
-use Rattle.sip_verifier.specs.Asking.{question_of, IsAnswered, IsRejected, IsInterrupted, Asks}
+use Rattle.sip_verifier.specs.Asking.{question_of, IsAnswered, IsRejected, IsInterrupted, IsUnrecorded, Asks}
 use Rattle.sip_verifier.specs.inside.Judging.{found_in, verdict_of}
 use Rattle.sip_verifier.specs.inside.Protocols.{IsProtocol}
 use Rattle.sip_verifier.specs.Questions.{said_for}
@@ -63,17 +63,26 @@ module _ (version : Version) (depth : ℕ) (stream : List Update) (query : Query
     waits = is.waits i.replies (i.due, i.unfinished, i.missing);
   }
 
-  -- What was answered, where the keeper neither failed nor ran out of memory.
+  unrecorded : general.IsUnrecorded P query block old new before now
+      → IsUnrecorded version depth stream query block old new
+  unrecorded u = record {
+    replies = u.replies;
+    ended = u.ended;
+    talk = subst (GoesOn old new) (ap (λ (talk : List TalkEvent). talk ++ u.ended)
+        (asked_is u.unjudged.asked u.replies)) u.talk;
+    unjudged = is.unjudged u.replies u.ended u.unjudged;
+  }
+
+  -- what was answered
   pub asks : (places : List Entry) (result : Result Said AskStop)
       → general.Answers P query block old new before now places result
-      → result ≢ Err stops.KeepFault
-      → result ≢ Err stops.KeepOutOfMemory → Asks version depth stream query block old new
+      → Asks version depth stream query block old new
       (take (found_in (length places) result) places) (verdict_of result)
-  asks places (Ok (saids.Number n)) a kept free = answered (number n) a
-  asks places (Ok (saids.Pairs found)) a kept free = rw (take-min found places)
+  asks places (Ok (saids.Number n)) a = answered (number n) a
+  asks places (Ok (saids.Pairs found)) a = rw (take-min found places)
       (answered (pairs (take found places)) a)
-  asks places (Err (stops.Rejected round reason)) a kept free = rejected round reason a
-  asks places (Err stops.PeerFault) a kept free = interrupted a
-  asks places (Err stops.KeepFault) a kept free = absurd (kept refl)
-  asks places (Err stops.OutOfMemory) a kept free = interrupted a
-  asks places (Err stops.KeepOutOfMemory) a kept free = absurd (free refl)
+  asks places (Err (stops.Rejected round reason)) a = rejected round reason a
+  asks places (Err stops.PeerFault) a = interrupted a
+  asks places (Err stops.KeepFault) a = unrecorded a
+  asks places (Err stops.OutOfMemory) a = inl (interrupted a)
+  asks places (Err stops.KeepOutOfMemory) a = inr (unrecorded a)

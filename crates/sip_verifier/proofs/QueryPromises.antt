@@ -31,13 +31,13 @@ use Rattle.sip_verifier.specs.Widths.{first_wide}
 use Rattle.sip_verifier.specs.Exchanges.{Exchange}
 use Rattle.sip_verifier.specs.Kinds.{KindRow, built, missing, kind_row, Holds}
 use Rattle.sip_verifier.specs.Moments.{Counts}
-use Rattle.sip_verifier.specs.inside.Progress.{Fails, PassesInPart, FailsInPart, HasNone, AreFirst, Passed, PassedBy, EndsWith, Ended, status_of}
+use Rattle.sip_verifier.specs.inside.Progress.{Fails, PassesInPart, FailsInPart, HasNone, StaysUnjudged, AreFirst, Passed, PassedBy, EndsWith, Ended, status_of}
 use Rattle.sip_verifier.specs.Reports.{line, rejection}
 use Rattle.sip_verifier.specs.Statuses.{FaultClause, IsListed}
 use Rattle.sip_verifier.specs.Talks.{stream_sent, bye_sent}
 use Rattle.sip_verifier.specs.TalkClause.{EndsAtFault, IsUnderWay}
-use Rattle.sip_verifier.specs.Questions.{Question, Accepted, Accepts, IsDue, IsFaulty, IsWaiting, said_for, updates, IsLegalToEnd, Done, questions_of, lines, farewell, AreQuestions, Reached}
-use Rattle.sip_verifier.specs.VerdictClause.{OneFaulty, PartWritten, PartRejected, CutInLine, NoneLeft}
+use Rattle.sip_verifier.specs.Questions.{Question, Accepted, Accepts, IsDue, IsFaulty, IsUnjudged, IsWaiting, said_for, updates, IsLegalToEnd, Done, questions_of, lines, farewell, AreQuestions, Reached}
+use Rattle.sip_verifier.specs.VerdictClause.{OneFaulty, PartWritten, PartRejected, CutInLine, NoneLeft, EndsUnjudged, UnjudgedWritten}
 use Rattle.sip_verifier.proofs.QueriesChecked.{first_more, flat_map_snoc}
 use Rattle.sip_verifier.proofs.RunTalks.{Adds, said_is, written_is, front_before}
 
@@ -165,6 +165,12 @@ module _ (task : Task) (x : Exchange) where
         part_rejected : IsPrefix part (rejection (suc (length done)) round reason) → PartRejected task x done part
         part_rejected front = record { last = question; fault = record { round = round; reason = reason }; faulty = faulty; reached = reached_more (ending reason) is; front = front }
 
+      -- ---- what came of its last reply was not judged
+
+      abbrev ends_unjudged : (ended : List TalkEvent) → IsUnjudged (version_of task) task.depth (updates task x) question ended
+          → rest ≡ said_for (version_of task) task.depth (updates task x) question ++ ended → EndsUnjudged task x
+      ends_unjudged ended unjudged is = record { done = done; last = question; ended = ended; unjudged = unjudged; reached = reached_more ended is }
+
       -- ---- its replies are accepted, and nothing was said since
 
       module _ (answer : Answer) (accepts : Accepts (version_of task) task.depth (updates task x) question answer)
@@ -274,7 +280,7 @@ module _ (task : Task) (x : Exchange) where
         }
         after_bye before now port_stops.OutOfMemory cause = record {
           verdict = inl (record { done = done; current = None; waits = tt; reached = were_reached; order = order_at_bye; report = all_lines });
-          talk = inl way_at_bye;
+          talk = inl (inl way_at_bye);
           cause = tt;
         }
 
@@ -340,6 +346,18 @@ module _ (task : Task) (x : Exchange) where
         left_of_none : NoneLeft task x
         left_of_none = none_left waiting (its_next waiting) n.interrupted.replies n.interrupted.waits n.interrupted.order refl
 
+      -- what came of its last reply was not judged
+      module _ (n : StaysUnjudged (version_of task) task.depth (updates task x) e.query e.block (suc (length e.done)) e.mid t3 e.half r2) where
+        staying : Came challenges e.done (said_for (version_of task) task.depth (updates task x)
+            (question_of e.query e.block n.unrecorded.replies) ++ n.unrecorded.ended) []
+        staying = its n.unrecorded.talk (subst (λ (o : Option (List TalkEvent)). GoesOn e.half o []) (sym n.same) (GoesOn-refl e.half))
+
+        abbrev ends_staying : EndsUnjudged task x
+        ends_staying = ends_unjudged staying (its_next staying) n.unrecorded.replies n.unrecorded.ended n.unrecorded.unjudged refl
+
+        written_staying : UnjudgedWritten task x
+        written_staying = (ends_staying, staying.report ∙ append-nil _)
+
       -- it was rejected, and the whole line was written
       rejects : (before now : Counts) (round : ℕ) (reason : Reason) → Fails (version_of task) task.depth (updates task x) e.query e.block (suc (length e.done)) e.mid t3 e.half r2 round reason
           → Ended task x before now (statuses.Rejected (suc (length e.done)) round reason)
@@ -364,13 +382,16 @@ module _ (task : Task) (x : Exchange) where
           | inl p ↦ record { verdict = cut_passing e p; talk = inl (way_passing e p); cause = (good (passing e p), cause) }
           | inr p ↦ record { verdict = cut_failing e p; talk = inr (ends_failing e p); cause = (good (failing e p), cause) }
         ]
-    after_queries before now (statuses.WriteFault ports.Keep) e cause = absurd e.checks
+    after_queries before now (statuses.WriteFault ports.Keep) e cause =
+        let c = staying e e.checks in
+        record { verdict = inr (written_staying e e.checks); talk = inr (ends_staying e e.checks); cause = (is_drawn c, λ some. good c, cause) }
     after_queries before now statuses.PeerFault e cause = record { verdict = left_of_none e e.checks; talk = way_of_none e e.checks; cause = (is_drawn (waiting e e.checks), cause) }
     after_queries before now statuses.OutOfMemory e cause =
         elim (e.checks) as (λ _. Ended task x before now statuses.OutOfMemory) [
-          | inl p ↦ record { verdict = inr (cut_passing e p); talk = inl (way_passing e p); cause = tt }
-          | inr (inl p) ↦ record { verdict = inr (cut_failing e p); talk = inr (ends_failing e p); cause = tt }
-          | inr (inr n) ↦ record { verdict = inl (left_of_none e n); talk = inl (way_of_none e n); cause = tt }
+          | inl p ↦ record { verdict = inr (inl (cut_passing e p)); talk = inl (inl (way_passing e p)); cause = tt }
+          | inr (inl p) ↦ record { verdict = inr (inl (cut_failing e p)); talk = inl (inr (ends_failing e p)); cause = tt }
+          | inr (inr (inl n)) ↦ record { verdict = inl (left_of_none e n); talk = inl (inl (way_of_none e n)); cause = tt }
+          | inr (inr (inr n)) ↦ record { verdict = inr (inr (written_staying e n)); talk = inr (ends_staying e n); cause = tt }
         ]
     after_queries before now _ e cause = absurd e.checks
 

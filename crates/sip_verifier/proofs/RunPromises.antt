@@ -1,4 +1,4 @@
--- All that a run keeps, from its first three promises.
+-- All that a run keeps, from its first three promises and what is kept of its talk.
 use Rattle.std.proofs.Common.{◌≡◌, ◌≤◌, Bool, true, false, true≢false, refl, sym}
 use Rattle.std.specs.Prelude.{All, ◌||◌}
 use Rattle.sip_vector.specs.Answers.{Fits}
@@ -10,6 +10,7 @@ use Rattle.sip_verifier.specs.Exchanges.{Exchange, Tells}
 use Rattle.sip_verifier.specs.Moments.{Counts, Moment, IsTold}
 use Rattle.sip_verifier.specs.inside.Ending.{status_of_start}
 use Rattle.sip_verifier.specs.inside.Progress.{Ended}
+use Rattle.sip_verifier.specs.KeepClause.{KeepClause, Keeps}
 use Rattle.sip_verifier.specs.Promises.{Promises}
 use Rattle.sip_verifier.specs.RunClause.{RunClause}
 use Rattle.sip_verifier.specs.Statuses.{FaultClause, IsListed, is_accepted, stops_gathering, stops_starting, stops_asking}
@@ -17,6 +18,7 @@ use Rattle.sip_verifier.specs.Tasks.{CanBeDone}
 use Rattle.sip_verifier.proofs.CompleteRuns.{completes}
 use Rattle.sip_vector.specs.Limits.{most_depth}
 use Rattle.sip_verifier.proofs.CountedReports.{report_counts}
+use Rattle.sip_verifier.proofs.KeptRuns.{KeptSo, kept_is}
 
 -- the queries of a task that can be done fit its depth
 all_fit : (task : Task) → CanBeDone task → All (Fits task.depth) task.queries.items
@@ -25,23 +27,28 @@ all_fit task can i other less = (can.asked i other less).1
 module _ (task : Task) (can : CanBeDone task) (some : 1 ≤ task.depth) (most : task.depth ≤ most_depth) where
   -- counts follow from verdicts, and honest helpers from verdicts and causes
   promised : (x : Exchange) (before now : Counts) (status : Status) → IsListed status
-      → Ended task x before now status → Promises task x before now status
-  promised x before now status listed e = record {
+      → Ended task x before now status → KeepClause task x status → Promises task x before now status
+  promised x before now status listed e keeps = record {
     verdict = e.verdict;
     talk = e.talk;
     cause = e.cause;
     count = report_counts task x can.asked status e.verdict listed;
     complete = completes task x some most (all_fit task can) before now status e.verdict e.cause listed;
+    kept = keeps;
   }
 
-  -- a run keeps all, where each exchange that is told has the first three promises
+  -- a run keeps all, where each exchange that is told has the first three promises, and what is kept
+  -- is so
   pub kept : {before now : Moment} {status : Status}
       → ((x : Exchange) → Tells before now x → Ended task x before.faults now.faults status)
+      → ((x : Exchange) → Tells before now x → KeptSo task x status before.keep now.keep)
       → (IsTold before → (x : Exchange) × Tells before now x)
       → FaultClause before.faults now.faults status → IsListed status
       → RunClause task before now status
-  kept {before = before} {now = now} {status = status} ends moves fault listed = record {
-    promises = λ x t. promised x before.faults now.faults status listed (ends x t);
+  kept {before = before} {now = now} {status = status} ends keeps moves fault listed = record {
+    promises = λ x t.
+        let k = keeps x t in
+        promised x before.faults now.faults status listed (ends x t) (kept_is (Keeps task x status) before.keep now.keep k.0 x.kept k.1 t.kept k.2);
     moves = moves;
     fault = fault;
     listed = listed;

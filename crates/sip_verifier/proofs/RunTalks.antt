@@ -13,7 +13,7 @@ use Rattle.sip_verifier.specs.declared.status.Status.{Status}
 use Rattle.sip_verifier.specs.declared.status.Status.TheVariants as statuses
 use Rattle.sip_verifier.specs.declared.task.Task.{Task}
 use Rattle.sip_replies.specs.Talks.{IsPrefix}
-use Rattle.sip_verifier.specs.Exchanges.{Exchange, Tells}
+use Rattle.sip_verifier.specs.Exchanges.{Appends, Exchange, Tells}
 use Rattle.sip_verifier.specs.Gathering.{Refuses}
 use Rattle.sip_verifier.specs.Moments.{Moment, IsTold}
 use Rattle.sip_verifier.specs.inside.Progress.{Checks, PassesInPart, FailsInPart, PassedBy, EndsWith}
@@ -63,18 +63,25 @@ some_value (Some v) some = (v, refl)
 goes_to : (old new : Option (List TalkEvent)) (said : List TalkEvent) → IsSome old → GoesOn old new said → Adds old new said
 goes_to old new said some went = let had = some_value old some in (had.0, had.1, GoesOn-told had.0 new said (subst (λ (o : Option (List TalkEvent)). GoesOn o new said) had.1 went))
 
--- Where the stream goes on being told, and what is new on the link and in the report is known, there
--- is an exchange.
+-- of a sink that need not tell
+grows_to : (old new : Option (List TalkEvent)) (bytes : List ℕ) → GoesOn old new (outs bytes) → (kept : Option (List ℕ)) × Appends old new kept
+grows_to None new bytes went = (None, refl)
+grows_to (Some had) new bytes went = (Some bytes, (had, refl, GoesOn-told had new (outs bytes) went))
+
+-- Where the stream goes on being told, and what is new on the link, in the report and on the record
+-- of the talk is known, there is an exchange.
 pub tells : (old new : Moment) → IsTold old → (IsSome old.first → IsSome new.first)
     → (said : List TalkEvent) → GoesOn old.talk new.talk said
     → (bytes : List ℕ) → GoesOn old.report new.report (outs bytes)
+    → (record_of : List ℕ) → GoesOn old.keep new.keep (outs record_of)
     → (x : Exchange) × Tells old new x
-tells old new is still said went bytes wrote =
+tells old new is still said went bytes wrote record_of kept =
     let first = some_value old.first is.first in
     let left = some_value new.first (still is.first) in
-    let second = some_value old.second is.second in (
-      record { stream = first.0; unread = left.0; seed = second.0; talk = said; report = bytes },
-      record { stream = first.1; unread = left.1; seed = second.1; talk = goes_to old.talk new.talk said is.talk went; report = goes_to old.report new.report (outs bytes) is.report wrote },
+    let second = some_value old.second is.second in
+    let grows = grows_to old.keep new.keep record_of kept in (
+      record { stream = first.0; unread = left.0; seed = second.0; talk = said; report = bytes; kept = grows.0 },
+      record { stream = first.1; unread = left.1; seed = second.1; talk = goes_to old.talk new.talk said is.talk went; report = goes_to old.report new.report (outs bytes) is.report wrote; kept = grows.1 },
     )
 
 -- ---- what went on
@@ -95,6 +102,10 @@ refuses_moves task bytes seed old new (statuses.ReadFault ports.First) refuses =
 refuses_moves task bytes seed old new (statuses.ReadFault ports.Second) refuses = still_moves old new refuses
 refuses_moves task bytes seed old new (statuses.ReadFault ports.Report) refuses = absurd refuses
 refuses_moves task bytes seed old new (statuses.ReadFault ports.Keep) refuses = absurd refuses
+refuses_moves task bytes seed old new (statuses.WriteFault ports.First) refuses = absurd refuses
+refuses_moves task bytes seed old new (statuses.WriteFault ports.Second) refuses = absurd refuses
+refuses_moves task bytes seed old new (statuses.WriteFault ports.Report) refuses = absurd refuses
+refuses_moves task bytes seed old new (statuses.WriteFault ports.Keep) refuses = still_moves old new refuses.1
 refuses_moves task bytes seed old new statuses.PeerFault refuses = (refuses.1.said, refuses.1.talk)
 refuses_moves task bytes seed old new statuses.OutOfMemory (inl same) = still_moves old new same
 refuses_moves task bytes seed old new statuses.OutOfMemory (inr (has, cut)) = (cut.said, cut.talk)
@@ -109,17 +120,21 @@ module _ (version : Version) (depth : ℕ) (stream : List Update) (query : Query
   part_moves (inl part) = ((_, part.answered.talk), (part.part, part.wrote))
   part_moves (inr part) = ((_, part.rejected.talk), (part.part, part.wrote))
 
+  nothing_written : full ≡ blank → Reports blank full
+  nothing_written same = ([], subst (λ (o : Option (List TalkEvent)). GoesOn blank o []) (sym same) (GoesOn-refl blank))
+
   -- a query that ends a run moves on the link and on the report
   pub check_moves : (status : Status) → Checks version depth stream query block number old new blank full (Err status) → Moves old new × Reports blank full
   check_moves (statuses.Rejected k round reason) checks = ((_, checks.1.rejected.talk), (rejection number round reason, checks.1.wrote))
   check_moves (statuses.WriteFault ports.First) checks = absurd checks
   check_moves (statuses.WriteFault ports.Second) checks = absurd checks
   check_moves (statuses.WriteFault ports.Report) checks = part_moves checks
-  check_moves (statuses.WriteFault ports.Keep) checks = absurd checks
-  check_moves statuses.PeerFault checks = ((_, checks.interrupted.talk), ([], subst (λ (o : Option (List TalkEvent)). GoesOn blank o []) (sym checks.same) (GoesOn-refl blank)))
+  check_moves (statuses.WriteFault ports.Keep) checks = ((_, checks.unrecorded.talk), nothing_written checks.same)
+  check_moves statuses.PeerFault checks = ((_, checks.interrupted.talk), nothing_written checks.same)
   check_moves statuses.OutOfMemory (inl part) = part_moves (inl part)
   check_moves statuses.OutOfMemory (inr (inl part)) = part_moves (inr part)
-  check_moves statuses.OutOfMemory (inr (inr none)) = ((_, none.interrupted.talk), ([], subst (λ (o : Option (List TalkEvent)). GoesOn blank o []) (sym none.same) (GoesOn-refl blank)))
+  check_moves statuses.OutOfMemory (inr (inr (inl none))) = ((_, none.interrupted.talk), nothing_written none.same)
+  check_moves statuses.OutOfMemory (inr (inr (inr stays))) = ((_, stays.unrecorded.talk), nothing_written stays.same)
   check_moves _ checks = absurd checks
 
 -- accepted queries move on the link and on the report

@@ -69,6 +69,7 @@ sub_is_protocol version depth stream (Sub low high) block lo hi value is stands 
       said = λ replies. refl;
       accepts = λ replies answer a. a;
       faulty = λ replies fault f. f;
+      unjudged = λ replies ended u. u;
       waits = λ replies w. w;
     })
 sub_is_protocol version depth stream (Range side low high) block lo hi value is stands = absurd stands
@@ -83,11 +84,10 @@ pub sub_asks : (version : Version) (depth : ℕ) (stream : List Update) (s : Sea
     → s.query ≡ Sub lo hi → s.block ≡ block → s.running ≡ root_is value
     → at ≡ block → StandsFor depth stream s
     → Answers (sub_protocol (sub_asked version m61_modulus value lo hi block)) s.query at old new before now
-    places result → result ≢ Err stops.KeepFault
-    → result ≢ Err stops.KeepOutOfMemory → Asks version depth stream s.query s.block old new
+    places result → Asks version depth stream s.query s.block old new
     (take (found_in (length places) result) places) (verdict_of result)
 sub_asks version depth stream s lo hi value block at old new before now places result is own keeps
-    same stands answers kept free =
+    same stands answers =
     let P : Protocol Stated = sub_protocol (sub_asked version m61_modulus value lo hi block) in
     let given = subst (λ (b : List ℕ). Answers P s.query b old new before now places result) same
     answers in
@@ -97,7 +97,7 @@ sub_asks version depth stream s lo hi value block at old new before now places r
     (take (found_in (length places) result) places) (verdict_of result)) (sym own)
     (asks version depth stream s.query block old new before now P
     (sub_is_protocol version depth stream s.query block lo hi value is runs)
-    places result given kept free)
+    places result given)
 
 -- ---- a sum
 
@@ -113,6 +113,7 @@ sum_is_protocol version depth stream (Range side low high) block l product is sa
       said = λ replies. refl;
       accepts = λ replies answer a. a;
       faulty = λ replies fault f. f;
+      unjudged = λ replies ended u. u;
       waits = λ replies w. w;
     })
 sum_is_protocol version depth stream (F2 side) block l product is same =
@@ -121,6 +122,7 @@ sum_is_protocol version depth stream (F2 side) block l product is same =
       said = λ replies. refl;
       accepts = λ replies answer a. a;
       faulty = λ replies fault f. f;
+      unjudged = λ replies ended u. u;
       waits = λ replies w. w;
     })
 sum_is_protocol version depth stream Inner block l product is same =
@@ -129,6 +131,7 @@ sum_is_protocol version depth stream Inner block l product is same =
       said = λ replies. refl;
       accepts = λ replies answer a. a;
       faulty = λ replies fault f. f;
+      unjudged = λ replies ended u. u;
       waits = λ replies w. w;
     })
 sum_is_protocol version depth stream (Heavy side at_least) block l product is same = absurd cc
@@ -140,17 +143,15 @@ pub sum_asks : (version : Version) (depth : ℕ) (stream : List Update) (s : Sea
     → lists_of depth stream s.query ≡ Some l → product ≡ product_at m61_modulus l.first l.second s.block
     → at ≡ s.block
     → Answers (sum_protocol (sum_asked version m61_modulus product)) s.query at old new before now
-    places result → result ≢ Err stops.KeepFault
-    → result ≢ Err stops.KeepOutOfMemory → Asks version depth stream s.query s.block old new
+    places result → Asks version depth stream s.query s.block old new
     (take (found_in (length places) result) places) (verdict_of result)
-sum_asks version depth stream s l product at old new before now places result is product_is same answers
-    kept free =
+sum_asks version depth stream s l product at old new before now places result is product_is same answers =
     let P : Protocol SumState = sum_protocol (sum_asked version m61_modulus product) in
     let given = subst (λ (b : List ℕ). Answers P s.query b old new before now places result) same
     answers in
     asks version depth stream s.query s.block old new before now P
     (sum_is_protocol version depth stream s.query s.block l product is product_is)
-    places result given kept free
+    places result given
 
 -- ---- the product of a seat
 
@@ -218,6 +219,7 @@ heavy_is_protocol version depth stream (Heavy own least) block side at_least has
       said = λ replies. refl;
       accepts = λ replies answer a. a;
       faulty = λ replies fault f. f;
+      unjudged = λ replies ended u. u;
       waits = λ replies w. w;
     })
 heavy_is_protocol version depth stream (Share own num den) block side at_least hash sum is stands = absurd cc
@@ -242,6 +244,7 @@ share_is_protocol version depth stream (Share own over under) block side num den
       said = λ replies. refl;
       accepts = λ replies answer a. a;
       faulty = λ replies fault f. f;
+      unjudged = λ replies ended u. u;
       waits = λ replies w. w;
     })
 
@@ -267,10 +270,9 @@ pub heavy_asks : (version : Version) (depth : ℕ) (stream : List Update) (query
     (block at : List ℕ) (old new before now : Option (List TalkEvent)) (places : List Entry) (result : Result Said AskStop)
     → at ≡ block → IsProtocol version depth stream query block (heavy_protocol (heavy_asked version m61_modulus hash sum (length block) at_least))
     → Answers (heavy_protocol (heavy_asked version m61_modulus hash sum (length block) at_least)) query at old new before now
-    places result → result ≢ Err stops.KeepFault
-    → result ≢ Err stops.KeepOutOfMemory → Asks version depth stream query block old new
+    places result → Asks version depth stream query block old new
     (take (found_in (length places) result) places) (verdict_of result)
-heavy_asks version depth stream query at_least hash sum block at old new before now places result same is answers kept free =
+heavy_asks version depth stream query at_least hash sum block at old new before now places result same is answers =
     let P : Protocol HeavyState = heavy_protocol (heavy_asked version m61_modulus hash sum (length block) at_least) in
     let given = subst (λ (b : List ℕ). Answers P query b old new before now places result) same answers in
-    asks version depth stream query block old new before now P is places result given kept free
+    asks version depth stream query block old new before now P is places result given

@@ -118,19 +118,23 @@ zip-asks : (version : Version) (seats : List Seated) → flat_map (λ (x : Query
 zip-asks version [] = refl
 zip-asks version (s ∷ seats) = ap (λ l. ask version s ++ l) (zip-asks version seats)
 
+zip-length : (seats : List Seated) → length (zip (map (λ (s : Seated). s.query) seats) (map (λ (s : Seated). s.block) seats)) ≡ length seats
+zip-length [] = refl
+zip-length (s ∷ seats) = ap suc (zip-length seats)
+
 -- the seats need the version of their queries
 pub version-asked : (depth : ℕ) (queries : List Query) (blocks : List (List ℕ)) (stream : List Update) (s : Seating) → AreSeats depth queries blocks stream s → version_of s ≡ needed depth queries
 version-asked depth queries blocks stream s are =
     ap (λ d. needed d (map (λ (x : Seated). x.query) s.seats)) are.levels ∙ ap (needed depth) are.asked
 
 -- the head is that of the seats
-pub head-whole : (version : Version) (depth : ℕ) (queries : List Query) (blocks : List (List ℕ)) (stream : List Update) (s : Seating) → AreSeats depth queries blocks stream s → head_of version depth queries blocks ≡ head_bytes version s.depth (length s.seats) ++ asks version s.seats
+pub head-whole : (version : Version) (depth : ℕ) (queries : List Query) (blocks : List (List ℕ)) (stream : List Update) (s : Seating) → AreSeats depth queries blocks stream s → head_of version depth (zip queries blocks) ≡ head_bytes version s.depth (length s.seats) ++ asks version s.seats
 head-whole version depth queries blocks stream s are =
     let seats = s.seats in
-    ap (λ d. head_of version d queries blocks) (sym are.levels)
-    ∙ ap (λ q. head_of version s.depth q blocks) (sym are.asked)
-    ∙ ap (λ b. head_of version s.depth (map (λ (x : Seated). x.query) seats) b) (sym are.at_blocks)
-    ∙ ap (λ n. head_bytes version s.depth n ++ flat_map (λ (x : Query × List ℕ). ask_bytes version x.0 x.1) (zip (map (λ (x : Seated). x.query) seats) (map (λ (s : Seated). s.block) seats))) (length-map seats (λ (x : Seated). x.query))
+    ap (λ d. head_of version d (zip queries blocks)) (sym are.levels)
+    ∙ ap (λ q. head_of version s.depth (zip q blocks)) (sym are.asked)
+    ∙ ap (λ b. head_of version s.depth (zip (map (λ (x : Seated). x.query) seats) b)) (sym are.at_blocks)
+    ∙ ap (λ n. head_bytes version s.depth n ++ flat_map (λ (x : Query × List ℕ). ask_bytes version x.0 x.1) (zip (map (λ (x : Seated). x.query) seats) (map (λ (s : Seated). s.block) seats))) (zip-length seats)
     ∙ ap (λ l. head_bytes version s.depth (length seats) ++ l) (zip-asks version seats)
 
 -- one more seat

@@ -97,22 +97,28 @@ module _ (task : Task) (x : Exchange) where
   after_gather before now (statuses.ReadFault ports.Second) old new told blank same cause = record { verdict = blank; talk = nothing_new old new x.talk same told; cause = cause }
   after_gather before now (statuses.ReadFault ports.Report) old new told blank refuses cause = absurd refuses
   after_gather before now (statuses.ReadFault ports.Keep) old new told blank refuses cause = absurd refuses
+  after_gather before now (statuses.WriteFault ports.First) old new told blank refuses cause = absurd refuses
+  after_gather before now (statuses.WriteFault ports.Second) old new told blank refuses cause = absurd refuses
+  after_gather before now (statuses.WriteFault ports.Report) old new told blank refuses cause = absurd refuses
+  after_gather before now (statuses.WriteFault ports.Keep) old new told blank (seed, same) cause =
+      let none = nothing_new old new x.talk same told in
+      record { verdict = inl (none, blank); talk = inl none; cause = (is_drawn seed, λ some. absurd (some none), cause) }
   after_gather before now statuses.PeerFault old new told blank (seed, cut) cause =
       let is = cut_front old new told cut in
       let order : IsPrefix x.talk streamed = fronts is cut.order in
       record { verdict = none_in_stream order blank; talk = in_stream seed order (λ not. fronts is (cut.illegal not)); cause = (is_drawn seed, cause) }
   after_gather before now statuses.OutOfMemory old new told blank (inl same) cause =
-      record { verdict = inl (none_in_stream (empty_front _ (nothing_new old new x.talk same told)) blank); talk = inl (nothing_said (nothing_new old new x.talk same told)); cause = tt }
+      record { verdict = inl (none_in_stream (empty_front _ (nothing_new old new x.talk same told)) blank); talk = inl (inl (nothing_said (nothing_new old new x.talk same told))); cause = tt }
   after_gather before now statuses.OutOfMemory old new told blank (inr (seed, cut)) cause =
       let is = cut_front old new told cut in
-      record { verdict = inl (none_in_stream (fronts is cut.order) blank); talk = inl (in_stream seed (fronts is cut.order) (λ not. fronts is (cut.illegal not))); cause = tt }
+      record { verdict = inl (none_in_stream (fronts is cut.order) blank); talk = inl (inl (in_stream seed (fronts is cut.order) (λ not. fronts is (cut.illegal not)))); cause = tt }
   after_gather before now _ old new told blank refuses cause = absurd refuses
 
   -- there is no memory for the session
   after_stream : (before now : Counts) → HasSeed task x.stream x.seed → IsLegalToEnd task x → x.talk ≡ streamed → x.report ≡ [] → Ended task x before now statuses.OutOfMemory
   after_stream before now seed legal talk blank = record {
     verdict = inl (none_in_stream (fronts talk ([], sym (append-nil _))) blank);
-    talk = inl (in_stream seed (fronts talk ([], sym (append-nil _))) (λ not. absurd (not legal)));
+    talk = inl (inl (in_stream seed (fronts talk ([], sym (append-nil _))) (λ not. absurd (not legal))));
     cause = tt;
   }
 

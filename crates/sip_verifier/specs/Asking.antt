@@ -1,5 +1,5 @@
 -- What a call that asks one query did.
-use Rattle.std.specs.Prelude.{ℕ, List, ◌++◌, Option, Result, Ok, Err}
+use Rattle.std.specs.Prelude.{◌⊎◌, ℕ, List, ◌++◌, Option, Result, Ok, Err}
 use Rattle.sip_ports.specs.declared.port.TalkEvent.{TalkEvent}
 use Rattle.sip_ports.specs.Ports.{GoesOn}
 use Rattle.sip_vector.specs.declared.query.Query.{Query}
@@ -14,7 +14,7 @@ use Rattle.sip_verifier.specs.declared.session.SessionFault.TheVariants as fault
 use Rattle.sip_verifier.specs.declared.session.Verdict.{Verdict}
 use Rattle.sip_verifier.specs.declared.session.Verdict.TheVariants as verdicts
 use Rattle.sip_verifier.specs.CountClause.{CountsFor}
-use Rattle.sip_verifier.specs.Questions.{Question, Accepts, IsFaulty, IsWaiting, said_for}
+use Rattle.sip_verifier.specs.Questions.{Question, Accepts, IsFaulty, IsUnjudged, IsWaiting, said_for}
 
 -- the question of a query at its block, with these replies
 abbrev pub question_of : Query → List ℕ → List (List ℕ) → Question
@@ -44,15 +44,22 @@ module _ (version : Version) (depth : ℕ) (stream : List Update) (query : Query
     pub order : IsPrefix said (said_for version depth stream (question_of query block replies))
     pub waits : IsWaiting version depth stream (question_of query block replies)
 
-  -- What was answered, where the entries are those that the session shows then. Nothing is kept of
-  -- a talk yet, so keeping it cannot fail.
+  -- what came of the last reply could not be kept, and so was not judged
+  pub record IsUnrecorded : Type 0 where
+    pub replies : List (List ℕ)
+    pub ended : List TalkEvent
+    pub talk : GoesOn old new (said_for version depth stream
+        (question_of query block replies) ++ ended)
+    pub unjudged : IsUnjudged version depth stream (question_of query block replies) ended
+
+  -- What was answered, where the entries are those that the session shows then.
   abbrev pub Asks : List Entry → Result Verdict SessionFault → Type 0
   Asks entries (Ok (verdicts.Number n)) = IsAnswered (number n)
   Asks entries (Ok verdicts.Pairs) = IsAnswered (pairs entries)
   Asks entries (Ok (verdicts.Rejected round reason)) = IsRejected round reason
   Asks entries (Err faults.PeerFault) = IsInterrupted
-  Asks entries (Err faults.KeepFault) = ⊥
-  Asks entries (Err faults.OutOfMemory) = IsInterrupted
+  Asks entries (Err faults.KeepFault) = IsUnrecorded
+  Asks entries (Err faults.OutOfMemory) = IsInterrupted ⊎ IsUnrecorded
 
   -- an answer counts for the replies that came
   pub record IsCounted (answer : Answer) : Type 0 where

@@ -7,10 +7,11 @@
 -- fewer than 32 bytes, and a spent one only where its 32 bytes do not give the challenges. One of
 -- these five holds, so its answer comes, unless a port failed or memory ran out. A fault comes only
 -- where the count of faults of that very port rose in this call, and where the steps before it had
--- passed: faults of the link and of the stream only where the seed gives challenges, faults of the
--- report only where the stream is legal to its end and no query is too wide. Want of memory is free. No other answer
--- comes.
-use Rattle.std.specs.Prelude.{◌≡◌, ◌≢◌, ◌<◌, ◌≤◌, length, Some, None}
+-- passed: faults of the link and of the stream only where the seed gives challenges, and so those of
+-- the record of the talk; faults of the report only where the stream is legal to its end and no query
+-- is too wide, and so those of the record once anything was said. Want of memory is free. No other
+-- answer comes.
+use Rattle.std.specs.Prelude.{◌≡◌, ◌≢◌, ◌<◌, ◌≤◌, [], length, Some, None}
 use Rattle.sip_stream.specs.Records.{records}
 use Rattle.sip_verifier.specs.declared.status.Port.TheVariants as ports
 use Rattle.sip_verifier.specs.declared.status.Status.{Status}
@@ -46,6 +47,9 @@ module _ (task : Task) (x : Exchange) where
       (drawn task x.seed ≢ None) × FaultClause before now (statuses.ReadFault ports.First)
   CauseClause before now (statuses.ReadFault port) =
       FaultClause before now (statuses.ReadFault port)
+  CauseClause before now (statuses.WriteFault ports.Keep) =
+      (drawn task x.seed ≢ None) × (x.talk ≢ [] → CanBeJudged)
+      × FaultClause before now (statuses.WriteFault ports.Keep)
   CauseClause before now (statuses.WriteFault port) =
       CanBeJudged × FaultClause before now (statuses.WriteFault port)
   CauseClause before now statuses.PeerFault =

@@ -44,6 +44,7 @@ pub record NoneRose (before now : Counts) : Type 0 where
   pub second : ¬ Rose before.second now.second
   pub peer : ¬ Rose before.peer now.peer
   pub report : ¬ Rose before.report now.report
+  pub keep : ¬ Rose before.keep now.keep
 
 module _ (task : Task) (x : Exchange) where
   -- the seed and the stream are good, and what was heard is a front of honest replies, which the

@@ -65,6 +65,7 @@ module _ (task : Task) (bytes seed : List ℕ) where
       × GoesOn old new before_end
   Refuses old new (statuses.ReadFault ports.First) = HasSeed × IsCutBefore old new
   Refuses old new (statuses.ReadFault ports.Second) = new ≡ old
+  Refuses old new (statuses.WriteFault ports.Keep) = HasSeed × (new ≡ old)
   Refuses old new statuses.PeerFault = HasSeed × IsCut old new
   Refuses old new statuses.OutOfMemory = (new ≡ old) ⊎ (HasSeed × IsCut old new)
   Refuses old new _ = ⊥

@@ -6,9 +6,11 @@ pub mod Statuses
 pub mod Exchanges
 pub mod Kinds
 pub mod Questions
+pub mod Transcripts
 pub mod VerdictClause
 pub mod TalkClause
 pub mod CauseClause
+pub mod KeepClause
 pub mod Examples
 pub mod Tasks
 pub mod QuerySeats
@@ -18,7 +20,7 @@ pub mod Feeding
 pub mod Gathering
 pub mod Sittings
 pub mod Asking
-pub mod Transcripts
+pub mod Keeping
 pub mod CountClause
 pub mod CompletenessClause
 pub mod Promises

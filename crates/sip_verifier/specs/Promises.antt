@@ -1,10 +1,11 @@
--- The five promises of a run of `verify`, on what it moved and the status that it answers.
+-- The six promises of a run of `verify`, on what it moved and the status that it answers.
 use Rattle.sip_verifier.specs.declared.status.Status.{Status}
 use Rattle.sip_verifier.specs.declared.task.Task.{Task}
 use Rattle.sip_verifier.specs.CauseClause.{CauseClause}
 use Rattle.sip_verifier.specs.CompletenessClause.{CompletenessClause}
 use Rattle.sip_verifier.specs.CountClause.{CountClause}
 use Rattle.sip_verifier.specs.Exchanges.{Exchange}
+use Rattle.sip_verifier.specs.KeepClause.{KeepClause}
 use Rattle.sip_verifier.specs.Moments.{Counts}
 use Rattle.sip_verifier.specs.TalkClause.{TalkClause}
 use Rattle.sip_verifier.specs.VerdictClause.{VerdictClause}
@@ -22,3 +23,5 @@ pub record Promises (task : Task) (x : Exchange) (before now : Counts)
   pub count : CountClause task x
   -- what an honest helper comes to
   pub complete : CompletenessClause task x before now status
+  -- what is kept of the talk
+  pub kept : KeepClause task x status

@@ -50,6 +50,11 @@ abbrev pub IsWaiting : Version → ℕ → List Update → Question → Type 0
 IsWaiting version depth stream q = OfKind version depth stream q.query
     (λ kind. IsDue (kind.protocol q.block) q.block q.replies)
 
+-- what came of the last reply was not judged, and this followed it
+abbrev pub IsUnjudged : Version → ℕ → List Update → Question → List TalkEvent → Type 0
+IsUnjudged version depth stream q ended = OfKind version depth stream q.query
+    (λ kind. general.IsUnjudged (kind.protocol q.block) q.block q.replies ended)
+
 -- a question whose replies are accepted
 pub record Accepted (version : Version) (depth : ℕ) (stream : List Update) : Type 0 where
   pub question : Question

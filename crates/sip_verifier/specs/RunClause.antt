@@ -8,10 +8,11 @@ use Rattle.sip_verifier.specs.Promises.{Promises}
 use Rattle.sip_verifier.specs.Statuses.{FaultClause, IsListed}
 
 pub record RunClause (task : Task) (before now : Moment) (status : Status) : Type 0 where
-  -- the five promises, on the exchange that the ports tell
+  -- the six promises, on the exchange that the ports tell
   pub promises : (x : Exchange) → Tells before now x
       → Promises task x before.faults now.faults status
-  -- ports that tell go on telling, so there is such an exchange
+  -- ports that tell go on telling, so there is such an exchange, whether the record of the talk is
+  -- told or not
   pub moves : IsTold before → (x : Exchange) × Tells before now x
   -- whatever the ports tell, a fault of a port comes only where its own count rose
   pub fault : FaultClause before.faults now.faults status

@@ -14,6 +14,7 @@ FaultClause before now (statuses.ReadFault ports.First) = Rose before.first now.
 FaultClause before now (statuses.ReadFault ports.Second) = Rose before.second now.second
 FaultClause before now (statuses.ReadFault _) = ⊥
 FaultClause before now (statuses.WriteFault ports.Report) = Rose before.report now.report
+FaultClause before now (statuses.WriteFault ports.Keep) = Rose before.keep now.keep
 FaultClause before now (statuses.WriteFault _) = ⊥
 FaultClause before now statuses.PeerFault = Rose before.peer now.peer
 FaultClause before now _ = Unit {0}
@@ -29,9 +30,18 @@ stops_gathering statuses.SeedSpent = true
 stops_gathering (statuses.BadStream _ _) = true
 stops_gathering (statuses.ReadFault ports.First) = true
 stops_gathering (statuses.ReadFault ports.Second) = true
+stops_gathering (statuses.WriteFault ports.Keep) = true
 stops_gathering statuses.PeerFault = true
 stops_gathering statuses.OutOfMemory = true
 stops_gathering _ = false
+
+-- the run stopped while its stream was read and sent
+abbrev pub stops_following : Status → Bool
+stops_following (statuses.BadStream _ _) = true
+stops_following (statuses.ReadFault ports.First) = true
+stops_following statuses.PeerFault = true
+stops_following statuses.OutOfMemory = true
+stops_following _ = false
 
 -- the run stopped between its stream and its first query
 abbrev pub stops_starting : Status → Bool
@@ -43,6 +53,7 @@ stops_starting _ = false
 abbrev pub stops_asking : Status → Bool
 stops_asking (statuses.Rejected _ _ _) = true
 stops_asking (statuses.WriteFault ports.Report) = true
+stops_asking (statuses.WriteFault ports.Keep) = true
 stops_asking statuses.PeerFault = true
 stops_asking statuses.OutOfMemory = true
 stops_asking _ = false

@@ -9,7 +9,9 @@
 -- nothing is said. With any other answer it is a front of that same talk: so each reply was taken
 -- and passed its tests before the next challenge leaves, and the last challenge never leaves; and
 -- the line of an accepted query was written before anything is said after its last reply. Where the
--- line of a rejection could not be written whole, the talk is that of the rejection.
+-- line of a rejection could not be written whole, the talk is that of the rejection. Where keeping
+-- the talk failed, nothing is said yet, or the talk ends with what came of a reply that was not
+-- judged.
 use Rattle.std.specs.Prelude.{◌≡◌, ◌≢◌, ◌⊎◌, List, [], ◌∷◌, ◌++◌, length, flat_map, option_to_list, Option, IfSome}
 use Rattle.sip_ports.specs.declared.port.TalkEvent.{TalkEvent}
 use Rattle.sip_replies.specs.Replies.{Fault}
@@ -22,7 +24,7 @@ use Rattle.sip_replies.specs.Talks.{IsPrefix, ending}
 use Rattle.sip_verifier.specs.Exchanges.{Exchange}
 use Rattle.sip_verifier.specs.Talks.{whole_frames, opening_sent, stream_sent, bye_sent}
 use Rattle.sip_verifier.specs.Questions.{Question, IsFaulty, IsUnfinished, said_for, updates, IsLegalToEnd, Done, questions_of, lines, farewell, AreQuestions, Reached}
-use Rattle.sip_verifier.specs.VerdictClause.{WereReached}
+use Rattle.sip_verifier.specs.VerdictClause.{WereReached, EndsUnjudged}
 
 module _ (task : Task) (x : Exchange) where
   -- the whole talk
@@ -63,7 +65,7 @@ module _ (task : Task) (x : Exchange) where
         (said_for (version_of task) task.depth (updates task x)) (questions_of task x done))
         → x.report ≡ lines task x done
 
-  -- the talk stopped somewhere, or at a fault
+  -- the talk stopped somewhere, or at a fault that was judged
   abbrev pub Stopped : Type 0
   Stopped = IsUnderWay ⊎ ((fault : Fault) × EndsAtFault fault)
 
@@ -80,6 +82,7 @@ module _ (task : Task) (x : Exchange) where
   TalkClause (statuses.ReadFault ports.First) = IsUnderWay × IsPrefix x.talk before_end
   TalkClause (statuses.ReadFault ports.Second) = x.talk ≡ []
   TalkClause (statuses.WriteFault ports.Report) = Stopped
+  TalkClause (statuses.WriteFault ports.Keep) = (x.talk ≡ []) ⊎ EndsUnjudged task x
   TalkClause statuses.PeerFault = IsUnderWay
-  TalkClause statuses.OutOfMemory = Stopped
+  TalkClause statuses.OutOfMemory = Stopped ⊎ EndsUnjudged task x
   TalkClause _ = ⊥

@@ -7,9 +7,10 @@
 -- is then the last one. Where every query was accepted, the report is all their lines, and the
 -- stream was read to its end. Where the link failed, the report is the lines of all queries that
 -- were accepted. Where writing the report failed, it is the lines of the queries before the last
--- verdict and a front of the line of that verdict, and nothing was said after it. Where memory ran
--- out, it is the one or the other. Which queries were accepted is read off the talk, so none can be
--- left out.
+-- verdict and a front of the line of that verdict, and nothing was said after it. Where keeping the
+-- talk failed, the report is the lines of the queries before the one that was asked last, whose last
+-- reply was not judged; or nothing was said yet. Where memory ran out, it is one of the three. Which
+-- queries were accepted is read off the talk, so none can be left out.
 use Rattle.std.specs.Prelude.{◌≡◌, ◌⊎◌, ℕ, suc, List, [], ◌∷◌, ◌++◌, length, flat_map, option_to_list, Option, IfSome}
 use Rattle.sip_ports.specs.declared.port.TalkEvent.{TalkEvent}
 use Rattle.sip_replies.specs.Replies.{Fault}
@@ -23,7 +24,7 @@ use Rattle.sip_replies.specs.Talks.{IsPrefix, ending}
 use Rattle.sip_verifier.specs.Exchanges.{Exchange}
 use Rattle.sip_verifier.specs.Reports.{line, rejection}
 use Rattle.sip_verifier.specs.Talks.{bye_sent, stream_sent}
-use Rattle.sip_verifier.specs.Questions.{Question, Accepted, IsFaulty, IsWaiting, said_for, updates, Done, questions_of, lines, farewell, Reached}
+use Rattle.sip_verifier.specs.Questions.{Question, Accepted, IsFaulty, IsUnjudged, IsWaiting, said_for, updates, Done, questions_of, lines, farewell, Reached}
 
 module _ (task : Task) (x : Exchange) where
   -- every query was accepted, and every line was written
@@ -88,6 +89,19 @@ module _ (task : Task) (x : Exchange) where
         (questions_of task x done ++ option_to_list current) ++ farewell task x done)
     pub report : x.report ≡ lines task x done
 
+  -- What came of the last reply was not judged, after the replies to the queries before were
+  -- accepted. Nothing was said after it.
+  pub record EndsUnjudged : Type 0 where
+    pub done : Done task x
+    pub last : Question
+    pub ended : List TalkEvent
+    pub unjudged : IsUnjudged (version_of task) task.depth (updates task x) last ended
+    pub reached : Reached task x (questions_of task x done ++ last ∷ []) ended
+
+  -- the same, and the report is the lines of the queries before
+  abbrev pub UnjudgedWritten : Type 0
+  UnjudgedWritten = (end : EndsUnjudged) × (x.report ≡ lines task x end.done)
+
   abbrev pub VerdictClause : Status → Type 0
   VerdictClause statuses.Accepted = AllWritten
   VerdictClause (statuses.Rejected query round reason) = OneFaulty query round reason
@@ -98,6 +112,8 @@ module _ (task : Task) (x : Exchange) where
   VerdictClause (statuses.TooWide query) = x.report ≡ []
   VerdictClause (statuses.ReadFault port) = x.report ≡ []
   VerdictClause (statuses.WriteFault ports.Report) = CutInLine
+  VerdictClause (statuses.WriteFault ports.Keep) =
+      ((x.talk ≡ []) × (x.report ≡ [])) ⊎ UnjudgedWritten
   VerdictClause statuses.PeerFault = NoneLeft
-  VerdictClause statuses.OutOfMemory = NoneLeft ⊎ CutInLine
+  VerdictClause statuses.OutOfMemory = NoneLeft ⊎ CutInLine ⊎ UnjudgedWritten
   VerdictClause _ = ⊥

@@ -1,6 +1,6 @@
 //! The query of a seat, asked of the helper by the check of its kind.
 
-ghost use Rattle.std.specs.Prelude.{◌≡◌, ◌≢◌, ◌≤◌, ◌*◌, ◌/◌, IsSomeAnd, ℕ, List, Some, length, take, IsTrue};
+ghost use Rattle.std.specs.Prelude.{◌≡◌, ◌≤◌, ◌*◌, ◌/◌, IsSomeAnd, ℕ, List, Some, length, take, IsTrue};
 ghost use Rattle.sip_field.specs.Elements.{m61_number};
 ghost use Rattle.sip_field.specs.Moduli.{m61_modulus};
 ghost use Rattle.sip_ports.specs.Ports.{Lasts, Rose};
@@ -9,6 +9,7 @@ ghost use Rattle.sip_sums.specs.AcceptsSum.{product_at};
 ghost use Rattle.sip_sums.specs.Questions.{Lists, lists_of};
 ghost use Rattle.sip_wire.specs.Versions.{Speaks};
 ghost use Rattle.sip_verifier.specs.Asking.{Asks};
+ghost use Rattle.sip_verifier.specs.Keeping.{KeepsReplies};
 ghost use Rattle.sip_verifier.specs.inside.Judging.{found_in, most_nodes, most_places, verdict_of};
 ghost use Rattle.sip_verifier.specs.inside.Protocols.{IsProtocol};
 ghost use Rattle.sip_heavy.specs.Protocol.{count_of, heavy_asked, heavy_protocol};
@@ -20,7 +21,7 @@ use crate::session::{SessionFault, Verdict};
 use sip_field::{Field, M61};
 use sip_heavy::{HeavyAsking, HeavySpace};
 use sip_mle::interval_at;
-use sip_ports::{Link, NullSink};
+use sip_ports::{Link, Sink};
 use sip_replies::{AskStop, Said, ask};
 use sip_subvec::SubAsking;
 use sip_sums::SumAsking;
@@ -28,15 +29,17 @@ use sip_tree::AugRoot;
 use sip_vector::{CAP, Entry, Query, share_of};
 use sip_wire::{Frame, Version};
 
-/// Asks the query of a seat, takes the replies and checks them. The pairs of an answer are written to the front of `entries`.
+/// Asks the query of a seat, takes the replies and checks them. The pairs of an answer are written to the front of `entries`, and what
+/// comes of the replies to `keep`.
 #[inline(never)]
-pub(crate) fn ask_seat<L: Link>(
+pub(crate) fn ask_seat<L: Link, C: Sink>(
     version: Version,
     seat: &QuerySeat,
     entries: &mut [Entry],
     frame: &mut Frame,
     space: &mut Option<HeavySpace>,
     link: &mut L,
+    keep: &mut C,
 ) -> Result<Said, AskStop>
     requires seat { IsTrue (is_seat (length seat.now.block) seat.now) }
     requires speaks { Speaks version (length seat.now.block) seat.now.query }
@@ -52,46 +55,51 @@ pub(crate) fn ask_seat<L: Link>(
     ensures lasts { Lasts L.faults L.wants L.is_sure link.old link.new }
     ensures cause { result ≡ Err AskStop.PeerFault → Rose (L.faults link.old) (L.faults link.new) }
     ensures memory { result ≡ Err AskStop.OutOfMemory → Rose (L.wants link.old) (L.wants link.new) }
-    ensures no_keep { result ≢ Err AskStop.KeepFault }
-    ensures no_keep_memory { result ≢ Err AskStop.KeepOutOfMemory }
+    ensures kept { KeepsReplies (L.talk link.old) (L.talk link.new) (C.talk keep.old)
+        (C.talk keep.new) (verdict_of result) }
+    ensures keep_lasts { Lasts C.faults C.wants C.is_sure keep.old keep.new }
+    ensures keep_cause { result ≡ Err AskStop.KeepFault
+        → Rose (C.faults keep.old) (C.faults keep.new) }
+    ensures keep_memory { result ≡ Err AskStop.KeepOutOfMemory
+        → Rose (C.wants keep.old) (C.wants keep.new) }
 {
     match (&seat.query, &seat.running) {
         (Query::Sub { lo, hi }, Running::Root(root)) => {
             let levels = root.seat.depth();
             prove!(levels <= CAP);
             let mut check = SubAsking::start(root, *lo, *hi);
-            // No talk is kept yet.
-            let mut keep = NullSink::new();
-            ask(
-                &mut check, version, seat.query, entries, frame, link, &mut keep,
-            )
+            ask(&mut check, version, seat.query, entries, frame, link, keep)
         }
         (Query::Range { lo, hi, .. }, Running::Point(point)) => {
             let interval = interval_at(&point.seat, *lo, *hi);
             let product = point.value().times(interval);
-            ask_sum(version, seat, product, entries, frame, link)
+            ask_sum(version, seat, product, entries, frame, link, keep)
         }
         (Query::F2 { .. }, Running::Point(point)) => {
             let product = point.value().times(point.value());
-            ask_sum(version, seat, product, entries, frame, link)
+            ask_sum(version, seat, product, entries, frame, link, keep)
         }
         (Query::Inner, Running::Points(points)) => {
             let product = points.first.value().times(points.second);
-            ask_sum(version, seat, product, entries, frame, link)
+            ask_sum(version, seat, product, entries, frame, link, keep)
         }
         (Query::Heavy { at_least, .. }, Running::AugRoot(root)) => {
-            ask_heavy(version, seat, root, *at_least, entries, frame, space, link)
+            ask_heavy(
+                version, seat, root, *at_least, entries, frame, space, link, keep,
+            )
         }
         (Query::Share { num, den, .. }, Running::AugRoot(root)) => {
             let at_least = share_of(root.total(), *num, *den);
-            ask_heavy(version, seat, root, at_least, entries, frame, space, link)
+            ask_heavy(
+                version, seat, root, at_least, entries, frame, space, link, keep,
+            )
         }
         _ => unreachable!(),
     }
 }
 
 // Asks the query of a seat for the entries of at least `at_least` in the vector that has this root.
-fn ask_heavy<L: Link>(
+fn ask_heavy<L: Link, C: Sink>(
     version: Version,
     seat: &QuerySeat,
     root: &AugRoot<M61, CAP>,
@@ -100,6 +108,7 @@ fn ask_heavy<L: Link>(
     frame: &mut Frame,
     space: &mut Option<HeavySpace>,
     link: &mut L,
+    keep: &mut C,
 ) -> Result<Said, AskStop>
     requires seat { IsTrue (is_seat (length seat.now.block) seat.now) }
     requires speaks { Speaks version (length seat.now.block) seat.now.query }
@@ -119,31 +128,33 @@ fn ask_heavy<L: Link>(
     ensures lasts { Lasts L.faults L.wants L.is_sure link.old link.new }
     ensures cause { result ≡ Err AskStop.PeerFault → Rose (L.faults link.old) (L.faults link.new) }
     ensures memory { result ≡ Err AskStop.OutOfMemory → Rose (L.wants link.old) (L.wants link.new) }
-    ensures no_keep { result ≢ Err AskStop.KeepFault }
-    ensures no_keep_memory { result ≢ Err AskStop.KeepOutOfMemory }
+    ensures kept { KeepsReplies (L.talk link.old) (L.talk link.new) (C.talk keep.old)
+        (C.talk keep.new) (verdict_of result) }
+    ensures keep_lasts { Lasts C.faults C.wants C.is_sure keep.old keep.new }
+    ensures keep_cause { result ≡ Err AskStop.KeepFault
+        → Rose (C.faults keep.old) (C.faults keep.new) }
+    ensures keep_memory { result ≡ Err AskStop.KeepOutOfMemory
+        → Rose (C.wants keep.old) (C.wants keep.new) }
 {
     let Some(lent) = space.take() else {
         unreachable!()
     };
     let mut check = HeavyAsking::start(root, at_least, lent);
-    // No talk is kept yet.
-    let mut keep = NullSink::new();
-    let asked = ask(
-        &mut check, version, seat.query, entries, frame, link, &mut keep,
-    );
+    let asked = ask(&mut check, version, seat.query, entries, frame, link, keep);
     *space = Some(check.into_space());
     asked
 }
 
 // Asks the query of a seat for a sum, where the extensions of the lists that it is over have this product.
 #[inline(never)]
-fn ask_sum<L: Link>(
+fn ask_sum<L: Link, C: Sink>(
     version: Version,
     seat: &QuerySeat,
     product: M61,
     entries: &mut [Entry],
     frame: &mut Frame,
     link: &mut L,
+    keep: &mut C,
 ) -> Result<Said, AskStop>
     requires seat { IsTrue (is_seat (length seat.now.block) seat.now) }
     requires speaks { Speaks version (length seat.now.block) seat.now.query }
@@ -157,15 +168,16 @@ fn ask_sum<L: Link>(
     ensures lasts { Lasts L.faults L.wants L.is_sure link.old link.new }
     ensures cause { result ≡ Err AskStop.PeerFault → Rose (L.faults link.old) (L.faults link.new) }
     ensures memory { result ≡ Err AskStop.OutOfMemory → Rose (L.wants link.old) (L.wants link.new) }
-    ensures no_keep { result ≢ Err AskStop.KeepFault }
-    ensures no_keep_memory { result ≢ Err AskStop.KeepOutOfMemory }
+    ensures kept { KeepsReplies (L.talk link.old) (L.talk link.new) (C.talk keep.old)
+        (C.talk keep.new) (verdict_of result) }
+    ensures keep_lasts { Lasts C.faults C.wants C.is_sure keep.old keep.new }
+    ensures keep_cause { result ≡ Err AskStop.KeepFault
+        → Rose (C.faults keep.old) (C.faults keep.new) }
+    ensures keep_memory { result ≡ Err AskStop.KeepOutOfMemory
+        → Rose (C.wants keep.old) (C.wants keep.new) }
 {
     let mut check = SumAsking::start(seat.block(), product);
-    // No talk is kept yet.
-    let mut keep = NullSink::new();
-    ask(
-        &mut check, version, seat.query, entries, frame, link, &mut keep,
-    )
+    ask(&mut check, version, seat.query, entries, frame, link, keep)
 }
 
 /// How many of so many places have pairs of the answer.

@@ -12,7 +12,7 @@ ghost use Rattle.sip_verifier.specs.Exchanges.{TakesAtMost};
 ghost use Rattle.sip_verifier.specs.inside.Ending.{status_of_start};
 ghost use Rattle.sip_verifier.specs.Moments.{counts, moment};
 ghost use Rattle.sip_verifier.specs.NextSeat.{IsNext};
-ghost use Rattle.sip_verifier.specs.inside.Progress.{Checks, ChecksAll, status_of};
+ghost use Rattle.sip_verifier.specs.inside.Progress.{Checks, ChecksAll, Kept, status_of};
 ghost use Rattle.sip_verifier.specs.QuerySeats.{Seated, StandsFor};
 ghost use Rattle.sip_verifier.specs.RunClause.{RunClause};
 ghost use Rattle.sip_verifier.specs.Seats.{Seating};
@@ -43,16 +43,19 @@ fn check_query<L: Link, K: Sink, C: Sink>(
         → IsNext session.old.depth stream session.old.left query.now seat
         → Checks session.old.version session.old.depth stream query.now seat.block number
         (L.talk peer.old) (L.talk peer.new) (K.talk report.old) (K.talk report.new) result }
+    ensures kept { Kept (L.talk peer.old) (L.talk peer.new) (C.talk keep.old) (C.talk keep.new)
+        result }
     ensures next { session.new.left ≡ drop 1 session.old.left }
     ensures version { session.new.version ≡ session.old.version }
     ensures depth { session.new.depth ≡ session.old.depth }
     ensures goes_on { OnOk result (session.new.spent ≡ false) }
     ensures fault { (first firsts second seconds : ℕ) → Stops stops_asking
-        (counts first second (L.faults peer.old) (K.faults report.old))
-        (counts firsts seconds (L.faults peer.new) (K.faults report.new)) result }
+        (counts first second (L.faults peer.old) (K.faults report.old) (C.faults keep.old))
+        (counts firsts seconds (L.faults peer.new) (K.faults report.new) (C.faults keep.new))
+        result }
     ensures peer { Lasts L.faults L.wants L.is_sure peer.old peer.new }
     ensures report { Lasts K.faults K.wants K.is_sure report.old report.new }
-    ensures kept { keep.new ≡ keep.old }
+    ensures keep { Lasts C.faults C.wants C.is_sure keep.old keep.new }
 {
     match session.ask(peer, keep) {
         Ok(Verdict::Pairs) => on_report(write_pairs(report, query, session.entries())),
@@ -87,12 +90,15 @@ fn check_all<L: Link, K: Sink, C: Sink>(
         → ChecksAll session.old.version session.old.depth stream queries.now
         (map (λ seat. seat.block) session.old.left)
         (L.talk peer.old) (L.talk peer.new) (K.talk report.old) (K.talk report.new) result }
+    ensures kept { Kept (L.talk peer.old) (L.talk peer.new) (C.talk keep.old) (C.talk keep.new)
+        result }
     ensures fault { (first firsts second seconds : ℕ) → Stops stops_asking
-        (counts first second (L.faults peer.old) (K.faults report.old))
-        (counts firsts seconds (L.faults peer.new) (K.faults report.new)) result }
+        (counts first second (L.faults peer.old) (K.faults report.old) (C.faults keep.old))
+        (counts firsts seconds (L.faults peer.new) (K.faults report.new) (C.faults keep.new))
+        result }
     ensures peer { Lasts L.faults L.wants L.is_sure peer.old peer.new }
     ensures report { Lasts K.faults K.wants K.is_sure report.old report.new }
-    ensures kept { keep.new ≡ keep.old }
+    ensures keep { Lasts C.faults C.wants C.is_sure keep.old keep.new }
 {
     let mut number = 0;
     for query in queries {
@@ -163,16 +169,18 @@ fn steps<A: Source, B: Source, L: Link, K: Sink, C: Sink>(
     requires { CanBeDone task.now }
     ensures keeps { RunClause task.now
         (moment (A.left first.old) (A.faults first.old) (B.left second.old) (B.faults second.old)
-        (L.talk peer.old) (L.faults peer.old) (K.talk report.old) (K.faults report.old))
+        (L.talk peer.old) (L.faults peer.old) (K.talk report.old) (K.faults report.old)
+        (C.talk keep.old) (C.faults keep.old))
         (moment (A.left first.new) (A.faults first.new) (B.left second.new) (B.faults second.new)
-        (L.talk peer.new) (L.faults peer.new) (K.talk report.new) (K.faults report.new))
+        (L.talk peer.new) (L.faults peer.new) (K.talk report.new) (K.faults report.new)
+        (C.talk keep.new) (C.faults keep.new))
         (status_of result) }
     ensures first { Lasts A.faults A.wants A.is_sure first.old first.new }
     ensures seed { TakesAtMost 32 (B.left second.old) (B.left second.new) }
     ensures second { Lasts B.faults B.wants B.is_sure second.old second.new }
     ensures peer { Lasts L.faults L.wants L.is_sure peer.old peer.new }
     ensures report { Lasts K.faults K.wants K.is_sure report.old report.new }
-    ensures kept { keep.new ≡ keep.old }
+    ensures keep { Lasts C.faults C.wants C.is_sure keep.old keep.new }
 {
     let levels = task.depth.get();
     prove!(levels >= 1 && levels <= Depth::MOST);
@@ -188,7 +196,8 @@ fn steps<A: Source, B: Source, L: Link, K: Sink, C: Sink>(
 /// After a rejection its line is written and nothing more is sent. The memory is that of [`crate::Session::new`], which doesn't grow with the
 /// stream; the time is linear in the stream and the replies, with at most `depth` multiplications for each record and query.
 ///
-/// `keep` is left alone.
+/// `keep` gets the run's transcript: its head before anything is said, and each frame's bytes as soon as they came, before they are
+/// judged.
 #[inline(never)]
 pub fn check_stream<A: Source, B: Source, L: Link, K: Sink, C: Sink>(
     alloc: Global,
@@ -202,16 +211,18 @@ pub fn check_stream<A: Source, B: Source, L: Link, K: Sink, C: Sink>(
     requires { CanBeDone task.now }
     ensures keeps { RunClause task.now
         (moment (A.left first.old) (A.faults first.old) (B.left second.old) (B.faults second.old)
-        (L.talk peer.old) (L.faults peer.old) (K.talk report.old) (K.faults report.old))
+        (L.talk peer.old) (L.faults peer.old) (K.talk report.old) (K.faults report.old)
+        (C.talk keep.old) (C.faults keep.old))
         (moment (A.left first.new) (A.faults first.new) (B.left second.new) (B.faults second.new)
-        (L.talk peer.new) (L.faults peer.new) (K.talk report.new) (K.faults report.new))
+        (L.talk peer.new) (L.faults peer.new) (K.talk report.new) (K.faults report.new)
+        (C.talk keep.new) (C.faults keep.new))
         result }
     ensures first { Lasts A.faults A.wants A.is_sure first.old first.new }
     ensures seed { TakesAtMost 32 (B.left second.old) (B.left second.new) }
     ensures second { Lasts B.faults B.wants B.is_sure second.old second.new }
     ensures peer { Lasts L.faults L.wants L.is_sure peer.old peer.new }
     ensures report { Lasts K.faults K.wants K.is_sure report.old report.new }
-    ensures kept { keep.new ≡ keep.old }
+    ensures keep { Lasts C.faults C.wants C.is_sure keep.old keep.new }
 {
     match steps(alloc, task, first, second, peer, report, keep) {
         Ok(()) => Status::Accepted,

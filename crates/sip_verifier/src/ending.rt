@@ -2,7 +2,7 @@
 
 ghost use Rattle.std.specs.Prelude.{◌≡◌, MatchResult};
 ghost use Rattle.sip_ports.specs.declared.port.PortStop.{PortStop as AnyPortStop};
-ghost use Rattle.sip_verifier.specs.inside.Ending.{status_of_fault, status_of_link, status_of_report, status_of_start};
+ghost use Rattle.sip_verifier.specs.inside.Ending.{status_of_fault, status_of_keep, status_of_link, status_of_report, status_of_start};
 
 use crate::session::{SessionFault, SessionStart};
 use crate::{Port, Status};
@@ -16,6 +16,18 @@ pub(crate) fn on_report(written: Result<(), PortStop>) -> Result<(), Status>
     match written {
         Ok(()) => Ok(()),
         Err(PortStop::Failed) => Err(Status::WriteFault { port: Port::Report }),
+        Err(PortStop::OutOfMemory) => Err(Status::OutOfMemory),
+    }
+}
+
+/// What a write to the record of the talk gave.
+pub(crate) fn on_keep(written: Result<(), PortStop>) -> Result<(), Status>
+    ensures { MatchResult result (λ x. written ≡ Ok x)
+        (λ status. (port : AnyPortStop) × (written ≡ Err port) × (status ≡ status_of_keep port)) }
+{
+    match written {
+        Ok(()) => Ok(()),
+        Err(PortStop::Failed) => Err(Status::WriteFault { port: Port::Keep }),
         Err(PortStop::OutOfMemory) => Err(Status::OutOfMemory),
     }
 }

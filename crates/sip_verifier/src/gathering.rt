@@ -17,14 +17,15 @@ ghost use Rattle.sip_verifier.specs.Seats.{AreSeats};
 ghost use Rattle.std.specs.Result.{is_err};
 ghost use Rattle.sip_verifier.specs.Exchanges.{TakesAtMost};
 ghost use Rattle.sip_verifier.specs.Gathering.{Gathers};
+ghost use Rattle.sip_verifier.specs.Keeping.{KeepsHead};
 ghost use Rattle.sip_verifier.specs.Moments.{counts};
-ghost use Rattle.sip_verifier.specs.Statuses.{Stops, stops_gathering};
+ghost use Rattle.sip_verifier.specs.Statuses.{Stops, stops_following, stops_gathering};
 ghost use Rattle.sip_verifier.specs.Tasks.{CanBeDone};
 
 #[cfg(test)]
 mod tests;
 
-use crate::ending::on_link;
+use crate::ending::{on_keep, on_link};
 use crate::{Feed, Port, Seats, Status, Task};
 use sip_ports::{Link, PortStop, Sink, Source, read_exact_into};
 use sip_stream::{Reader, StreamFault};
@@ -50,9 +51,9 @@ fn draw<B: Source>(task: &Task, second: &mut B) -> Result<Seats, Status>
     requires { CanBeDone task.now }
     ensures draws { (seed : List ℕ) → B.left second.old ≡ Some seed → Draws task.now seed result }
     ensures seats { IfOk result (AreOf task.now []) }
-    ensures fault { (first firsts peer peers report reports : ℕ) → Stops stops_gathering
-        (counts first (B.faults second.old) peer report)
-        (counts firsts (B.faults second.new) peers reports) result }
+    ensures fault { (first firsts peer peers report reports keep keeps : ℕ)
+        → Stops stops_gathering (counts first (B.faults second.old) peer report keep)
+        (counts firsts (B.faults second.new) peers reports keeps) result }
     ensures memory { result ≡ Err Status.OutOfMemory
         → Rose (B.wants second.old) (B.wants second.new) }
     ensures told { IsSome (B.left second.old) → IsSome (B.left second.new) }
@@ -128,9 +129,9 @@ fn follow<A: Source, L: Link>(
         → Gathers task.now bytes seed (A.left first.new) (L.talk peer.old)
         (L.talk peer.new) (seated seats.new result) }
     ensures seats { IfOk result (λ _. (stream : List AnyUpdate) × AreOf task.now stream seats.new) }
-    ensures fault { (second seconds report reports : ℕ) → Stops stops_gathering
-        (counts (A.faults first.old) second (L.faults peer.old) report)
-        (counts (A.faults first.new) seconds (L.faults peer.new) reports) result }
+    ensures fault { (second seconds report reports keep keeps : ℕ) → Stops stops_following
+        (counts (A.faults first.old) second (L.faults peer.old) report keep)
+        (counts (A.faults first.new) seconds (L.faults peer.new) reports keeps) result }
     ensures memory { result ≡ Err Status.OutOfMemory
         → Rose (A.wants first.old) (A.wants first.new)
         ⊎ Rose (L.wants peer.old) (L.wants peer.new) }
@@ -153,20 +154,18 @@ fn follow<A: Source, L: Link>(
     Ok(())
 }
 
-/// Draws the challenges from 32 bytes of `second`, opens the talk, reads the stream of `first` to its end, sends it on over `peer`
-/// and keeps the seats that stand for it.
+/// Draws the challenges from 32 bytes of `second`, writes the head of the run's transcript to `keep`, opens the talk, reads the
+/// stream of `first` to its end, sends it on over `peer` and keeps the seats that stand for it.
 ///
 /// There is no allocator here: what is kept of a stream has a fixed size, whatever its length. The seats take the records in blocks
 /// of 512: the time for each record is one look-up and one multiplication for each seven levels and query, and that of their tables
 /// once a block. A frame is sent for each 512 records, in one write.
 ///
-/// `keep` is left alone.
-///
 /// # Errors
 ///
-/// The first in this order: `ReadFault` of `second`, `BadSeed`, `SeedSpent`; then `PeerFault` of the opening; then what comes first while the
-/// stream is read and sent: `BadStream`, `ReadFault` of `first`, `PeerFault`. `OutOfMemory` comes only where a port's
-/// count of wants rose. The end of the stream was then not sent whole.
+/// The first in this order: `ReadFault` of `second`, `BadSeed`, `SeedSpent`; then `WriteFault` of `keep`, before anything is said; then
+/// `PeerFault` of the opening; then what comes first while the stream is read and sent: `BadStream`, `ReadFault` of `first`, `PeerFault`.
+/// `OutOfMemory` comes only where a port's count of wants rose. The end of the stream was then not sent whole.
 #[inline(never)]
 pub fn gather<A: Source, B: Source, L: Link, C: Sink>(
     task: &Task,
@@ -180,13 +179,18 @@ pub fn gather<A: Source, B: Source, L: Link, C: Sink>(
         → B.left second.old ≡ Some seed
         → Gathers task.now bytes seed (A.left first.new) (L.talk peer.old)
         (L.talk peer.new) result }
+    ensures kept { (seed : List ℕ) → B.left second.old ≡ Some seed
+        → KeepsHead task.now seed (C.talk keep.old) (C.talk keep.new) result }
     ensures fault { (report reports : ℕ) → Stops stops_gathering
-        (counts (A.faults first.old) (B.faults second.old) (L.faults peer.old) report)
-        (counts (A.faults first.new) (B.faults second.new) (L.faults peer.new) reports) result }
+        (counts (A.faults first.old) (B.faults second.old) (L.faults peer.old) report
+        (C.faults keep.old))
+        (counts (A.faults first.new) (B.faults second.new) (L.faults peer.new) reports
+        (C.faults keep.new)) result }
     ensures memory { result ≡ Err Status.OutOfMemory
         → Rose (A.wants first.old) (A.wants first.new)
         ⊎ Rose (B.wants second.old) (B.wants second.new)
-        ⊎ Rose (L.wants peer.old) (L.wants peer.new) }
+        ⊎ Rose (L.wants peer.old) (L.wants peer.new)
+        ⊎ Rose (C.wants keep.old) (C.wants keep.new) }
     ensures seated { IfOk result (λ seats. (seats.depth ≡ task.now.depth)
         × (map (λ s. s.query) seats.seats ≡ task.now.queries.items)) }
     ensures told { IsSome (A.left first.old) → IsSome (A.left first.new) }
@@ -195,11 +199,12 @@ pub fn gather<A: Source, B: Source, L: Link, C: Sink>(
     ensures first { Lasts A.faults A.wants A.is_sure first.old first.new }
     ensures second { Lasts B.faults B.wants B.is_sure second.old second.new }
     ensures peer { Lasts L.faults L.wants L.is_sure peer.old peer.new }
-    ensures kept { keep.new ≡ keep.old }
+    ensures keep { Lasts C.faults C.wants C.is_sure keep.old keep.new }
 {
     // The seats stay where they were drawn: they are too large to be moved about.
     let mut drawn = draw(task, second);
     if let Ok(seats) = &mut drawn {
+        on_keep(seats.put_transcript_head(keep))?;
         follow(task, seats, first, peer)?;
     }
     drawn

@@ -1,7 +1,7 @@
 //! What a verifier keeps of a stream: for each query its challenges and one running number or two.
 
 ghost use Rattle.std.specs.Prelude.{◌≡◌, ℕ, ◌*◌, ◌<◌, ◌≤◌, ◌^◌, IsTrue, List, [], ◌∷◌, ◌++◌, length, map, take, All};
-ghost use Rattle.std.specs.List.{list_all};
+ghost use Rattle.std.specs.List.{list_all, zip};
 ghost use Rattle.arrayvec.specs.ArrayVec.{array_vec_len};
 ghost use Rattle.sip_field.specs.Elements.{m61_number};
 ghost use Rattle.sip_ports.specs.Ports.{HasCause, SendsWhole};
@@ -195,7 +195,7 @@ impl Seats {
         }
     }
 
-    /// Writes the head of the run's transcript: the depth, and each query with its challenges.
+    /// Writes the head of the run's transcript: the version, the depth, and each query with its challenges.
     ///
     /// # Errors
     ///
@@ -205,7 +205,7 @@ impl Seats {
             (stream : List AnyUpdate)
             → AreSeats depth queries blocks stream self.now
             → SendsWhole (K.talk sink.old) (K.talk sink.new) result
-            (head_of (needed depth queries) depth queries blocks) }
+            (head_of (needed depth queries) depth (zip queries blocks)) }
         ensures cause { HasCause K.faults K.wants K.is_sure sink.old sink.new result }
     {
         put_head(self.version, self.depth, self.seats.len() as u8, sink)?;

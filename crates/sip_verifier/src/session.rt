@@ -1,6 +1,6 @@
 //! The queries of a run, asked one after another.
 
-ghost use Rattle.std.specs.Prelude.{◌≡◌, ◌≢◌, ◌<◌, ◌≤◌, ◌^◌, All, ℕ, List, [], ◌∷◌, true, false, length, drop, vec_len, IsTrue};
+ghost use Rattle.std.specs.Prelude.{◌≡◌, ◌⊎◌, ◌<◌, ◌≤◌, ◌^◌, All, ℕ, List, [], ◌∷◌, true, false, length, drop, vec_len, IsTrue};
 ghost use Rattle.std.specs.List.{list_all};
 ghost use Rattle.sip_ports.specs.Ports.{Lasts, Rose};
 ghost use Rattle.sip_vector.specs.declared.query.Query.{Query as AnyQuery};
@@ -9,6 +9,7 @@ ghost use Rattle.sip_vector.specs.Answers.{Fits};
 ghost use Rattle.sip_vector.specs.Streams.{IsLegal};
 ghost use Rattle.sip_wire.specs.Versions.{Speaks, deepest, speaks};
 ghost use Rattle.sip_verifier.specs.Asking.{AnswersCount, Asks};
+ghost use Rattle.sip_verifier.specs.Keeping.{KeepsReplies};
 ghost use Rattle.sip_verifier.specs.inside.Judging.{are_enough, lends_enough, most_nodes, most_places};
 ghost use Rattle.sip_verifier.specs.NextSeat.{IsNext};
 ghost use Rattle.sip_verifier.specs.QuerySeats.{Seated, is_seat};
@@ -187,7 +188,11 @@ impl Session {
     }
 
     // Asks the next query, takes the replies and judges them.
-    fn judge<L: Link>(&mut self, link: &mut L) -> Result<Verdict, SessionFault>
+    fn judge<L: Link, C: Sink>(
+        &mut self,
+        link: &mut L,
+        keep: &mut C,
+    ) -> Result<Verdict, SessionFault>
         requires left { 0 < length self.old.left }
         requires live { self.old.spent ≡ false }
         ensures asks { (stream : List AnyUpdate) (query : AnyQuery) (seat : Seated)
@@ -204,9 +209,14 @@ impl Session {
         ensures cause { result ≡ Err SessionFault.PeerFault
             → Rose (L.faults link.old) (L.faults link.new) }
         ensures memory { result ≡ Err SessionFault.OutOfMemory
-            → Rose (L.wants link.old) (L.wants link.new) }
-        ensures no_keep { result ≢ Err SessionFault.KeepFault }
+            → Rose (L.wants link.old) (L.wants link.new)
+            ⊎ Rose (C.wants keep.old) (C.wants keep.new) }
+        ensures kept { KeepsReplies (L.talk link.old) (L.talk link.new) (C.talk keep.old)
+            (C.talk keep.new) result }
+        ensures keep_cause { result ≡ Err SessionFault.KeepFault
+            → Rose (C.faults keep.old) (C.faults keep.new) }
         ensures link { Lasts L.faults L.wants L.is_sure link.old link.new }
+        ensures keep { Lasts C.faults C.wants C.is_sure keep.old keep.new }
     {
         let seats = self.seats.all();
         let seat = &seats[self.asked];
@@ -217,6 +227,7 @@ impl Session {
             &mut self.frame,
             &mut self.space,
             link,
+            keep,
         );
         self.asked += 1;
         self.found = found_in(self.entries.len(), &asked);
@@ -229,12 +240,13 @@ impl Session {
     /// A challenge leaves only after the reply before it was taken and passed its tests, and the last challenge never leaves. No
     /// byte is received behind the one that shows the verdict. Takes no memory; the time is linear in the replies.
     ///
-    /// `keep` is left alone.
+    /// `keep` gets each frame's bytes as soon as they came, before they are judged; of a frame that the link's failure cut, it gets none.
     ///
     /// # Errors
     ///
-    /// Those of the link, each only where its own count of them rose. A reply is then missing or not whole, and those before it
-    /// have no fault. After an error or a rejection the session is spent.
+    /// `PeerFault`: a reply is then missing or not whole, and those before it have no fault. `KeepFault`: what came of the last reply
+    /// was not judged. `OutOfMemory` is the one or the other. Each comes only where that port's own count of them rose. After an error
+    /// or a rejection the session is spent.
     pub fn ask<L: Link, C: Sink>(
         &mut self,
         link: &mut L,
@@ -259,12 +271,16 @@ impl Session {
         ensures cause { result ≡ Err SessionFault.PeerFault
             → Rose (L.faults link.old) (L.faults link.new) }
         ensures memory { result ≡ Err SessionFault.OutOfMemory
-            → Rose (L.wants link.old) (L.wants link.new) }
-        ensures no_keep { result ≢ Err SessionFault.KeepFault }
+            → Rose (L.wants link.old) (L.wants link.new)
+            ⊎ Rose (C.wants keep.old) (C.wants keep.new) }
+        ensures kept { KeepsReplies (L.talk link.old) (L.talk link.new) (C.talk keep.old)
+            (C.talk keep.new) result }
+        ensures keep_cause { result ≡ Err SessionFault.KeepFault
+            → Rose (C.faults keep.old) (C.faults keep.new) }
         ensures link { Lasts L.faults L.wants L.is_sure link.old link.new }
-        ensures kept { keep.new ≡ keep.old }
+        ensures keep { Lasts C.faults C.wants C.is_sure keep.old keep.new }
     {
-        self.judge(link)
+        self.judge(link, keep)
     }
 }
 

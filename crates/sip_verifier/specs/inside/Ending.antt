@@ -16,6 +16,11 @@ abbrev pub status_of_report : PortStop → Status
 status_of_report port_stops.Failed = statuses.WriteFault ports.Report
 status_of_report port_stops.OutOfMemory = statuses.OutOfMemory
 
+-- where the record of the talk stopped
+abbrev pub status_of_keep : PortStop → Status
+status_of_keep port_stops.Failed = statuses.WriteFault ports.Keep
+status_of_keep port_stops.OutOfMemory = statuses.OutOfMemory
+
 -- where the link stopped
 abbrev pub status_of_link : PortStop → Status
 status_of_link port_stops.Failed = statuses.PeerFault

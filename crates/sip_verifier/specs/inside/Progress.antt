@@ -12,10 +12,11 @@ use Rattle.sip_verifier.specs.declared.status.Port.TheVariants as ports
 use Rattle.sip_verifier.specs.declared.status.Status.{Status}
 use Rattle.sip_verifier.specs.declared.status.Status.TheVariants as statuses
 use Rattle.sip_verifier.specs.declared.task.Task.{Task}
-use Rattle.sip_verifier.specs.Asking.{IsAnswered, IsRejected, IsInterrupted}
+use Rattle.sip_verifier.specs.Asking.{IsAnswered, IsRejected, IsInterrupted, IsUnrecorded}
 use Rattle.sip_verifier.specs.CauseClause.{CauseClause}
 use Rattle.sip_replies.specs.Talks.{IsPrefix}
 use Rattle.sip_verifier.specs.Exchanges.{Exchange}
+use Rattle.sip_verifier.specs.Keeping.{AllIsKept, FrontIsKept}
 use Rattle.sip_verifier.specs.Moments.{Counts}
 use Rattle.sip_verifier.specs.Reports.{line, rejection}
 use Rattle.sip_verifier.specs.TalkClause.{TalkClause}
@@ -59,14 +60,28 @@ module _ (version : Version) (depth : ℕ) (stream : List Update) (query : Query
     pub interrupted : IsInterrupted version depth stream query block old new
     pub same : full ≡ blank
 
+  -- what came of its last reply was not judged, and nothing was written
+  pub record StaysUnjudged : Type 0 where
+    pub unrecorded : IsUnrecorded version depth stream query block old new
+    pub same : full ≡ blank
+
   -- what came of it
   abbrev pub Checks : Result (Unit {0}) Status → Type 0
   Checks (Ok _) = Passes
   Checks (Err (statuses.Rejected k round reason)) = (k ≡ number) × Fails round reason
   Checks (Err (statuses.WriteFault ports.Report)) = PassesInPart ⊎ FailsInPart
+  Checks (Err (statuses.WriteFault ports.Keep)) = StaysUnjudged
   Checks (Err statuses.PeerFault) = HasNone
-  Checks (Err statuses.OutOfMemory) = PassesInPart ⊎ FailsInPart ⊎ HasNone
+  Checks (Err statuses.OutOfMemory) = PassesInPart ⊎ FailsInPart ⊎ HasNone ⊎ StaysUnjudged
   Checks (Err _) = ⊥
+
+-- what was kept of what was heard, where the queries came to this
+abbrev pub Kept : Option (List TalkEvent) → Option (List TalkEvent) → Option (List TalkEvent)
+    → Option (List TalkEvent) → Result (Unit {0}) Status → Type 0
+Kept old new before now (Ok _) = AllIsKept old new before now
+Kept old new before now (Err (statuses.Rejected query round reason)) = AllIsKept old new before now
+Kept old new before now (Err (statuses.WriteFault ports.Report)) = AllIsKept old new before now
+Kept old new before now (Err _) = FrontIsKept old new before now
 
 -- ---- all queries
 

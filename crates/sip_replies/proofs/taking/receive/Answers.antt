@@ -5,11 +5,11 @@ use Rattle.sip_wire.specs.Filling.{filled as received}
 use Rattle.sip_replies.proofs.Receiving.{Takes-unkept, IsPart-failed, IsPart-no_memory}
 use Rattle.sip_replies.proofs.taking.receive.Goals as goal
 
-pub returns-in_err-keep-in_default-clause-took : goal.returns-in_err-keep-in_default-clause-took
-returns-in_err-keep-in_default-clause-took g c =
-    let kept = subst (λ (bytes : List ℕ). (n : ℕ) × (n < length bytes) × GoesOn (g.K.Sink.talk c.args.keep.now) (g.K.Sink.talk c.keep.new.self) (outs (take n bytes))) c.bytes.ensures c.in_err-keep-in_default.ensures.talk in
+pub returns-in_err-write_whole-in_default-clause-took : goal.returns-in_err-write_whole-in_default-clause-took
+returns-in_err-write_whole-in_default-clause-took g c =
+    let kept = subst (λ (bytes : List ℕ). (n : ℕ) × (n < length bytes) × GoesOn (g.K.Sink.talk c.args.keep.now) (g.K.Sink.talk c.write_whole.new.sink) (outs (take n bytes))) c.bytes.ensures c.in_err-write_whole-in_default.ensures.talk in
     Takes-unkept c.args.version c.args.place _ _ _ _ _ _ (frame_bytes c.decode_into.new.frame) (received c.decode_into.new.message c.decode_into.result) c.decode_into.ensures.did
-    c.in_err-keep-in_default.field-0.0 kept c.decode_into.new.message c.from_residual.result c.from_residual.ensures.1
+    c.in_err-write_whole-in_default.field-0.0 kept c.decode_into.new.message c.from_residual.result c.from_residual.ensures.1
 
 pub returns-in-Err-PeerFault-clause-took : goal.returns-in-Err-PeerFault-clause-took
 returns-in-Err-PeerFault-clause-took g c =

@@ -1,9 +1,9 @@
-use Rattle.std.proofs.Common.{◌≢◌, ◌+◌, ◌-◌, ◌^◌, ◌≤◌, min, Err, refl, sym, ap, subst, arith, IsTrue}
+use Rattle.std.proofs.Common.{◌-◌, ◌≤◌, refl, sym, ap, subst, arith, IsTrue}
 use Rattle.sip_vector.specs.declared.query.Query.{Query}
 use Rattle.sip_wire.specs.declared.message.Message.TheVariants as messages
 use Rattle.sip_wire.specs.Spelling.{fits}
-use Rattle.sip_replies.specs.declared.asking.AskStop.TheVariants as stops
 use Rattle.sip_verifier.specs.QuerySeats.{Seated}
+use Rattle.sip_verifier.proofs.KeptReplies.{replies_kept}
 use Rattle.sip_verifier.proofs.SeatAsked.{seat_has_spelling, heavy_asks}
 use Rattle.sip_verifier.proofs.asking.ask_heavy.Goals as goal
 
@@ -20,12 +20,10 @@ pub returns-clause-asks : goal.returns-clause-asks
 returns-clause-asks g c = λ depth stream protocol.
     let asked = ap (λ (s : Seated). s.query) c.seat.view_is in
     let stood = c.start-check.ensures.stands c.args.version c.args.entries.now c.requires.room in
-    let kept : c.ask-asked.result ≢ Err stops.KeepFault = λ is.
-    (let rose : min (0 + 1) (2 ^ 64 - 1) ≤ 0 = c.ask-asked.ensures.keeper is in omega (arith, rose))
-    in
-    let free : c.ask-asked.result ≢ Err stops.KeepOutOfMemory = λ is.
-    (let rose : min (0 + 1) (2 ^ 64 - 1) ≤ 0 = c.ask-asked.ensures.keeper_memory is in omega (arith, rose))
-    in
     heavy_asks c.args.version depth stream c.args.seat.now.query c.args.at_least c.args.root.now.hash c.args.root.now.total c.args.root.now.seat _ _ _ _ _ c.ask-asked.new.places c.ask-asked.result
     c.start-check.ensures.block protocol
-    (rw asked at (c.ask-asked.ensures.answers _ refl stood)) kept free
+    (rw asked at (c.ask-asked.ensures.answers _ refl stood))
+
+pub returns-clause-kept : goal.returns-clause-kept
+returns-clause-kept g c =
+    replies_kept _ _ _ _ _ _ _ _ c.ask-asked.result (c.ask-asked.ensures.answers _ refl (c.start-check.ensures.stands c.args.version c.args.entries.now c.requires.room))

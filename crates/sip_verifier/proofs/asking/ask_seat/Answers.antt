@@ -1,11 +1,11 @@
-use Rattle.std.proofs.Common.{◌≡◌, ◌≢◌, ◌+◌, ◌-◌, ◌^◌, ◌≤◌, min, length, Err, refl, sym, ap, ◌∙◌, subst, arith, IsTrue, rules, to_z, of_z, w64}
+use Rattle.std.proofs.Common.{◌≡◌, ◌-◌, ◌≤◌, length, refl, sym, ap, ◌∙◌, subst, arith, IsTrue, rules, to_z, of_z, w64}
 use Rattle.sip_vector.specs.declared.query.Query.{Query}
 use Rattle.sip_wire.specs.declared.message.Message.TheVariants as messages
 use Rattle.sip_wire.specs.Spelling.{fits}
-use Rattle.sip_replies.specs.declared.asking.AskStop.TheVariants as stops
 use Rattle.sip_field.specs.Elements.{m61_number}
 use Rattle.sip_verifier.specs.QuerySeats.{Seated}
 use Rattle.sip_verifier.specs.inside.Running.{block_of, numbers_of}
+use Rattle.sip_verifier.proofs.KeptReplies.{replies_kept}
 use Rattle.sip_verifier.proofs.SeatAsked.{seat_has_spelling, sub_has_room, sub_asks, range_product, square_product, inner_product, heavy_protocol_is, share_protocol_is}
 use Rattle.sip_vector.specs.Answers.{Fits}
 use Rattle.sip_vector.specs.Thresholds.{share_of}
@@ -33,18 +33,19 @@ returns-in-Sub-Root-clause-asks g c = λ depth stream stands.
     let room = sub_has_room c.args.seat.now c.in-Sub-Root.lo c.in-Sub-Root.hi
     (length c.args.entries.now) is c.requires.room in
     let stood = c.start-check.ensures.stands c.args.version c.args.entries.now room in
-    let kept : c.ask.result ≢ Err stops.KeepFault = λ is.
-    (let rose : min (0 + 1) (2 ^ 64 - 1) ≤ 0 = c.ask.ensures.keeper is in omega (arith, rose))
-    in
-    let free : c.ask.result ≢ Err stops.KeepOutOfMemory = λ is.
-    (let rose : min (0 + 1) (2 ^ 64 - 1) ≤ 0 = c.ask.ensures.keeper_memory is in omega (arith, rose))
-    in
     sub_asks c.args.version depth stream c.args.seat.now c.in-Sub-Root.lo c.in-Sub-Root.hi
     c.in-Sub-Root.root.value c.in-Sub-Root.root.seat _ _ _ _ _ c.ask.new.places c.ask.result is
     (sym (ap (λ (s : Seated). s.block) c.seat.view_is) ∙ ap block_of c.in-Sub-Root.is-1)
     (sym (ap (λ (s : Seated). s.running) c.seat.view_is) ∙ ap numbers_of c.in-Sub-Root.is-1)
     c.start-check.ensures.block stands
-    (rw asked at (c.ask.ensures.answers _ refl stood)) kept free
+    (rw asked at (c.ask.ensures.answers _ refl stood))
+
+pub returns-in-Sub-Root-clause-kept : goal.returns-in-Sub-Root-clause-kept
+returns-in-Sub-Root-clause-kept g c =
+    let is = sym (ap (λ (s : Seated). s.query) c.seat.view_is) ∙ c.in-Sub-Root.is-0 in
+    let room = sub_has_room c.args.seat.now c.in-Sub-Root.lo c.in-Sub-Root.hi
+    (length c.args.entries.now) is c.requires.room in
+    replies_kept _ _ _ _ _ _ _ _ c.ask.result (c.ask.ensures.answers _ refl (c.start-check.ensures.stands c.args.version c.args.entries.now room))
 
 pub returns-in-Range-Point-clause-asks : goal.returns-in-Range-Point-clause-asks
 returns-in-Range-Point-clause-asks g c = λ depth stream stands.

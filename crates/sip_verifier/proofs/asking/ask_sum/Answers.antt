@@ -1,9 +1,9 @@
-use Rattle.std.proofs.Common.{◌≢◌, ◌+◌, ◌-◌, ◌^◌, ◌≤◌, min, Err, refl, sym, ap, ◌∙◌, subst, arith, IsTrue}
+use Rattle.std.proofs.Common.{◌-◌, ◌≤◌, refl, sym, ap, ◌∙◌, subst, arith, IsTrue}
 use Rattle.sip_vector.specs.declared.query.Query.{Query}
 use Rattle.sip_wire.specs.declared.message.Message.TheVariants as messages
 use Rattle.sip_wire.specs.Spelling.{fits}
-use Rattle.sip_replies.specs.declared.asking.AskStop.TheVariants as stops
 use Rattle.sip_verifier.specs.QuerySeats.{Seated}
+use Rattle.sip_verifier.proofs.KeptReplies.{replies_kept}
 use Rattle.sip_verifier.proofs.SeatAsked.{seat_has_spelling, sum_asks}
 use Rattle.sip_verifier.proofs.asking.ask_sum.Goals as goal
 
@@ -20,12 +20,10 @@ pub returns-clause-asks : goal.returns-clause-asks
 returns-clause-asks g c = λ depth stream l lists product.
     let asked = ap (λ (s : Seated). s.query) c.seat.view_is in
     let stood = c.start-check.ensures.stands c.args.version c.args.entries.now in
-    let kept : c.ask.result ≢ Err stops.KeepFault = λ is.
-    (let rose : min (0 + 1) (2 ^ 64 - 1) ≤ 0 = c.ask.ensures.keeper is in omega (arith, rose))
-    in
-    let free : c.ask.result ≢ Err stops.KeepOutOfMemory = λ is.
-    (let rose : min (0 + 1) (2 ^ 64 - 1) ≤ 0 = c.ask.ensures.keeper_memory is in omega (arith, rose))
-    in
     sum_asks c.args.version depth stream c.args.seat.now l _ _ _ _ _ _ c.ask.new.places c.ask.result lists product
     (c.start-check.ensures.block ∙ c.block.ensures)
-    (rw asked at (c.ask.ensures.answers _ refl stood)) kept free
+    (rw asked at (c.ask.ensures.answers _ refl stood))
+
+pub returns-clause-kept : goal.returns-clause-kept
+returns-clause-kept g c =
+    replies_kept _ _ _ _ _ _ _ _ c.ask.result (c.ask.ensures.answers _ refl (c.start-check.ensures.stands c.args.version c.args.entries.now))

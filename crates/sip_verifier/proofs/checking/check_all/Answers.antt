@@ -1,10 +1,11 @@
 -- Each query has its seat, and what came of it is added to what came of those before.
-use Rattle.std.proofs.Common.{◌≡◌, List, length, refl, ap, drop, rules, arith, sym, ◌∙◌}
+use Rattle.std.proofs.Common.{◌≡◌, Err, List, length, refl, ap, drop, rules, arith, sym, ◌∙◌}
 use Rattle.std.proofs.Math.Seq.{drop-cons}
 use Rattle.std.proofs.lemmas.List.{drop-drop}
 use Rattle.std.proofs.lemmas.Result.{err_from_is_err_and}
 use Rattle.sip_vector.specs.declared.query.Query.TheVariants.{Sub}
 use Rattle.sip_verifier.specs.QuerySeats.{Seated}
+use Rattle.sip_verifier.proofs.KeptQueries.{all_then, kept_then, none_kept}
 use Rattle.sip_verifier.proofs.QueriesChecked.{none_passed, passed_more, ends_with, next_seat}
 use Rattle.sip_verifier.proofs.checking.check_all.Goals as goal
 
@@ -18,7 +19,8 @@ loop-query-init g c = record {
   passed = λ stream same all. none_passed c.args.session.now.version c.args.session.now.depth stream c.args.queries.now _ _ _;
   peer = search rules;
   report = search rules;
-  keep = refl;
+  keep = search rules;
+  kept = none_kept _ _;
 }
 
 pub returns-in_err-check_query-clause-checks : goal.returns-in_err-check_query-clause-checks
@@ -50,4 +52,10 @@ loop-query-preserved g c = record {
   peer = search rules;
   report = search rules;
   keep = search rules;
+  kept = all_then _ _ _ _ _ _ c.loop-query.invariant.kept (rw c.in_ok-check_query.was at c.check_query.ensures.kept);
 }
+
+pub returns-in_err-check_query-clause-kept : goal.returns-in_err-check_query-clause-kept
+returns-in_err-check_query-clause-kept g c =
+    let p = err_from_is_err_and c.from_residual.result c.from_residual.ensures.1 in
+    rw (p.1, p.2) (kept_then _ _ _ _ _ _ c.loop-query.invariant.kept (Err c.in_err-check_query.field-0.0) (rw c.in_err-check_query.was at c.check_query.ensures.kept))

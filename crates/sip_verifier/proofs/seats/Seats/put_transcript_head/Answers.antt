@@ -3,6 +3,7 @@ use Rattle.std.proofs.Common.{◌≡◌, ◌∙◌, ◌<◌, ◌≤◌, ◌+◌,
 use Rattle.std.proofs.lemmas.Result.{err_from_is_err_and}
 use Rattle.sip_ports.specs.Ports.{GoesOn, SendsWhole, outs}
 use Rattle.std.specs.Prelude.{IsTrue}
+use Rattle.std.specs.List.{zip}
 use Rattle.sip_wire.specs.declared.version.Version.{Version}
 use Rattle.sip_wire.specs.Versions.{Speaks, deepest, needed}
 use Rattle.sip_vector.specs.declared.query.Query.{Query}
@@ -40,7 +41,7 @@ returns-in_err-put_head-clause-talk g c = λ depth queries blocks stream seen.
     let same = c.self.inside.least ∙ ap version_of c.self.view_is ∙ version-asked depth queries blocks stream c.args.self.now seen in
     let whole = head-whole c.self.inside.version depth queries blocks stream _ are in
     subst (SendsWhole (g.K.Sink.talk c.args.sink.now) (g.K.Sink.talk c.put_head.new.sink) c.from_residual.result)
-    (sym whole ∙ ap (λ (v : Version). head_of v depth queries blocks) same)
+    (sym whole ∙ ap (λ (v : Version). head_of v depth (zip queries blocks)) same)
     (sends_short _ _ c.from_residual.result p.0 _ (asks c.self.inside.version c.self.inside.seats.items) p.1 said.0 said.1 said.2)
 
 pub returns-in_err-put_ask-clause-talk : goal.returns-in_err-put_ask-clause-talk
@@ -59,7 +60,7 @@ returns-in_err-put_ask-clause-talk g c = λ depth queries blocks stream are.
     let one : get_or seats c.loop-seat.seat-index c.seat-item.result ≡ c.seat-item.result = subst (λ l. get_or l c.loop-seat.seat-index c.seat-item.result ≡ c.seat-item.result) items here in
     let whole = head-whole version depth queries blocks stream c.args.self.now are ∙ head-split version c.args.self.now c.loop-seat.seat-index c.seat-item.result lt
     ∙ ap (λ (s : Seated). (head_up_to version c.args.self.now c.loop-seat.seat-index ++ ask version s) ++ asks version (drop (c.loop-seat.seat-index + 1) seats)) one in
-    subst (SendsWhole (g.K.Sink.talk c.args.sink.now) (g.K.Sink.talk c.put_ask.new.sink) c.from_residual-in_err-put_ask.result) (sym whole ∙ ap (λ (v : Version). head_of v depth queries blocks) needs)
+    subst (SendsWhole (g.K.Sink.talk c.args.sink.now) (g.K.Sink.talk c.put_ask.new.sink) c.from_residual-in_err-put_ask.result) (sym whole ∙ ap (λ (v : Version). head_of v depth (zip queries blocks)) needs)
     (sends_short _ _ c.from_residual-in_err-put_ask.result p.0 _ (asks version (drop (c.loop-seat.seat-index + 1) seats)) p.1 front.0 front.1 front.2)
 
 pub returns-clause-talk : goal.returns-clause-talk
@@ -68,5 +69,5 @@ returns-clause-talk g c = λ depth queries blocks stream are.
     let needs = version-asked depth queries blocks stream c.args.self.now are in
     let items = ap (λ (s : Seating). s.seats) c.self.view_is in
     let end : length c.args.self.now.seats ≤ c.loop-seat.seat-index = subst (λ l. length l ≤ c.loop-seat.seat-index) items (search rules) in
-    let whole = head-done version c.args.self.now c.loop-seat.seat-index end ∙ sym (head-whole version depth queries blocks stream c.args.self.now are) ∙ ap (λ (v : Version). head_of v depth queries blocks) needs in
+    let whole = head-done version c.args.self.now c.loop-seat.seat-index end ∙ sym (head-whole version depth queries blocks stream c.args.self.now are) ∙ ap (λ (v : Version). head_of v depth (zip queries blocks)) needs in
     subst (λ bytes. GoesOn (g.K.Sink.talk c.args.sink.now) (g.K.Sink.talk c.loop-seat.sink) (outs bytes)) whole c.loop-seat.invariant.talk

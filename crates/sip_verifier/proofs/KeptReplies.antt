@@ -1,0 +1,77 @@
+-- What was heard of the replies to a query was kept, by what the general talk did.
+use Rattle.std.proofs.Common.{◌≡◌, ◌≤◌, ℕ, Option, None, Result, Ok, Err, List, [], ◌∷◌, ◌++◌, length, refl, sym, ap, subst, ◌∙◌, inl, inr, arith, append-nil, length-append}
+use Rattle.sip_ports.specs.declared.port.TalkEvent.{TalkEvent}
+use Rattle.sip_ports.specs.Ports.{GoesOn, heard, outs}
+use Rattle.sip_ports.proofs.TalkLemmas.{heard-append}
+use Rattle.sip_vector.specs.declared.query.Query.{Query}
+use Rattle.sip_vector.specs.declared.update.Entry.{Entry}
+use Rattle.sip_vector.specs.Answers.{Answer, pairs, number}
+use Rattle.sip_wire.specs.declared.message.Reason.{Reason}
+use Rattle.sip_wire.specs.declared.message.Reason.TheVariants as reasons
+use Rattle.sip_replies.specs.declared.asking.AskStop.{AskStop}
+use Rattle.sip_replies.specs.declared.asking.AskStop.TheVariants as stops
+use Rattle.sip_replies.specs.declared.check.Said.{Said}
+use Rattle.sip_replies.specs.declared.check.Said.TheVariants as saids
+use Rattle.sip_replies.specs.Asking.{KeepsPart, IsAnswered, IsRejected, IsInterrupted, IsUnrecorded, Answers}
+use Rattle.sip_replies.specs.Checks.{answer_of}
+use Rattle.sip_replies.specs.Protocols.{Protocol}
+use Rattle.sip_replies.specs.Replies.{MayEnd, joined}
+use Rattle.sip_replies.specs.Talks.{asked, asked_unless, ending}
+use Rattle.sip_replies.proofs.Hearing.{heard-asked}
+use Rattle.sip_verifier.specs.inside.Judging.{verdict_of}
+use Rattle.sip_verifier.specs.Keeping.{AllIsKept, FrontIsKept, KeepsReplies}
+use Rattle.sip_verifier.proofs.HeardTalks.{heard_accepted}
+
+-- no byte is heard where the link ends
+heard-ending : (reason : Reason) → heard (ending reason) ≡ []
+heard-ending reasons.Closed = refl
+heard-ending _ = refl
+
+heard-ended : {IsOpen : Type 0} (ended : List TalkEvent) → MayEnd IsOpen ended → heard ended ≡ []
+heard-ended ended (inl none) = ap heard none
+heard-ended ended (inr (found, cut)) = ap heard found
+
+module _ {S : Type 0} (P : Protocol S) (query : Query) (block : List ℕ) (old new before now : Option (List TalkEvent)) where
+  -- the replies are what is heard up to the end of the link
+  heard_to_end : (replies : List (List ℕ)) (ended : List TalkEvent) → length replies ≤ length block → heard ended ≡ []
+      → heard (asked P.rules.version query block replies ++ ended) ≡ joined replies
+  heard_to_end replies ended few none =
+      heard-append (asked P.rules.version query block replies) ended
+      ∙ ap (λ (l : List ℕ). heard (asked P.rules.version query block replies) ++ l) none
+      ∙ append-nil (heard (asked P.rules.version query block replies))
+      ∙ heard-asked P.rules.version query block replies few
+
+  answered_kept : (answer : Answer) → IsAnswered P query block old new before now answer → AllIsKept old new before now
+  answered_kept answer a = record {
+    said = asked_unless P.unasked P.rules.version query block a.replies;
+    talk = a.talk;
+    wrote = subst (λ (l : List ℕ). GoesOn before now (outs l)) (sym (heard_accepted P query block a.replies answer P.unasked a.accepted)) a.kept;
+  }
+
+  rejected_kept : (round : ℕ) (reason : Reason) → IsRejected P query block old new before now round reason → AllIsKept old new before now
+  rejected_kept round reason r = record {
+    said = asked P.rules.version query block r.replies ++ ending reason;
+    talk = r.talk;
+    wrote = subst (λ (l : List ℕ). GoesOn before now (outs l)) (sym (heard_to_end r.replies (ending reason) (omega (arith, r.faulty.taken)) (heard-ending reason))) r.kept;
+  }
+
+  interrupted_kept : IsInterrupted P query block old new before now → FrontIsKept old new before now
+  interrupted_kept i = record { said = i.said; talk = i.talk; wrote = i.kept }
+
+  unrecorded_kept : IsUnrecorded P query block old new before now → FrontIsKept old new before now
+  unrecorded_kept u =
+      let few : length u.replies ≤ length block = omega (arith, ap length u.unjudged.taken, length-append u.unjudged.earlier (u.unjudged.last ∷ []), u.unjudged.few) in
+      record {
+        said = asked P.rules.version query block u.replies ++ u.ended;
+        talk = u.talk;
+        wrote = subst (KeepsPart before now) (sym (heard_to_end u.replies u.ended few (heard-ended u.ended u.unjudged.may_end))) u.kept;
+      }
+
+  pub replies_kept : (places : List Entry) (result : Result Said AskStop) → Answers P query block old new before now places result → KeepsReplies old new before now (verdict_of result)
+  replies_kept places (Ok (saids.Number n)) a = answered_kept (number n) a
+  replies_kept places (Ok (saids.Pairs found)) a = answered_kept (answer_of places (saids.Pairs found)) a
+  replies_kept places (Err (stops.Rejected round reason)) a = rejected_kept round reason a
+  replies_kept places (Err stops.PeerFault) a = interrupted_kept a
+  replies_kept places (Err stops.KeepFault) a = unrecorded_kept a
+  replies_kept places (Err stops.OutOfMemory) a = interrupted_kept a
+  replies_kept places (Err stops.KeepOutOfMemory) a = unrecorded_kept a
