@@ -285,6 +285,7 @@ module _ (task : Task) (x : Exchange) (some : 1 ≤ task.depth) (most : task.dep
   duel_accepts before now (statuses.ReadFault ports.First) w cause is = λ good none. absurd (none.first cause.1)
   duel_accepts before now (statuses.ReadFault ports.Second) w cause is = λ good none. absurd (none.second cause)
   duel_accepts before now (statuses.WriteFault ports.Report) w cause is = λ good none. absurd (none.report cause.1)
+  duel_accepts before now (statuses.WriteFault ports.Keep) w cause is = λ good none. absurd (none.keep cause.2)
   duel_accepts before now statuses.PeerFault w cause is = λ good none. absurd (none.peer cause.1)
   duel_accepts before now statuses.OutOfMemory w cause is = λ good none. inr (inl refl)
   duel_accepts before now (statuses.WriteFault _) w cause is = absurd cause.1

@@ -20,7 +20,7 @@ use std::alloc::Global;
 /// Does a task over a link to a boxed helper, which is closed and dropped at every exit; the talk
 /// stays on the link.
 ///
-/// It is [`check_stream`] over that link, and makes its five promises. The link counts no fault, so
+/// It is [`check_stream`] over that link, and makes its six promises. The link counts no fault, so
 /// no answer is a fault of the peer. Where the helper is an honest one that had heard nothing, its
 /// bytes are the replies that are owed by the turns of a helper, and a good run over a link that
 /// was made for it is accepted with the stream's own answers. Want of memory alone changes that: at
@@ -37,9 +37,11 @@ pub fn play<A: Source, B: Source, K: Sink, C: Sink>(
     requires { CanBeDone task.now }
     ensures keeps { RunClause task.now
         (moment (A.left first.old) (A.faults first.old) (B.left second.old) (B.faults second.old)
-        (Some link.old.kept.talk.items) 0 (K.talk report.old) (K.faults report.old))
+        (Some link.old.kept.talk.items) 0 (K.talk report.old) (K.faults report.old)
+        (C.talk keep.old) (C.faults keep.old))
         (moment (A.left first.new) (A.faults first.new) (B.left second.new) (B.faults second.new)
-        (Some link.new.kept.talk.items) 0 (K.talk report.new) (K.faults report.new))
+        (Some link.new.kept.talk.items) 0 (K.talk report.new) (K.faults report.new)
+        (C.talk keep.new) (C.faults keep.new))
         result }
     ensures peer { result ≢ Status.PeerFault }
     ensures honest { Keeps (option_and_then honest_state link.old.helper) link.old.kept
@@ -48,18 +50,22 @@ pub fn play<A: Source, B: Source, K: Sink, C: Sink>(
         → link.old.kept.talk.items ≡ [] → (x : AnyExchange)
         → Tells
         (moment (A.left first.old) (A.faults first.old) (B.left second.old) (B.faults second.old)
-        (Some link.old.kept.talk.items) 0 (K.talk report.old) (K.faults report.old))
+        (Some link.old.kept.talk.items) 0 (K.talk report.old) (K.faults report.old)
+        (C.talk keep.old) (C.faults keep.old))
         (moment (A.left first.new) (A.faults first.new) (B.left second.new) (B.faults second.new)
-        (Some link.new.kept.talk.items) 0 (K.talk report.new) (K.faults report.new)) x
+        (Some link.new.kept.talk.items) 0 (K.talk report.new) (K.faults report.new)
+        (C.talk keep.new) (C.faults keep.new)) x
         → DuelAccepts task.now x
-        (counts (A.faults first.old) (B.faults second.old) 0 (K.faults report.old))
-        (counts (A.faults first.new) (B.faults second.new) 0 (K.faults report.new)) result }
+        (counts (A.faults first.old) (B.faults second.old) 0 (K.faults report.old)
+        (C.faults keep.old))
+        (counts (A.faults first.new) (B.faults second.new) 0 (K.faults report.new)
+        (C.faults keep.new)) result }
     ensures gone { link.new.helper ≡ None }
     ensures first { Lasts A.faults A.wants A.is_sure first.old first.new }
     ensures seed { TakesAtMost 32 (B.left second.old) (B.left second.new) }
     ensures second { Lasts B.faults B.wants B.is_sure second.old second.new }
     ensures report { Lasts K.faults K.wants K.is_sure report.old report.new }
-    ensures kept { keep.new ≡ keep.old }
+    ensures keep { Lasts C.faults C.wants C.is_sure keep.old keep.new }
 {
     let levels = task.depth.get();
     prove!(levels >= 1 && levels <= Depth::MOST);
