@@ -5,7 +5,7 @@ use sip_cli::{
     LinkOrder, Opening, PortPlan, Words, finish, page_of, ports, run, status_without_words,
     write_page,
 };
-use sip_ports::{FileLink, FileSource, NullSink, Source, StderrSink, StdoutSink};
+use sip_ports::{FileLink, FileSink, FileSource, NullSink, Sink, Source, StderrSink, StdoutSink};
 use sip_stream::MadeSource;
 use sip_verifier::Status;
 use std::fs::File;
@@ -70,6 +70,38 @@ fn link(rt: &HostRuntime, words: &Words, plan: &PortPlan) -> Option<Box<FileLink
     Box::new(rt.alloc(), FileLink::new(from, to)).ok()
 }
 
+/// The file that keeps the transcript, which is made or emptied; `None` where memory is refused.
+#[inline(never)]
+fn record(rt: &HostRuntime, words: &Words, opening: Opening) -> Option<Box<FileSink>> {
+    let file = emptied(rt, words, opening);
+    Box::new(rt.alloc(), FileSink::new(file)).ok()
+}
+
+/// The ports of a run, but for the first source and what keeps the transcript.
+struct Opened {
+    second: Box<FileSource>,
+    peer: Box<FileLink>,
+}
+
+/// Does what the words say over these ports.
+fn obey_keeping<S: Source, C: Sink>(
+    rt: &HostRuntime,
+    words: &Words,
+    first: &mut S,
+    opened: &mut Opened,
+    keep: &mut C,
+) -> Status {
+    run(
+        rt.alloc(),
+        words,
+        first,
+        &mut *opened.second,
+        &mut *opened.peer,
+        &mut StdoutSink::new(io::writer(rt)),
+        keep,
+    )
+}
+
 /// Opens the files that the words name, but for the first source, and does what the words say. A file that does not open
 /// is a port whose calls fail. `None` where memory is refused to a port.
 #[inline(never)]
@@ -79,18 +111,18 @@ fn obey_over<S: Source>(
     plan: &PortPlan,
     first: &mut S,
 ) -> Option<Status> {
-    let mut second = source(rt, words, plan.second)?;
-    let mut peer = link(rt, words, plan)?;
-    let mut report = StdoutSink::new(io::writer(rt));
-    Some(run(
-        rt.alloc(),
-        words,
-        first,
-        &mut *second,
-        &mut *peer,
-        &mut report,
-        &mut NullSink::new(),
-    ))
+    let second = source(rt, words, plan.second)?;
+    let peer = link(rt, words, plan)?;
+    let mut opened = Opened { second, peer };
+    Some(match plan.keep {
+        Opening::Path { .. } => {
+            let mut keep = record(rt, words, plan.keep)?;
+            obey_keeping(rt, words, first, &mut opened, &mut *keep)
+        }
+        Opening::Nothing | Opening::Made { .. } => {
+            obey_keeping(rt, words, first, &mut opened, &mut NullSink::new())
+        }
+    })
 }
 
 /// Does what the words say, over the file or the made stream that is the first source. `None` where memory is refused to

@@ -34,7 +34,7 @@ source_counted words s depth plan names is =
 
 -- so is the first port of a command
 pub first_counted : (words : List (List ℕ)) (c : Command) (plan : PortPlan) → Opens words c plan → count_of plan.first ≤ most_made
-first_counted words (command.Verify task) plan (s, names, is) =
+first_counted words (command.Verify task) plan (s, names, keep, record_is, is) =
     let same : count_of plan.first ≡ count_of (opening_of s task.depth) = ap (λ (p : PortPlan). count_of p.first) is in
     let few = stream_counted s (word words 1) task.depth names in
     omega arith

@@ -6,11 +6,12 @@ use Rattle.std.proofs.lemmas.Bool.{false≢true}
 use Rattle.std.proofs.lemmas.Str.{IsCharBoundary-after_ascii}
 use Rattle.sip_cli.specs.declared.command.Command.{Command}
 use Rattle.sip_cli.specs.declared.command.Command.TheVariants as command
+use Rattle.sip_cli.specs.declared.plan.Opening.{Opening}
 use Rattle.sip_cli.specs.declared.plan.Opening.TheVariants.{Path}
 use Rattle.sip_cli.specs.declared.plan.PortPlan.{PortPlan}
 use Rattle.sip_cli.specs.declared.stream.Stream.{Stream}
 use Rattle.sip_cli.specs.declared.stream.Stream.TheVariants as stream
-use Rattle.sip_cli.specs.Plan.{HasName, HaveNames, IsMarked, Opens, opening_of, source_ports}
+use Rattle.sip_cli.specs.Plan.{HasName, HaveNames, IsMarked, IsRecord, Opens, opening_of, source_ports}
 use Rattle.sip_cli.specs.Shapes.{IsStreamWord}
 use Rattle.sip_cli.specs.Words.{word, Spells}
 
@@ -25,6 +26,11 @@ stream_named words stream.Text depth more (path, some, is) = (more, inr (refl, (
 stream_named words stream.Wide depth more (path, some, is) = (more, inr (refl, (path, inr is)))
 stream_named words stream.File depth more names = (more, inl refl)
 
+-- so does that of the file that keeps a transcript
+record_named : (words : List (List ℕ)) (n : ℕ) (keep : Opening) → n < length words → IsRecord (word words n) n keep → HasName words keep
+record_named words n keep more (inl (none, is)) = subst (HasName words) (sym is) tt
+record_named words n keep more (inr (some, is)) = subst (HasName words) (sym is) (file_named words n more)
+
 -- so does that of the source of a copy
 source_named : (words : List (List ℕ)) (s : Stream) (depth : ℕ) (plan : PortPlan) → 1 < length words → IsStreamWord s (word words 1) → plan ≡ source_ports (opening_of s depth) → HaveNames words plan
 source_named words s depth plan more names is = subst (HaveNames words) (sym is) (record {
@@ -37,14 +43,14 @@ source_named words s depth plan more names is = subst (HaveNames words) (sym is)
 
 -- all files of a command have their names
 pub opens_named : (words : List (List ℕ)) (c : Command) (plan : PortPlan) → Spells words c → Opens words c plan → HaveNames words plan
-opens_named words (command.Verify task) plan spells (s, names, is) =
+opens_named words (command.Verify task) plan spells (s, names, keep, record_is, is) =
     let least = spells.0.least in
     subst (HaveNames words) (sym is) (record {
       first = stream_named words s task.depth (omega arith) names;
       second = file_named words 2 (omega arith);
       from = file_named words 3 (omega arith);
       to = file_named words 4 (omega arith);
-      keep = tt;
+      keep = record_named words 5 keep (omega arith) record_is;
     })
 opens_named words command.Help plan spells is =
     let least = spells.least in

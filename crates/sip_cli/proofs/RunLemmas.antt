@@ -168,7 +168,7 @@ none_keeps {m = m} word none = record {
   lines = λ form depth is. absurd (none (Lines form depth) is);
   wide = λ form depth is. absurd (none (Widen form depth) is);
   help = λ is. absurd (none Help is);
-  moves = λ is. tells m m is (λ some. some) [] (GoesOn-refl _) [] (GoesOn-refl _);
+  moves = λ is. tells m m is (λ some. some) [] (GoesOn-refl _) [] (GoesOn-refl _) [] (GoesOn-refl _);
   fault = tt;
   listed = λ command is. absurd (none command is);
 }

@@ -19,7 +19,7 @@ use Rattle.sip_verifier.specs.Statuses.{FaultClause}
 -- `Is command` says which command it is
 pub record CommandClause (Is : Command → Type 0) (before now : Moment) (status : Status)
     : Type 0 where
-  -- `verify`: the five promises, on the exchange that the ports tell
+  -- `verify`: the six promises, on the exchange that the ports tell
   pub verify : (task : Task) → Is (Verify task) → (x : Exchange) → Tells before now x
       → Promises task x before.faults now.faults status
   -- `gen`: the stream's records are copied to the report in the form in which they are made

@@ -1,5 +1,5 @@
 -- The files and made streams that a command opens.
-use Rattle.std.specs.Prelude.{◌≡◌, ℕ, ◌^◌, ◌<◌, ◌≤◌, ◌⊎◌, Option, None, List, ◌++◌, codes, decimal, drop, length}
+use Rattle.std.specs.Prelude.{◌≡◌, ◌≢◌, ℕ, ◌^◌, ◌<◌, ◌≤◌, ◌⊎◌, Option, None, List, ◌++◌, codes, decimal, drop, length}
 use Rattle.std.specs.List.{slice_get}
 use Rattle.std.specs.Option.{option_map}
 use Rattle.sip_cli.specs.declared.command.Command.{Command}
@@ -29,10 +29,16 @@ source_ports first =
 abbrev pub no_ports : PortPlan
 no_ports = source_ports Nothing
 
--- verify STREAM SEED FROM TO - DEPTH QUERY..
-abbrev pub verify_ports : Opening → PortPlan
-verify_ports first =
-    record no_ports { first = first; second = Path 2 0; from = Path 3 0; to = Path 4 0 }
+-- verify STREAM SEED FROM TO RECORD DEPTH QUERY..
+abbrev pub verify_ports : Opening → Opening → PortPlan
+verify_ports first keep =
+    record { first = first; second = Path 2 0; from = Path 3 0; to = Path 4 0; keep = keep }
+
+-- What keeps the transcript where RECORD is this word, which has this number: a file of that name,
+-- and nothing where it is `-`.
+abbrev pub IsRecord : List ℕ → ℕ → Opening → Type 0
+IsRecord word n keep =
+    ((word ≡ codes "-") × (keep ≡ Nothing)) ⊎ ((word ≢ codes "-") × (keep ≡ Path n 0))
 
 -- help FROM TO
 abbrev pub help_ports : PortPlan
@@ -41,7 +47,9 @@ help_ports = record no_ports { from = Path 1 0; to = Path 2 0 }
 -- the ports of a command whose words these are
 abbrev pub Opens : List (List ℕ) → Command → PortPlan → Type 0
 Opens words (command.Verify task) plan =
-    (s : Stream) × IsStreamWord s (word words 1) × (plan ≡ verify_ports (opening_of s task.depth))
+    (s : Stream) × IsStreamWord s (word words 1)
+    × (keep : Opening) × IsRecord (word words 5) 5 keep
+    × (plan ≡ verify_ports (opening_of s task.depth) keep)
 Opens words command.Help plan = plan ≡ help_ports
 Opens words (command.Gen depth) plan =
     (number : ℕ) × (count : ℕ) × (number < 2 ^ 64) × (count ≤ most_made)

@@ -49,7 +49,6 @@ IsDepth depth word = (1 ≤ depth) × (depth ≤ most_depth) × (word ≡ decima
 abbrev pub IsOf : Shape → List ℕ → Type 0
 IsOf shape.Name word = word ≢ []
 IsOf shape.Stream word = (s : Stream) × IsStreamWord s word
-IsOf shape.NoRecord word = word ≡ codes "-"
 IsOf (shape.Number most) word = (n : ℕ) × (n ≤ most) × (n < 2 ^ 64) × (word ≡ decimal n)
 IsOf shape.Depth word = (d : ℕ) × IsDepth d word
 

@@ -1,7 +1,7 @@
 -- The commands: each is a verb, words of its shapes, and queries where it asks some.
 use Rattle.std.specs.Prelude.{ℕ, List, [], ◌∷◌, codes}
 use Rattle.sip_cli.specs.declared.shape.Shape.{Shape}
-use Rattle.sip_cli.specs.declared.shape.Shape.TheVariants.{Name, Stream, NoRecord, Number, Depth}
+use Rattle.sip_cli.specs.declared.shape.Shape.TheVariants.{Name, Stream, Number, Depth}
 use Rattle.sip_cli.specs.declared.verb.Verb.{Verb}
 use Rattle.sip_cli.specs.declared.verb.Verb.TheVariants.{Verify, Help, Gen, Lines, Widen}
 use Rattle.sip_stream.specs.Made.{most_made}
@@ -16,13 +16,13 @@ verb_word Lines = codes "lines"
 verb_word Widen = codes "widen"
 
 -- The words behind the verb, and before the queries.
---   verify STREAM SEED FROM TO RECORD DEPTH, without a transcript
+--   verify STREAM SEED FROM TO RECORD DEPTH
 --   help FROM TO
 --   gen NUMBER COUNT DEPTH
 --   lines STREAM DEPTH
 --   widen STREAM DEPTH
 abbrev pub shapes : Verb → List Shape
-shapes Verify = Stream ∷ Name ∷ Name ∷ Name ∷ NoRecord ∷ Depth ∷ []
+shapes Verify = Stream ∷ Name ∷ Name ∷ Name ∷ Name ∷ Depth ∷ []
 shapes Help = Name ∷ Name ∷ []
 shapes Gen = Number 18446744073709551615 ∷ Number most_made ∷ Depth ∷ []
 shapes Lines = Stream ∷ Depth ∷ []

@@ -24,7 +24,7 @@ use sip_wire::MOST_QUERIES;
 /// What the program is to do.
 #[derive(Drop)]
 pub enum Command {
-    /// To verify answers about a stream: `verify STREAM SEED FROM TO - DEPTH QUERY..`.
+    /// To verify answers about a stream: `verify STREAM SEED FROM TO RECORD DEPTH QUERY..`.
     Verify(Task),
     /// To help another side to verify: `help FROM TO`.
     Help,

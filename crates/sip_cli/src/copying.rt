@@ -29,9 +29,9 @@ pub(crate) fn copy_stream<A: Source, K: Sink>(
     ensures wrote { IsSome (A.left first.old) → (bytes : List ℕ)
         × GoesOn (K.talk report.old) (K.talk report.new) (outs bytes) }
     ensures told { IsSome (A.left first.old) → IsSome (A.left first.new) }
-    ensures fault { (second seconds peer peers : ℕ)
-        → FaultClause (counts (A.faults first.old) second peer (K.faults report.old))
-        (counts (A.faults first.new) seconds peers (K.faults report.new)) result }
+    ensures fault { (second seconds peer peers keep keeps : ℕ)
+        → FaultClause (counts (A.faults first.old) second peer (K.faults report.old) keep)
+        (counts (A.faults first.new) seconds peers (K.faults report.new) keeps) result }
     ensures memory { result ≡ Status.OutOfMemory
         → Rose (A.wants first.old) (A.wants first.new)
         ⊎ Rose (K.wants report.old) (K.wants report.new) }

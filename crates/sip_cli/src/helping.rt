@@ -18,9 +18,9 @@ use std::alloc::Global;
 pub(crate) fn help<L: Link>(alloc: Global, peer: &mut L) -> Status
     ensures help { HelpClause (L.talk peer.old) (L.talk peer.new) result }
     ensures said { (said : List AnyTalkEvent) × GoesOn (L.talk peer.old) (L.talk peer.new) said }
-    ensures fault { (first firsts second seconds report reports : ℕ)
-        → FaultClause (counts first second (L.faults peer.old) report)
-        (counts firsts seconds (L.faults peer.new) reports) result }
+    ensures fault { (first firsts second seconds report reports keep keeps : ℕ)
+        → FaultClause (counts first second (L.faults peer.old) report keep)
+        (counts firsts seconds (L.faults peer.new) reports keeps) result }
     ensures listed { EndsHelp result }
     ensures peer { Lasts L.faults L.wants L.is_sure peer.old peer.new }
 {

@@ -17,7 +17,7 @@ keeps all of it, and sip accepts a helper's answer only where a check with chall
 
 USAGE
 
-  sip verify STREAM SEED FROM TO - DEPTH QUERY..
+  sip verify STREAM SEED FROM TO RECORD DEPTH QUERY..
 
       Sends the stream to a helper, asks 1 to 16 queries, checks the replies and prints a line for each answer.
 
@@ -26,7 +26,8 @@ USAGE
       SEED    a file that begins with 32 random bytes, of which each run needs new ones
       FROM    the file or FIFO that brings the helper's bytes
       TO      the file or FIFO that takes ours
-      -       no record of the talk is kept
+      RECORD  the file that gets the transcript of the run: its queries, their challenges and the helper's replies; or -
+              for none
       DEPTH   from 1 to 48; items are the numbers below 2^DEPTH
       QUERY   sub:LO:HI           the entries of side 0 from LO to HI that are not 0
               range:SIDE:LO:HI    the sum of the entries of a side from LO to HI

@@ -6,9 +6,9 @@ ghost use Rattle.sip_verifier.specs.declared.task.Task.{Task as AnyTask};
 ghost use Rattle.sip_cli.specs.declared.command.Command.{Command as AnyCommand};
 ghost use Rattle.sip_cli.specs.declared.stream.Stream.{Stream as AnyStream};
 ghost use Rattle.sip_stream.specs.Made.{most_made};
-ghost use Rattle.sip_cli.specs.Plan.{HasName, HaveNames, IsMarked, Opens, file_name, help_ports, no_ports, opening_of, source_ports, verify_ports};
+ghost use Rattle.sip_cli.specs.Plan.{HasName, HaveNames, IsMarked, IsRecord, Opens, file_name, help_ports, no_ports, opening_of, source_ports, verify_ports};
 ghost use Rattle.sip_cli.specs.Shapes.{IsStreamWord};
-ghost use Rattle.sip_cli.specs.Words.{Spells, IsRefusedAt, word};
+ghost use Rattle.sip_cli.specs.Words.{Spells, IsRefusedAt, word, word as word_at};
 
 use crate::decimal::read_decimal;
 use crate::stream::{Stream, stream_of};
@@ -63,6 +63,27 @@ impl Opening {
         Opening::Path { word, skip: 0 }
     }
 
+    // On the file that a name names where a transcript is to be kept; `-` names none.
+    fn record(name: &str, word: usize) -> Opening
+        ensures { IsRecord name.now word result }
+    {
+        if name == "-" {
+            Opening::Nothing
+        } else {
+            Opening::file(word)
+        }
+    }
+
+    // On the file of the transcript that a word names.
+    fn keep(words: &Words, word: usize) -> Opening
+        ensures { word < length words.now → IsRecord (word_at words.now word) word result }
+    {
+        match words.get(word) {
+            Some(name) => Opening::record(name, word),
+            None => Opening::Nothing,
+        }
+    }
+
     // On the stream that word 1 names, at a depth.
     fn stream(words: &Words, depth: Depth) -> Opening
         ensures { (stream : AnyStream) → 1 < length words.now
@@ -106,7 +127,7 @@ impl Opening {
     }
 }
 
-/// What the ports of a run are opened on: two sources, the two ends of a link, and what keeps a record of the talk.
+/// What the ports of a run are opened on: two sources, the two ends of a link, and what keeps the transcript.
 #[derive(Clone, Copy, Debug, PartialEq, Eq)]
 pub struct PortPlan {
     pub first: Opening,
@@ -155,16 +176,16 @@ impl PortPlan {
         }
     }
 
-    // The ports of `verify`, whose stream is opened like this.
-    fn verify(first: Opening) -> PortPlan
-        ensures { result ≡ verify_ports first }
+    // The ports of `verify`, whose stream and whose transcript are opened like this.
+    fn verify(first: Opening, keep: Opening) -> PortPlan
+        ensures { result ≡ verify_ports first keep }
     {
         PortPlan {
             first,
             second: Opening::file(2),
             from: Opening::file(3),
             to: Opening::file(4),
-            keep: Opening::Nothing,
+            keep,
         }
     }
 
@@ -186,7 +207,10 @@ impl PortPlan {
         ensures { Spells words.now command.now → Opens words.now command.now result }
     {
         match command {
-            Command::Verify(task) => PortPlan::verify(Opening::stream(words, task.depth)),
+            Command::Verify(task) => {
+                let stream = Opening::stream(words, task.depth);
+                PortPlan::verify(stream, Opening::keep(words, 5))
+            }
             Command::Help => PortPlan::help(),
             Command::Gen { depth } => {
                 PortPlan::source(Opening::numbers(words, *depth).unwrap_or(Opening::Nothing))
@@ -199,8 +223,9 @@ impl PortPlan {
     }
 }
 
-/// The files and made streams that a command opens: for `verify` its stream, its seed and the two ends of its link, for
-/// `help` the two ends of its link, for `gen`, `lines` and `widen` their stream. Words that are no command open nothing.
+/// The files and made streams that a command opens: for `verify` its stream, its seed, the two ends of its link and the
+/// file of its transcript, if it is to keep one, for `help` the two ends of its link, for `gen`, `lines` and `widen`
+/// their stream. Words that are no command open nothing.
 pub fn ports(words: &Words) -> PortPlan
     ensures spelled { (command : AnyCommand) → Spells words.now command
         → Opens words.now command result }

@@ -14,8 +14,6 @@ pub(crate) enum Shape {
     Name,
     /// A stream.
     Stream,
-    /// No transcript: `-`.
-    NoRecord,
     /// A number up to `most`.
     Number { most: u64 },
     /// A depth.
@@ -55,7 +53,6 @@ impl Shape {
         match self {
             Shape::Name => !word.is_empty(),
             Shape::Stream => read_stream(word).is_some(),
-            Shape::NoRecord => word == "-",
             Shape::Number { most } => is_within(word, 0, most),
             Shape::Depth => is_within(word, 1, Depth::MOST as u64),
         }

@@ -32,22 +32,25 @@ fn obey<A: Source, B: Source, L: Link, K: Sink, C: Sink>(
     requires served { (task : AnyTask) → command.now ≡ Command.Verify task → CanBeDone task }
     ensures keeps { CommandClause (λ is. command.now ≡ is)
         (moment (A.left first.old) (A.faults first.old) (B.left second.old) (B.faults second.old)
-        (L.talk peer.old) (L.faults peer.old) (K.talk report.old) (K.faults report.old))
+        (L.talk peer.old) (L.faults peer.old) (K.talk report.old) (K.faults report.old)
+        (C.talk keep.old) (C.faults keep.old))
         (moment (A.left first.new) (A.faults first.new) (B.left second.new) (B.faults second.new)
-        (L.talk peer.new) (L.faults peer.new) (K.talk report.new) (K.faults report.new))
+        (L.talk peer.new) (L.faults peer.new) (K.talk report.new) (K.faults report.new)
+        (C.talk keep.new) (C.faults keep.new))
         result }
-    ensures copies_apart { IsCopy command.now → (second.new ≡ second.old) × (peer.new ≡ peer.old) }
+    ensures copies_apart { IsCopy command.now → (second.new ≡ second.old) × (peer.new ≡ peer.old)
+        × (keep.new ≡ keep.old) }
     ensures copies_want { IsCopy command.now → result ≡ Status.OutOfMemory
         → Rose (A.wants first.old) (A.wants first.new)
         ⊎ Rose (K.wants report.old) (K.wants report.new) }
     ensures helps_apart { command.now ≡ Command.Help → (first.new ≡ first.old)
-        × (second.new ≡ second.old) × (report.new ≡ report.old) }
+        × (second.new ≡ second.old) × (report.new ≡ report.old) × (keep.new ≡ keep.old) }
     ensures first { Lasts A.faults A.wants A.is_sure first.old first.new }
     ensures seed { TakesAtMost 32 (B.left second.old) (B.left second.new) }
     ensures second { Lasts B.faults B.wants B.is_sure second.old second.new }
     ensures peer { Lasts L.faults L.wants L.is_sure peer.old peer.new }
     ensures report { Lasts K.faults K.wants K.is_sure report.old report.new }
-    ensures kept { keep.new ≡ keep.old }
+    ensures keep { Lasts C.faults C.wants C.is_sure keep.old keep.new }
 {
     match command {
         Command::Verify(task) => check_stream(alloc, task, first, second, peer, report, keep),
@@ -63,17 +66,15 @@ fn obey<A: Source, B: Source, L: Link, K: Sink, C: Sink>(
 
 /// Does what the words say.
 ///
-/// `verify STREAM SEED FROM TO - DEPTH QUERY..`: reads a seed from `second` and a stream from `first`, talks to the helper
+/// `verify STREAM SEED FROM TO RECORD DEPTH QUERY..`: reads a seed from `second` and a stream from `first`, talks to the helper
 /// over `peer`, and writes the line of each query to `report` once its replies were accepted, or the line of the rejection
-/// once they show a fault. Neither the stream nor a vector is kept: memory grows with the entries of one answer alone, and
-/// each record costs at most DEPTH multiplications for each query.
+/// once they show a fault. `keep` gets the transcript of the run. Neither the stream nor a vector is kept: memory grows
+/// with the entries of one answer alone, and each record costs at most DEPTH multiplications for each query.
 ///
 /// `help FROM TO`: serves one talk over `peer`. Memory grows with the entries that are not 0.
 ///
 /// `gen NUMBER COUNT DEPTH`, `lines STREAM DEPTH` and `widen STREAM DEPTH`: write the legal records of `first` to `report`,
 /// as they were made, as lines of text or as wide records, up to the first record that is not legal. They take no memory.
-///
-/// `keep` is left alone.
 pub fn run<A: Source, B: Source, L: Link, K: Sink, C: Sink>(
     alloc: Global,
     words: &Words,
@@ -83,33 +84,34 @@ pub fn run<A: Source, B: Source, L: Link, K: Sink, C: Sink>(
     report: &mut K,
     keep: &mut C,
 ) -> Status
-    // Of `verify` the five promises, of `gen`, `lines` and `widen` the copy that the report gets, of
+    // Of `verify` the six promises, of `gen`, `lines` and `widen` the copy that the report gets, of
     // `help` the talk that it serves; and whatever the command, its faults have their cause, and its
     // status is one of its own.
     ensures keeps { CommandClause (Spells words.now)
         (moment (A.left first.old) (A.faults first.old) (B.left second.old) (B.faults second.old)
-        (L.talk peer.old) (L.faults peer.old) (K.talk report.old) (K.faults report.old))
+        (L.talk peer.old) (L.faults peer.old) (K.talk report.old) (K.faults report.old)
+        (C.talk keep.old) (C.faults keep.old))
         (moment (A.left first.new) (A.faults first.new) (B.left second.new) (B.faults second.new)
-        (L.talk peer.new) (L.faults peer.new) (K.talk report.new) (K.faults report.new))
+        (L.talk peer.new) (L.faults peer.new) (K.talk report.new) (K.faults report.new)
+        (C.talk keep.new) (C.faults keep.new))
         result }
 
-    // Copies and helpers leave the other ports alone.
+    // Copies and helpers leave the other ports alone, `keep` among them.
     ensures copies_apart { (command : AnyCommand) → Spells words.now command → IsCopy command
-        → (second.new ≡ second.old) × (peer.new ≡ peer.old) }
+        → (second.new ≡ second.old) × (peer.new ≡ peer.old) × (keep.new ≡ keep.old) }
     // Copies take no memory, so they want it only where a port of theirs did.
     ensures copies_want { (command : AnyCommand) → Spells words.now command → IsCopy command
         → result ≡ Status.OutOfMemory
         → Rose (A.wants first.old) (A.wants first.new)
         ⊎ Rose (K.wants report.old) (K.wants report.new) }
     ensures helps_apart { Spells words.now Command.Help → (first.new ≡ first.old)
-        × (second.new ≡ second.old) × (report.new ≡ report.old) }
+        × (second.new ≡ second.old) × (report.new ≡ report.old) × (keep.new ≡ keep.old) }
 
     // Words are refused exactly where they are no command, and then no port is called.
     ensures usage { (word : ℕ) → (result ≡ Status.Usage word) ↔ IsRefusedAt words.now word }
     ensures untouched { (word : ℕ) → result ≡ Status.Usage word
         → (first.new ≡ first.old) × (second.new ≡ second.old) × (peer.new ≡ peer.old)
-        × (report.new ≡ report.old) }
-    ensures kept { keep.new ≡ keep.old }
+        × (report.new ≡ report.old) × (keep.new ≡ keep.old) }
 
     // Counts of faults and of wants of memory never fall, and no more than 32 bytes of the seed are
     // taken.
@@ -118,6 +120,7 @@ pub fn run<A: Source, B: Source, L: Link, K: Sink, C: Sink>(
     ensures second { Lasts B.faults B.wants B.is_sure second.old second.new }
     ensures peer { Lasts L.faults L.wants L.is_sure peer.old peer.new }
     ensures report { Lasts K.faults K.wants K.is_sure report.old report.new }
+    ensures keep { Lasts C.faults C.wants C.is_sure keep.old keep.new }
 {
     match read_words(words) {
         Ok(command) => obey(alloc, &command, first, second, peer, report, keep),

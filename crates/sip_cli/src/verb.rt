@@ -27,7 +27,7 @@ const VERIFY: [Shape; 6] = [
     Shape::Name,
     Shape::Name,
     Shape::Name,
-    Shape::NoRecord,
+    Shape::Name,
     Shape::Depth,
 ];
 

@@ -1,5 +1,5 @@
 -- What one call moved through ports in memory, and how often they failed.
-use Rattle.std.specs.Prelude.{◌≡◌, ℕ, List, ◌++◌}
+use Rattle.std.specs.Prelude.{◌≡◌, ℕ, List, ◌++◌, Some}
 use Rattle.sip_ports.specs.declared.memory.MemorySource.{MemorySource}
 use Rattle.sip_ports.specs.declared.memory.MemorySink.{MemorySink}
 use Rattle.sip_ports.specs.declared.memory.MemoryLink.{MemoryLink}
@@ -14,13 +14,15 @@ pub record Held : Type 0 where
   pub second : List ℕ
   pub talk : List TalkEvent
   pub report : List ℕ
+  pub keep : List ℕ
 
-abbrev pub held : List ℕ → List ℕ → List TalkEvent → List ℕ → Held
-held first second talk report = record {
+abbrev pub held : List ℕ → List ℕ → List TalkEvent → List ℕ → List ℕ → Held
+held first second talk report keep = record {
   first = first;
   second = second;
   talk = talk;
   report = report;
+  keep = keep;
 }
 
 -- this exchange is what moved where ports held the one before and hold the other now
@@ -30,13 +32,17 @@ pub record Moves (old new : Held) (x : Exchange) : Type 0 where
   pub seed : x.seed ≡ old.second
   pub talk : new.talk ≡ old.talk ++ x.talk
   pub report : new.report ≡ old.report ++ x.report
+  pub kept : (bytes : List ℕ) × (x.kept ≡ Some bytes) × (new.keep ≡ old.keep ++ bytes)
 
-module _ (first second : MemorySource) (peer : MemoryLink) (report : MemorySink) where
+module _ (first second : MemorySource) (peer : MemoryLink) (report keep : MemorySink) where
   -- what these ports hold
   abbrev pub held_by : Held
-  held_by = held (source_left first) (source_left second) (link_talk peer) (sink_bytes report)
+  held_by =
+      held (source_left first) (source_left second) (link_talk peer) (sink_bytes report)
+      (sink_bytes keep)
 
   -- how often these ports failed
   abbrev pub faults_of : Counts
   faults_of =
       counts (source_faults first) (source_faults second) (link_faults peer) (sink_faults report)
+      (sink_faults keep)

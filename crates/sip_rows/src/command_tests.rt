@@ -50,9 +50,9 @@ const REFUSALS: [(&str, Option<u32>); 179] = [
     ("verify|s|k|f", Some(4)),
     ("verify|s|k|f||+|3|sub:1:2", Some(4)),
     ("verify|s|k|f|t", Some(5)),
-    ("verify|s|k|f|t|r|3|sub:1:2", Some(5)),
-    ("verify|s|k|f|t|r|33|sub:1:2", Some(5)),
-    ("verify|s|k|f|t|--|3|sub:1:2", Some(5)),
+    ("verify|s|k|f|t|r|3|sub:1:2", None),
+    ("verify|s|k|f|t|r|33|sub:1:2", None),
+    ("verify|s|k|f|t|--|3|sub:1:2", None),
     ("verify|s|k|f|t||3|sub:1:2", Some(5)),
     ("verify|s|k|f|t|-", Some(6)),
     ("verify|s|k|f|t|-|0|sub:0:0", Some(6)),
@@ -338,33 +338,44 @@ fn reads_a_depth_and_a_form(rt: HostRuntime) -> Result<(), Fail> {
     Ok(())
 }
 
-// The files of commands: of the stream and the seed, and the two ends of the link.
-const FILES: [(&str, [Option<&str>; 4]); 13] = [
+// The files of commands: of the stream and the seed, the two ends of the link, and the transcript.
+const FILES: [(&str, [Option<&str>; 5]); 15] = [
     (
         "verify|s|k|f|t|-|3|sub:1:2",
-        [Some("s"), Some("k"), Some("f"), Some("t")],
+        [Some("s"), Some("k"), Some("f"), Some("t"), None],
     ),
     (
         "verify|text:s|k|f|t|-|32|sub:1:2|sub:3:4",
-        [Some("s"), Some("k"), Some("f"), Some("t")],
+        [Some("s"), Some("k"), Some("f"), Some("t"), None],
     ),
     (
         "verify|made:7:20|made:|text:t|-|-|3|sub:1:2",
-        [None, Some("made:"), Some("text:t"), Some("-")],
+        [None, Some("made:"), Some("text:t"), Some("-"), None],
     ),
-    ("verify|s|k|f|t|-|3", [None; 4]),
-    ("help|f|t", [None, None, Some("f"), Some("t")]),
-    ("gen|7|100|20", [None; 4]),
+    (
+        "verify|s|k|f|t|r|48|sub:1:2",
+        [Some("s"), Some("k"), Some("f"), Some("t"), Some("r")],
+    ),
+    (
+        "verify|made:7:20|k|f|t|--|3|sub:1:2",
+        [None, Some("k"), Some("f"), Some("t"), Some("--")],
+    ),
+    ("verify|s|k|f|t|-|3", [None; 5]),
+    ("help|f|t", [None, None, Some("f"), Some("t"), None]),
+    ("gen|7|100|20", [None; 5]),
     (
         "lines|text:\u{e9}t\u{e9}|32",
-        [Some("\u{e9}t\u{e9}"), None, None, None],
+        [Some("\u{e9}t\u{e9}"), None, None, None, None],
     ),
-    ("lines|s|32", [Some("s"), None, None, None]),
-    ("lines|s|49", [None; 4]),
-    ("lines|wide:w|48", [Some("w"), None, None, None]),
-    ("widen|wide:text:|48", [Some("text:"), None, None, None]),
-    ("widen|s|48", [Some("s"), None, None, None]),
-    ("widen|s|49", [None; 4]),
+    ("lines|s|32", [Some("s"), None, None, None, None]),
+    ("lines|s|49", [None; 5]),
+    ("lines|wide:w|48", [Some("w"), None, None, None, None]),
+    (
+        "widen|wide:text:|48",
+        [Some("text:"), None, None, None, None],
+    ),
+    ("widen|s|48", [Some("s"), None, None, None, None]),
+    ("widen|s|49", [None; 5]),
 ];
 
 #[test]
@@ -373,13 +384,12 @@ fn opens_the_files_of_a_command(rt: HostRuntime) -> Result<(), Fail> {
     for (text, want) in &FILES {
         let words = words(alloc, text)?;
         let plan = ports(&words);
-        for (opening, name) in [plan.first, plan.second, plan.from, plan.to]
+        for (opening, name) in [plan.first, plan.second, plan.from, plan.to, plan.keep]
             .iter()
             .zip(want)
         {
             assert_eq!(rt; opening.name(&words), *name, "at {text}");
         }
-        assert_eq!(rt; plan.keep, Opening::Nothing, "at {text}");
     }
     Ok(())
 }

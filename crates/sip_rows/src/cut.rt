@@ -15,6 +15,7 @@ fn fault_of(at: At) -> (&'static str, Status) {
         At::Second => ("seed", Status::ReadFault { port: Port::Second }),
         At::Peer => ("link", Status::PeerFault),
         At::Report => ("report", Status::WriteFault { port: Port::Report }),
+        At::Keep => ("record", Status::WriteFault { port: Port::Keep }),
     }
 }
 

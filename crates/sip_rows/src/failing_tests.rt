@@ -8,18 +8,21 @@ use std::test::Fail;
 // A port, the chunk, the first call on the port that the first run does not make, and the least and most events that were
 // said before one of the others.
 //
-// With a byte a call the stream has 39 bytes and an end, the seed 32, the talk 119 and the line 12. With as many bytes a
-// call as are asked for these are 3 records and the end, the seed, and the line; the link has 6 frames out, and 3 frames
-// in of a header and a body each. The opening is 5 bytes, and the farewell the last 3.
-const PORTS: [(At, usize, u64, usize, usize); 8] = [
+// With a byte a call the stream has 39 bytes and an end, the seed 32, the talk 119, the line 12 and the transcript 76. With
+// as many bytes a call as are asked for these are 3 records and the end, the seed, and the line; the link has 6 frames out,
+// and 3 frames in of a header and a body each; the transcript is written in 2 parts of its head and 3 frames. The opening
+// is 5 bytes, and the farewell the last 3.
+const PORTS: [(At, usize, u64, usize, usize); 10] = [
     (At::First, 1, 41, 5, 5),
     (At::Second, 1, 33, 0, 0),
     (At::Peer, 1, 120, 0, 118),
     (At::Report, 1, 13, 116, 116),
+    (At::Keep, 1, 77, 0, 116),
     (At::First, 10_000, 5, 5, 5),
     (At::Second, 10_000, 2, 0, 0),
     (At::Peer, 10_000, 13, 0, 116),
     (At::Report, 10_000, 2, 116, 116),
+    (At::Keep, 10_000, 6, 0, 116),
 ];
 
 // What the talk has once the last reply came.

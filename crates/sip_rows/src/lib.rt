@@ -50,6 +50,8 @@ mod page_tests;
 #[cfg(test)]
 mod query_tests;
 #[cfg(test)]
+mod record_tests;
+#[cfg(test)]
 mod row;
 #[cfg(test)]
 mod row_tests;

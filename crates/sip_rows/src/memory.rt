@@ -19,11 +19,11 @@ ghost use Rattle.sip_cli.specs.Words.{Spells, IsRefusedAt};
 ghost use Rattle.sip_rows.specs.Moves.{Moves, held_by, faults_of};
 
 use sip_cli::{Words, run};
-use sip_ports::{MemoryLink, MemorySink, MemorySource, NullSink};
+use sip_ports::{MemoryLink, MemorySink, MemorySource};
 use sip_verifier::Status;
 use std::alloc::Global;
 
-/// Does what the words say over ports in memory, and keeps no transcript.
+/// Does what the words say over ports in memory.
 ///
 /// Every port tells its bytes, so what is promised of a run is promised here with no premise but the words. Time and
 /// memory are those of [`run`].
@@ -34,13 +34,14 @@ pub fn run_in_memory(
     second: &mut MemorySource,
     peer: &mut MemoryLink,
     report: &mut MemorySink,
+    keep: &mut MemorySink,
 ) -> Status
-    // What moved between the ports before and the ports after keeps the five promises of `verify`.
+    // What moved between the ports before and the ports after keeps the six promises of `verify`.
     ensures promises { (task : Task) → Spells words.now (Verify task) → (x : Exchange)
-        × Moves (held_by first.old second.old peer.old report.old)
-        (held_by first.new second.new peer.new report.new) x
-        × Promises task x (faults_of first.old second.old peer.old report.old)
-        (faults_of first.new second.new peer.new report.new) result }
+        × Moves (held_by first.old second.old peer.old report.old keep.old)
+        (held_by first.new second.new peer.new report.new keep.new) x
+        × Promises task x (faults_of first.old second.old peer.old report.old keep.old)
+        (faults_of first.new second.new peer.new report.new keep.new) result }
 
     // A copy is written to the report, and a talk is served on the link.
     ensures made { (depth : ℕ) → Spells words.now (Gen depth)
@@ -62,24 +63,17 @@ pub fn run_in_memory(
     ensures usage { (word : ℕ) → (result ≡ Status.Usage word) ↔ IsRefusedAt words.now word }
     ensures untouched { (word : ℕ) → result ≡ Status.Usage word
         → (first.new ≡ first.old) × (second.new ≡ second.old) × (peer.new ≡ peer.old)
-        × (report.new ≡ report.old) }
+        × (report.new ≡ report.old) × (keep.new ≡ keep.old) }
 
     // Where no call of a port is to fail there is no fault of that port.
     ensures sure_first { source_is_sure first.old → result ≢ Status.ReadFault ports.First }
     ensures sure_second { source_is_sure second.old → result ≢ Status.ReadFault ports.Second }
     ensures sure_peer { link_is_sure peer.old → result ≢ Status.PeerFault }
     ensures sure_report { sink_is_sure report.old → result ≢ Status.WriteFault ports.Report }
+    ensures sure_keep { sink_is_sure keep.old → result ≢ Status.WriteFault ports.Keep }
 
     // No status comes but those of the command.
     ensures listed { (command : Command) → Spells words.now command → Ends command result }
 {
-    run(
-        alloc,
-        words,
-        first,
-        second,
-        peer,
-        report,
-        &mut NullSink::new(),
-    )
+    run(alloc, words, first, second, peer, report, keep)
 }

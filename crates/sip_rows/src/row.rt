@@ -27,6 +27,7 @@ pub enum At {
     Second,
     Peer,
     Report,
+    Keep,
 }
 
 // The call of a port that is to fail; the first call has number 1.
@@ -42,6 +43,7 @@ pub struct Shown {
     pub status: Status,
     pub peer: MemoryLink,
     pub report: MemorySink,
+    pub keep: MemorySink,
 }
 
 // A part of a talk.
@@ -148,6 +150,7 @@ impl Given<'_> {
         let mut second = source(alloc, self.seed, chunk, failing, At::Second)?;
         let mut peer = link(alloc, self.replies, chunk, failing)?;
         let mut report = MemorySink::new(alloc, chunk, fails(alloc, failing, At::Report)?);
+        let mut keep = MemorySink::new(alloc, chunk, fails(alloc, failing, At::Keep)?);
         let status = run_in_memory(
             alloc,
             &words,
@@ -155,11 +158,13 @@ impl Given<'_> {
             &mut second,
             &mut peer,
             &mut report,
+            &mut keep,
         );
         Ok(Shown {
             status,
             peer,
             report,
+            keep,
         })
     }
 }

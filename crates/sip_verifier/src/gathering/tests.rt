@@ -49,7 +49,7 @@ fn seed(alloc: Global, count: usize, fails: Vec<u64>) -> Result<MemorySource, Fa
     Ok(MemorySource::new(vec![in alloc; 7; count]?, 5, fails))
 }
 
-// What a run over these ports answers in place of seats. It keeps nothing.
+// What a run over these ports answers in place of seats. Once it has challenges it keeps the head of its transcript, 35 bytes.
 fn refusal(
     alloc: Global,
     form: Form,
@@ -59,7 +59,11 @@ fn refusal(
 ) -> Result<Option<Status>, Fail> {
     let mut keep = MemorySink::new(alloc, 10, Vec::new(alloc));
     let refused = gather(&task(form)?, &mut first, &mut second, peer, &mut keep).err();
-    if keep.bytes().is_empty() {
+    let kept = match refused {
+        Some(Status::BadSeed | Status::ReadFault { port: Port::Second }) => 0,
+        _ => 35,
+    };
+    if keep.bytes().len() == kept {
         Ok(refused)
     } else {
         Err("kept")?

@@ -110,7 +110,7 @@ fn session(alloc: Global) -> Result<Session, Fail>
     Ok(Session::new(alloc, version, seats).ok().ok_or("a session")?)
 }
 
-/// Asks the next query, with nothing kept.
+/// Asks the next query.
 fn ask(
     alloc: Global,
     session: &mut Session,

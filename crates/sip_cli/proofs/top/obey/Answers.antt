@@ -10,22 +10,22 @@ returns-in-Verify-clause-keeps g c = verify_keeps _ c.in-Verify.is c.check_strea
 
 pub returns-in-Help-clause-keeps : goal.returns-in-Help-clause-keeps
 returns-in-Help-clause-keeps g c =
-    help_keeps c.in-Help.is c.help.ensures.help (λ is. let said = c.help.ensures.said in tells _ _ is (λ some. some) said.0 said.1 [] (GoesOn-refl _)) (c.help.ensures.fault _ _ _ _ _ _) c.help.ensures.listed
+    help_keeps c.in-Help.is c.help.ensures.help (λ is. let said = c.help.ensures.said in tells _ _ is (λ some. some) said.0 said.1 [] (GoesOn-refl _) [] (GoesOn-refl _)) (c.help.ensures.fault _ _ _ _ _ _ _ _) c.help.ensures.listed
 
 pub returns-in-Gen-clause-keeps : goal.returns-in-Gen-clause-keeps
 returns-in-Gen-clause-keeps g c =
     copy_keeps _ c.in-Gen.is (rw c.made-form.ensures.form at c.copy_stream.ensures.copied)
-    (λ is. let wrote = c.copy_stream.ensures.wrote is.first in tells _ _ is c.copy_stream.ensures.told [] (GoesOn-refl _) wrote.0 wrote.1)
-    (c.copy_stream.ensures.fault _ _ _ _) c.copy_stream.ensures.listed
+    (λ is. let wrote = c.copy_stream.ensures.wrote is.first in tells _ _ is c.copy_stream.ensures.told [] (GoesOn-refl _) wrote.0 wrote.1 [] (GoesOn-refl _))
+    (c.copy_stream.ensures.fault _ _ _ _ _ _) c.copy_stream.ensures.listed
 
 pub returns-in-Lines-clause-keeps : goal.returns-in-Lines-clause-keeps
 returns-in-Lines-clause-keeps g c =
     copy_keeps _ c.in-Lines.is c.copy_stream-in-Lines.ensures.copied
-    (λ is. let wrote = c.copy_stream-in-Lines.ensures.wrote is.first in tells _ _ is c.copy_stream-in-Lines.ensures.told [] (GoesOn-refl _) wrote.0 wrote.1)
-    (c.copy_stream-in-Lines.ensures.fault _ _ _ _) c.copy_stream-in-Lines.ensures.listed
+    (λ is. let wrote = c.copy_stream-in-Lines.ensures.wrote is.first in tells _ _ is c.copy_stream-in-Lines.ensures.told [] (GoesOn-refl _) wrote.0 wrote.1 [] (GoesOn-refl _))
+    (c.copy_stream-in-Lines.ensures.fault _ _ _ _ _ _) c.copy_stream-in-Lines.ensures.listed
 
 pub returns-in-Widen-clause-keeps : goal.returns-in-Widen-clause-keeps
 returns-in-Widen-clause-keeps g c =
     copy_keeps _ c.in-Widen.is c.copy_stream-in-Widen.ensures.copied
-    (λ is. let wrote = c.copy_stream-in-Widen.ensures.wrote is.first in tells _ _ is c.copy_stream-in-Widen.ensures.told [] (GoesOn-refl _) wrote.0 wrote.1)
-    (c.copy_stream-in-Widen.ensures.fault _ _ _ _) c.copy_stream-in-Widen.ensures.listed
+    (λ is. let wrote = c.copy_stream-in-Widen.ensures.wrote is.first in tells _ _ is c.copy_stream-in-Widen.ensures.told [] (GoesOn-refl _) wrote.0 wrote.1 [] (GoesOn-refl _))
+    (c.copy_stream-in-Widen.ensures.fault _ _ _ _ _ _) c.copy_stream-in-Widen.ensures.listed

@@ -1,13 +1,13 @@
 use Rattle.std.proofs.Common.{refl}
 use Rattle.sip_ports.specs.Calls.{failed_of-sure}
 use Rattle.sip_rows.specs.Moves.{held_by}
-use Rattle.sip_rows.proofs.Telling.{all_told, Moves-told, first_sure, second_sure, peer_sure, report_sure}
+use Rattle.sip_rows.proofs.Telling.{all_told, Moves-told, first_sure, second_sure, peer_sure, report_sure, keep_sure}
 use Rattle.sip_rows.proofs.memory.run_in_memory.Goals as goal
 
 pub returns-clause-promises : goal.returns-clause-promises
 returns-clause-promises c = λ task spells.
-    let old = held_by c.args.first.now c.args.second.now c.args.peer.now c.args.report.now in
-    let new = held_by c.run.new.first c.run.new.second c.run.new.peer c.run.new.report in
+    let old = held_by c.args.first.now c.args.second.now c.args.peer.now c.args.report.now c.args.keep.now in
+    let new = held_by c.run.new.first c.run.new.second c.run.new.peer c.run.new.report c.run.new.keep in
     let told = c.run.ensures.keeps.moves (all_told old _) in
     let x = told.0 in (x, Moves-told old new _ _ x told.1, c.run.ensures.keeps.verify task spells x told.1)
 
@@ -37,3 +37,6 @@ returns-clause-sure_peer c = λ sure. peer_sure _ _ c.run.result c.run.ensures.k
 
 pub returns-clause-sure_report : goal.returns-clause-sure_report
 returns-clause-sure_report c = λ sure. report_sure _ _ c.run.result c.run.ensures.keeps.fault (failed_of-sure _ _ (c.run.ensures.report.sure sure))
+
+pub returns-clause-sure_keep : goal.returns-clause-sure_keep
+returns-clause-sure_keep c = λ sure. keep_sure _ _ c.run.result c.run.ensures.keeps.fault (failed_of-sure _ _ (c.run.ensures.keep.sure sure))
