@@ -2,8 +2,8 @@
 #![tactic(auto)]
 
 use sip_cli::{
-    LinkOrder, Opening, PortPlan, Words, finish, page_of, ports, run, status_without_words,
-    write_page,
+    LinkOrder, Opening, PortPlan, Words, finish, page_of, play_words, ports, run,
+    status_without_words, write_page,
 };
 use sip_ports::{FileLink, FileSink, FileSource, NullSink, Sink, Source, StderrSink, StdoutSink};
 use sip_stream::MadeSource;
@@ -83,7 +83,7 @@ struct Opened {
     peer: Box<FileLink>,
 }
 
-/// Does what the words say over these ports.
+/// Does what the words say over these ports. Words of `play` have no use for the link.
 fn obey_keeping<S: Source, C: Sink>(
     rt: &HostRuntime,
     words: &Words,
@@ -91,19 +91,26 @@ fn obey_keeping<S: Source, C: Sink>(
     opened: &mut Opened,
     keep: &mut C,
 ) -> Status {
-    run(
-        rt.alloc(),
-        words,
-        first,
-        &mut *opened.second,
-        &mut *opened.peer,
-        &mut StdoutSink::new(io::writer(rt)),
-        keep,
-    )
+    let mut report = StdoutSink::new(io::writer(rt));
+    let second = &mut *opened.second;
+    let played = play_words(rt.alloc(), words, first, second, &mut report, keep);
+    match played {
+        Some(status) => status,
+        None => run(
+            rt.alloc(),
+            words,
+            first,
+            second,
+            &mut *opened.peer,
+            &mut report,
+            keep,
+        ),
+    }
 }
 
-/// Opens the files that the words name, but for the first source, and does what the words say. A file that does not open
-/// is a port whose calls fail. `None` where memory is refused to a port.
+/// Opens the files that the words name, but for the first source, and does what the words say. A
+/// file that does not open is a port whose calls fail. Words of `play` name none for a link, since
+/// its helper is in the program. `None` where memory is refused to a port.
 #[inline(never)]
 fn obey_over<S: Source>(
     rt: &HostRuntime,

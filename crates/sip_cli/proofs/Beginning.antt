@@ -7,12 +7,13 @@ use Rattle.std.proofs.lemmas.Nat.{pow_pos}
 use Rattle.sip_vector.specs.declared.query.Query.{Query}
 use Rattle.sip_vector.specs.declared.query.Query.TheVariants.{Sub}
 use Rattle.sip_verifier.specs.Reports.{query_word}
+use Rattle.sip_cli.specs.declared.helper_name.HelperName.TheVariants.{Mute}
 use Rattle.sip_cli.specs.declared.shape.Shape.TheVariants.{Name}
 use Rattle.sip_cli.specs.declared.stream.Stream.TheVariants as stream
 use Rattle.sip_cli.specs.declared.verb.Verb.{Verb}
-use Rattle.sip_cli.specs.declared.verb.Verb.TheVariants.{Verify, Help, Gen, Lines, Widen}
+use Rattle.sip_cli.specs.declared.verb.Verb.TheVariants.{Verify, Help, Gen, Lines, Widen, Play}
 use Rattle.sip_cli.specs.Shapes.{IsOf, IsDepth, Asks}
-use Rattle.sip_cli.specs.Verbs.{verb_word, shapes, least_asked, most_asked}
+use Rattle.sip_cli.specs.Verbs.{verb_word, shapes, depth_at, least_asked, most_asked}
 use Rattle.sip_cli.specs.Words.{word, IsCommandOf, BeginCommand, IsRefusedAt}
 
 -- words of a command to end with
@@ -22,6 +23,7 @@ examples Help = codes "help" ∷ codes "f" ∷ codes "t" ∷ []
 examples Gen = codes "gen" ∷ decimal 0 ∷ decimal 0 ∷ decimal 1 ∷ []
 examples Lines = codes "lines" ∷ codes "s" ∷ decimal 1 ∷ []
 examples Widen = codes "widen" ∷ codes "s" ∷ decimal 1 ∷ []
+examples Play = codes "play" ∷ codes "s" ∷ codes "s" ∷ codes "mute" ∷ codes "-" ∷ decimal 1 ∷ query_word (Sub 0 0) ∷ []
 
 -- they are as many as there have to be
 pub examples_long : (verb : Verb) → length (examples verb) ≡ 1 + length (shapes verb) + least_asked verb
@@ -30,6 +32,7 @@ examples_long Help = refl
 examples_long Gen = refl
 examples_long Lines = refl
 examples_long Widen = refl
+examples_long Play = refl
 
 -- each has its shape
 pub examples_fit : (verb : Verb) (n : ℕ) → n < length (shapes verb) → IsOf (get_or (shapes verb) n Name) (word (examples verb) (n + 1))
@@ -53,6 +56,12 @@ examples_fit Lines (suc (suc n)) h = absurd (omega arith)
 examples_fit Widen zero h = (stream.File, (λ e. cc, refl, refl, refl))
 examples_fit Widen (suc zero) h = (1, (omega arith, omega arith, refl))
 examples_fit Widen (suc (suc n)) h = absurd (omega arith)
+examples_fit Play zero h = (stream.File, (λ e. cc, refl, refl, refl))
+examples_fit Play (suc zero) h = λ e. cc
+examples_fit Play (suc (suc zero)) h = (Mute, refl)
+examples_fit Play (suc (suc (suc zero))) h = refl
+examples_fit Play (suc (suc (suc (suc zero)))) h = (1, (omega arith, omega arith, refl))
+examples_fit Play (suc (suc (suc (suc (suc n))))) h = absurd (omega arith)
 
 -- the query of the example fits each depth
 pub example_asks : (verb : Verb) (n d : ℕ) → length (shapes verb) < n → n < length (examples verb) → Asks d (Sub 0 0) (word (examples verb) n)
@@ -61,21 +70,25 @@ example_asks Help n d low high = absurd (omega arith)
 example_asks Gen n d low high = absurd (omega arith)
 example_asks Lines n d low high = absurd (omega arith)
 example_asks Widen n d low high = absurd (omega arith)
+example_asks Play n d low high = let one : n ≡ 6 = omega arith in let item = pow_pos d in rw one (refl, (omega arith, omega arith), refl)
 
--- only `verify` has queries, and its depth is word 6
-pub depth_shape : (verb : Verb) (n : ℕ) → length (shapes verb) < n → n < 1 + length (shapes verb) + most_asked verb → (words : List (List ℕ)) → IsOf (get_or (shapes verb) 5 Name) (word words 6) → (d : ℕ) × IsDepth d (word words 6)
+-- a verb with queries has a depth before them
+pub depth_shape : (verb : Verb) (n : ℕ) → length (shapes verb) < n → n < 1 + length (shapes verb) + most_asked verb → (words : List (List ℕ)) → IsOf (get_or (shapes verb) (length (shapes verb) - 1) Name) (word words (depth_at verb)) → (d : ℕ) × IsDepth d (word words (depth_at verb))
 depth_shape Verify n low high words is = is
 depth_shape Help n low high words is = absurd (omega arith)
 depth_shape Gen n low high words is = absurd (omega arith)
 depth_shape Lines n low high words is = absurd (omega arith)
 depth_shape Widen n low high words is = absurd (omega arith)
+depth_shape Play n low high words is = is
 
-pub asking_has_six : (verb : Verb) (n : ℕ) → length (shapes verb) < n → n < 1 + length (shapes verb) + most_asked verb → length (shapes verb) ≡ 6
-asking_has_six Verify n low high = refl
-asking_has_six Help n low high = absurd (omega arith)
-asking_has_six Gen n low high = absurd (omega arith)
-asking_has_six Lines n low high = absurd (omega arith)
-asking_has_six Widen n low high = absurd (omega arith)
+-- each verb has words behind it
+pub has_shapes : (verb : Verb) → 1 ≤ length (shapes verb)
+has_shapes Verify = omega arith
+has_shapes Help = omega arith
+has_shapes Gen = omega arith
+has_shapes Lines = omega arith
+has_shapes Widen = omega arith
+has_shapes Play = omega arith
 
 pub least_below_most : (verb : Verb) → least_asked verb ≤ most_asked verb
 least_below_most Verify = omega arith
@@ -83,6 +96,7 @@ least_below_most Help = omega arith
 least_below_most Gen = omega arith
 least_below_most Lines = omega arith
 least_below_most Widen = omega arith
+least_below_most Play = omega arith
 
 -- the first n words are those of a command of this verb, which is not yet too long
 pub record Begun (verb : Verb) (words : List (List ℕ)) (n : ℕ) : Type 0 where
@@ -91,7 +105,7 @@ pub record Begun (verb : Verb) (words : List (List ℕ)) (n : ℕ) : Type 0 wher
   pub within : n ≤ length words
   pub most : n ≤ 1 + length (shapes verb) + most_asked verb
   pub shaped : (i : ℕ) → i < length (shapes verb) → i + 1 < n → IsOf (get_or (shapes verb) i Name) (word words (i + 1))
-  pub asked : (i : ℕ) → length (shapes verb) < i → i < n → (d : ℕ) × IsDepth d (word words 6) × (query : Query) × Asks d query (word words i)
+  pub asked : (i : ℕ) → length (shapes verb) < i → i < n → (d : ℕ) × IsDepth d (word words (depth_at verb)) × (query : Query) × Asks d query (word words i)
 
 -- the words up to n, and the example's from there on
 abbrev pub ended : Verb → List (List ℕ) → ℕ → List (List ℕ)
@@ -123,19 +137,21 @@ ended_shaped verb words n b i less =
     ]
 
 -- and asks its query
-pub ended_asked : (verb : Verb) (words : List (List ℕ)) (n : ℕ) → Begun verb words n → (i : ℕ) → length (shapes verb) < i → i < length (ended verb words n) → (d : ℕ) × IsDepth d (word (ended verb words n) 6) × (query : Query) × Asks d query (word (ended verb words n) i)
+pub ended_asked : (verb : Verb) (words : List (List ℕ)) (n : ℕ) → Begun verb words n → (i : ℕ) → length (shapes verb) < i → i < length (ended verb words n) → (d : ℕ) × IsDepth d (word (ended verb words n) (depth_at verb)) × (query : Query) × Asks d query (word (ended verb words n) i)
 ended_asked verb words n b i low high =
     let long = ended_long verb words n b.within in
     let examples_are = examples_long verb in
     let few = least_below_most verb in
     let most : i < 1 + length (shapes verb) + most_asked verb = omega (arith, b.most) in
-    let six = asking_has_six verb i low most in
+    let some = has_shapes verb in
+    let last : length (shapes verb) - 1 + 1 ≡ depth_at verb = omega arith in
     elim (cases_lt i n) [
       | inl before ↦ (
           let a = b.asked i low before in
-          (a.0, subst (IsDepth a.0) (sym (ended_before verb words n 6 b.within (omega arith))) a.1, a.2, subst (Asks a.0 a.2) (sym (ended_before verb words n i b.within before)) a.3))
+          (a.0, subst (IsDepth a.0) (sym (ended_before verb words n (depth_at verb) b.within (omega arith))) a.1, a.2, subst (Asks a.0 a.2) (sym (ended_before verb words n i b.within before)) a.3))
       | inr after ↦ (
-          let deep = depth_shape verb i low most (ended verb words n) (ended_shaped verb words n b 5 (omega arith)) in
+          let shaped = subst (λ k. IsOf (get_or (shapes verb) (length (shapes verb) - 1) Name) (word (ended verb words n) k)) last (ended_shaped verb words n b (length (shapes verb) - 1) (omega arith)) in
+          let deep = depth_shape verb i low most (ended verb words n) shaped in
           (deep.0, deep.1, Sub 0 0, subst (Asks deep.0 (Sub 0 0)) (sym (ended_after verb words n i b.within after)) (example_asks verb i deep.0 low (omega arith))))
     ]
 
@@ -176,7 +192,8 @@ lettered letter =
     if letter == 118 then Verify else (
     if letter == 104 then Help else (
     if letter == 103 then Gen else (
-    if letter == 108 then Lines else Widen)))
+    if letter == 108 then Lines else (
+    if letter == 112 then Play else Widen))))
 
 lettered_word : (verb : Verb) → lettered (get_or (verb_word verb) 0 0) ≡ verb
 lettered_word Verify = refl
@@ -184,6 +201,7 @@ lettered_word Help = refl
 lettered_word Gen = refl
 lettered_word Lines = refl
 lettered_word Widen = refl
+lettered_word Play = refl
 
 -- one word has one verb
 pub verb_once : (verb other : Verb) → verb_word verb ≡ verb_word other → verb ≡ other

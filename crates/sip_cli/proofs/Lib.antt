@@ -7,5 +7,6 @@ pub mod MadePorts
 pub mod Refusals
 pub mod Getting
 pub mod RunLemmas
+pub mod PlayLemmas
 pub mod Alone
 pub mod NamedPorts

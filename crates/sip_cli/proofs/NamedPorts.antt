@@ -67,6 +67,15 @@ opens_named words (command.Lines form depth) plan spells (s, names, is) =
     let least = spells.0.least in source_named words s depth plan (omega arith) names is
 opens_named words (command.Widen form depth) plan spells (s, names, is) =
     let least = spells.0.least in source_named words s depth plan (omega arith) names is
+opens_named words (command.Play task name) plan spells (s, names, keep, record_is, is) =
+    let least = spells.0.least in
+    subst (HaveNames words) (sym is) (record {
+      first = stream_named words s task.depth (omega arith) names;
+      second = file_named words 2 (omega arith);
+      from = tt;
+      to = tt;
+      keep = record_named words 4 keep (omega arith) record_is;
+    })
 
 -- a text with a colon behind four bytes can be cut there
 cut_behind_colon : (text : List ℕ) → IsUtf8 text → 5 ≤ length text → get_or text 4 0 ≡ 58 → IsCharBoundary text 5

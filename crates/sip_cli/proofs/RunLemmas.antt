@@ -10,7 +10,10 @@ use Rattle.sip_vector.specs.Limits.{most_depth, most_narrow_depth}
 use Rattle.sip_vector.specs.declared.query.Query.{Query}
 use Rattle.sip_vector.specs.declared.query.Query.TheVariants.{Inner}
 use Rattle.sip_cli.specs.declared.command.Command.{Command}
-use Rattle.sip_cli.specs.declared.command.Command.TheVariants.{Verify, Help, Gen, Lines, Widen}
+use Rattle.sip_cli.specs.declared.command.Command.TheVariants.{Verify, Help, Gen, Lines, Widen, Play}
+use Rattle.sip_cli.specs.declared.helper_name.HelperName.{HelperName}
+use Rattle.sip_cli.specs.declared.verb.Verb.{Verb}
+use Rattle.sip_cli.specs.declared.verb.Verb.TheVariants as verbs
 use Rattle.sip_verifier.specs.declared.status.Status.{Status}
 use Rattle.sip_verifier.specs.declared.status.Status.TheVariants as statuses
 use Rattle.sip_verifier.specs.declared.task.Task.{Task}
@@ -26,26 +29,38 @@ use Rattle.sip_cli.specs.CopyClause.{CopyClause}
 use Rattle.sip_cli.specs.HelpClause.{HelpClause}
 use Rattle.sip_cli.specs.Shapes.{Asks}
 use Rattle.sip_cli.specs.Statuses.{Ends, EndsCopy, EndsHelp}
-use Rattle.sip_cli.specs.Words.{word, Spells, IsRefusedAt}
+use Rattle.sip_cli.specs.Verbs.{depth_at, least_asked}
+use Rattle.sip_cli.specs.Words.{word, IsCommandOf, SaysTask, Spells, IsRefusedAt}
 use Rattle.sip_cli.proofs.Refusals.{refused_once, spelled_not_refused}
 
 -- a query that a word asks can be asked
 can_be_asked : (depth : ℕ) (query : Query) (word : List ℕ) → Asks depth query word → CanBeAsked depth query
 can_be_asked depth query word asks = (asks.0, asks.1)
 
--- a task that words spell can be done
-pub served : (words : List (List ℕ)) (task : Task) → Spells words (Verify task) → CanBeDone task
-served words task (whole, says) =
+-- a task that words say can be done
+served_by : (verb : Verb) (words : List (List ℕ)) (task : Task) → least_asked verb ≡ 1 → IsCommandOf verb words → SaysTask verb words task → CanBeDone task
+served_by verb words task one whole says =
     let least = whole.least in
     let count = says.count in
     record {
       some = omega arith;
-      asked = All-from_get_or (CanBeAsked task.depth) task.queries.items Inner (λ i less. can_be_asked task.depth (get_or task.queries.items i Inner) (word words (7 + i)) (says.queries i less));
+      asked = All-from_get_or (CanBeAsked task.depth) task.queries.items Inner (λ i less. can_be_asked task.depth (get_or task.queries.items i Inner) (word words (1 + depth_at verb + i)) (says.queries i less));
     }
+
+-- so can one that words spell
+pub served : (words : List (List ℕ)) (task : Task) → Spells words (Verify task) → CanBeDone task
+served words task (whole, says) = served_by verbs.Verify words task refl whole says
+
+pub played : (words : List (List ℕ)) (task : Task) (name : HelperName) → Spells words (Play task name) → CanBeDone task
+played words task name (whole, says, named) = served_by verbs.Play words task refl whole says
 
 -- a command that words spell, if it is to verify, has a task that can be done
 pub served_task : (words : List (List ℕ)) (c : Command) → Spells words c → (task : Task) → c ≡ Verify task → CanBeDone task
 served_task words c s task e = served words task (subst (Spells words) e s)
+
+-- and so has one to play
+pub played_task : (words : List (List ℕ)) (c : Command) → Spells words c → (task : Task) (name : HelperName) → c ≡ Play task name → CanBeDone task
+played_task words c s task name e = played words task name (subst (Spells words) e s)
 
 -- no command ends with Usage
 ends_otherwise : (c : Command) (word : ℕ) → Ends c (statuses.Usage word) → ⊥
@@ -54,6 +69,7 @@ ends_otherwise Help word listed = listed
 ends_otherwise (Gen depth) word listed = listed
 ends_otherwise (Lines form depth) word listed = listed
 ends_otherwise (Widen form depth) word listed = listed
+ends_otherwise (Play task name) word listed = absurd (true≢false (sym listed))
 
 pub never_usage : (c : Command) (status : Status) (word : ℕ)
     → Ends c status → status ≡ statuses.Usage word → ⊥
@@ -92,6 +108,7 @@ Kept before now status Help = ⊥
 Kept before now status (Gen depth) = Copied before now status depth (made_form depth) (made_form depth)
 Kept before now status (Lines form depth) = Copied before now status depth form Text
 Kept before now status (Widen form depth) = Copied before now status depth form Wide
+Kept before now status (Play task name) = ⊥
 
 -- a command that makes one ends as a copy does
 ends_as_copy : (before now : Moment) (status : Status) (c : Command) → Kept before now status c → EndsCopy status → Ends c status
@@ -100,12 +117,28 @@ ends_as_copy before now status Help copied listed = absurd copied
 ends_as_copy before now status (Gen depth) copied listed = listed
 ends_as_copy before now status (Lines form depth) copied listed = listed
 ends_as_copy before now status (Widen form depth) copied listed = listed
+ends_as_copy before now status (Play task name) copied listed = absurd copied
 
 module _ {before now : Moment} {status : Status} where
   pub verify_keeps : {c : Command} (task : Task) → c ≡ Verify task
       → RunClause task before now status → CommandClause (λ is. c ≡ is) before now status
   verify_keeps task e k = subst (λ (c : Command). CommandClause (λ is. c ≡ is) before now status) (sym e) (record {
     verify = λ other is x t. same_task (let same = is in cc) (k.promises x t);
+    play = λ other name is. absurd (let same = is in cc);
+    made = λ depth is. absurd (let same = is in cc);
+    lines = λ form depth is. absurd (let same = is in cc);
+    wide = λ form depth is. absurd (let same = is in cc);
+    help = λ is. absurd (let same = is in cc);
+    moves = k.moves;
+    fault = k.fault;
+    listed = λ command is. subst (λ (c : Command). Ends c status) is k.listed;
+  })
+
+  pub play_keeps : {c : Command} (task : Task) (name : HelperName) → c ≡ Play task name
+      → RunClause task before now status → CommandClause (λ is. c ≡ is) before now status
+  play_keeps task name e k = subst (λ (c : Command). CommandClause (λ is. c ≡ is) before now status) (sym e) (record {
+    verify = λ other is. absurd (let same = is in cc);
+    play = λ other called is x t. same_task (let same = is in cc) (k.promises x t);
     made = λ depth is. absurd (let same = is in cc);
     lines = λ form depth is. absurd (let same = is in cc);
     wide = λ form depth is. absurd (let same = is in cc);
@@ -121,6 +154,7 @@ module _ {before now : Moment} {status : Status} where
       → CommandClause (λ is. c ≡ is) before now status
   help_keeps e served moves fault listed = subst (λ (c : Command). CommandClause (λ is. c ≡ is) before now status) (sym e) (record {
     verify = λ other is. absurd (let same = is in cc);
+    play = λ other name is. absurd (let same = is in cc);
     made = λ depth is. absurd (let same = is in cc);
     lines = λ form depth is. absurd (let same = is in cc);
     wide = λ form depth is. absurd (let same = is in cc);
@@ -136,6 +170,7 @@ module _ {before now : Moment} {status : Status} where
       → CommandClause (λ is. c ≡ is) before now status
   copy_keeps d e copied moves fault listed = subst (λ (c : Command). CommandClause (λ is. c ≡ is) before now status) (sym e) (record {
     verify = λ task is. absurd (subst (Kept before now status) is copied);
+    play = λ task name is. absurd (subst (Kept before now status) is copied);
     made = λ depth is. subst (Kept before now status) is copied;
     lines = λ form depth is. subst (Kept before now status) is copied;
     wide = λ form depth is. subst (Kept before now status) is copied;
@@ -150,6 +185,7 @@ module _ {before now : Moment} {status : Status} where
       → CommandClause Is before now status → CommandClause Other before now status
   known_by tells k = record {
     verify = λ task is. k.verify task (tells (Verify task) is);
+    play = λ task name is. k.play task name (tells (Play task name) is);
     made = λ depth is. k.made depth (tells (Gen depth) is);
     lines = λ form depth is. k.lines form depth (tells (Lines form depth) is);
     wide = λ form depth is. k.wide form depth (tells (Widen form depth) is);
@@ -164,6 +200,7 @@ pub none_keeps : {Is : Command → Type 0} {m : Moment} (word : ℕ)
     → ((command : Command) → Is command → ⊥) → CommandClause Is m m (statuses.Usage word)
 none_keeps {m = m} word none = record {
   verify = λ task is. absurd (none (Verify task) is);
+  play = λ task name is. absurd (none (Play task name) is);
   made = λ depth is. absurd (none (Gen depth) is);
   lines = λ form depth is. absurd (none (Lines form depth) is);
   wide = λ form depth is. absurd (none (Widen form depth) is);

@@ -6,18 +6,19 @@ use Rattle.std.proofs.lemmas.List.{length-append, get_or_append_left}
 use Rattle.std.proofs.Math.Seq.{get_or-append_seam}
 use Rattle.sip_vector.specs.declared.query.Query.{Query}
 use Rattle.sip_vector.specs.declared.query.Query.TheVariants.{Inner}
+use Rattle.sip_verifier.specs.declared.task.Task.{Task}
 use Rattle.sip_wire.specs.Table.{most_queries}
 use Rattle.sip_cli.specs.declared.command.Command.{Command}
 use Rattle.sip_cli.specs.declared.shape.Shape.{Shape}
-use Rattle.sip_cli.specs.declared.shape.Shape.TheVariants.{Name}
+use Rattle.sip_cli.specs.declared.shape.Shape.TheVariants.{Name, Depth}
 use Rattle.sip_cli.specs.declared.stream.Stream.{Stream}
 use Rattle.sip_cli.specs.declared.words.Usage.{Usage}
 use Rattle.sip_cli.specs.declared.verb.Verb.{Verb}
-use Rattle.sip_cli.specs.declared.verb.Verb.TheVariants.{Verify}
-use Rattle.sip_cli.specs.Shapes.{IsOf, IsDepth, IsStreamWord, Asks}
-use Rattle.sip_cli.specs.Verbs.{verb_word, shapes, least_asked, most_asked}
-use Rattle.sip_cli.specs.Words.{word, IsCommandOf, IsRefusedAt}
-use Rattle.sip_cli.specs.inside.Progress.{HaveShapes, StopsInShapes, Fitted, TakesStream, AreAsked, StopsInQueries}
+use Rattle.sip_cli.specs.declared.verb.Verb.TheVariants.{Verify, Play}
+use Rattle.sip_cli.specs.Shapes.{IsOf, IsDepth, HasForm, IsStreamWord, Asks}
+use Rattle.sip_cli.specs.Verbs.{verb_word, shapes, depth_at, least_asked, most_asked}
+use Rattle.sip_cli.specs.Words.{word, IsCommandOf, SaysTask, IsRefusedAt}
+use Rattle.sip_cli.specs.inside.Progress.{HaveShapes, StopsInShapes, Fitted, TakesStream, TakesTask, AreAsked, StopsInQueries}
 use Rattle.sip_cli.proofs.Beginning.{Begun, refused}
 
 -- a word has one depth
@@ -49,30 +50,60 @@ pub refused_end : (verb : Verb) (words : List (List ℕ)) (n : ℕ) → Begun ve
 refused_end verb words n begun last more =
     refused verb words n begun (λ _ whole is longer reads. let most = is.most in omega arith) (λ least. absurd (omega arith))
 
--- the queries of `verify` as far as they were read are begun
-pub begun_queries : (words : List (List ℕ)) (d n : ℕ) (queries : List Query) → Fitted Verify words → IsDepth d (word words 6) → n ≤ 7 + most_queries → AreAsked words d queries n → Begun Verify words n
-begun_queries words d n queries fitted deep most asked = record {
-  first = fitted.0;
-  some_words = let count = asked.count in omega arith;
-  within = asked.within;
-  most = omega arith;
-  shaped = λ i less before. fitted.1.1 i less;
-  asked = λ i low high.
-      let count = asked.count in
-      let sum : 7 + (i - 7) ≡ i = omega arith in
-      (d, deep, get_or queries (i - 7) Inner, subst (λ k. Asks d (get_or queries (i - 7) Inner) (word words k)) sum (asked.each (i - 7) (omega arith)));
-}
+-- a verb with a stream, a depth and queries
+pub takes_verify : TakesTask Verify 6
+takes_verify = record { last_is = refl; some = omega arith; stream = refl; depth = refl; least = refl; most = refl }
+
+pub takes_play : TakesTask Play 5
+takes_play = record { last_is = refl; some = omega arith; stream = refl; depth = refl; least = refl; most = refl }
+
+-- behind such a verb stand a stream and a depth
+pub stream_and_last : (verb : Verb) (words : List (List ℕ)) (last : ℕ) → TakesTask verb last → Fitted verb words → (last < length words) × ((s : Stream) × IsStreamWord s (word words 1)) × ((d : ℕ) × IsDepth d (word words last))
+stream_and_last verb words last takes fitted =
+    let long = takes.last_is in
+    let some = takes.some in
+    let more = fitted.1.0 in
+    let sum : last - 1 + 1 ≡ last = omega arith in (
+      omega arith,
+      subst (λ s. IsOf s (word words 1)) takes.stream (fitted.1.1 0 (omega arith)),
+      subst (λ k. IsOf Depth (word words k)) sum (subst (λ s. IsOf s (word words (last - 1 + 1))) takes.depth (fitted.1.1 (last - 1) (omega arith))),
+    )
+
+-- the queries of such a verb as far as they were read are begun
+pub begun_queries : (verb : Verb) (words : List (List ℕ)) (last d n : ℕ) (queries : List Query) → TakesTask verb last → Fitted verb words → IsDepth d (word words last) → n ≤ last + 1 + most_queries → AreAsked words d (last + 1) queries n → Begun verb words n
+begun_queries verb words last d n queries takes fitted deep most asked =
+    let long = takes.last_is in
+    let room = takes.most in
+    let count = asked.count in
+    record {
+      first = fitted.0;
+      some_words = omega arith;
+      within = asked.within;
+      most = omega arith;
+      shaped = λ i less before. fitted.1.1 i less;
+      asked = λ i low high.
+          let sum : last + 1 + (i - (last + 1)) ≡ i = omega arith in (
+            d,
+            subst (λ k. IsDepth d (word words k)) (sym long) deep,
+            get_or queries (i - (last + 1)) Inner,
+            subst (λ k. Asks d (get_or queries (i - (last + 1)) Inner) (word words k)) sum (asked.each (i - (last + 1)) (omega arith)),
+          );
+    }
 
 -- a word that asks no query is refused, and so is one too many
-pub refused_query : (words : List (List ℕ)) (d n : ℕ) → Fitted Verify words → IsDepth d (word words 6) → StopsInQueries words d n → IsRefusedAt words n
-refused_query words d n fitted deep stops =
-    let begun = begun_queries words d n stops.queries fitted deep stops.most stops.before in
+pub refused_query : (verb : Verb) (words : List (List ℕ)) (last d n : ℕ) → TakesTask verb last → Fitted verb words → IsDepth d (word words last) → StopsInQueries words d (last + 1) n → IsRefusedAt words n
+refused_query verb words last d n takes fitted deep stops =
+    let begun = begun_queries verb words last d n stops.queries takes fitted deep stops.most stops.before in
     let count = stops.before.count in
-    refused Verify words n begun
+    let long = takes.last_is in
+    let room = takes.most in
+    let needs = takes.least in
+    refused verb words n begun
     (λ more whole is longer reads.
-    let fewer : n < 7 + most_queries = let most = is.most in omega arith in
+    let fewer : n < last + 1 + most_queries = let most = is.most in omega arith in
     let a = is.asked n (omega arith) longer in
-    let same : a.0 ≡ d = depth_once (word words 6) a.0 d (subst (IsDepth a.0) (reads 6 (omega arith)) a.1) deep in
+    let there : IsDepth a.0 (word whole last) = subst (λ k. IsDepth a.0 (word whole k)) long a.1 in
+    let same : a.0 ≡ d = depth_once (word words last) a.0 d (subst (IsDepth a.0) (reads last (omega arith)) there) deep in
     stops.here fewer more a.2 (subst (λ e. Asks e a.2 (word words n)) same (subst (Asks a.0 a.2) (reads n (omega arith)) a.3)))
     (λ least is. let enough = is.least in let missing = stops.missing least in omega arith)
 
@@ -86,23 +117,41 @@ whole_end verb words fitted none few = record {
   most = omega arith;
 }
 
--- words of `verify` with all their queries are whole
-pub whole_asked : (words : List (List ℕ)) (d : ℕ) (queries : List Query) → Fitted Verify words → IsDepth d (word words 6) → AreAsked words d queries (length words) → 8 ≤ length words → length words ≤ 7 + most_queries → IsCommandOf Verify words
-whole_asked words d queries fitted deep asked enough few = record {
-  first = fitted.0;
-  shaped = fitted.1.1;
-  asked = (begun_queries words d (length words) queries fitted deep few asked).asked;
-  least = omega arith;
-  most = omega arith;
-}
+-- words of such a verb with all their queries are whole
+pub whole_asked : (verb : Verb) (words : List (List ℕ)) (last d : ℕ) (queries : List Query) → TakesTask verb last → Fitted verb words → IsDepth d (word words last) → AreAsked words d (last + 1) queries (length words) → last + 1 < length words → length words ≤ last + 1 + most_queries → IsCommandOf verb words
+whole_asked verb words last d queries takes fitted deep asked enough few =
+    let long = takes.last_is in
+    let room = takes.most in
+    let needs = takes.least in
+    record {
+      first = fitted.0;
+      shaped = fitted.1.1;
+      asked = (begun_queries verb words last d (length words) queries takes fitted deep few asked).asked;
+      least = omega arith;
+      most = omega arith;
+    }
+
+-- and they say a task
+pub says_task : (verb : Verb) (words : List (List ℕ)) (last : ℕ) (task : Task) → TakesTask verb last → HasForm task.depth task.form (word words 1) → IsDepth task.depth (word words last) → AreAsked words task.depth (last + 1) task.queries.items (length words) → SaysTask verb words task
+says_task verb words last task takes form deep asked =
+    let long = takes.last_is in
+    let count = asked.count in
+    record {
+      form = form;
+      depth = subst (λ k. IsDepth task.depth (word words k)) (sym long) deep;
+      count = omega arith;
+      queries = λ i less.
+          let sum : last + 1 + i ≡ 1 + depth_at verb + i = omega arith in
+          subst (λ k. Asks task.depth (get_or task.queries.items i Inner) (word words k)) sum (asked.each i less);
+    }
 
 -- no query yet
-pub asked_none : (words : List (List ℕ)) (d : ℕ) → 7 ≤ length words → AreAsked words d [] 7
-asked_none words d enough = record { within = enough; count = refl; each = λ i less. absurd (omega arith) }
+pub asked_none : (words : List (List ℕ)) (d first : ℕ) → first ≤ length words → AreAsked words d first [] first
+asked_none words d first enough = record { within = enough; count = omega arith; each = λ i less. absurd (omega arith) }
 
 -- one query more
-pub asked_more : (words : List (List ℕ)) (d n : ℕ) (queries : List Query) (query : Query) → AreAsked words d queries n → n < length words → Asks d query (word words n) → AreAsked words d (queries ++ query ∷ []) (n + 1)
-asked_more words d n queries query asked more asks =
+pub asked_more : (words : List (List ℕ)) (d first n : ℕ) (queries : List Query) (query : Query) → AreAsked words d first queries n → n < length words → Asks d query (word words n) → AreAsked words d first (queries ++ query ∷ []) (n + 1)
+asked_more words d first n queries query asked more asks =
     let count = asked.count in
     let longer = length-append queries (query ∷ []) in
     record {
@@ -110,21 +159,21 @@ asked_more words d n queries query asked more asks =
       count = omega arith;
       each = λ i less.
           elim (cases_lt i (length queries)) [
-            | inl before ↦ subst (λ q. Asks d q (word words (7 + i))) (sym (get_or_append_left queries (query ∷ []) Inner i before)) (asked.each i before)
+            | inl before ↦ subst (λ q. Asks d q (word words (first + i))) (sym (get_or_append_left queries (query ∷ []) Inner i before)) (asked.each i before)
             | inr after ↦ (
                 let last : i ≡ length queries = omega arith in
-                let place : 7 + i ≡ n = omega arith in
+                let place : first + i ≡ n = omega arith in
                 rw (place, last, get_or-append_seam queries query [] Inner) asks)
           ];
     }
 
 -- the word asks no query
-pub stops_asking : (words : List (List ℕ)) (d n : ℕ) (queries : List Query) → AreAsked words d queries n → n ≤ 7 + most_queries → (n < length words → (query : Query) → Asks d query (word words n) → ⊥) → (length words ≤ n → n ≡ 7) → StopsInQueries words d n
-stops_asking words d n queries asked most none missing = record { queries = queries; before = asked; most = most; here = λ _ more. none more; missing = missing }
+pub stops_asking : (words : List (List ℕ)) (d first n : ℕ) (queries : List Query) → AreAsked words d first queries n → n ≤ first + most_queries → (n < length words → (query : Query) → Asks d query (word words n) → ⊥) → (length words ≤ n → n ≡ first) → StopsInQueries words d first n
+stops_asking words d first n queries asked most none missing = record { queries = queries; before = asked; most = most; here = λ _ more. none more; missing = missing }
 
 -- the words have all their queries
-pub asked_all : (words : List (List ℕ)) (d n : ℕ) (queries : List Query) → AreAsked words d queries n → length words ≤ n → AreAsked words d queries (length words)
-asked_all words d n queries asked least = let within = asked.within in let same : n ≡ length words = omega arith in rw same at asked
+pub asked_all : (words : List (List ℕ)) (d first n : ℕ) (queries : List Query) → AreAsked words d first queries n → length words ≤ n → AreAsked words d first queries (length words)
+asked_all words d first n queries asked least = let within = asked.within in let same : n ≡ length words = omega arith in rw same at asked
 
 -- a word too many behind a verb without queries is refused
 pub refused_more : (verb : Verb) (words : List (List ℕ)) (n : ℕ) → Fitted verb words → most_asked verb ≡ 0 → n ≡ 1 + length (shapes verb) → n < length words → IsRefusedAt words n

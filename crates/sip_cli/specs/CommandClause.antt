@@ -3,7 +3,8 @@
 use Rattle.std.specs.Prelude.{◌≡◌, ℕ, List, Some}
 use Rattle.sip_cli.specs.CopyClause.{CopyClause}
 use Rattle.sip_cli.specs.declared.command.Command.{Command}
-use Rattle.sip_cli.specs.declared.command.Command.TheVariants.{Verify, Help, Gen, Lines, Widen}
+use Rattle.sip_cli.specs.declared.command.Command.TheVariants.{Verify, Help, Gen, Lines, Widen, Play}
+use Rattle.sip_cli.specs.declared.helper_name.HelperName.{HelperName}
 use Rattle.sip_cli.specs.HelpClause.{HelpClause}
 use Rattle.sip_cli.specs.Statuses.{Ends}
 use Rattle.sip_stream.specs.declared.form.Form.{Form}
@@ -21,6 +22,10 @@ pub record CommandClause (Is : Command → Type 0) (before now : Moment) (status
     : Type 0 where
   -- `verify`: the six promises, on the exchange that the ports tell
   pub verify : (task : Task) → Is (Verify task) → (x : Exchange) → Tells before now x
+      → Promises task x before.faults now.faults status
+  -- `play`: the same, whatever helper it names
+  pub play : (task : Task) (name : HelperName) → Is (Play task name)
+      → (x : Exchange) → Tells before now x
       → Promises task x before.faults now.faults status
   -- `gen`: the stream's records are copied to the report in the form in which they are made
   pub made : (depth : ℕ) → Is (Gen depth) → (bytes : List ℕ) → before.first ≡ Some bytes

@@ -7,6 +7,7 @@ pub mod Exit
 pub mod StatusLine
 pub mod CopyClause
 pub mod HelpClause
+pub mod PlayClause
 pub mod Statuses
 pub mod CommandClause
 pub mod inside

@@ -40,6 +40,10 @@ abbrev pub IsRecord : List ℕ → ℕ → Opening → Type 0
 IsRecord word n keep =
     ((word ≡ codes "-") × (keep ≡ Nothing)) ⊎ ((word ≢ codes "-") × (keep ≡ Path n 0))
 
+-- play STREAM SEED HELPER RECORD DEPTH QUERY.., whose link is to a helper in the program
+abbrev pub play_ports : Opening → Opening → PortPlan
+play_ports first keep = record no_ports { first = first; second = Path 2 0; keep = keep }
+
 -- help FROM TO
 abbrev pub help_ports : PortPlan
 help_ports = record no_ports { from = Path 1 0; to = Path 2 0 }
@@ -59,6 +63,10 @@ Opens words (command.Lines form depth) plan =
     (s : Stream) × IsStreamWord s (word words 1) × (plan ≡ source_ports (opening_of s depth))
 Opens words (command.Widen form depth) plan =
     (s : Stream) × IsStreamWord s (word words 1) × (plan ≡ source_ports (opening_of s depth))
+Opens words (command.Play task name) plan =
+    (s : Stream) × IsStreamWord s (word words 1)
+    × (keep : Opening) × IsRecord (word words 4) 4 keep
+    × (plan ≡ play_ports (opening_of s task.depth) keep)
 
 -- the name of the file that an opening is on: a word without its first bytes, if there is such a
 -- word

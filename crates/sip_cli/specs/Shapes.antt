@@ -10,6 +10,8 @@ use Rattle.sip_vector.specs.Answers.{Fits}
 use Rattle.sip_vector.specs.Built.{is_built}
 use Rattle.sip_vector.specs.Limits.{most_depth}
 use Rattle.sip_verifier.specs.Reports.{query_word}
+use Rattle.sip_cli.specs.declared.helper_name.HelperName.{HelperName}
+use Rattle.sip_cli.specs.declared.helper_name.HelperName.TheVariants.{Honest, Skewed, Mute}
 use Rattle.sip_cli.specs.declared.shape.Shape.{Shape}
 use Rattle.sip_cli.specs.declared.shape.Shape.TheVariants as shape
 use Rattle.sip_cli.specs.declared.stream.Stream.{Stream}
@@ -45,10 +47,17 @@ HasForm depth form word = (s : Stream) × (form_of depth s ≡ form) × IsStream
 abbrev pub IsDepth : ℕ → List ℕ → Type 0
 IsDepth depth word = (1 ≤ depth) × (depth ≤ most_depth) × (word ≡ decimal depth)
 
+-- the word that names a helper
+abbrev pub helper_word : HelperName → List ℕ
+helper_word Honest = codes "honest"
+helper_word Skewed = codes "skewed"
+helper_word Mute = codes "mute"
+
 -- the word has this shape
 abbrev pub IsOf : Shape → List ℕ → Type 0
 IsOf shape.Name word = word ≢ []
 IsOf shape.Stream word = (s : Stream) × IsStreamWord s word
+IsOf shape.Helper word = (name : HelperName) × (word ≡ helper_word name)
 IsOf (shape.Number most) word = (n : ℕ) × (n ≤ most) × (n < 2 ^ 64) × (word ≡ decimal n)
 IsOf shape.Depth word = (d : ℕ) × IsDepth d word
 

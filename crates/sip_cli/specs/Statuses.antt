@@ -30,6 +30,7 @@ Ends command.Help status = EndsHelp status
 Ends (command.Gen depth) status = EndsCopy status
 Ends (command.Lines form depth) status = EndsCopy status
 Ends (command.Widen form depth) status = EndsCopy status
+Ends (command.Play task name) status = IsListed status
 
 -- the command copies a stream
 abbrev pub IsCopy : Command → Type 0
@@ -38,3 +39,4 @@ IsCopy command.Help = ⊥
 IsCopy (command.Gen depth) = Unit {0}
 IsCopy (command.Lines form depth) = Unit {0}
 IsCopy (command.Widen form depth) = Unit {0}
+IsCopy (command.Play task name) = ⊥

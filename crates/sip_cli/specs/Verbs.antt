@@ -1,9 +1,9 @@
 -- The commands: each is a verb, words of its shapes, and queries where it asks some.
-use Rattle.std.specs.Prelude.{ℕ, List, [], ◌∷◌, codes}
+use Rattle.std.specs.Prelude.{ℕ, List, [], ◌∷◌, codes, length}
 use Rattle.sip_cli.specs.declared.shape.Shape.{Shape}
-use Rattle.sip_cli.specs.declared.shape.Shape.TheVariants.{Name, Stream, Number, Depth}
+use Rattle.sip_cli.specs.declared.shape.Shape.TheVariants.{Name, Stream, Helper, Number, Depth}
 use Rattle.sip_cli.specs.declared.verb.Verb.{Verb}
-use Rattle.sip_cli.specs.declared.verb.Verb.TheVariants.{Verify, Help, Gen, Lines, Widen}
+use Rattle.sip_cli.specs.declared.verb.Verb.TheVariants.{Verify, Help, Gen, Lines, Widen, Play}
 use Rattle.sip_stream.specs.Made.{most_made}
 use Rattle.sip_wire.specs.Table.{most_queries}
 
@@ -14,6 +14,7 @@ verb_word Help = codes "help"
 verb_word Gen = codes "gen"
 verb_word Lines = codes "lines"
 verb_word Widen = codes "widen"
+verb_word Play = codes "play"
 
 -- The words behind the verb, and before the queries.
 --   verify STREAM SEED FROM TO RECORD DEPTH
@@ -21,12 +22,18 @@ verb_word Widen = codes "widen"
 --   gen NUMBER COUNT DEPTH
 --   lines STREAM DEPTH
 --   widen STREAM DEPTH
+--   play STREAM SEED HELPER RECORD DEPTH
 abbrev pub shapes : Verb → List Shape
 shapes Verify = Stream ∷ Name ∷ Name ∷ Name ∷ Name ∷ Depth ∷ []
 shapes Help = Name ∷ Name ∷ []
 shapes Gen = Number 18446744073709551615 ∷ Number most_made ∷ Depth ∷ []
 shapes Lines = Stream ∷ Depth ∷ []
 shapes Widen = Stream ∷ Depth ∷ []
+shapes Play = Stream ∷ Name ∷ Helper ∷ Name ∷ Depth ∷ []
+
+-- The number of the last of these words. Where queries stand behind it, it is their depth.
+abbrev pub depth_at : Verb → ℕ
+depth_at verb = length (shapes verb)
 
 -- at least so many queries stand behind them
 abbrev pub least_asked : Verb → ℕ
@@ -35,6 +42,7 @@ least_asked Help = 0
 least_asked Gen = 0
 least_asked Lines = 0
 least_asked Widen = 0
+least_asked Play = 1
 
 -- and at most so many
 abbrev pub most_asked : Verb → ℕ
@@ -43,3 +51,4 @@ most_asked Help = 0
 most_asked Gen = 0
 most_asked Lines = 0
 most_asked Widen = 0
+most_asked Play = most_queries

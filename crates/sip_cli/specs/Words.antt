@@ -8,40 +8,46 @@ use Rattle.sip_cli.specs.declared.command.Command.TheVariants as command
 use Rattle.sip_cli.specs.declared.shape.Shape.TheVariants.{Name}
 use Rattle.sip_cli.specs.declared.verb.Verb.{Verb}
 use Rattle.sip_cli.specs.declared.verb.Verb.TheVariants as verb
-use Rattle.sip_cli.specs.Shapes.{IsOf, HasForm, IsDepth, Asks}
-use Rattle.sip_cli.specs.Verbs.{verb_word, shapes, least_asked, most_asked}
+use Rattle.sip_cli.specs.Shapes.{IsOf, HasForm, IsDepth, Asks, helper_word}
+use Rattle.sip_cli.specs.Verbs.{verb_word, shapes, depth_at, least_asked, most_asked}
 
 -- word n, from 0
 abbrev pub word : List (List ℕ) → ℕ → List ℕ
 word words n = slice_index_or words n []
 
--- The words are a command of this verb. Its queries fit the depth that word 6 says.
+-- The words are a command of this verb. Its queries fit the depth that stands before them.
 pub record IsCommandOf (verb : Verb) (words : List (List ℕ)) : Type 0 where
   pub first : word words 0 ≡ verb_word verb
   pub shaped : (n : ℕ) → n < length (shapes verb)
       → IsOf (slice_index_or (shapes verb) n Name) (word words (n + 1))
   pub asked : (n : ℕ) → length (shapes verb) < n → n < length words
-      → (d : ℕ) × IsDepth d (word words 6) × (query : Query) × Asks d query (word words n)
+      → (d : ℕ) × IsDepth d (word words (depth_at verb)) × (query : Query)
+      × Asks d query (word words n)
   pub least : 1 + length (shapes verb) + least_asked verb ≤ length words
   pub most : length words ≤ 1 + length (shapes verb) + most_asked verb
 
--- the words of `verify` say this task
-pub record SaysTask (words : List (List ℕ)) (task : Task) : Type 0 where
+-- the words of a verb that asks queries say this task
+pub record SaysTask (verb : Verb) (words : List (List ℕ)) (task : Task) : Type 0 where
   pub form : HasForm task.depth task.form (word words 1)
-  pub depth : IsDepth task.depth (word words 6)
-  pub count : length words ≡ 7 + length task.queries.items
+  pub depth : IsDepth task.depth (word words (depth_at verb))
+  pub count : length words ≡ 1 + depth_at verb + length task.queries.items
   pub queries : (i : ℕ) → i < length task.queries.items
-      → Asks task.depth (slice_index_or task.queries.items i Inner) (word words (7 + i))
+      → Asks task.depth (slice_index_or task.queries.items i Inner)
+      (word words (1 + depth_at verb + i))
 
 -- the words are those of this command
 abbrev pub Spells : List (List ℕ) → Command → Type 0
-Spells words (command.Verify task) = IsCommandOf verb.Verify words × SaysTask words task
+Spells words (command.Verify task) =
+    IsCommandOf verb.Verify words × SaysTask verb.Verify words task
 Spells words command.Help = IsCommandOf verb.Help words
 Spells words (command.Gen depth) = IsCommandOf verb.Gen words × IsDepth depth (word words 3)
 Spells words (command.Lines form depth) =
     IsCommandOf verb.Lines words × HasForm depth form (word words 1) × IsDepth depth (word words 2)
 Spells words (command.Widen form depth) =
     IsCommandOf verb.Widen words × HasForm depth form (word words 1) × IsDepth depth (word words 2)
+Spells words (command.Play task name) =
+    IsCommandOf verb.Play words × SaysTask verb.Play words task
+    × (word words 3 ≡ helper_word name)
 
 -- some command begins with these words
 abbrev pub BeginCommand : List (List ℕ) → Type 0

@@ -1,11 +1,13 @@
 //! What a command asks for.
 
 ghost use Rattle.std.specs.Prelude.{◌≡◌, ◌≢◌, ℕ, ◌+◌, ◌<◌, ◌≤◌, IsTrue, ◌↔◌, MatchOption, OnOk, IfOk, IfErr, length};
+ghost use Rattle.sip_verifier.specs.declared.task.Task.{Task as AnyTask};
 ghost use Rattle.sip_cli.specs.declared.stream.Stream.{Stream as AnyStream};
-ghost use Rattle.sip_cli.specs.Shapes.{IsDepth, HasForm, IsStreamWord};
-ghost use Rattle.sip_cli.specs.Words.{IsCommandOf, Spells, IsRefusedAt, word};
+ghost use Rattle.sip_cli.specs.declared.helper_name.HelperName.{HelperName as AnyName};
+ghost use Rattle.sip_cli.specs.Shapes.{IsDepth, HasForm, IsStreamWord, helper_word};
+ghost use Rattle.sip_cli.specs.Words.{IsCommandOf, SaysTask, Spells, IsRefusedAt, word};
 ghost use Rattle.sip_cli.specs.Verbs.{verb_word};
-ghost use Rattle.sip_cli.specs.inside.Progress.{Fitted, HaveShapes, TakesStream, AreAsked, StopsInShapes, StopsInQueries};
+ghost use Rattle.sip_cli.specs.inside.Progress.{Fitted, HaveShapes, TakesStream, TakesTask, AreAsked, StopsInShapes, StopsInQueries};
 ghost use Rattle.sip_cli.specs.declared.verb.Verb.{Verb as AnyVerb};
 ghost use Rattle.sip_wire.specs.Table.{most_queries};
 
@@ -14,7 +16,7 @@ use crate::query::read_query;
 use crate::shape::Shape;
 use crate::stream::stream_of;
 use crate::verb::Verb;
-use crate::{Usage, Words};
+use crate::{HelperName, Usage, Words};
 use arrayvec::ArrayVec;
 use sip_stream::Form;
 use sip_vector::{Depth, Query};
@@ -34,10 +36,36 @@ pub enum Command {
     Lines { form: Form, depth: Depth },
     /// To write a stream as wide records: `widen STREAM DEPTH`.
     Widen { form: Form, depth: Depth },
+    /// To verify answers of a helper in the program: `play STREAM SEED HELPER RECORD DEPTH QUERY..`.
+    Play(Task, HelperName),
 }
 
-/// The number of the first query of `verify`.
-const FIRST_QUERY: usize = 7;
+impl Command {
+    /// The task and the helper of `play`.
+    pub(crate) fn into_play(self) -> Option<(Task, HelperName)>
+        ensures { MatchOption result
+            ((task : AnyTask) (name : AnyName) → self ≢ Command.Play task name)
+            (λ x. self ≡ Command.Play x.0 x.1) }
+    {
+        match self {
+            Command::Play(task, name) => Some((task, name)),
+            Command::Verify(_)
+            | Command::Help
+            | Command::Gen { .. }
+            | Command::Lines { .. }
+            | Command::Widen { .. } => None,
+        }
+    }
+}
+
+/// The number of the depth of `verify`.
+const VERIFY_DEPTH: usize = 6;
+
+/// The number of the depth of `play`.
+const PLAY_DEPTH: usize = 5;
+
+/// The number of the helper of `play`.
+const PLAY_HELPER: usize = 3;
 
 // The verb that word 0 is.
 fn verb_of(words: &Words) -> Option<Verb>
@@ -95,18 +123,24 @@ fn depth_at(words: &Words, number: usize) -> Option<Depth>
     Depth::new(levels as u8)
 }
 
-// The queries of `verify`.
-fn read_queries(words: &Words, depth: Depth) -> Result<ArrayVec<Query, MOST_QUERIES>, Usage>
-    requires shaped { 7 ≤ length words.now }
-    ensures asked { IfOk result (λ queries. AreAsked words.now depth queries.items
+// The queries, from the word of this number on.
+fn read_queries(
+    words: &Words,
+    depth: Depth,
+    first: usize,
+) -> Result<ArrayVec<Query, MOST_QUERIES>, Usage>
+    requires shaped { first ≤ length words.now }
+    requires few { first ≤ 7 }
+    ensures asked { IfOk result (λ queries. AreAsked words.now depth first queries.items
         (length words.now)) }
-    ensures count { OnOk result ((8 ≤ length words.now) × (length words.now ≤ 7 + most_queries)) }
-    ensures refused { IfErr result (λ usage. StopsInQueries words.now depth usage.word) }
+    ensures count { OnOk result ((first < length words.now)
+        × (length words.now ≤ first + most_queries)) }
+    ensures refused { IfErr result (λ usage. StopsInQueries words.now depth first usage.word) }
 {
     let mut queries = ArrayVec::new();
-    for number in FIRST_QUERY..FIRST_QUERY + MOST_QUERIES {
+    for number in first..first + MOST_QUERIES {
         let Some(word) = words.get(number) else {
-            return if number == FIRST_QUERY {
+            return if number == first {
                 Err(Usage {
                     word: number as u32,
                 })
@@ -121,33 +155,69 @@ fn read_queries(words: &Words, depth: Depth) -> Result<ArrayVec<Query, MOST_QUER
         };
         queries.push(query);
     }
-    if has_word(words, FIRST_QUERY + MOST_QUERIES) {
+    if has_word(words, first + MOST_QUERIES) {
         return Err(Usage {
-            word: (FIRST_QUERY + MOST_QUERIES) as u32,
+            word: (first + MOST_QUERIES) as u32,
         });
     }
     Ok(queries)
 }
 
-// The rest of `verify`, whose words up to DEPTH have their shapes.
+// The task of `verify` or of `play`, whose words up to DEPTH, of this number, have their shapes.
+fn read_task(words: &Words, last: usize) -> Result<Task, Usage>
+    requires few { last ≤ 6 }
+    ensures task { IfOk result (λ task. (verb : AnyVerb) → TakesTask verb last
+        → Fitted verb words.now → IsCommandOf verb words.now × SaysTask verb words.now task) }
+    ensures refused { IfErr result (λ usage. (verb : AnyVerb) → TakesTask verb last
+        → Fitted verb words.now → IsRefusedAt words.now usage.word) }
+{
+    let Some(depth) = depth_at(words, last) else {
+        return Err(Usage { word: last as u32 });
+    };
+    let Some(form) = form_of(words, depth) else {
+        return Err(Usage { word: 1 });
+    };
+    let queries = read_queries(words, depth, last + 1)?;
+    Ok(Task {
+        depth,
+        form,
+        queries,
+    })
+}
+
+// The rest of `verify`.
 fn read_verify(words: &Words) -> Result<Command, Usage>
     ensures command { IfOk result (λ command. Fitted Verb.Verify words.now
         → Spells words.now command) }
     ensures refused { IfErr result (λ usage. Fitted Verb.Verify words.now
         → IsRefusedAt words.now usage.word) }
 {
-    let Some(depth) = depth_at(words, 6) else {
-        return Err(Usage { word: 6 });
+    Ok(Command::Verify(read_task(words, VERIFY_DEPTH)?))
+}
+
+// The helper that the word of this number names.
+fn helper_at(words: &Words, number: usize) -> Option<HelperName>
+    ensures { MatchOption result
+        (number < length words.now → (name : AnyName) → word words.now number ≢ helper_word name)
+        (λ name. word words.now number ≡ helper_word name) }
+{
+    HelperName::of(words.get(number)?)
+}
+
+// The rest of `play`.
+fn read_play(words: &Words) -> Result<Command, Usage>
+    ensures command { IfOk result (λ command. Fitted Verb.Play words.now
+        → Spells words.now command) }
+    ensures refused { IfErr result (λ usage. Fitted Verb.Play words.now
+        → IsRefusedAt words.now usage.word) }
+{
+    let Some(helper) = helper_at(words, PLAY_HELPER) else {
+        return Err(Usage {
+            word: PLAY_HELPER as u32,
+        });
     };
-    let Some(form) = form_of(words, depth) else {
-        return Err(Usage { word: 1 });
-    };
-    let queries = read_queries(words, depth)?;
-    Ok(Command::Verify(Task {
-        depth,
-        form,
-        queries,
-    }))
+    let task = read_task(words, PLAY_DEPTH)?;
+    Ok(Command::Play(task, helper))
 }
 
 // The rest of `help`.
@@ -225,5 +295,6 @@ pub fn read_words(words: &Words) -> Result<Command, Usage>
             let (form, depth) = read_copy(words)?;
             Ok(Command::Widen { form, depth })
         }
+        Verb::Play => read_play(words),
     }
 }

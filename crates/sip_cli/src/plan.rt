@@ -6,7 +6,7 @@ ghost use Rattle.sip_verifier.specs.declared.task.Task.{Task as AnyTask};
 ghost use Rattle.sip_cli.specs.declared.command.Command.{Command as AnyCommand};
 ghost use Rattle.sip_cli.specs.declared.stream.Stream.{Stream as AnyStream};
 ghost use Rattle.sip_stream.specs.Made.{most_made};
-ghost use Rattle.sip_cli.specs.Plan.{HasName, HaveNames, IsMarked, IsRecord, Opens, file_name, help_ports, no_ports, opening_of, source_ports, verify_ports};
+ghost use Rattle.sip_cli.specs.Plan.{HasName, HaveNames, IsMarked, IsRecord, Opens, file_name, help_ports, no_ports, opening_of, play_ports, source_ports, verify_ports};
 ghost use Rattle.sip_cli.specs.Shapes.{IsStreamWord};
 ghost use Rattle.sip_cli.specs.Words.{Spells, IsRefusedAt, word, word as word_at};
 
@@ -189,6 +189,19 @@ impl PortPlan {
         }
     }
 
+    // The ports of `play`, whose stream and whose transcript are opened like this.
+    fn play(first: Opening, keep: Opening) -> PortPlan
+        ensures { result ≡ play_ports first keep }
+    {
+        PortPlan {
+            first,
+            second: Opening::file(2),
+            from: Opening::Nothing,
+            to: Opening::Nothing,
+            keep,
+        }
+    }
+
     // The ports of `help`.
     fn help() -> PortPlan
         ensures { result ≡ help_ports }
@@ -219,13 +232,17 @@ impl PortPlan {
                 let stream = Opening::stream(words, *depth);
                 PortPlan::source(stream)
             }
+            Command::Play(task, _) => {
+                let stream = Opening::stream(words, task.depth);
+                PortPlan::play(stream, Opening::keep(words, 4))
+            }
         }
     }
 }
 
 /// The files and made streams that a command opens: for `verify` its stream, its seed, the two ends of its link and the
-/// file of its transcript, if it is to keep one, for `help` the two ends of its link, for `gen`, `lines` and `widen`
-/// their stream. Words that are no command open nothing.
+/// file of its transcript, if it is to keep one, for `play` the same without a link, for `help` the two ends of its
+/// link, for `gen`, `lines` and `widen` their stream. Words that are no command open nothing.
 pub fn ports(words: &Words) -> PortPlan
     ensures spelled { (command : AnyCommand) → Spells words.now command
         → Opens words.now command result }

@@ -7,6 +7,7 @@ ghost use Rattle.sip_verifier.specs.Exchanges.{TakesAtMost};
 ghost use Rattle.sip_verifier.specs.Moments.{moment};
 ghost use Rattle.sip_verifier.specs.Tasks.{CanBeDone};
 ghost use Rattle.sip_cli.specs.declared.command.Command.{Command as AnyCommand};
+ghost use Rattle.sip_cli.specs.declared.helper_name.HelperName.{HelperName as AnyName};
 ghost use Rattle.sip_cli.specs.CommandClause.{CommandClause};
 ghost use Rattle.sip_cli.specs.Statuses.{IsCopy};
 ghost use Rattle.sip_cli.specs.Words.{Spells, IsRefusedAt};
@@ -30,6 +31,8 @@ fn obey<A: Source, B: Source, L: Link, K: Sink, C: Sink>(
     keep: &mut C,
 ) -> Status
     requires served { (task : AnyTask) → command.now ≡ Command.Verify task → CanBeDone task }
+    requires played { (task : AnyTask) (name : AnyName) → command.now ≡ Command.Play task name
+        → CanBeDone task }
     ensures keeps { CommandClause (λ is. command.now ≡ is)
         (moment (A.left first.old) (A.faults first.old) (B.left second.old) (B.faults second.old)
         (L.talk peer.old) (L.faults peer.old) (K.talk report.old) (K.faults report.old)
@@ -54,6 +57,7 @@ fn obey<A: Source, B: Source, L: Link, K: Sink, C: Sink>(
 {
     match command {
         Command::Verify(task) => check_stream(alloc, task, first, second, peer, report, keep),
+        Command::Play(task, _) => check_stream(alloc, task, first, second, peer, report, keep),
         Command::Help => help(alloc, peer),
         Command::Gen { depth } => {
             let form = Form::made(*depth);
@@ -75,6 +79,9 @@ fn obey<A: Source, B: Source, L: Link, K: Sink, C: Sink>(
 ///
 /// `gen NUMBER COUNT DEPTH`, `lines STREAM DEPTH` and `widen STREAM DEPTH`: write the legal records of `first` to `report`,
 /// as they were made, as lines of text or as wide records, up to the first record that is not legal. They take no memory.
+///
+/// `play STREAM SEED HELPER RECORD DEPTH QUERY..`: as `verify`, over the link that it is given, whatever
+/// helper is named. [`play_words`](crate::play_words) does such words over a link to that helper.
 pub fn run<A: Source, B: Source, L: Link, K: Sink, C: Sink>(
     alloc: Global,
     words: &Words,
@@ -84,7 +91,7 @@ pub fn run<A: Source, B: Source, L: Link, K: Sink, C: Sink>(
     report: &mut K,
     keep: &mut C,
 ) -> Status
-    // Of `verify` the six promises, of `gen`, `lines` and `widen` the copy that the report gets, of
+    // Of `verify` and `play` the six promises, of `gen`, `lines` and `widen` the copy that the report gets, of
     // `help` the talk that it serves; and whatever the command, its faults have their cause, and its
     // status is one of its own.
     ensures keeps { CommandClause (Spells words.now)

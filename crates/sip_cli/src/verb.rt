@@ -20,6 +20,8 @@ pub(crate) enum Verb {
     Lines,
     /// To write a stream as wide records.
     Widen,
+    /// To verify answers of a helper in the program.
+    Play,
 }
 
 const VERIFY: [Shape; 6] = [
@@ -45,6 +47,14 @@ const LINES: [Shape; 2] = [Shape::Stream, Shape::Depth];
 
 const WIDEN: [Shape; 2] = [Shape::Stream, Shape::Depth];
 
+const PLAY: [Shape; 5] = [
+    Shape::Stream,
+    Shape::Name,
+    Shape::Helper,
+    Shape::Name,
+    Shape::Depth,
+];
+
 impl Verb {
     /// The verb that a word is.
     pub(crate) fn of(word: &str) -> Option<Verb>
@@ -58,6 +68,7 @@ impl Verb {
             "gen" => Some(Verb::Gen),
             "lines" => Some(Verb::Lines),
             "widen" => Some(Verb::Widen),
+            "play" => Some(Verb::Play),
             _ => None,
         }
     }
@@ -72,6 +83,7 @@ impl Verb {
             Verb::Gen => &GEN,
             Verb::Lines => &LINES,
             Verb::Widen => &WIDEN,
+            Verb::Play => &PLAY,
         }
     }
 }

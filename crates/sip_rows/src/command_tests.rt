@@ -22,11 +22,10 @@ fn refused_at(words: &Words) -> Option<u32> {
 
 // Words, and the number of the first of them that no command has behind the words before it, found by hand; none where
 // they are a command.
-const REFUSALS: [(&str, Option<u32>); 179] = [
+const REFUSALS: [(&str, Option<u32>); 210] = [
     ("", Some(0)),
     ("audit|s|t", Some(0)),
     ("show|t", Some(0)),
-    ("play|s|k|honest|-|3|sub:1:2", Some(0)),
     ("Verify|s|k|f|t|-|3|sub:1:2", Some(0)),
     ("verify ", Some(0)),
     ("verify", Some(1)),
@@ -211,6 +210,38 @@ const REFUSALS: [(&str, Option<u32>); 179] = [
     ("wide|s|20", Some(0)),
     ("wide:s|20", Some(0)),
     ("Widen|s|20", Some(0)),
+    ("play", Some(1)),
+    ("play||k|honest|-|3|inner", Some(1)),
+    ("play|text:|k|honest|-|3|inner", Some(1)),
+    ("play|made:7|k|honest|-|3|inner", Some(1)),
+    ("play|s", Some(2)),
+    ("play|s||honest|-|3|inner", Some(2)),
+    ("play|s|k", Some(3)),
+    ("play|s|k||-|3|inner", Some(3)),
+    ("play|s|k|Honest|-|3|inner", Some(3)),
+    ("play|s|k|honest |-|3|inner", Some(3)),
+    ("play|s|k|liar|-|3|inner", Some(3)),
+    ("play|s|k|f|t|-|3|inner", Some(3)),
+    ("play|s|k|honest", Some(4)),
+    ("play|s|k|skewed|r|3|inner", Some(4)),
+    ("play|s|k|honest|3|inner", Some(4)),
+    ("play|s|k|honest|-", Some(5)),
+    ("play|s|k|honest|-|0|inner", Some(5)),
+    ("play|s|k|honest|-|49|inner", Some(5)),
+    ("play|s|k|honest|-|-|3|inner", Some(5)),
+    ("play|s|k|honest|-|3", Some(6)),
+    ("play|s|k|honest|-|3|", Some(6)),
+    ("play|s|k|honest|-|3|sub:0:8", Some(6)),
+    ("play|s|k|mute|-|3|f2:2|inner", Some(6)),
+    ("play|wide:s|k|honest|-|33|sub:0:8589934592", Some(6)),
+    ("play|s|k|honest|-|3|inner|sub:2:1", Some(7)),
+    ("play|s|k|honest|-|3|inner|inner|play", Some(8)),
+    ("play|s|k|honest|-|3|sub:1:2", None),
+    ("play|play|honest|skewed|-|1|sub:1:1", None),
+    ("play|made:7:20|-|mute|-|48|share:0:1:1|f2:1", None),
+    ("play|wide:s|made:|honest|-|33|sub:0:8589934591", None),
+    ("Play|s|k|honest|-|3|inner", Some(0)),
+    ("verify|s|k|honest|-|3|inner", Some(5)),
 ];
 
 #[test]
@@ -223,19 +254,19 @@ fn refuses_the_first_word_that_begins_no_command(rt: HostRuntime) -> Result<(), 
     Ok(())
 }
 
-// Sixteen queries are a command, and a seventeenth is word 23.
+// Sixteen queries are a command, and a seventeenth is word 23 of `verify` and word 22 of `play`.
 #[test]
 fn reads_16_queries(rt: HostRuntime) -> Result<(), Fail> {
     let alloc = rt.alloc();
-    for (count, want) in [
-        (1, None),
-        (2, None),
-        (15, None),
-        (16, None),
-        (17, Some(23)),
-        (20, Some(23)),
+    for (before, count, want) in [
+        ("verify|s|k|f|t|-|3", 1, None),
+        ("verify|s|k|f|t|-|3", 16, None),
+        ("verify|s|k|f|t|-|3", 17, Some(23)),
+        ("verify|s|k|f|t|-|3", 20, Some(23)),
+        ("play|s|k|mute|-|3", 16, None),
+        ("play|s|k|mute|-|3", 17, Some(22)),
     ] {
-        let mut text = String::from_str(alloc, "verify|s|k|f|t|-|3")?;
+        let mut text = String::from_str(alloc, before)?;
         for _ in 0..count {
             text.push_str("|sub:1:2")?;
         }
@@ -308,7 +339,7 @@ fn form_and_depth(command: &Command) -> (Option<Form>, u8) {
         Command::Lines { form, depth } | Command::Widen { form, depth } => {
             (Some(*form), depth.get())
         }
-        Command::Verify(_) | Command::Help => (None, 0),
+        Command::Verify(_) | Command::Play(..) | Command::Help => (None, 0),
     }
 }
 
@@ -339,7 +370,7 @@ fn reads_a_depth_and_a_form(rt: HostRuntime) -> Result<(), Fail> {
 }
 
 // The files of commands: of the stream and the seed, the two ends of the link, and the transcript.
-const FILES: [(&str, [Option<&str>; 5]); 15] = [
+const FILES: [(&str, [Option<&str>; 5]); 17] = [
     (
         "verify|s|k|f|t|-|3|sub:1:2",
         [Some("s"), Some("k"), Some("f"), Some("t"), None],
@@ -361,6 +392,14 @@ const FILES: [(&str, [Option<&str>; 5]); 15] = [
         [None, Some("k"), Some("f"), Some("t"), Some("--")],
     ),
     ("verify|s|k|f|t|-|3", [None; 5]),
+    (
+        "play|text:s|k|mute|-|3|inner",
+        [Some("s"), Some("k"), None, None, None],
+    ),
+    (
+        "play|s|k|honest|r|3|inner",
+        [Some("s"), Some("k"), None, None, Some("r")],
+    ),
     ("help|f|t", [None, None, Some("f"), Some("t"), None]),
     ("gen|7|100|20", [None; 5]),
     (

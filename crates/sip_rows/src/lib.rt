@@ -48,6 +48,8 @@ mod ones;
 #[cfg(test)]
 mod page_tests;
 #[cfg(test)]
+mod play_tests;
+#[cfg(test)]
 mod query_tests;
 #[cfg(test)]
 mod record_tests;

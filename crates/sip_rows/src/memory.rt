@@ -11,7 +11,8 @@ ghost use Rattle.sip_verifier.specs.declared.status.Port.TheVariants as ports;
 ghost use Rattle.sip_verifier.specs.Exchanges.{Exchange};
 ghost use Rattle.sip_verifier.specs.Promises.{Promises};
 ghost use Rattle.sip_cli.specs.declared.command.Command.{Command};
-ghost use Rattle.sip_cli.specs.declared.command.Command.TheVariants.{Verify, Gen, Lines, Widen, Help};
+ghost use Rattle.sip_cli.specs.declared.command.Command.TheVariants.{Verify, Gen, Lines, Widen, Help, Play};
+ghost use Rattle.sip_cli.specs.declared.helper_name.HelperName.{HelperName};
 ghost use Rattle.sip_cli.specs.CopyClause.{CopyClause};
 ghost use Rattle.sip_cli.specs.HelpClause.{HelpClause};
 ghost use Rattle.sip_cli.specs.Statuses.{Ends};
@@ -42,6 +43,13 @@ pub fn run_in_memory(
         (held_by first.new second.new peer.new report.new keep.new) x
         × Promises task x (faults_of first.old second.old peer.old report.old keep.old)
         (faults_of first.new second.new peer.new report.new keep.new) result }
+
+    // It keeps those of `play` too.
+    ensures played { (task : Task) (name : HelperName) → Spells words.now (Play task name)
+        → (x : Exchange) × Moves (held_by first.old second.old peer.old report.old)
+        (held_by first.new second.new peer.new report.new) x
+        × Promises task x (faults_of first.old second.old peer.old report.old)
+        (faults_of first.new second.new peer.new report.new) result }
 
     // A copy is written to the report, and a talk is served on the link.
     ensures made { (depth : ℕ) → Spells words.now (Gen depth)

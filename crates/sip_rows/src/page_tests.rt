@@ -39,6 +39,7 @@ fn the_page_has_an_example_of_each_command(rt: HostRuntime) -> Result<(), Fail> 
     let alloc = rt.alloc();
     for example in [
         "verify log.stream today.seed from.fifo to.fifo - 20 sub:100:199 range:0:0:1048575 f2:0 inner",
+        "play made:7:100000 today.seed honest - 20 sub:0:99 range:0:0:1048575 f2:0 inner",
         "help to.fifo from.fifo",
         "gen 7 100000 20",
         "lines log.stream 20",

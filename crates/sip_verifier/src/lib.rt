@@ -16,7 +16,7 @@
 //! | `CountClause` | how many challenges a helper can win by, and that no line has a wrong answer but at those |
 //! | `CompletenessClause` | what an honest helper comes to |
 //! | `Statuses` | which statuses a run may answer, and which count of faults each needs to have risen |
-//! | `Promises`, `RunClause` | the five clauses together, and all that a run keeps |
+//! | `Promises`, `RunClause` | the six clauses together, and all that a run keeps |
 //! | `QuerySeats`, `Seats`, `NextSeat` | which streams the running numbers stand for, and which of them is next |
 //! | `Widths` | the first query whose answer may be too wide |
 //! | `Feeding` | what is still to send of a stream |
@@ -27,7 +27,7 @@
 //! `specs/inside/` says what one private part of a run did. No promise rests on a reading of it.
 //!
 //! [`check_stream`] is a whole run: [`gather`], then a [`Session`] that asks the queries. It carries
-//! the five clauses, as one `RunClause`.
+//! the six clauses, as one `RunClause`.
 #![tactic(auto)]
 
 mod asking;

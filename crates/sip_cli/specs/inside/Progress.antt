@@ -1,5 +1,5 @@
 -- How far the words of a command were read.
-use Rattle.std.specs.Prelude.{◌≡◌, ℕ, ◌+◌, ◌<◌, ◌≤◌, List, [], ◌∷◌, length, slice_index_or}
+use Rattle.std.specs.Prelude.{◌≡◌, ℕ, ◌+◌, ◌-◌, ◌<◌, ◌≤◌, List, [], ◌∷◌, length, slice_index_or}
 use Rattle.sip_vector.specs.declared.query.Query.{Query}
 use Rattle.sip_vector.specs.declared.query.Query.TheVariants.{Inner}
 use Rattle.sip_wire.specs.Table.{most_queries}
@@ -7,7 +7,7 @@ use Rattle.sip_cli.specs.declared.shape.Shape.{Shape}
 use Rattle.sip_cli.specs.declared.shape.Shape.TheVariants.{Name, Stream, Depth}
 use Rattle.sip_cli.specs.declared.verb.Verb.{Verb}
 use Rattle.sip_cli.specs.Shapes.{IsOf, Asks}
-use Rattle.sip_cli.specs.Verbs.{verb_word, shapes, least_asked, most_asked}
+use Rattle.sip_cli.specs.Verbs.{verb_word, shapes, depth_at, least_asked, most_asked}
 use Rattle.sip_cli.specs.Words.{word}
 
 -- there are n words behind the verb, and they have the first n shapes
@@ -34,19 +34,28 @@ pub record TakesStream (verb : Verb) : Type 0 where
   pub least : least_asked verb ≡ 0
   pub most : most_asked verb ≡ 0
 
--- the words from 7 up to n are these queries
-pub record AreAsked (words : List (List ℕ)) (depth : ℕ) (queries : List Query) (n : ℕ)
+-- Behind the verb stand a stream first and a depth last, at word `last`, and then queries.
+pub record TakesTask (verb : Verb) (last : ℕ) : Type 0 where
+  pub last_is : depth_at verb ≡ last
+  pub some : 2 ≤ last
+  pub stream : slice_index_or (shapes verb) 0 Name ≡ Stream
+  pub depth : slice_index_or (shapes verb) (last - 1) Name ≡ Depth
+  pub least : least_asked verb ≡ 1
+  pub most : most_asked verb ≡ most_queries
+
+-- the words from `first` up to n are these queries
+pub record AreAsked (words : List (List ℕ)) (depth first : ℕ) (queries : List Query) (n : ℕ)
     : Type 0 where
   pub within : n ≤ length words
-  pub count : n ≡ 7 + length queries
+  pub count : n ≡ first + length queries
   pub each : (i : ℕ) → i < length queries
-      → Asks depth (slice_index_or queries i Inner) (word words (7 + i))
+      → Asks depth (slice_index_or queries i Inner) (word words (first + i))
 
--- the word of this number is the first behind the depth that asks no query, or one too many
-pub record StopsInQueries (words : List (List ℕ)) (depth : ℕ) (number : ℕ) : Type 0 where
+-- the word of this number is the first from `first` on that asks no query, or one too many
+pub record StopsInQueries (words : List (List ℕ)) (depth first number : ℕ) : Type 0 where
   pub queries : List Query
-  pub before : AreAsked words depth queries number
-  pub most : number ≤ 7 + most_queries
-  pub here : number < 7 + most_queries → number < length words
+  pub before : AreAsked words depth first queries number
+  pub most : number ≤ first + most_queries
+  pub here : number < first + most_queries → number < length words
       → (query : Query) → Asks depth query (word words number) → ⊥
-  pub missing : length words ≤ number → number ≡ 7
+  pub missing : length words ≤ number → number ≡ first

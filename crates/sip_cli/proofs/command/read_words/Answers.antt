@@ -1,6 +1,6 @@
 use Rattle.std.proofs.Common.{subst}
 use Rattle.std.proofs.lemmas.Result.{err_from_is_err_and}
-use Rattle.sip_cli.specs.declared.verb.Verb.TheVariants.{Verify, Help, Gen}
+use Rattle.sip_cli.specs.declared.verb.Verb.TheVariants.{Verify, Help, Gen, Play}
 use Rattle.sip_cli.specs.inside.Progress.{StopsInShapes}
 use Rattle.sip_cli.proofs.Beginning.{refused_verb}
 use Rattle.sip_cli.proofs.Stopping.{refused_shape, fitted_by, refused_by}
@@ -30,5 +30,10 @@ pub returns-in-Gen-clause-refused : goal.returns-in-Gen-clause-refused
 returns-in-Gen-clause-refused c =
     let fitted = fitted_by c.in-Some.verb c.args.words.now c.shapes.result.now c.in-Some.ensures c.shapes.ensures c.in_ok-check_shapes.ensures.fitting in
     refused_by Gen c.args.words.now c.read_gen.result c.read_gen.ensures.refused (rw c.in-Gen.is at fitted)
+
+pub returns-in-Play-clause-refused : goal.returns-in-Play-clause-refused
+returns-in-Play-clause-refused c =
+    let fitted = fitted_by c.in-Some.verb c.args.words.now c.shapes.result.now c.in-Some.ensures c.shapes.ensures c.in_ok-check_shapes.ensures.fitting in
+    refused_by Play c.args.words.now c.read_play.result c.read_play.ensures.refused (rw c.in-Play.is at fitted)
 
 -- what stops `lines`, or `widen`, refuses its words

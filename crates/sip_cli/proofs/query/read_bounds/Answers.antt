@@ -1,5 +1,4 @@
-use Rattle.std.proofs.Common.{arith}
-use Rattle.sip_cli.proofs.StreamWords.{cut_numbers, joined_numbers}
+use Rattle.sip_cli.proofs.StreamWords.{cut_numbers}
 use Rattle.sip_cli.proofs.query.read_bounds.Goals as goal
 
 pub returns-in_err-lo : goal.returns-in_err-lo

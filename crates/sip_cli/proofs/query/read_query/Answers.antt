@@ -1,5 +1,5 @@
 -- The query that the word spells is chosen if its kind is built and it fits.
-use Rattle.std.proofs.Common.{◌≡◌, true, false, IsTrue, sym, ◌∙◌, arith}
+use Rattle.std.proofs.Common.{IsTrue, arith}
 use Rattle.sip_vector.specs.Built.{is_built}
 use Rattle.sip_cli.proofs.QueryWords.{chosen}
 use Rattle.sip_cli.proofs.query.read_query.Goals as goal

@@ -2,11 +2,14 @@
 use Rattle.std.proofs.Common.{[]}
 use Rattle.sip_ports.proofs.TalkLemmas.{GoesOn-refl}
 use Rattle.sip_verifier.proofs.RunTalks.{tells}
-use Rattle.sip_cli.proofs.RunLemmas.{verify_keeps, help_keeps, copy_keeps}
+use Rattle.sip_cli.proofs.RunLemmas.{verify_keeps, play_keeps, help_keeps, copy_keeps}
 use Rattle.sip_cli.proofs.top.obey.Goals as goal
 
 pub returns-in-Verify-clause-keeps : goal.returns-in-Verify-clause-keeps
 returns-in-Verify-clause-keeps g c = verify_keeps _ c.in-Verify.is c.check_stream.ensures.keeps
+
+pub returns-in-Play-clause-keeps : goal.returns-in-Play-clause-keeps
+returns-in-Play-clause-keeps g c = play_keeps _ _ c.in-Play.is c.check_stream-in-Play.ensures.keeps
 
 pub returns-in-Help-clause-keeps : goal.returns-in-Help-clause-keeps
 returns-in-Help-clause-keeps g c =

@@ -1,12 +1,12 @@
 use Rattle.std.proofs.Common.{refl, sym, subst}
 use Rattle.sip_cli.proofs.Refusals.{command_once, spelled_not_refused}
-use Rattle.sip_cli.proofs.RunLemmas.{served_task, usage_never, usage_at, never_usage, known_by, none_keeps}
+use Rattle.sip_cli.proofs.RunLemmas.{served_task, played_task, usage_never, usage_at, never_usage, known_by, none_keeps}
 use Rattle.sip_cli.specs.declared.command.Command.TheVariants.{Help}
 use Rattle.sip_cli.specs.Statuses.{IsCopy}
 use Rattle.sip_cli.proofs.top.run.Goals as goal
 
 pub obey-requires : goal.obey-requires
-obey-requires g c = record { served = served_task _ _ c.in-Ok.ensures.command }
+obey-requires g c = record { served = served_task _ _ c.in-Ok.ensures.command; played = played_task _ _ c.in-Ok.ensures.command }
 
 pub returns-in-Ok-clause-keeps : goal.returns-in-Ok-clause-keeps
 returns-in-Ok-clause-keeps g c = known_by (λ command spells. command_once _ _ command c.in-Ok.ensures.command spells) c.obey.ensures.keeps

@@ -1,0 +1,72 @@
+-- Words of `play` are told from others; and a run that was not begun, since memory was refused to its helper or its link,
+-- keeps what `play` promises.
+use Rattle.std.proofs.Common.{◌≡◌, ◌≢◌, ℕ, ◌≤◌, List, [], Option, Some, None, refl, ap, ◌∙◌, inl, subst, arith}
+use Rattle.std.specs.Prelude.{MatchOption}
+use Rattle.sip_ports.specs.declared.port.TalkEvent.{TalkEvent}
+use Rattle.sip_ports.proofs.TalkLemmas.{GoesOn-refl}
+use Rattle.sip_vector.specs.Limits.{most_depth}
+use Rattle.sip_verifier.specs.declared.status.Status.TheVariants as statuses
+use Rattle.sip_verifier.specs.declared.task.Task.{Task}
+use Rattle.sip_verifier.specs.inside.Progress.{Ended}
+use Rattle.sip_verifier.specs.Exchanges.{Exchange, Tells}
+use Rattle.sip_verifier.specs.KeepClause.{Keeps}
+use Rattle.sip_verifier.specs.Moments.{Moment, moment}
+use Rattle.sip_verifier.specs.Promises.{Promises}
+use Rattle.sip_verifier.specs.RunClause.{RunClause}
+use Rattle.sip_verifier.specs.Tasks.{CanBeDone}
+use Rattle.sip_verifier.proofs.CompleteRuns.{completes}
+use Rattle.sip_verifier.proofs.CountedReports.{report_counts}
+use Rattle.sip_verifier.proofs.KeptRuns.{kept_is}
+use Rattle.sip_verifier.proofs.RunTalks.{nothing_reported, tells}
+use Rattle.sip_verifier.proofs.StreamPromises.{after_gather}
+use Rattle.sip_duel.specs.Story.{IsHonestTalk}
+use Rattle.sip_cli.specs.declared.command.Command.{Command}
+use Rattle.sip_cli.specs.declared.command.Command.TheVariants.{Play}
+use Rattle.sip_cli.specs.declared.helper_name.HelperName.{HelperName}
+use Rattle.sip_cli.specs.Words.{Spells, IsRefusedAt}
+use Rattle.sip_cli.proofs.Refusals.{command_once, spelled_not_refused}
+
+-- nothing that happened is honest
+pub nothing_is_honest : IsHonestTalk []
+nothing_is_honest = inl (record { steps = []; part = []; give = []; follows = record { are = tt; sent = refl; came = refl; lasts = λ i other less. absurd (omega arith) } })
+
+module _ (task : Task) (can : CanBeDone task) (some : 1 ≤ task.depth) (most : task.depth ≤ most_depth) where
+  -- it wanted memory
+  wanted : (m : Moment) (x : Exchange) → Tells m m x → Ended task x m.faults m.faults statuses.OutOfMemory
+  wanted m x t = after_gather task x m.faults m.faults statuses.OutOfMemory _ _ t.talk (nothing_reported _ _ t.report) (inl refl) tt
+
+  unbegun_promises : (m : Moment) (x : Exchange) → Tells m m x → Promises task x m.faults m.faults statuses.OutOfMemory
+  unbegun_promises m x t =
+      let e = wanted m x t in
+      record {
+        verdict = e.verdict;
+        talk = e.talk;
+        cause = e.cause;
+        count = report_counts task x can.asked statuses.OutOfMemory e.verdict refl;
+        complete = completes task x some most (λ i other less. (can.asked i other less).1) m.faults m.faults statuses.OutOfMemory e.verdict e.cause refl;
+        kept = kept_is (Keeps task x statuses.OutOfMemory) m.keep m.keep [] x.kept (GoesOn-refl m.keep) t.kept (inl refl);
+      }
+
+  pub unbegun : (m : Moment) → RunClause task m m statuses.OutOfMemory
+  unbegun m = record {
+    promises = unbegun_promises m;
+    moves = λ is. tells m m is (λ some. some) [] (GoesOn-refl _) [] (GoesOn-refl _) [] (GoesOn-refl _);
+    fault = tt;
+    listed = refl;
+  }
+
+-- what is read of the command that the words spell is what they say of `play`
+pub read_of : (words : List (List ℕ)) (c : Command) (r : Option (Task × HelperName)) → Spells words c
+    → MatchOption r ((task : Task) (name : HelperName) → c ≢ Play task name) (λ x. c ≡ Play x.0 x.1)
+    → MatchOption r ((task : Task) (name : HelperName) → Spells words (Play task name) → ⊥) (λ x. Spells words (Play x.0 x.1))
+read_of words c None spells none = λ task name other. none task name (command_once words c (Play task name) spells other)
+read_of words c (Some x) spells is = subst (Spells words) is spells
+
+-- words that are refused are not those of `play`
+pub none_of_play : (words : List (List ℕ)) (n : ℕ) → IsRefusedAt words n → (task : Task) (name : HelperName) → Spells words (Play task name) → ⊥
+none_of_play words n refused task name spells = spelled_not_refused words (Play task name) n spells refused
+
+-- a link on which nothing has happened tells no event
+pub tells_on : {items : List TalkEvent} → items ≡ [] → {first second : Option (List ℕ)} {report keep : Option (List TalkEvent)} {a b c d e : ℕ} {now : Moment} {x : Exchange}
+    → Tells (moment first a second b (Some []) c report d keep e) now x → Tells (moment first a second b (Some items) c report d keep e) now x
+tells_on none t = record { stream = t.stream; unread = t.unread; seed = t.seed; talk = (t.talk.0, ap Some none ∙ t.talk.1, t.talk.2); report = t.report; kept = t.kept }
