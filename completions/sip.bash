@@ -1,0 +1,69 @@
+# Completes the words of sip in bash.
+
+# The kinds of the words behind a command. Where the last one is `query`, more of it may follow.
+_sip_kinds() {
+    case $1 in
+        verify) echo stream file file file record depth query ;;
+        help) echo file file ;;
+        gen) echo number number depth ;;
+        lines | widen) echo stream depth ;;
+    esac
+}
+
+_sip_commands='verify help gen lines widen --help --version'
+_sip_queries='sub: range:0: range:1: f2:0 f2:1 inner heavy:0: heavy:1: share:0: share:1:'
+
+# What may be written in the place of the last word, whose kind is given first.
+_sip_candidates() {
+    local kind=$1 word=$2 depths
+    case $kind in
+        command) compgen -W "$_sip_commands" -- "$word" ;;
+        query) compgen -W "$_sip_queries" -- "$word" ;;
+        record) compgen -W - -- "$word" ;;
+        depth) depths=$(seq 48) && compgen -W "$depths" -- "$word" ;;
+        file) compgen -f -- "$word" ;;
+        stream)
+            case $word in
+                made:*) ;;
+                text:* | wide:*) compgen -P "${word%%:*}:" -f -- "${word#*:}" ;;
+                *)
+                    compgen -W 'made: text: wide:' -- "$word"
+                    compgen -f -- "$word"
+                    ;;
+            esac
+            ;;
+    esac
+}
+
+_sip() {
+    local words=() piece kinds kind place front
+    # A word with colons comes in pieces.
+    for piece in "${COMP_WORDS[@]:0:COMP_CWORD+1}"; do
+        if [[ ${#words[@]} -gt 0 && ($piece == :* || ${words[-1]} == *:) ]]; then
+            words[-1]+=$piece
+        else
+            words+=("$piece")
+        fi
+    done
+    place=$((${#words[@]} - 1))
+    if ((place == 1)); then
+        kind='command'
+    else
+        read -ra kinds <<<"$(_sip_kinds "${words[1]}")"
+        kind=${kinds[place - 2]:-}
+        if [[ -z $kind && " ${kinds[*]}" == *' query' ]]; then kind=query; fi
+    fi
+    mapfile -t COMPREPLY < <(_sip_candidates "$kind" "${words[place]}")
+    if [[ ${#COMPREPLY[@]} -eq 1 && ${COMPREPLY[0]} == *: ]]; then
+        compopt -o nospace 2>/dev/null
+    elif [[ $kind == file || $kind == stream ]]; then
+        compopt -o filenames 2>/dev/null
+    fi
+    # Of a word with colons the shell replaces what stands behind the last one.
+    if [[ ${words[place]} == *:* && $COMP_WORDBREAKS == *:* ]]; then
+        front=${words[place]%"${words[place]##*:}"}
+        COMPREPLY=("${COMPREPLY[@]#"$front"}")
+    fi
+}
+
+complete -F _sip sip

@@ -1,0 +1,65 @@
+# Completes the words of sip in fish.
+
+# The kinds of the words behind a command. Where the last one is `query`, more of it may follow.
+function __sip_kinds
+    switch $argv[1]
+        case verify
+            printf '%s\n' stream file file file record depth query
+        case help
+            printf '%s\n' file file
+        case gen
+            printf '%s\n' number number depth
+        case lines widen
+            printf '%s\n' stream depth
+    end
+end
+
+# What may be written in the place of the present word.
+function __sip_candidates
+    set -l words (commandline -opc)
+    set -l word (commandline -ct)
+    set -l kinds (__sip_kinds $words[2])
+    set -l place (math (count $words) - 1)
+    set -l kind
+    if test $place -le (count $kinds)
+        set kind $kinds[$place]
+    else if contains query $kinds
+        set kind query
+    end
+    switch "$kind"
+        case stream
+            printf '%s\n' made:\t'NUMBER:COUNT' text:\t'lines of text' wide:\t'wide records'
+            if string match -qr '^(text|wide):' -- $word
+                set -l front (string split -m 1 : -- $word)[1]
+                printf "$front:%s\n" (__fish_complete_path (string split -m 1 : -- $word)[2])
+            else
+                __fish_complete_path $word
+            end
+        case file
+            __fish_complete_path $word
+        case record
+            printf '%s\n' -\t'no record'
+        case depth
+            seq 48
+        case query
+            printf '%s\n' sub:\t'LO:HI, the entries of side 0' \
+                range:{0,1}:\t'LO:HI, the sum of the entries' \
+                f2:{0,1}\t'the sum of the squares' inner\t'the sum of the products' \
+                heavy:{0,1}:\t'T, the entries of T or more' \
+                share:{0,1}:\t'NUM:DEN, the entries of such a part'
+    end
+end
+
+function __sip_is_first
+    test (count (commandline -opc)) -eq 1
+end
+
+complete -c sip -f
+complete -c sip -n __sip_is_first -a verify -d 'ask a helper and check what it answers'
+complete -c sip -n __sip_is_first -a help -d 'be the helper'
+complete -c sip -n __sip_is_first -a gen -d 'write a made stream'
+complete -c sip -n __sip_is_first -a lines -d 'print a stream as lines of text'
+complete -c sip -n __sip_is_first -a widen -d 'write a stream as wide records'
+complete -c sip -n __sip_is_first -l help -d 'print the page of all commands'
+complete -c sip -n __sip_is_first -l version -d 'print the version'
+complete -c sip -n 'not __sip_is_first' -a '(__sip_candidates)'
