@@ -59,7 +59,7 @@ examples_fit Widen (suc (suc n)) h = absurd (omega arith)
 examples_fit Play zero h = (stream.File, (λ e. cc, refl, refl, refl))
 examples_fit Play (suc zero) h = λ e. cc
 examples_fit Play (suc (suc zero)) h = (Mute, refl)
-examples_fit Play (suc (suc (suc zero))) h = refl
+examples_fit Play (suc (suc (suc zero))) h = λ e. cc
 examples_fit Play (suc (suc (suc (suc zero)))) h = (1, (omega arith, omega arith, refl))
 examples_fit Play (suc (suc (suc (suc (suc n))))) h = absurd (omega arith)
 

@@ -44,7 +44,7 @@ first_counted words (command.Gen depth) plan (number, count, low, few, one, two,
     let same : count_of plan.first ≡ count = ap (λ (p : PortPlan). count_of p.first) is in omega arith
 first_counted words (command.Lines form depth) plan (s, names, is) = source_counted words s depth plan names is
 first_counted words (command.Widen form depth) plan (s, names, is) = source_counted words s depth plan names is
-first_counted words (command.Play task name) plan (s, names, is) =
+first_counted words (command.Play task name) plan (s, names, keep, record_is, is) =
     let same : count_of plan.first ≡ count_of (opening_of s task.depth) = ap (λ (p : PortPlan). count_of p.first) is in
     let few = stream_counted s (word words 1) task.depth names in
     omega arith

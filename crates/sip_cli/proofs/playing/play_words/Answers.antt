@@ -16,7 +16,7 @@ returns-in-Err-clause-played g c =
       spells,
       record {
         talk = [];
-        keeps = rw (same.0, same.1, same.2.0, same.2.1) (unbegun _ (played _ _ _ spells) deep.0 deep.1 _);
+        keeps = rw (same.0, same.1, same.2, same.3) (unbegun _ (played _ _ _ spells) deep.0 deep.1 _);
         peer = λ e. cc;
         honest = λ is. nothing_is_honest;
         accepts = λ is x tells good none. inr (inl refl);
