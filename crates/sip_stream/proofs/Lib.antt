@@ -15,3 +15,4 @@ pub mod LegalRecords
 pub mod ManyRead
 pub mod PassedRecords
 pub mod PassedLines
+mod Excess

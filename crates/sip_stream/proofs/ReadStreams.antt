@@ -13,6 +13,7 @@ use Rattle.sip_vector.proofs.Kept.{is_zero-false}
 use Rattle.sip_vector.proofs.Sides.{weight-append, weight-one}
 use Rattle.sip_stream.specs.declared.form.Form.{Form}
 use Rattle.sip_stream.specs.Layouts.{layout_of, deepest_in}
+use Rattle.sip_stream.specs.Reading.{Reading, IsAfter, HasRoom}
 use Rattle.sip_stream.specs.Records.{update_fault, records_from, records}
 use Rattle.sip_stream.specs.Spellings.{spelled}
 use Rattle.sip_stream.proofs.ReadBack.{below_deeper, read_back}
@@ -68,6 +69,15 @@ no_fault depth before u legal =
     let delta = is_zero-false u.delta legal.delta in
     let light = not_lt most_weight (weight (before ++ u ∷ []) u.side) legal.weight in
     rw (item, delta, light) refl
+
+-- and nothing against an update that a reader has room for
+pub none_against : (r : Reading) (before : List Update) (u : Update) → IsAfter r before → HasRoom r u → update_fault r.depth before u ≡ None
+none_against r before u after room = no_fault r.depth before u (record {
+  item = room.item;
+  delta = room.delta;
+  weight = omega (arith, weight-append before (u ∷ []) u.side, weight-own u, after.weights u.side, room.weight);
+  size = omega (arith, room.weight);
+})
 
 read_from : (depth : ℕ) (form : Form) (before us : List Update) → depth ≤ deepest_in form → IsLegal depth (before ++ us)
     → records_from depth form before (flat_map (spelled (layout_of form)) us) ≡ record { legal = before ++ us; fault = None }

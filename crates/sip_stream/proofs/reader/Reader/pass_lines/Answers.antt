@@ -1,12 +1,12 @@
 -- One more line was passed.
 use Rattle.std.proofs.Common.{◌≡◌, ◌∷◌, [], ◌+◌, ◌-◌, ◌++◌, ◌∙◌, ap, arith, length, length-drop, Ok, refl, sym, subst, take, drop}
 use Rattle.std.proofs.Math.Seq.{take-add}
-use Rattle.std.specs.Prelude.{IfNone}
 use Rattle.sip_stream.specs.Pieces.{line_said}
 use Rattle.sip_stream.specs.Reading.{HasRead, HasRoom}
-use Rattle.sip_stream.proofs.ManyRead.{HasRead-none, HasRead-line, none_of}
+use Rattle.sip_stream.proofs.ManyRead.{HasRead-none, HasRead-line}
 use Rattle.sip_stream.proofs.PassedLines.{passed_line}
 use Rattle.sip_stream.proofs.RecordsRead.{rest_at}
+use Rattle.sip_stream.proofs.ReadStreams.{none_against}
 use Rattle.sip_stream.proofs.reader.Reader.pass_lines.Goals as goal
 
 pub loop-said-init : goal.loop-said-init
@@ -21,8 +21,7 @@ loop-said-smaller c =
 
 pub add-requires : goal.add-requires
 add-requires c =
-    let none = none_of c.fault.result (sym c.is_some.ensures ∙ c.if-is_some.false) in
-    subst (λ r. IfNone r (HasRoom c.loop-said.reader c.in-Ok.update)) none c.fault.ensures.room
+    c.has_room.ensures.0 c.if-not-has_room.false
 
 pub loop-said-preserved : goal.loop-said-preserved
 loop-said-preserved c =
@@ -32,8 +31,7 @@ loop-said-preserved c =
     let u = c.in-Ok.update in
     let old = c.args.self.now in
     let had = c.loop-said.invariant.passed in
-    let none = none_of c.fault.result (sym c.is_some.ensures ∙ c.if-is_some.false) in
-    let has = subst (λ r. IfNone r (HasRoom c.loop-said.reader u)) none c.fault.ensures.room in
+    let has : HasRoom c.loop-said.reader u = c.has_room.ensures.0 c.if-not-has_room.false in
     let behind = rest_at used bytes in
     let front = c.in-Some.ensures.line in
     let line = front.line in
@@ -48,6 +46,6 @@ loop-said-preserved c =
         passed_line old.form had.0 u (take used bytes) line c.requires had.1 said ∙ whole,
         subst (λ l. HasRead old c.add.new.self l (had.0 ++ u ∷ [])) whole
             (HasRead-line old c.loop-said.reader c.add.new.self (take used bytes) line had.0 u c.requires had.2 front.clean front.short said
-            (λ before is. sym (c.fault.ensures.first before is) ∙ none) has c.add.ensures.after c.add.ensures.heavier c.add.ensures.depth c.add.ensures.form c.add.ensures.spent),
+            (λ before is. none_against c.loop-said.reader before u is has) has c.add.ensures.after c.add.ensures.heavier c.add.ensures.depth c.add.ensures.form c.add.ensures.spent),
       );
     }

@@ -1,12 +1,12 @@
 -- One more record was passed.
 use Rattle.std.proofs.Common.{◌≡◌, ◌∷◌, [], ◌+◌, ◌-◌, ◌++◌, ◌∙◌, arith, length, Ok, refl, rules, sym, subst, take, drop}
 use Rattle.std.proofs.Math.Seq.{take-add}
-use Rattle.std.specs.Prelude.{IfNone}
 use Rattle.sip_stream.specs.Layouts.{record_size}
 use Rattle.sip_stream.specs.Reading.{HasRead, HasRoom}
 use Rattle.sip_stream.specs.Pieces.{record_said}
-use Rattle.sip_stream.proofs.ManyRead.{HasRead-none, HasRead-one, none_of}
+use Rattle.sip_stream.proofs.ManyRead.{HasRead-none, HasRead-one}
 use Rattle.sip_stream.proofs.PassedRecords.{AreBytes, part_bytes, passed_one}
+use Rattle.sip_stream.proofs.ReadStreams.{none_against}
 use Rattle.sip_stream.proofs.reader.Reader.pass_records.Goals as goal
 
 pub loop-used-init : goal.loop-used-init
@@ -20,8 +20,7 @@ loop-used-smaller g c = omega (arith, c.loop-used-test.true, c.size_of-size.ensu
 
 pub add-requires : goal.add-requires
 add-requires g c =
-    let none = none_of c.fault.result (sym c.is_some.ensures ∙ c.if-is_some.false) in
-    subst (λ r. IfNone r (HasRoom c.loop-used.reader c.in-Ok.update)) none c.fault.ensures.room
+    c.has_room.ensures.0 c.if-not-has_room.false
 
 pub loop-used-preserved : goal.loop-used-preserved
 loop-used-preserved g c =
@@ -31,8 +30,7 @@ loop-used-preserved g c =
     let u = c.in-Ok.update in
     let old = c.args.self.now in
     let had = c.loop-used.invariant.passed in
-    let none = none_of c.fault.result (sym c.is_some.ensures ∙ c.if-is_some.false) in
-    let has = subst (λ r. IfNone r (HasRoom c.loop-used.reader u)) none c.fault.ensures.room in
+    let has : HasRoom c.loop-used.reader u = c.has_room.ensures.0 c.if-not-has_room.false in
     let piece = take size (drop used bytes) in
     let span : used + size - used ≡ size = omega arith in
     let len : length piece ≡ record_size g.row.WIDTH = search rules in
@@ -45,7 +43,7 @@ loop-used-preserved g c =
         passed_one g.row.WIDTH old.form had.0 u (take used bytes) piece c.requires.layout had.1 len (part_bytes used size bytes are) said ∙ sym (take-add used size bytes),
         subst (λ l. HasRead old c.add.new.self l (had.0 ++ u ∷ [])) (sym (take-add used size bytes))
             (HasRead-one g.row.WIDTH old c.loop-used.reader c.add.new.self (take used bytes) piece had.0 u c.requires.layout had.2 len said
-            (λ before is. sym (c.fault.ensures.first before is) ∙ none) has c.add.ensures.after c.add.ensures.heavier c.add.ensures.depth c.add.ensures.form c.add.ensures.spent),
+            (λ before is. none_against c.loop-used.reader before u is has) has c.add.ensures.after c.add.ensures.heavier c.add.ensures.depth c.add.ensures.form c.add.ensures.spent),
       );
     }
 
@@ -58,5 +56,5 @@ returns-after-loop-used-clause-passed g c = c.loop-used.invariant.passed
 pub returns-in_default-clause-passed : goal.returns-in_default-clause-passed
 returns-in_default-clause-passed g c = c.loop-used.invariant.passed
 
-pub returns-then-is_some-clause-passed : goal.returns-then-is_some-clause-passed
-returns-then-is_some-clause-passed g c = c.loop-used.invariant.passed
+pub returns-then-not-has_room-clause-passed : goal.returns-then-not-has_room-clause-passed
+returns-then-not-has_room-clause-passed g c = c.loop-used.invariant.passed
