@@ -45,7 +45,7 @@ USAGE
       Does the same with a helper of its own, and needs no other program: to see what is asked and answered.
 
       HELPER  honest, which answers as it should; skewed, which counts item 0 of side 0 once more, so that its answers
-              about that side are rejected; mute, which says nothing, so that the first one that it is asked is rejected
+              about that side are rejected; mute, which says nothing, so that the first query is rejected
               The other words are as above.
 
       sip play made:7:100000 today.seed honest - 20 sub:0:99 range:0:0:1048575 f2:0 inner

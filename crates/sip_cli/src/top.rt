@@ -91,9 +91,9 @@ pub fn run<A: Source, B: Source, L: Link, K: Sink, C: Sink>(
     report: &mut K,
     keep: &mut C,
 ) -> Status
-    // Of `verify` and `play` the six promises, of `gen`, `lines` and `widen` the copy that the report gets, of
-    // `help` the talk that it serves; and whatever the command, its faults have their cause, and its
-    // status is one of its own.
+    // Of `verify` and `play` the six promises, of `gen`, `lines` and `widen` the copy that the
+    // report gets, of `help` the talk that it serves; and whatever the command, its faults have
+    // their cause, and its status is one of its own.
     ensures keeps { CommandClause (Spells words.now)
         (moment (A.left first.old) (A.faults first.old) (B.left second.old) (B.faults second.old)
         (L.talk peer.old) (L.faults peer.old) (K.talk report.old) (K.faults report.old)

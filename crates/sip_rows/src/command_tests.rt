@@ -223,7 +223,7 @@ const REFUSALS: [(&str, Option<u32>); 210] = [
     ("play|s|k|liar|-|3|inner", Some(3)),
     ("play|s|k|f|t|-|3|inner", Some(3)),
     ("play|s|k|honest", Some(4)),
-    ("play|s|k|skewed|r|3|inner", Some(4)),
+    ("play|s|k|skewed||3|inner", Some(4)),
     ("play|s|k|honest|3|inner", Some(4)),
     ("play|s|k|honest|-", Some(5)),
     ("play|s|k|honest|-|0|inner", Some(5)),

@@ -82,8 +82,8 @@ fn the_helper_of_each_name_plays(rt: HostRuntime) -> Result<(), Fail> {
             }),
             "",
         ),
-        // One that counts item 0 once more. What it says of other items is right, and still no line is written for it. The two
-        // heavy nodes of level 1 are 10 together, where the total is 9.
+        // One that counts item 0 once more. What it says of other items is right, and still no line
+        // is written for it. The two heavy nodes of level 1 are 10 together, where the total is 9.
         Run(
             "play text:s k skewed - 2 sub:1:2",
             rejected(1, 2, Reason::Root),

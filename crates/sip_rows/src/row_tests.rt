@@ -264,7 +264,6 @@ fn runs_that_say_nothing(rt: HostRuntime) -> Result<(), Fail> {
         refused("verify s seed a b - 2 f2:2", 7),
         refused("verify s seed a b - 2 sub:01:2", 7),
         refused("verify s seed a b - 49 sub:1:2", 6),
-        refused("verify s seed a b r 2 sub:1:2", 5),
         refused(
             "verify s seed a b - 2 sub:0:0 sub:0:0 sub:0:0 sub:0:0 sub:0:0 sub:0:0 sub:0:0 sub:0:0 \
              sub:0:0 sub:0:0 sub:0:0 sub:0:0 sub:0:0 sub:0:0 sub:0:0 sub:0:0 sub:0:0",
