@@ -143,7 +143,7 @@ fn copy_on<A: Source, K: Sink>(
     }
 }
 
-/// Copies the legal records of a stream, read in one form and written in another, in blocks of 8,192 bytes. It takes no memory.
+/// Copies the legal records of a stream, read in one form and written in another, in blocks of 32,768 bytes. It takes no memory.
 /// Where it writes `Form::Binary`, the depth is at most `Depth::MOST_NARROW`.
 ///
 /// # Errors
