@@ -7,10 +7,11 @@ _sip_kinds() {
         help) echo file file ;;
         gen) echo number number depth ;;
         lines | widen) echo stream depth ;;
+        play) echo stream file helper record depth query ;;
     esac
 }
 
-_sip_commands='verify help gen lines widen --help --version'
+_sip_commands='verify help gen lines widen play --help --version'
 _sip_queries='sub: range:0: range:1: f2:0 f2:1 inner heavy:0: heavy:1: share:0: share:1:'
 
 # What may be written in the place of the last word, whose kind is given first.
@@ -19,7 +20,11 @@ _sip_candidates() {
     case $kind in
         command) compgen -W "$_sip_commands" -- "$word" ;;
         query) compgen -W "$_sip_queries" -- "$word" ;;
-        record) compgen -W - -- "$word" ;;
+        record)
+            compgen -W - -- "$word"
+            compgen -f -- "$word"
+            ;;
+        helper) compgen -W 'honest skewed mute' -- "$word" ;;
         depth) depths=$(seq 48) && compgen -W "$depths" -- "$word" ;;
         file) compgen -f -- "$word" ;;
         stream)
@@ -56,7 +61,7 @@ _sip() {
     mapfile -t COMPREPLY < <(_sip_candidates "$kind" "${words[place]}")
     if [[ ${#COMPREPLY[@]} -eq 1 && ${COMPREPLY[0]} == *: ]]; then
         compopt -o nospace 2>/dev/null
-    elif [[ $kind == file || $kind == stream ]]; then
+    elif [[ $kind == file || $kind == stream || $kind == record ]]; then
         compopt -o filenames 2>/dev/null
     fi
     # Of a word with colons the shell replaces what stands behind the last one.

@@ -11,6 +11,8 @@ function __sip_kinds
             printf '%s\n' number number depth
         case lines widen
             printf '%s\n' stream depth
+        case play
+            printf '%s\n' stream file helper record depth query
     end
 end
 
@@ -39,6 +41,9 @@ function __sip_candidates
             __fish_complete_path $word
         case record
             printf '%s\n' -\t'no record'
+            __fish_complete_path $word
+        case helper
+            printf '%s\n' honest skewed mute
         case depth
             seq 48
         case query
@@ -60,6 +65,7 @@ complete -c sip -n __sip_is_first -a help -d 'be the helper'
 complete -c sip -n __sip_is_first -a gen -d 'write a made stream'
 complete -c sip -n __sip_is_first -a lines -d 'print a stream as lines of text'
 complete -c sip -n __sip_is_first -a widen -d 'write a stream as wide records'
+complete -c sip -n __sip_is_first -a play -d 'ask a helper in the same program'
 complete -c sip -n __sip_is_first -l help -d 'print the page of all commands'
 complete -c sip -n __sip_is_first -l version -d 'print the version'
 complete -c sip -n 'not __sip_is_first' -a '(__sip_candidates)'

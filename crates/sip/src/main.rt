@@ -78,7 +78,8 @@ fn record(rt: &HostRuntime, words: &Words, opening: Opening) -> Option<Box<FileS
 }
 
 /// The ports of a run, but for the first source and what keeps the transcript.
-struct Opened {
+#[derive(Drop)]
+struct RunPorts {
     second: Box<FileSource>,
     peer: Box<FileLink>,
 }
@@ -88,11 +89,11 @@ fn obey_keeping<S: Source, C: Sink>(
     rt: &HostRuntime,
     words: &Words,
     first: &mut S,
-    opened: &mut Opened,
+    held: &mut RunPorts,
     keep: &mut C,
 ) -> Status {
     let mut report = StdoutSink::new(io::writer(rt));
-    let second = &mut *opened.second;
+    let second = &mut *held.second;
     let played = play_words(rt.alloc(), words, first, second, &mut report, keep);
     match played {
         Some(status) => status,
@@ -101,7 +102,7 @@ fn obey_keeping<S: Source, C: Sink>(
             words,
             first,
             second,
-            &mut *opened.peer,
+            &mut *held.peer,
             &mut report,
             keep,
         ),
@@ -120,14 +121,14 @@ fn obey_over<S: Source>(
 ) -> Option<Status> {
     let second = source(rt, words, plan.second)?;
     let peer = link(rt, words, plan)?;
-    let mut opened = Opened { second, peer };
+    let mut held = RunPorts { second, peer };
     Some(match plan.keep {
         Opening::Path { .. } => {
             let mut keep = record(rt, words, plan.keep)?;
-            obey_keeping(rt, words, first, &mut opened, &mut *keep)
+            obey_keeping(rt, words, first, &mut held, &mut *keep)
         }
         Opening::Nothing | Opening::Made { .. } => {
-            obey_keeping(rt, words, first, &mut opened, &mut NullSink::new())
+            obey_keeping(rt, words, first, &mut held, &mut NullSink::new())
         }
     })
 }

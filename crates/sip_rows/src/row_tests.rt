@@ -246,7 +246,7 @@ fn refused<'a>(words: &'a str, word: u32) -> Row<'a> {
 
 #[test]
 fn runs_that_say_nothing(rt: HostRuntime) -> Result<(), Fail> {
-    let rows: [Row<'static>; 8] = [
+    let rows: [Row<'static>; 7] = [
         Row {
             name: "31 bytes are no seed",
             given: Given {
