@@ -46,10 +46,11 @@ pub fn run_in_memory(
 
     // It keeps those of `play` too.
     ensures played { (task : Task) (name : HelperName) → Spells words.now (Play task name)
-        → (x : Exchange) × Moves (held_by first.old second.old peer.old report.old)
-        (held_by first.new second.new peer.new report.new) x
-        × Promises task x (faults_of first.old second.old peer.old report.old)
-        (faults_of first.new second.new peer.new report.new) result }
+        → (x : Exchange)
+        × Moves (held_by first.old second.old peer.old report.old keep.old)
+        (held_by first.new second.new peer.new report.new keep.new) x
+        × Promises task x (faults_of first.old second.old peer.old report.old keep.old)
+        (faults_of first.new second.new peer.new report.new keep.new) result }
 
     // A copy is written to the report, and a talk is served on the link.
     ensures made { (depth : ℕ) → Spells words.now (Gen depth)
