@@ -224,7 +224,7 @@ const REFUSALS: [(&str, Option<u32>); 210] = [
     ("play|s|k|f|t|-|3|inner", Some(3)),
     ("play|s|k|honest", Some(4)),
     ("play|s|k|skewed||3|inner", Some(4)),
-    ("play|s|k|honest|3|inner", Some(4)),
+    ("play|s|k|honest|3|inner", Some(5)),
     ("play|s|k|honest|-", Some(5)),
     ("play|s|k|honest|-|0|inner", Some(5)),
     ("play|s|k|honest|-|49|inner", Some(5)),
@@ -241,7 +241,7 @@ const REFUSALS: [(&str, Option<u32>); 210] = [
     ("play|made:7:20|-|mute|-|48|share:0:1:1|f2:1", None),
     ("play|wide:s|made:|honest|-|33|sub:0:8589934591", None),
     ("Play|s|k|honest|-|3|inner", Some(0)),
-    ("verify|s|k|honest|-|3|inner", Some(5)),
+    ("verify|s|k|honest|-|3|inner", Some(6)),
 ];
 
 #[test]
