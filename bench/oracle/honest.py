@@ -1,0 +1,103 @@
+"""The replies of an honest helper: of each, the list of its messages."""
+
+from . import folds
+from .field import P
+
+
+def replies(question, both, depth, challenges):
+    """The d replies, one after another. Reply j asks for the first j challenges alone, so the list
+    of them may still grow."""
+    code = question.refusal(both)
+    if code:
+        return iter([[("Refuse", code)]])
+    kinds = {"sub": entries, "heavy": counted, "share": counted}
+    return kinds.get(question.kind, sums)(question, both, depth, challenges)
+
+
+def cut(rows, most):
+    return [rows[at : at + most] for at in range(0, len(rows), most)]
+
+
+def siblings_asked(lo, hi):
+    """The indices of the left and of the right sibling of nodes lo to hi, where there is one."""
+    return (lo - 1 if lo & 1 else None), (None if hi & 1 else hi + 1)
+
+
+def entries(question, both, depth, challenges):
+    level, lo, hi = both[0].entries, question.lo, question.hi
+    reply = [("Entries", rows) for rows in cut(question.answer(both), 512)]
+    for j in range(depth):
+        if j > 0:
+            level, reply = folds.up(level, challenges[j - 1]), []
+        wanted = siblings_asked(lo >> j, hi >> j)
+        shown = (None if at is None else level.get(at, 0) % P for at in wanted)
+        yield [*reply, ("Siblings", *shown)]
+
+
+def sums(question, both, depth, challenges):
+    """Those to a sum of products of two lists' entries."""
+    first = dict(both[0 if question.kind == "inner" else question.side].entries)
+    second = dict(both[1].entries) if question.kind == "inner" else first
+    reply = [("Claim", question.answer(both))]
+    for j in range(depth):
+        if j > 0:
+            r, reply = challenges[j - 1], []
+            first, second = folds.line(first, r), folds.line(second, r)
+        other = second
+        if question.kind == "range":
+            other = ones_beside(first, question, challenges[:j])
+        yield [*reply, ("Poly", *polynomial(first, other))]
+
+
+def ones_beside(level, question, revealed):
+    """The list that is 1 in the range, folded by what was revealed, at the pairs of a level's
+    entries."""
+    beside, size = {}, 2 ** len(revealed)
+    for index in {index ^ bit for index in level for bit in (0, 1)}:
+        lo = max(question.lo, index * size) - index * size
+        hi = min(question.hi, index * size + size - 1) - index * size
+        if lo <= hi:
+            beside[index] = 1 if hi - lo == size - 1 else folds.interval(revealed, lo, hi)
+    return beside
+
+
+def polynomial(first, second):
+    """The coefficients of the sum over all pairs of neighbours of the products of the lines through
+    them."""
+    c0 = c1 = c2 = 0
+    for pair in {index >> 1 for index in first}:
+        u, w = first.get(2 * pair, 0), first.get(2 * pair + 1, 0)
+        v, x = second.get(2 * pair, 0), second.get(2 * pair + 1, 0)
+        c0 += u * v
+        c1 += u * (x - v) + v * (w - u)
+        c2 += (w - u) * (x - v)
+    return c0 % P, c1 % P, c2 % P
+
+
+def counted(question, both, depth, challenges):
+    """Those to a threshold: the children of each node of at least so much, and above the leaves the
+    light ones alone."""
+    threshold = question.threshold(both)
+    entries_ = both[question.side].entries
+    level = folds.leaves_counted(both[question.side])
+    for j in range(depth):
+        if j > 0:
+            level = folds.up_counted(level, challenges[j - 1])
+        rows = []
+        for parent in heavy_nodes(entries_, j + 1, threshold):
+            for child in (2 * parent, 2 * parent + 1):
+                hash_, count = level.get(child, (0, 0))
+                if j == 0:
+                    rows.append((child, count))
+                elif count < threshold:
+                    rows.append((child, hash_, count))
+        name, most = ("Leaves", 512) if j == 0 else ("Nodes", 256)
+        yield [(name, part) for part in cut(rows, most)] + [("LevelEnd",)]
+
+
+def heavy_nodes(entries_, level, threshold):
+    """The nodes of a level below which the entries add up to at least so much."""
+    counts = {}
+    for item, value in entries_.items():
+        counts[item >> level] = counts.get(item >> level, 0) + value
+    return sorted(index for index, count in counts.items() if count >= threshold)

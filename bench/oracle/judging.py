@@ -1,0 +1,162 @@
+"""What replies are worth: accepted with what they state, or rejected with their first fault, by
+whole lists."""
+
+from typing import NamedTuple
+
+from . import folds
+from .field import P, WIDEST
+from .frames import Fault, read
+from .honest import siblings_asked
+
+
+class Verdict(NamedTuple):
+    """`said` is None where the replies are rejected. `ends` is where each whole reply ends."""
+
+    said: object
+    round: int
+    reason: str
+    ends: list
+
+
+class Link:
+    """The bytes of the helper. They end where they end."""
+
+    def __init__(self, data, at, version):
+        self.data, self.at, self.version = data, at, version
+
+    def take(self, place):
+        message, self.at = read(self.data, self.at, place, self.version)
+        if message[0] == "Refuse":
+            raise Fault(f"Refused({message[1]})")
+        return message
+
+
+def need(holds, reason):
+    if not holds:
+        raise Fault(reason)
+
+
+def verdict(question, both, depth, challenges, data, at, version):
+    link = Link(data, at, version)
+    check = Entries if question.kind == "sub" else Counted if question.counts() else Sums
+    check = check(question, both, depth, challenges)
+    ends = []
+    try:
+        for j in range(depth):
+            check.reply(j, link)
+            ends.append(link.at)
+        check.end()
+    except Fault as fault:
+        return Verdict(None, len(ends), fault.reason, ends)
+    return Verdict(check.said(), depth, None, ends)
+
+
+class Entries:
+    """A sub-vector."""
+
+    def __init__(self, question, both, depth, challenges):
+        self.question, self.challenges = question, challenges
+        self.root = folds.root(both[0], challenges)
+        self.stated = []
+        self.level = {}
+
+    def reply(self, j, link):
+        lo, hi = self.question.lo >> j, self.question.hi >> j
+        message = link.take("Entries" if j == 0 else "Siblings")
+        while message[0] == "Entries":
+            for index, value in message[1]:
+                need(
+                    lo <= index <= hi and (not self.stated or self.stated[-1][0] < index),
+                    "BadOrder",
+                )
+                need(len(self.stated) < WIDEST, "TooMany")
+                self.stated.append((index, value))
+            message = link.take("Entries")
+        if j == 0:
+            self.level = dict(self.stated)
+        for wanted, given in zip(siblings_asked(lo, hi), message[1:]):
+            need((wanted is None) == (given is None), "BadFlags")
+            if wanted is not None:
+                self.level[wanted] = given
+        self.level = folds.up(self.level, self.challenges[j])
+
+    def end(self):
+        need(self.level.get(0, 0) % P == self.root, "Root")
+
+    def said(self):
+        return self.stated
+
+
+class Sums:
+    """A sum of products of two lists' entries."""
+
+    def __init__(self, question, both, depth, challenges):
+        self.challenges = challenges
+        first = folds.extension(both[0 if question.kind == "inner" else question.side], challenges)
+        second = {
+            "f2": lambda: first,
+            "inner": lambda: folds.extension(both[1], challenges),
+            "range": lambda: folds.interval(challenges, question.lo, question.hi),
+        }[question.kind]()
+        self.product = first * second % P
+
+    def reply(self, j, link):
+        if j == 0:
+            _, self.claim = link.take("Claim")
+            self.expected = self.claim % P
+        _, c0, c1, c2 = link.take("Poly")
+        need((2 * c0 + c1 + c2) % P == self.expected, "Sum")
+        r = self.challenges[j]
+        self.expected = (c0 + c1 * r + c2 * r * r) % P
+
+    def end(self):
+        need(self.expected == self.product, "Root")
+
+    def said(self):
+        return self.claim
+
+
+class Counted:
+    """Entries of at least a threshold."""
+
+    def __init__(self, question, both, depth, challenges):
+        self.depth, self.challenges = depth, challenges
+        self.threshold = question.threshold(both)
+        self.total = both[question.side].total
+        self.root = folds.root_counted(both[question.side], challenges)
+        self.most = 2 * (self.total // self.threshold)
+        self.known = {}
+        self.leaves = []
+
+    def reply(self, j, link):
+        received, last = {}, -1
+        place = "Leaves" if j == 0 else "Nodes"
+        message = link.take(place)
+        while message[0] != "LevelEnd":
+            for index, *hash_, count in message[1]:
+                need(last < index < 2 ** (self.depth - j) and index not in self.known, "BadOrder")
+                need(len(self.known) + len(received) + 1 <= self.most, "TooMany")
+                need(j == 0 or count < self.threshold, "HeavySibling")
+                received[index] = (hash_[0] if hash_ else count % P, count)
+                last = index
+            message = link.take(place)
+        if j == 0:
+            self.leaves = [
+                (item, count) for item, (_, count) in received.items() if count >= self.threshold
+            ]
+        self.level_end(j, {**self.known, **received})
+
+    def level_end(self, j, nodes):
+        need(all(index ^ 1 in nodes for index in nodes) and (nodes or j < self.depth - 1), "Pairs")
+        above = folds.up_counted(nodes, self.challenges[j])
+        need(all(count >= self.threshold for _, count in above.values()), "LightParent")
+        need(all(count <= self.total for _, count in above.values()), "Total")
+        self.known = above
+
+    def end(self):
+        hash_, count = self.known[0]
+        need(count == self.total, "Total")
+        need(hash_ == self.root[0], "Root")
+
+    def said(self):
+        return self.leaves

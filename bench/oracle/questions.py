@@ -1,0 +1,91 @@
+"""The six kinds of query, and what is answered to them."""
+
+from typing import NamedTuple
+
+from .field import WIDEST
+
+
+class Question(NamedTuple):
+    """A query. A kind leaves alone the numbers that it doesn't have."""
+
+    kind: str
+    side: int = 0
+    lo: int = 0
+    hi: int = 0
+    at_least: int = 0
+    num: int = 0
+    den: int = 0
+
+    def word(self):
+        """As it is written among the words of a command."""
+        return {
+            "sub": f"sub:{self.lo}:{self.hi}",
+            "range": f"range:{self.side}:{self.lo}:{self.hi}",
+            "f2": f"f2:{self.side}",
+            "inner": "inner",
+            "heavy": f"heavy:{self.side}:{self.at_least}",
+            "share": f"share:{self.side}:{self.num}:{self.den}",
+        }[self.kind]
+
+    def counts(self):
+        """Whether it asks for the entries of at least a threshold."""
+        return self.kind in ("heavy", "share")
+
+    def threshold(self, both):
+        if self.kind == "heavy":
+            return self.at_least
+        total = both[self.side].total
+        return -(-self.num * total // self.den) if total >= 1 else 1
+
+    def is_asked(self, both):
+        return not self.counts() or both[self.side].total >= self.threshold(both)
+
+    def is_too_wide(self, both):
+        if not self.counts() or not self.is_asked(both):
+            return False
+        return both[self.side].total // self.threshold(both) > WIDEST
+
+    def answer(self, both):
+        """A number, or the list of pairs."""
+        mine, other = both[self.side].entries, both[1].entries
+        if self.kind == "sub":
+            pairs = both[0].entries.items()
+            return [(item, value) for item, value in pairs if self.lo <= item <= self.hi]
+        if self.kind == "range":
+            return sum(value for item, value in mine.items() if self.lo <= item <= self.hi)
+        if self.kind == "f2":
+            return sum(value * value for value in mine.values())
+        if self.kind == "inner":
+            return sum(value * other.get(item, 0) for item, value in both[0].entries.items())
+        if self.kind == "heavy":
+            return [(item, value) for item, value in mine.items() if value >= self.at_least]
+        total = both[self.side].total
+        if total <= 0:
+            return []
+        return [
+            (item, value) for item, value in mine.items() if value * self.den >= self.num * total
+        ]
+
+    def refusal(self, both):
+        """The code that an honest helper with memory refuses it by, or None."""
+        if self.counts() and not both[self.side].is_strict:
+            return 3
+        if self.counts() and both[self.side].total // self.threshold(both) > WIDEST:
+            return 2
+        if self.kind == "sub" and len(self.answer(both)) > WIDEST:
+            return 2
+        return None
+
+    def line(self, answer):
+        """The line of the report."""
+        if isinstance(answer, list):
+            answer = " ".join(f"{item}:{value}" for item, value in answer) or "none"
+        return f"{self.word()} {answer}\n"
+
+
+def rejection(query, round_, reason):
+    return f"rejected query {query} round {round_} {reason}\n"
+
+
+def version_needed(depth, questions):
+    return 2 if depth > 32 or any(question.kind == "share" for question in questions) else 1

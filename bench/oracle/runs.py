@@ -1,0 +1,232 @@
+"""A whole run of the program, over the files that its words name: what it writes, and how it
+ends."""
+
+from typing import NamedTuple, Optional
+
+from . import honest
+from .chacha import challenges
+from .field import WEIGHT
+from .frames import spelling
+from .judging import verdict
+from .questions import rejection, version_needed
+from .streams import made, made_form, record, records, vectors
+from .turns import serve
+from .words import Usage, read_words
+
+# The most updates of a frame.
+FULL = 512
+
+CODES = {
+    "Accepted": 0, "Served": 0, "Wrote": 0, "Page": 0, "Rejected": 1, "Usage": 2, "BadStream": 3,
+    "BadSeed": 3, "BadFrame": 3, "TooWide": 3, "ReadFault": 4, "WriteFault": 4, "PeerFault": 4,
+    "PeerClosed": 4,
+}  # fmt: skip
+
+
+class Outcome(NamedTuple):
+    """`said` is the line on standard error, and `reason` says more of the status. `to` is what
+    stands in the file TO, or None where there is none. `turns` are the moments at which the other
+    end has the word: what was written to it before, and up to where its bytes are taken then."""
+
+    status: str
+    said: str
+    report: bytes
+    to: Optional[bytes]
+    reason: str = ""
+    turns: tuple = ()
+
+    def code(self):
+        return CODES[self.status]
+
+
+def run(words, files, may_be_made=lambda name: True):
+    """The run of these words, which are bytes, where these files stand. A file that a name can't be
+    made of has no bytes."""
+    try:
+        verb, said = read_words([word.decode() for word in words])
+    except UnicodeDecodeError:
+        return Outcome("Usage", "sip: usage at word 0", b"", None)
+    except Usage as usage:
+        if words in ([b"--help"], [b"--version"]):
+            return Outcome("Page", "", b"", None)
+        return Outcome("Usage", f"sip: usage at word {usage.word}", b"", None)
+    port = Ports(said, files, may_be_made)
+    return {
+        "verify": verify, "play": play, "help": help_, "gen": gen, "lines": copy, "widen": copy,
+    }[verb](verb, said, port)  # fmt: skip
+
+
+class Ports:
+    """The bytes of the files; None is a port whose calls fail."""
+
+    def __init__(self, said, files, may_be_made):
+        self.first = source(said["stream"], said["depth"], files) if "stream" in said else None
+        self.second = files.get(said.get("seed"))
+        self.replies = files.get(said.get("from"))
+        self.to = b"" if "to" in said and may_be_made(said["to"]) else None
+        self.keeps = said.get("record", "-") == "-" or may_be_made(said["record"])
+
+
+def source(stream, depth, files):
+    """The legal updates of a stream, and its fault; None where its file can't be read."""
+    if stream.form == "made":
+        return list(made(stream.number, stream.count, depth)), None
+    data = files.get(stream.path)
+    return None if data is None else records(data, depth, stream.form)
+
+
+def help_(_, __, port):
+    if port.replies is None:
+        return Outcome("PeerFault", "sip: peer fault", b"", port.to)
+    served = serve(port.replies)
+    if port.to is None and served.written:
+        return Outcome("PeerFault", "sip: peer fault", b"", None)
+    said = {
+        "Served": "",
+        "PeerClosed": "sip: peer closed",
+        "BadFrame": f"sip: bad frame at offset {served.offset}",
+    }[served.status]
+    return Outcome(
+        served.status,
+        said,
+        b"",
+        None if port.to is None else served.written,
+        served.reason,
+        tuple(served.turns),
+    )
+
+
+def gen(_, said, __):
+    updates = made(said["number"], said["count"], said["depth"])
+    form = made_form(said["depth"])
+    return Outcome("Wrote", "", b"".join(record(update, form) for update in updates), None)
+
+
+def copy(verb, said, port):
+    if port.first is None:
+        return Outcome("ReadFault", "sip: read fault on first", b"", None)
+    updates, fault = port.first
+    form = "text" if verb == "lines" else "wide"
+    report = b"".join(record(update, form) for update in updates)
+    if fault:
+        return Outcome("BadStream", bad_stream(fault), report, None, fault[1])
+    return Outcome("Wrote", "", report, None)
+
+
+def bad_stream(fault):
+    return f"sip: bad stream at record {fault[0]}: {fault[1]}"
+
+
+def talk_of(updates, fault, depth, version):
+    """What is sent up to the end of the stream, or up to its fault."""
+    parts = [updates[at : at + FULL] for at in range(0, len(updates), FULL)]
+    if fault and parts and len(parts[-1]) < FULL:
+        parts.pop()
+    messages = [("Open", version, depth), *(("Updates", part) for part in parts)]
+    if not fault:
+        messages.append(("EndStream",))
+    return b"".join(spelling(message, version) for message in messages)
+
+
+class Run:
+    """A run of a verifier: the messages that it sends, and its report."""
+
+    def __init__(self, said):
+        self.depth, self.questions = said["depth"], said["queries"]
+        self.version = version_needed(self.depth, self.questions)
+        self.sent, self.report, self.turns = b"", "", []
+
+    def send(self, *message):
+        self.sent += spelling(message, self.version)
+
+    def ends(self, status, said="", reason=""):
+        return Outcome(status, said, self.report.encode(), self.sent, reason, tuple(self.turns))
+
+    def gather(self, port, to_fails):
+        """Goes up to the end of the stream. An outcome where the run ends there."""
+        if port.second is None:
+            return self.ends("ReadFault", "sip: read fault on second")
+        if len(port.second) < 32:
+            return self.ends("BadSeed", "sip: seed too short")
+        self.blocks = challenges(port.second[:32], self.depth, len(self.questions))
+        if not port.keeps:
+            return self.ends("WriteFault", "sip: write fault on record")
+        if to_fails:
+            return self.ends("PeerFault", "sip: peer fault")
+        updates, fault = ([], "unread") if port.first is None else port.first
+        self.sent = talk_of(updates, fault, self.depth, self.version)
+        if port.first is None:
+            return self.ends("ReadFault", "sip: read fault on first")
+        if fault:
+            return self.ends("BadStream", bad_stream(fault), fault[1])
+        self.updates, self.both = updates, vectors(updates)
+        for number, question in enumerate(self.questions, 1):
+            if question.is_too_wide(self.both):
+                return self.ends("TooWide", f"sip: query {number} too wide")
+        return None
+
+    def ask(self, number, data, at):
+        """Asks a query of replies that begin there. Tells where those of the next one begin, or the
+        outcome."""
+        question, block = self.questions[number - 1], self.blocks[number - 1]
+        self.send("Query", question)
+        if data is None:
+            return None, self.ends("PeerFault", "sip: peer fault")
+        judged = verdict(question, self.both, self.depth, block, data, at, self.version)
+        # Challenge j leaves before reply j is taken, for each j from 1 to d - 1.
+        for j, end in enumerate([*judged.ends, len(data)][: self.depth]):
+            if j > 0:
+                self.send("Reveal", block[j - 1])
+            self.turns.append((len(self.sent), end))
+        if judged.reason:
+            self.report += rejection(number, judged.round, judged.reason)
+            return None, self.ends("Rejected", "", judged.reason)
+        self.report += question.line(judged.said)
+        return judged.ends[-1], None
+
+
+def verify(_, said, port):
+    going = Run(said)
+    ended = going.gather(port, port.to is None)
+    if ended:
+        return ended if port.to is not None else ended._replace(to=None)
+    at = 0
+    for number, question in enumerate(going.questions, 1):
+        if not question.is_asked(going.both):
+            going.report += question.line([])
+            continue
+        at, ended = going.ask(number, port.replies, at)
+        if ended:
+            return ended
+    going.send("Bye")
+    return going.ends("Accepted")
+
+
+def play(_, said, port):
+    going = Run(said)
+    ended = going.gather(port, False)
+    if ended:
+        return ended._replace(to=None)
+    kept = going.both
+    weight = sum(abs(delta) for side, _, delta in going.updates if side == 0)
+    if said["helper"] == "skewed" and weight < WEIGHT:
+        kept = vectors(going.updates + [(0, 0, 1)])
+    for number, question in enumerate(going.questions, 1):
+        if not question.is_asked(going.both):
+            going.report += question.line([])
+            continue
+        if said["helper"] == "honest" and question.refusal(kept) is None:
+            # Nothing is known of the replies here but that they are honest: the line is the
+            # stream's own answer.
+            going.report += question.line(question.answer(going.both))
+            continue
+        data = b""
+        if said["helper"] != "mute":
+            replies = honest.replies(question, kept, going.depth, going.blocks[number - 1])
+            data = b"".join(
+                spelling(message, going.version) for reply in replies for message in reply
+            )
+        _, ended = going.ask(number, data, 0)
+        if ended:
+            return ended._replace(to=None)
+    return going.ends("Accepted")._replace(to=None)

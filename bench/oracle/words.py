@@ -1,0 +1,121 @@
+"""The words of the commands, and the number of the first word that begins none."""
+
+import re
+from typing import NamedTuple
+
+from .questions import Question
+
+NUMBER = re.compile(r"0|[1-9][0-9]*", re.ASCII)
+HELPERS = ("honest", "skewed", "mute")
+QUERIES = 16
+
+# The shapes of a command's words behind its verb. The last of `queries` stands for 1 to 16 of them.
+COMMANDS = {
+    "verify": ("stream", "seed", "from", "to", "record", "depth", "queries"),
+    "help": ("from", "to"),
+    "gen": ("number", "count", "depth"),
+    "lines": ("stream", "depth"),
+    "widen": ("stream", "depth"),
+    "play": ("stream", "seed", "helper", "record", "depth", "queries"),
+}
+
+
+class Usage(Exception):
+    """Words that are no command: the number of the first one such that the words up to it begin
+    none."""
+
+    def __init__(self, word):
+        super().__init__(word)
+        self.word = word
+
+
+class Stream(NamedTuple):
+    """Where a stream comes from: a file and its form, or a made one's number and count."""
+
+    path: str = ""
+    form: str = ""
+    number: int = 0
+    count: int = 0
+
+
+def number(word, least, most):
+    """A decimal number in this range; None where the word is none."""
+    if not NUMBER.fullmatch(word) or len(word) > 20:
+        return None
+    return int(word) if least <= int(word) <= most else None
+
+
+def stream(word):
+    if word.startswith("made:"):
+        parts = word.split(":")
+        if len(parts) != 3:
+            return None
+        made = number(parts[1], 0, 2**64 - 1), number(parts[2], 0, 10_000_000)
+        return None if None in made else Stream("", "made", *made)
+    for form in ("text", "wide"):
+        if word.startswith(form + ":"):
+            return Stream(word[5:], form) if word[5:] else None
+    return Stream(word, "binary") if word else None
+
+
+def question(word, depth):
+    """A query that fits the depth; None where the word is none."""
+    kind, *fields = word.split(":")
+    last, most = 2**depth - 1, 2**63 - 1
+    limits = {
+        "sub": ((0, last), (0, last)),
+        "range": ((0, 1), (0, last), (0, last)),
+        "f2": ((0, 1),),
+        "inner": (),
+        "heavy": ((0, 1), (1, most)),
+        "share": ((0, 1), (1, 1_000_000), (1, 1_000_000)),
+    }.get(kind)
+    if limits is None or len(limits) != len(fields):
+        return None
+    numbers = [number(field, *limit) for field, limit in zip(fields, limits)]
+    if None in numbers or kind in ("sub", "range", "share") and numbers[-2] > numbers[-1]:
+        return None
+    if kind == "sub":
+        return Question(kind, 0, *numbers)
+    if kind == "heavy":
+        return Question(kind, numbers[0], at_least=numbers[1])
+    if kind == "share":
+        return Question(kind, numbers[0], num=numbers[1], den=numbers[2])
+    return Question(kind, *numbers)
+
+
+def value(shape, word, depth):
+    """What a word of this shape says; None where it has another one."""
+    if shape == "stream":
+        return stream(word)
+    if shape == "queries":
+        return question(word, depth)
+    if shape == "helper":
+        return word if word in HELPERS else None
+    if shape in ("number", "count", "depth"):
+        limit = {"number": (0, 2**64 - 1), "count": (0, 10_000_000), "depth": (1, 48)}[shape]
+        return number(word, *limit)
+    return word or None
+
+
+def read_words(words):
+    """The verb and a dict of what its words say, by their shapes."""
+    if not words or words[0] not in COMMANDS:
+        raise Usage(0)
+    shapes = COMMANDS[words[0]]
+    said = {}
+    for at, word in enumerate(words[1:], 1):
+        is_query = at >= len(shapes) and shapes[-1] == "queries"
+        if at > len(shapes) + (QUERIES - 1 if is_query else 0):
+            raise Usage(at)
+        shape = "queries" if is_query else shapes[at - 1]
+        read = value(shape, word, said.get("depth"))
+        if read is None:
+            raise Usage(at)
+        if is_query:
+            said.setdefault(shape, []).append(read)
+        else:
+            said[shape] = read
+    if len(said) < len(shapes):
+        raise Usage(len(words))
+    return words[0], said

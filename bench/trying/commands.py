@@ -1,0 +1,146 @@
+"""Cases of words: of each command, mostly with something changed, over files that are there or
+not."""
+
+from oracle.frames import spelling
+from oracle.questions import Question
+from oracle.streams import record
+from oracle.words import Usage, read_words
+
+from .case import Case
+from .program import FROM, TO
+
+WORDS = (
+    "verify", "help", "gen", "lines", "widen", "play", "audit", "show", "convert", "", "-",
+    "--help", "--version", "-h", "honest", "skewed", "mute", "stream", "text:lines",
+    "wide:records", "made:7:3", "made:0:0", "made:7:10000000", "made:7:10000001",
+    "made:18446744073709551615:1", "made:18446744073709551616:1", "made:07:1", "made:7:",
+    "made::1", "made:7:1:1", "made:", "text:", "wide:", "text:made:7:3", "seed", "short", "none",
+    FROM, TO, ".", "..", "0", "1", "2", "20", "32", "33", "48", "49", "00", "01", "+1", "-1", "1 ",
+    " 1", "1e1", "٣", "sub:0:0", "sub:0:1", "sub:1:0", "sub:0:3", "sub:0:4", "sub:01:2", "sub:0",
+    "sub:0:1:2", "sub::1", "sub:0:281474976710655", "sub:0:281474976710656", "range:0:0:1",
+    "range:2:0:1", "range:1:1:3", "range:0:1:0", "f2:0", "f2:1", "f2:2", "f2", "f2:", "f2:00",
+    "inner", "inner:", "inner:0", "INNER", "heavy:0:1", "heavy:1:4", "heavy:0:0",
+    "heavy:0:9223372036854775807", "heavy:0:9223372036854775808", "heavy:0", "heavy:2:1",
+    "share:0:1:2", "share:1:1:1", "share:0:0:1", "share:0:2:1", "share:0:1:1000000",
+    "share:0:1:1000001", "share:0:1", "lookup:0", "moment:0:3", "99999999999999999999999999",
+)  # fmt: skip
+
+# Those that fit each depth.
+QUERIES = (
+    "sub:0:1", "f2:0", "f2:1", "inner", "heavy:0:4", "heavy:1:1", "share:0:1:2", "range:0:0:1"
+)
+
+# Bytes that are not UTF-8.
+NO_TEXT = (b"\xff", b"a\xc0\xafb", b"\xed\xa0\x80")
+
+UPDATES = [(0, 0, 3), (0, 2, 5), (0, 3, 1)]
+FILES = {
+    "stream": b"".join(record(update, "binary") for update in UPDATES),
+    "lines": b"".join(record(update, "text") for update in UPDATES),
+    "records": b"".join(record(update, "wide") for update in UPDATES),
+    "seed": bytes(32),
+    "short": bytes(31),
+}
+
+# The replies to `sub:1:2` about this stream at depth 2, which are the same at all challenges.
+SUB = bytes.fromhex(
+    "13000e0001000000020000000000000005 140011030000000000000003 0000000000000001 140001 00"
+)
+TALK = b"".join(
+    spelling(message, 1)
+    for message in (
+        ("Open", 1, 2),
+        ("Updates", UPDATES),
+        ("EndStream",),
+        ("Query", Question("sub", 0, 1, 2)),
+        ("Reveal", 2),
+        ("Bye",),
+    )
+)
+
+
+def case(chance):
+    words = whole(chance)
+    for _ in range(chance.choice((0, 0, 0, 1, 1, 1, 2))):
+        words = changed(chance, words)
+    words = [word.encode() for word in short_and_apart(words)]
+    if words and chance.one_in(200):
+        words[chance.randrange(len(words))] = chance.choice(NO_TEXT)
+    replies = chance.choice((SUB, b"", SUB[:20]))
+    return Case(words, FILES, TALK if words[:1] == [b"help"] else replies)
+
+
+def short_and_apart(words):
+    """The same words, where they don't make a long stream, and write to no file that they read."""
+    try:
+        _, said = read_words(words)
+    except Usage:
+        return words
+    stream = said.get("stream")
+    if max(said.get("count", 0), stream.count if stream else 0) > 1000:
+        return ["lines", "made:7:1000", "20"]
+    read = {said.get("seed"), said.get("from"), stream.path if stream else None}
+    if "to" in said and said["to"] in read:
+        return [*words[:-1], "apart"] if words[0] == "help" else [*words[:4], "apart", *words[5:]]
+    if said.get("record", "-") != "-" and said["record"] in {*read, said.get("to")}:
+        at = 5 if words[0] == "verify" else 4
+        return [*words[:at], "kept", *words[at + 1 :]]
+    return words
+
+
+def whole(chance):
+    """The words of a command."""
+    verb = chance.choice(("verify", "verify", "play", "play", "help", "gen", "lines", "widen"))
+    stream = chance.choice(("stream", "text:lines", "wide:records", "made:7:3", "none"))
+    seed = chance.choice(("seed", "seed", "seed", "short", "none"))
+    depth = chance.choice(("2", "2", "2", "1", "20", "32", "33", "48"))
+    kept = chance.choice(("-", "-", "-", "kept"))
+    queries = ["sub:1:2"] if depth != "1" else []
+    queries += [chance.choice(QUERIES) for _ in range(chance.choice((0, 0, 1, 2, 15, 16)))]
+    return {
+        "verify": [verb, stream, seed, FROM, TO, kept, depth, *queries],
+        "play": [
+            verb, stream, seed, chance.choice(("honest", "skewed", "mute")), kept, depth, *queries
+        ],
+        "help": [verb, FROM, TO],
+        "gen": [
+            verb, str(chance.choice((0, 7, 2**64 - 1))), chance.choice(("0", "1", "30")), depth
+        ],
+        "lines": [verb, stream, depth],
+        "widen": [verb, stream, depth],
+    }[verb]
+
+
+def changed(chance, words):
+    words = list(words)
+    at = chance.randrange(len(words) + 1)
+    way = chance.choice(("front", "drop", "double", "swap", "other", "other", "insert", "letters"))
+    if way == "insert" or at == len(words) or not words:
+        words.insert(at, chance.choice(WORDS))
+    elif way == "front":
+        del words[at:]
+    elif way == "drop":
+        del words[at]
+    elif way == "double":
+        words.insert(at, words[at])
+    elif way == "swap":
+        other = chance.randrange(len(words))
+        words[at], words[other] = words[other], words[at]
+    elif way == "other":
+        words[at] = chance.choice(WORDS)
+    else:
+        words[at] = letters_changed(chance, words[at])
+    return words
+
+
+def letters_changed(chance, word):
+    at = chance.randrange(len(word) + 1)
+    letter = chance.choice("0123456789:-+ aeotx\n٣é")
+    return chance.choice(
+        (
+            word[:at] + letter + word[at:],
+            word[:at] + word[at + 1 :],
+            word[:at] + letter + word[at + 1 :],
+            word.upper(),
+        )
+    )

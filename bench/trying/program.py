@@ -1,0 +1,163 @@
+"""Runs the program over files of a folder in memory, and tells what it wrote and how it ended."""
+
+import os
+import select
+import shutil
+import signal
+import tempfile
+from typing import NamedTuple, Optional
+
+# A run that takes longer, in seconds, hangs.
+LONGEST = float(os.environ.get("LONGEST", "20"))
+
+# The names of the two ends of a link, among the words of a case. They are files, or FIFOs in a
+# folder of their own.
+FROM, TO = "link.from", "link.to"
+
+
+class Ran(NamedTuple):
+    """`code` is negative where a signal ended the run, and None where it hung. `to` is the file TO,
+    where it is there."""
+
+    code: Optional[int]
+    report: bytes
+    said: bytes
+    to: Optional[bytes]
+    early: bool = False
+
+
+class Hangs(Exception):
+    pass
+
+
+def rings(*_):
+    raise Hangs
+
+
+class Program:
+    def __init__(self, path):
+        self.path = os.path.abspath(path)
+        self.home = os.getcwd()
+        memory = "/dev/shm" if os.access("/dev/shm", os.W_OK) else None
+        self.folder = tempfile.mkdtemp(prefix="sip-", dir=memory)
+        self.out, self.err = os.memfd_create("report"), os.memfd_create("said")
+        signal.signal(signal.SIGALRM, rings)
+        signal.signal(signal.SIGPIPE, signal.SIG_IGN)
+        self.files, self.fifos = (os.path.join(self.folder, name) for name in ("files", "fifos"))
+        for folder in (self.files, self.fifos):
+            os.mkdir(folder)
+        os.mkfifo(os.path.join(self.fifos, FROM))
+        os.mkfifo(os.path.join(self.fifos, TO))
+
+    def __enter__(self):
+        return self
+
+    def __exit__(self, *_):
+        os.chdir(self.home)
+        shutil.rmtree(self.folder)
+
+    def start(self, words):
+        for written in (self.out, self.err):
+            os.ftruncate(written, 0)
+            os.lseek(written, 0, os.SEEK_SET)
+        streams = [
+            (os.POSIX_SPAWN_OPEN, 0, os.devnull, os.O_RDONLY, 0),
+            (os.POSIX_SPAWN_DUP2, self.out, 1),
+            (os.POSIX_SPAWN_DUP2, self.err, 2),
+        ]
+        return os.posix_spawn(
+            self.path, [b"sip", *words], {}, file_actions=streams, setsigdef=[signal.SIGPIPE]
+        )
+
+    def written(self, descriptor):
+        size = os.fstat(descriptor).st_size
+        return os.pread(descriptor, size, 0)
+
+    def wait(self, child):
+        """The exit code; a child that hangs is ended first."""
+        signal.setitimer(signal.ITIMER_REAL, LONGEST)
+        try:
+            return os.waitstatus_to_exitcode(os.waitpid(child, 0)[1])
+        except Hangs:
+            os.kill(child, signal.SIGKILL)
+            os.waitpid(child, 0)
+            return None
+        finally:
+            signal.setitimer(signal.ITIMER_REAL, 0)
+
+    def run(self, words, files, to=None):
+        """Runs it over these files, which are there for this run alone."""
+        os.chdir(self.files)
+        for name, data in files.items():
+            with open(name, "wb") as file:
+                file.write(data)
+        code = self.wait(self.start(words))
+        written = None
+        if to is not None and os.path.isfile(to):
+            with open(to, "rb") as file:
+                written = file.read()
+        for name in os.listdir():
+            os.unlink(name)
+        return Ran(code, self.written(self.out), self.written(self.err), written)
+
+    def talk(self, words, files, data, turns, cuts):
+        """Runs it over the two FIFOs, whose other end this is. In each turn so many bytes have
+        come, and then the other end's bytes go out up to there. `cuts` says where they are cut.
+        Nothing may come before a turn's last bytes went out."""
+        os.chdir(self.fifos)
+        for name, bytes_ in files.items():
+            with open(name, "wb") as file:
+                file.write(bytes_)
+        came, sent, early = b"", 0, False
+        heard = os.open(TO, os.O_RDONLY | os.O_NONBLOCK)
+        child = self.start(words)
+        signal.setitimer(signal.ITIMER_REAL, LONGEST)
+        code = None
+        try:
+            link = os.open(FROM, os.O_WRONLY)
+            try:
+                for expected, upto in turns:
+                    came += hear(heard, expected - len(came))
+                    for cut in [*(cut for cut in cuts if sent < cut < upto), upto]:
+                        early = early or len(came) > expected or hears(heard, 0)
+                        # A program that has ended takes nothing more.
+                        while sent < cut:
+                            sent += os.write(link, data[sent:cut])
+            except BrokenPipeError:
+                pass
+            finally:
+                os.close(link)
+            came += hear(heard, None)
+            code = os.waitstatus_to_exitcode(os.waitpid(child, 0)[1])
+        except Hangs:
+            os.kill(child, signal.SIGKILL)
+            os.waitpid(child, 0)
+        finally:
+            signal.setitimer(signal.ITIMER_REAL, 0)
+            os.close(heard)
+        for name in files:
+            os.unlink(name)
+        return Ran(code, self.written(self.out), self.written(self.err), came, early)
+
+
+def hears(descriptor, seconds):
+    """Whether something came, or the other end is gone, within so many seconds; None waits for
+    it."""
+    waiting = select.poll()
+    waiting.register(descriptor, select.POLLIN)
+    events = waiting.poll(None if seconds is None else seconds * 1000)
+    return bool(events and events[0][1] & select.POLLIN)
+
+
+def hear(descriptor, wanted):
+    """What comes until so many bytes are there, or the other end is gone; None hears to its end."""
+    came = b""
+    while wanted is None or len(came) < wanted:
+        waiting = select.poll()
+        waiting.register(descriptor, select.POLLIN)
+        waiting.poll()
+        more = os.read(descriptor, 65536)
+        if not more:
+            break
+        came += more
+    return came

@@ -1,0 +1,16 @@
+"""What is asked for among the words and in the environment."""
+
+import os
+
+
+class Settings:
+    def __init__(self, words, page, cases, groups):
+        if len(words) > 2 or not all(word.isdecimal() for word in words):
+            raise SystemExit(page)
+        self.cases, self.seed = [*map(int, words), *(cases, 1)[len(words) :]]
+        self.groups = os.environ.get("ONLY", " ".join(groups)).split()
+        if not set(self.groups) <= set(groups):
+            raise SystemExit(page)
+        case = os.environ.get("CASE")
+        self.numbers = range(self.cases) if case is None else [int(case)]
+        self.keep = os.environ.get("KEEP")

@@ -1,0 +1,130 @@
+"""Cases for a helper: what a verifier says, and what it should not."""
+
+from oracle.field import P, WEIGHT
+from oracle.frames import spelling
+from oracle.questions import Question, version_needed
+from oracle.streams import vectors
+
+from . import changes
+from .case import Case
+from .program import FROM, TO
+
+
+def case(chance):
+    """Words of `help`, and the bytes of a verifier: a talk, mostly with something changed."""
+    depth = chance.depth()
+    updates = chance.legal(depth)
+    both = vectors(updates)
+    questions = chance.questions(both, depth)
+    if chance.one_in(15):
+        questions = [chance.question(both, depth) for _ in range(chance.choice((16, 17, 18)))]
+    version = version_needed(depth, questions)
+    if chance.one_in(4):
+        version = 2
+    messages = talk(chance, depth, updates, questions, version)
+    for _ in range(chance.choice((0, 0, 1, 1, 1, 2))):
+        messages = changed(chance, messages, depth)
+    frames = [spelling(message, other_version(chance, version)) for message in messages]
+    if chance.one_in(6):
+        frames = changes.frame_changed(chance, frames)
+    data = b"".join(frames)
+    if chance.one_in(6):
+        data = changes.bytes_changed(chance, data)
+    return Case([b"help", FROM.encode(), TO.encode()], {}, data)
+
+
+def other_version(chance, version):
+    return 3 - version if chance.one_in(3000) else version
+
+
+def talk(chance, depth, updates, questions, version):
+    """A verifier's talk, its updates in frames of any lengths."""
+    messages, at = [("Open", version, depth)], 0
+    while at < len(updates):
+        end = at + chance.choice((1, 2, 7, 512, 512))
+        messages.append(("Updates", updates[at:end]))
+        at = end
+    messages.append(("EndStream",))
+    for question in questions:
+        messages.append(("Query", question))
+        if not refused_or_short(chance, question, updates):
+            messages += [("Reveal", chance.number(61) % P) for _ in range(depth - 1)]
+    return [*messages, ("Bye",)]
+
+
+def refused_or_short(chance, question, updates):
+    """Whether no challenges follow: mostly, where the query is refused."""
+    refused = question.refusal(vectors(updates)) is not None
+    return refused and not chance.one_in(5)
+
+
+def changed(chance, messages, depth):
+    """A talk with one thing changed."""
+    messages = list(messages)
+    at = chance.randrange(len(messages))
+    way = chance.choice(
+        ("drop", "double", "swap", "number", "number", "insert", "insert", "ahead", "end")
+    )
+    if way == "drop":
+        del messages[at]
+    elif way == "double":
+        messages.insert(at, messages[at])
+    elif way == "swap":
+        other = chance.randrange(len(messages))
+        messages[at], messages[other] = messages[other], messages[at]
+    elif way == "insert":
+        messages.insert(at, stray(chance, depth))
+    elif way == "ahead":
+        messages.insert(chance.randrange(at + 1), messages.pop(at))
+    elif way == "end":
+        del messages[at:]
+    elif messages[at][0] == "Query":
+        messages[at] = "Query", question_changed(chance, messages[at][1])
+    else:
+        messages[at] = changes.message_changed(chance, messages[at])
+    return messages or [("Bye",)]
+
+
+def question_changed(chance, question):
+    """A query with another number, which may fit no depth, or may have no spelling."""
+    field = chance.choice(("side", "lo", "hi", "at_least", "num", "den"))
+    return question._replace(**{field: changes.near(chance, getattr(question, field))})
+
+
+def stray(chance, depth):
+    """Any message of a verifier, or one of a helper."""
+    last = 2**depth - 1
+    return chance.choice(
+        (
+            ("Open", chance.randrange(4), chance.randrange(50)),
+            ("Updates", [(0, last, 1)]),
+            ("Updates", [(0, last + 1, 1)]),
+            (
+                "Updates",
+                [(0, 0, 1), (1, 0, chance.choice((WEIGHT, -WEIGHT, WEIGHT + 1, 0, -(2**63))))],
+            ),
+            ("Updates", [(chance.randrange(3), chance.randint(0, last), chance.randint(-2, 2))]),
+            ("Updates", []),
+            ("EndStream",),
+            ("Query", Question("f2", chance.randrange(3))),
+            ("Query", Question("inner")),
+            ("Query", Question("sub", 0, 0, chance.choice((last, last + 1)))),
+            ("Query", Question("range", chance.randrange(2), last, last + chance.randrange(2))),
+            (
+                "Query",
+                Question(
+                    "heavy", chance.randrange(2), at_least=chance.choice((0, 1, 2**63 - 1, 2**63))
+                ),
+            ),
+            (
+                "Query",
+                Question(
+                    "share", chance.randrange(2), num=1, den=chance.choice((1, 10**6, 10**6 + 1))
+                ),
+            ),
+            ("Reveal", chance.number()),
+            ("Reveal", 1),
+            ("Bye",),
+            changes.stray(chance, depth),
+        )
+    )

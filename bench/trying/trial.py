@@ -1,0 +1,139 @@
+"""Runs cases one after another, compares each run with what it has to be, and counts what was
+seen."""
+
+import os
+import sys
+import time
+from collections import Counter
+from typing import Callable, NamedTuple
+
+from harness.programs import proved
+from oracle.runs import run
+
+from .chances import Chances
+from .program import FROM, TO, Program
+
+# Of so many cases, each kind of outcome that is wanted has to come.
+ENOUGH = 20_000
+
+
+class Group(NamedTuple):
+    """`make` makes a case of its chances, and one in `fifos` goes over two FIFOs. `wanted` are the
+    outcomes that have to come among many cases. `also` tells what else is wrong with a report."""
+
+    make: Callable
+    fifos: int = 0
+    wanted: list = []
+    also: Callable = lambda case, report: ()
+
+
+class Trial:
+    """The cases of one group."""
+
+    def __init__(self, name, group, program, settings):
+        self.name, self.group, self.program, self.settings = name, group, program, settings
+        self.seen = Counter()
+        self.wrong = 0
+
+    def tries(self):
+        begun = time.monotonic()
+        for number in self.settings.numbers:
+            for line in self.differences(number):
+                self.wrong += 1
+                print(line, flush=True)
+        cases = len(self.settings.numbers)
+        each = (time.monotonic() - begun) / max(cases, 1) * 1000
+        print(f"{self.name}: {cases} cases, {self.wrong} differences, {each:.1f} ms each")
+        print(
+            "   ",
+            ", ".join(f"{name} {count}" for name, count in self.seen.most_common()),
+            flush=True,
+        )
+        missing = [name for name in self.group.wanted if not self.seen[name]]
+        if missing and cases >= ENOUGH:
+            self.wrong += 1
+            print(f"{self.name}: never seen: {', '.join(missing)}", flush=True)
+
+    def differences(self, number):
+        """Runs a case. What is other than it has to be, one line each."""
+        name = f"{self.name} {self.settings.seed} {number}"
+        chance = Chances(name, self.settings.seed)
+        case = self.group.make(chance)
+        over_fifos = bool(self.group.fifos) and chance.one_in(self.group.fifos)
+        files = {**case.files, FROM: case.data} if case.data is not None else case.files
+        outcome = run(case.words, files, may_be_made)
+        self.seen[f"{outcome.status} {outcome.reason}".rstrip()] += 1
+        if over_fifos and outcome.to is not None:
+            size = len(case.data)
+            cuts = sorted(chance.randint(0, size) for _ in range(chance.choice((0, 1, 3, 20))))
+            ran = self.program.talk(case.words, case.files, case.data, outcome.turns, cuts)
+        else:
+            to = to_of(case.words)
+            ran = self.program.run(case.words, files, to)
+            if outcome.to is None and to:
+                # What stood there stays as it was.
+                outcome = outcome._replace(to=files.get(to.decode(errors="replace")))
+        found = [*compared(outcome, ran), *self.group.also(case, ran.report)]
+        if found and self.settings.keep:
+            keep(os.path.join(self.settings.keep, name.replace(" ", "-")), case, files)
+        return [f"{name}: {' '.join(map(repr, case.words))}: {line}" for line in found]
+
+
+def tried(groups, settings):
+    """Tries the groups that are asked for. 1 where something differs."""
+    wrong = 0
+    with Program(proved("sip", ["--version"])) as program:
+        for name in settings.groups:
+            trial = Trial(name, groups[name], program, settings)
+            trial.tries()
+            wrong += trial.wrong
+    if wrong:
+        print(f"{wrong} differences", file=sys.stderr)
+    return 1 if wrong else 0
+
+
+def may_be_made(name):
+    """Whether a file of this name can be made in the folder of a run."""
+    return name not in (".", "..") and "/" not in name and len(name.encode()) <= 255
+
+
+def to_of(words):
+    """The name of the file that these words make, if they make one."""
+    at = {b"verify": 4, b"help": 2}.get(words[0] if words else b"")
+    return words[at] if at and len(words) > at else None
+
+
+def compared(outcome, ran):
+    """What a run was other than it has to be."""
+    if ran.code is None:
+        yield "it hangs"
+        return
+    if ran.code != outcome.code():
+        wanted = f"{outcome.code()} ({outcome.status} {outcome.reason})"
+        yield f"it ends with {ran.code}, not {wanted}: {ran.said[:300]!r}"
+    if outcome.status != "Page" and ran.report != outcome.report:
+        yield f"its report is {shown(ran.report)}, not {shown(outcome.report)}"
+    # A second line may be advice.
+    said, _, advice = ran.said.decode(errors="replace").partition("\n")
+    if said != outcome.said or advice and not advice.startswith("sip: hint:"):
+        yield f"it says {ran.said[:300]!r}, not {outcome.said!r}"
+    if ran.to != outcome.to:
+        yield f"its TO has {shown(ran.to)}, not {shown(outcome.to)}"
+    if ran.early:
+        yield "something was sent before the reply that was due had come"
+
+
+def shown(data):
+    if data is None:
+        return "nothing"
+    return repr(data) if len(data) < 400 else f"{data[:400]!r}.. ({len(data)} bytes)"
+
+
+def keep(folder, case, files):
+    """Leaves the files and the words of a case in a folder, for a look at it."""
+    os.makedirs(folder, exist_ok=True)
+    for name, data in files.items():
+        with open(os.path.join(folder, name), "wb") as file:
+            file.write(data)
+    with open(os.path.join(folder, "words"), "wb") as file:
+        file.write(b"\n".join(case.words))
