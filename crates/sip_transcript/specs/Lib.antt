@@ -1,0 +1,5 @@
+pub mod Fields
+pub mod Heads
+pub mod Parts
+pub mod Causes
+pub mod Examples

@@ -1,0 +1,32 @@
+//! What the fields of a head are like, and how the definitions are tied to each other.
+
+ghost use Rattle.std.specs.Prelude.{◌≡◌, ◌↔◌, ℕ, List, Some, None, IsTrue, take};
+ghost use Rattle.sip_vector.specs.Answers.{Fits};
+ghost use Rattle.sip_vector.specs.declared.query.Query.{Query as AnyQuery};
+ghost use Rattle.sip_wire.specs.Transcript.{transcript};
+ghost use Rattle.sip_wire.specs.declared.version.Version.{Version as AnyVersion};
+ghost use Rattle.sip_transcript.specs.Examples.{head_by_hand};
+ghost use Rattle.sip_transcript.specs.Fields.{fits_at, head_fault};
+ghost use Rattle.sip_transcript.specs.Heads.{Ask, IsRun};
+
+/// The transcript of a run has no fault in its head, whatever the replies are. So a head that is
+/// there is read, and none that is there is refused.
+pub fn runs_have_no_fault()
+    ensures { (version : AnyVersion) (depth : ℕ) (asks : List Ask) (replies : List ℕ)
+        → IsRun version depth asks
+        → head_fault (transcript version depth asks replies) ≡ None }
+{}
+
+/// The test of a query at a depth is whether it can be asked there.
+pub fn queries_that_fit()
+    ensures { (depth : ℕ) (query : AnyQuery) → IsTrue (fits_at depth query) ↔ Fits depth query }
+{}
+
+/// A head by hand has no fault. Without its last byte it has one where the second challenge begins,
+/// as a part of its query's frame has where the frame begins, and a part of the text SIPT at 0.
+pub fn a_head_by_hand()
+    ensures whole { head_fault head_by_hand ≡ None }
+    ensures cut { head_fault (take 34 head_by_hand) ≡ Some 27 }
+    ensures query { head_fault (take 18 head_by_hand) ≡ Some 7 }
+    ensures text { head_fault (take 3 head_by_hand) ≡ Some 0 }
+{}
