@@ -1,5 +1,6 @@
 -- A head that stops, by what stopped it.
 use Rattle.std.proofs.Common.{◌≡◌, ℕ, ◌+◌, ◌*◌, ◌<◌, Option, Some, Err, List, [], ◌∷◌, ◌++◌, length, refl, sym, ap, subst, ◌∙◌, arith}
+use Rattle.std.proofs.KnownBytes.{Consumes-nil, Consumes-trans}
 use Rattle.std.specs.Prelude.{IsTrue}
 use Rattle.std.specs.Io.KnownBytes.{Consumes}
 use Rattle.sip_wire.specs.Transcript.{magic}
@@ -13,7 +14,7 @@ use Rattle.sip_transcript.specs.Fields.{ask_fields, byte_field, element_field, h
 use Rattle.sip_transcript.specs.Heads.{ReadsHead, longest_field}
 use Rattle.sip_transcript.specs.Parts.{FailsIn, TakesBlock}
 use Rattle.sip_transcript.proofs.Growing.{IsBegun, ask-fails, begun-fails, block-fails, no-count, no-depth, no-magic, no-version}
-use Rattle.sip_transcript.proofs.Taking.{takes-join, takes-most, takes-nil}
+use Rattle.sip_transcript.proofs.Taking.{takes-most}
 use Rattle.sip_transcript.proofs.There.{IsNotThere}
 
 -- a challenge is not there
@@ -41,7 +42,7 @@ by_place o a n got at offset taken long few same none = (
 
 -- no magic
 pub magic-stops : (o n : Option (List ℕ)) (f : HeadFault) → IsNotThere (text_field magic) 0 o n f → ReadsHead o n (Err f)
-magic-stops o n (faults.Bad at) not = by_place o o n [] 0 at (takes-nil o) refl not.1 not.0 (no-magic o not.2)
+magic-stops o n (faults.Bad at) not = by_place o o n [] 0 at (Consumes-nil o) refl not.1 not.0 (no-magic o not.2)
 magic-stops o n faults.ReadFault not = tt
 magic-stops o n faults.OutOfMemory not = tt
 
@@ -54,7 +55,7 @@ version-stops o a n faults.OutOfMemory p not = tt
 -- no depth
 pub depth-stops : (version : Version) (o a b n : Option (List ℕ)) (f : HeadFault) → Consumes o a magic → Consumes a b (number_of version ∷ []) → IsNotThere (byte_field (is_depth version)) 5 b n f → ReadsHead o n (Err f)
 depth-stops version o a b n (faults.Bad at) p q not =
-    by_place o b n (magic ++ number_of version ∷ []) 5 at (takes-join o a b magic (number_of version ∷ []) p q) refl not.1 not.0 (no-depth version o a b p q not.2)
+    by_place o b n (magic ++ number_of version ∷ []) 5 at (Consumes-trans o a b magic (number_of version ∷ []) p q) refl not.1 not.0 (no-depth version o a b p q not.2)
 depth-stops version o a b n faults.ReadFault p q not = tt
 depth-stops version o a b n faults.OutOfMemory p q not = tt
 
@@ -62,8 +63,8 @@ depth-stops version o a b n faults.OutOfMemory p q not = tt
 pub count-stops : (version : Version) (depth : ℕ) (o a b d n : Option (List ℕ)) (f : HeadFault) → Consumes o a magic → Consumes a b (number_of version ∷ []) → Consumes b d (depth ∷ []) → IsTrue (is_depth version depth)
     → IsNotThere (byte_field is_count) 6 d n f → ReadsHead o n (Err f)
 count-stops version depth o a b d n (faults.Bad at) p q r is not =
-    let opened = takes-join o a b magic (number_of version ∷ []) p q in
-    by_place o d n ((magic ++ number_of version ∷ []) ++ depth ∷ []) 6 at (takes-join o b d (magic ++ number_of version ∷ []) (depth ∷ []) opened r) refl not.1 not.0 (no-count version depth o a b d p q r is not.2)
+    let opened = Consumes-trans o a b magic (number_of version ∷ []) p q in
+    by_place o d n ((magic ++ number_of version ∷ []) ++ depth ∷ []) 6 at (Consumes-trans o b d (magic ++ number_of version ∷ []) (depth ∷ []) opened r) refl not.1 not.0 (no-count version depth o a b d p q r is not.2)
 count-stops version depth o a b d n faults.ReadFault p q r is not = tt
 count-stops version depth o a b d n faults.OutOfMemory p q r is not = tt
 

@@ -1,5 +1,6 @@
 -- The frame of a query, read.
 use Rattle.std.proofs.Common.{◌≡◌, ◌≢◌, ℕ, zero, suc, ◌+◌, ◌<◌, ◌≤◌, Bool, true, false, cond, Option, Some, None, Result, Ok, Err, List, [], ◌∷◌, ◌++◌, length, take, drop, refl, sym, ap, subst, ◌∙◌, arith}
+use Rattle.std.proofs.KnownBytes.{Consumes-nil, Consumes-trans}
 use Rattle.std.specs.Prelude.{slice_index}
 use Rattle.std.specs.Io.KnownBytes.{Consumes}
 use Rattle.std.proofs.lemmas.Bool.Decides.{nat_tests}
@@ -28,20 +29,19 @@ use Rattle.sip_verifier.specs.Exchanges.{TakesAtMost}
 use Rattle.sip_transcript.specs.Heads.{longest_field}
 use Rattle.sip_transcript.specs.Parts.{AsksIn, HasFrame, MayAsk, ReadsByte, TakesMore}
 use Rattle.sip_transcript.proofs.Passing.{by_query, fits_at-fits}
-use Rattle.sip_transcript.proofs.Taking.{takes-join, takes-nil}
 
 -- ---- bytes, one after the other
 
 -- no byte yet
 pub more-nil : (o : Option (List ℕ)) (before : List ℕ) (upto : ℕ) → length before ≤ upto → (more : List ℕ) × (before ≡ before ++ more) × Consumes o o more
-more-nil o before upto le = ([], sym (append-nil before), takes-nil o)
+more-nil o before upto le = ([], sym (append-nil before), Consumes-nil o)
 
 -- the source ended
 pub more-end : (o m n : Option (List ℕ)) (before after more : List ℕ) (upto : ℕ) → after ≡ before ++ more → Consumes o m more → length after ≤ upto → ReadsByte m n (Ok None) → TakesMore o n before after upto
 more-end o m n before after more upto longer taken within ended = record {
   more = more;
   longer = longer;
-  taken = subst (λ (l : List ℕ). Consumes o n l) (append-nil more) (takes-join o m n more [] taken ended.1);
+  taken = subst (λ (l : List ℕ). Consumes o n l) (append-nil more) (Consumes-trans o m n more [] taken ended.1);
   within = within;
   all = λ lt bytes told.
       let front = came_front o m bytes more told taken in
@@ -79,7 +79,7 @@ frame-whole version o m n head frame size first three is took =
     let front : head ≡ first.more = first.longer in
     let same : asked version ToHelper frame ≡ size = ap (asked version ToHelper) took.longer ∙ asked-append version ToHelper head took.more three ∙ sym is in
     let all : first.more ++ took.more ≡ frame = ap (λ (l : List ℕ). l ++ took.more) (sym front) ∙ sym took.longer in (
-      subst (λ (l : List ℕ). Consumes o n l) all (takes-join o m n first.more took.more first.taken took.taken),
+      subst (λ (l : List ℕ). Consumes o n l) all (Consumes-trans o m n first.more took.more first.taken took.taken),
       omega (arith, same, took.within),
       λ less bytes told.
           let came = came_front o m bytes first.more told first.taken in

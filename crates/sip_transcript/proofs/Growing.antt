@@ -1,5 +1,6 @@
 -- A head that is read, field by field.
 use Rattle.std.proofs.Common.{◌≡◌, ℕ, ◌+◌, ◌*◌, ◌<◌, ◌≤◌, Bool, true, Option, Some, None, List, [], ◌∷◌, ◌++◌, length, map, drop, refl, sym, ap, subst, ◌∙◌, arith, append_assoc, length-append}
+use Rattle.std.proofs.KnownBytes.{Consumes-nil, Consumes-trans}
 use Rattle.std.specs.Prelude.{IsTrue, All}
 use Rattle.std.specs.Io.KnownBytes.{Consumes}
 use Rattle.std.specs.List.{flat_map}
@@ -24,7 +25,7 @@ use Rattle.sip_verifier.specs.Exchanges.{TakesAtMost}
 use Rattle.sip_transcript.specs.Heads.{Ask, IsAsk, IsRun, Says, longest_field}
 use Rattle.sip_transcript.specs.Parts.{FailsIn, MayAsk, TakesAsk, TakesBlock}
 use Rattle.sip_transcript.proofs.Passing.{asks-pass, block-passes, by_field, fails-among, fails-before, fails-behind, fails-one, has_code, length-block, passes-one, query-there}
-use Rattle.sip_transcript.proofs.Taking.{takes-join, takes-most, takes-nil}
+use Rattle.sip_transcript.proofs.Taking.{takes-most}
 
 -- ---- challenges
 
@@ -34,7 +35,7 @@ IsElement x = IsTrue (is_element x)
 
 -- none yet
 pub block-nil : (o : Option (List ℕ)) (before : List ℕ) → TakesBlock 0 o o before before
-block-nil o before = record { block = []; longer = sym (append-nil before); levels = refl; elements = All-nil IsElement; taken = takes-nil o }
+block-nil o before = record { block = []; longer = sym (append-nil before); levels = refl; elements = All-nil IsElement; taken = Consumes-nil o }
 
 -- one more
 pub block-more : (k x : ℕ) (o m n : Option (List ℕ)) (before mid after : List ℕ) → TakesBlock k o m before mid → IsTrue (is_element x) → Consumes m n (in_bytes 8 x) → after ≡ mid ++ x ∷ [] → TakesBlock (k + 1) o n before after
@@ -43,7 +44,7 @@ block-more k x o m n before mid after took is taken e = record {
   longer = e ∙ ap (λ (l : List ℕ). l ++ x ∷ []) took.longer ∙ append_assoc before took.block (x ∷ []);
   levels = omega (arith, length-append took.block (x ∷ []), took.levels);
   elements = All-append IsElement took.block (x ∷ []) took.elements (All-cons IsElement x [] is (All-nil IsElement));
-  taken = subst (λ (l : List ℕ). Consumes o n l) (flat_map_more (in_bytes 8) [] took.block x) (takes-join o m n (flat_map (in_bytes 8) took.block) (in_bytes 8 x) took.taken taken);
+  taken = subst (λ (l : List ℕ). Consumes o n l) (flat_map_more (in_bytes 8) [] took.block x) (Consumes-trans o m n (flat_map (in_bytes 8) took.block) (in_bytes 8 x) took.taken taken);
 }
 
 -- one that is not there
@@ -81,7 +82,7 @@ ask-taken size query o m n before after shallow may taken block version depth qu
   queries = queries;
   challenges = block.longer;
   size = omega (arith, long, may.2, length-append (spelling before.version (messages.Query query)) (flat_map (in_bytes 8) block.block), length-block block.block, block.levels);
-  taken = takes-join o m n (spelling before.version (messages.Query query)) (flat_map (in_bytes 8) block.block) taken block.taken;
+  taken = Consumes-trans o m n (spelling before.version (messages.Query query)) (flat_map (in_bytes 8) block.block) taken block.taken;
 }
 
 -- the query is not there
@@ -122,7 +123,7 @@ ask-length version depth ask deep is fit =
 pub opening-taken : (version : Version) (depth count : ℕ) (a b d e f : Option (List ℕ)) → Consumes a b magic → Consumes b d (number_of version ∷ []) → Consumes d e (depth ∷ []) → Consumes e f (count ∷ [])
     → Consumes a f (head_bytes version depth count)
 opening-taken version depth count a b d e f p q r s =
-    takes-join a e f (magic ++ number_of version ∷ depth ∷ []) (count ∷ []) (takes-join a d e (magic ++ number_of version ∷ []) (depth ∷ []) (takes-join a b d magic (number_of version ∷ []) p q) r) s
+    Consumes-trans a e f (magic ++ number_of version ∷ depth ∷ []) (count ∷ []) (Consumes-trans a d e (magic ++ number_of version ∷ []) (depth ∷ []) (Consumes-trans a b d magic (number_of version ∷ []) p q) r) s
 
 -- no magic
 pub no-magic : (o : Option (List ℕ)) → ((bytes : List ℕ) → o ≡ Some bytes → text_field magic bytes ≡ None) → (bytes : List ℕ) → o ≡ Some bytes → head_fault bytes ≡ Some 0
@@ -151,7 +152,7 @@ depth-fails Two rest none = ap (λ (x : Option ℕ). by_field x (drop 3 (head_fi
 pub no-depth : (version : Version) (o a b : Option (List ℕ)) → Consumes o a magic → Consumes a b (number_of version ∷ []) → ((bytes : List ℕ) → b ≡ Some bytes → byte_field (is_depth version) bytes ≡ None)
     → (bytes : List ℕ) → o ≡ Some bytes → head_fault bytes ≡ Some 5
 no-depth version o a b p q none bytes told =
-    let front = came_front o b bytes (magic ++ number_of version ∷ []) told (takes-join o a b magic (number_of version ∷ []) p q) in
+    let front = came_front o b bytes (magic ++ number_of version ∷ []) told (Consumes-trans o a b magic (number_of version ∷ []) p q) in
     ap head_fault front.2 ∙ depth-fails version front.0 (none front.0 front.1)
 
 -- a byte that passes its test
@@ -171,7 +172,7 @@ count-fails Two depth rest is none =
 pub no-count : (version : Version) (depth : ℕ) (o a b d : Option (List ℕ)) → Consumes o a magic → Consumes a b (number_of version ∷ []) → Consumes b d (depth ∷ []) → IsTrue (is_depth version depth)
     → ((bytes : List ℕ) → d ≡ Some bytes → byte_field is_count bytes ≡ None) → (bytes : List ℕ) → o ≡ Some bytes → head_fault bytes ≡ Some 6
 no-count version depth o a b d p q r is none bytes told =
-    let front = came_front o d bytes (magic ++ number_of version ∷ depth ∷ []) told (takes-join o b d (magic ++ number_of version ∷ []) (depth ∷ []) (takes-join o a b magic (number_of version ∷ []) p q) r) in
+    let front = came_front o d bytes (magic ++ number_of version ∷ depth ∷ []) told (Consumes-trans o b d (magic ++ number_of version ∷ []) (depth ∷ []) (Consumes-trans o a b magic (number_of version ∷ []) p q) r) in
     ap head_fault front.2 ∙ count-fails version depth front.0 is (none front.0 front.1)
 
 -- behind the opening come the queries
@@ -236,7 +237,7 @@ begun-more version depth count k o m n head after deep begun took = record {
   size = omega (arith, long, begun.size, ap length (flat_map_more (bytes_of version) [] begun.asks took.ask), length-append (flat_map (bytes_of version) begun.asks) (bytes_of version took.ask));
   near = omega (arith, long, begun.near, ask-length version depth took.ask deep is (query-fits version depth took.ask.0 is.speaks is.fits));
   taken = subst (λ (l : List ℕ). Consumes o n l) (flat_map_more (bytes_of version) (head_bytes version depth count) begun.asks took.ask)
-      (takes-join o m n (head_bytes version depth count ++ flat_map (bytes_of version) begun.asks) (bytes_of version took.ask) begun.taken taken);
+      (Consumes-trans o m n (head_bytes version depth count ++ flat_map (bytes_of version) begun.asks) (bytes_of version took.ask) begun.taken taken);
 }
   where
     is : IsAsk version depth took.ask

@@ -1,14 +1,14 @@
 -- One more byte, or the end.
 use Rattle.std.proofs.Common.{List, ℕ, [], ◌∷◌, ◌++◌, sym, ap, ◌∙◌, append_assoc, arith, rules}
+use Rattle.std.proofs.KnownBytes.{Consumes-nil, Consumes-trans}
 use Rattle.std.proofs.lemmas.List.{append-nil}
 use Rattle.sip_transcript.proofs.Frames.{more-end}
-use Rattle.sip_transcript.proofs.Taking.{takes-join, takes-nil}
 use Rattle.sip_transcript.proofs.fields.take_more.Goals as goal
 
 pub loop-source-init : goal.loop-source-init
 loop-source-init g c = record {
   within = search rules;
-  came = ([], sym (append-nil _), takes-nil _);
+  came = ([], sym (append-nil _), Consumes-nil _);
   lasts = search rules;
 }
 
@@ -19,7 +19,7 @@ loop-source-preserved g c =
     let read = rw c.in-Some.is at c.in_ok-next.ensures.reads in
     record {
       within = search rules;
-      came = (kept.came.0 ++ byte ∷ [], c.push.ensures.items ∙ ap (λ (l : List ℕ). l ++ byte ∷ []) kept.came.1 ∙ append_assoc _ kept.came.0 (byte ∷ []), takes-join _ _ _ kept.came.0 (byte ∷ []) kept.came.2 read);
+      came = (kept.came.0 ++ byte ∷ [], c.push.ensures.items ∙ ap (λ (l : List ℕ). l ++ byte ∷ []) kept.came.1 ∙ append_assoc _ kept.came.0 (byte ∷ []), Consumes-trans _ _ _ kept.came.0 (byte ∷ []) kept.came.2 read);
       lasts = search rules;
     }
 
