@@ -55,8 +55,8 @@ fn put_side(gathered: &mut ArrayVec<u8, ROOM>, side: Side)
     }
 }
 
-// The query's word.
-fn begin(query: &Query) -> ArrayVec<u8, ROOM>
+/// The word that asks a query, as the line of its answer begins with it.
+pub fn query_word(query: &Query) -> ArrayVec<u8, ROOM>
     ensures items { result.items ≡ query_word query.now }
     ensures len { array_vec_len result ≤ 60 }
 {
@@ -122,7 +122,7 @@ pub(crate) fn write_number<K: Sink>(sink: &mut K, query: &Query, value: i64) -> 
     ensures cause { HasCause K.faults K.wants K.is_sure sink.old sink.new result }
 {
     let mut digits = Buffer::new();
-    let mut gathered = begin(query);
+    let mut gathered = query_word(query);
     put(&mut gathered, b" ");
     put(&mut gathered, digits.format(value).as_bytes());
     put(&mut gathered, b"\n");
@@ -144,7 +144,7 @@ pub(crate) fn write_pairs<K: Sink>(
         (K.talk sink.new) result (line query.now (pairs entries.now)) }
     ensures cause { HasCause K.faults K.wants K.is_sure sink.old sink.new result }
 {
-    let mut gathered = begin(query);
+    let mut gathered = query_word(query);
     if entries.is_empty() {
         put(&mut gathered, b" none");
     }
