@@ -1,8 +1,10 @@
 pub mod Passing
 pub mod Taking
 pub mod Bytes
-pub mod Frames
+pub mod Framing
 pub mod Growing
 pub mod There
 pub mod Failing
 pub mod Tests
+pub mod Telling
+pub mod Onward

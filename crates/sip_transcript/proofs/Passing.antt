@@ -101,7 +101,7 @@ fails-among n count fs x bytes m lt p f after at =
 -- ---- elements
 
 -- an element is below 2^61
-element-lt : (x : ℕ) → IsTrue (is_element x) → x < 256 ^ 8
+pub element-lt : (x : ℕ) → IsTrue (is_element x) → x < 256 ^ 8
 element-lt x is = let small : x < 2305843009213693951 = grind (arith, nat_tests) in omega arith
 
 -- what a test of an element's bytes answers

@@ -57,38 +57,6 @@ pub record TakesAsk (old new : Option (List ℕ)) (before after : Head) : Type 0
   pub size : after.length ≡ before.length + length (ask_bytes before.version ask.0 ask.1)
   pub taken : Consumes old new (ask_bytes before.version ask.0 ask.1)
 
--- Reading a byte. It was taken, or there is none.
-abbrev pub ReadsByte : Option (List ℕ) → Option (List ℕ) → Result (Option ℕ) PortStop → Type 0
-ReadsByte old new (Ok (Some byte)) = Consumes old new (byte ∷ [])
-ReadsByte old new (Ok None) =
-    ((bytes : List ℕ) → old ≡ Some bytes → bytes ≡ []) × Consumes old new []
-ReadsByte old new (Err stop) = ⊤
-
--- the source had no more bytes than these
-abbrev pub WasAll : Option (List ℕ) → List ℕ → Type 0
-WasAll old got = (bytes : List ℕ) → old ≡ Some bytes → bytes ≡ got
-
--- bytes were taken, and stand behind those before: so many that they are `upto`, or all that there
--- were
-pub record TakesMore (old new : Option (List ℕ)) (before after : List ℕ) (upto : ℕ)
-    : Type 0 where
-  pub more : List ℕ
-  pub longer : after ≡ before ++ more
-  pub taken : Consumes old new more
-  pub within : length after ≤ upto
-  pub all : length after < upto → WasAll old more
-
--- Taking a frame to a helper. It is these bytes, or they are all that the source had; or it has
--- more than any of a query.
-abbrev pub HasFrame : Version → Option (List ℕ) → Option (List ℕ) → List ℕ → Result Bool PortStop
-    → Type 0
-HasFrame version old new frame (Ok true) =
-    Consumes old new frame × (length frame ≤ asked version ToHelper frame)
-    × (length frame < asked version ToHelper frame → WasAll old frame)
-HasFrame version old new frame (Ok false) = TakesAtMost longest_field old new
-    × ((bytes : List ℕ) → old ≡ Some bytes → longest_field < asked version ToHelper bytes)
-HasFrame version old new frame (Err stop) = ⊤
-
 -- the query can be asked, and its frame has so many bytes
 abbrev pub MayAsk : Version → ℕ → Query × ℕ → Type 0
 MayAsk version depth asked =

@@ -1,7 +1,7 @@
 //! The fields of a transcript's head, one at a time: `None` where the source has no value of the
 //! field in front, or ends in it.
 
-ghost use Rattle.std.specs.Prelude.{◌≡◌, ◌≤◌, ◌<◌, ℕ, IsTrue, List, [], ◌∷◌, Some, length, IfOk, IfSome, OnOk};
+ghost use Rattle.std.specs.Prelude.{◌≡◌, ◌≤◌, IsTrue, [], ◌∷◌, length, IfOk, IfSome, IsSome};
 ghost use Rattle.std.specs.Int.{w32, w64, to_be_bytes};
 ghost use Rattle.sip_ports.specs.Ports.{HasCause};
 ghost use Rattle.sip_wire.specs.Spelling.{asked, in_bytes, spelling};
@@ -12,36 +12,20 @@ ghost use Rattle.sip_wire.specs.Versions.{number_of};
 ghost use Rattle.sip_wire.specs.declared.message.Message.TheVariants as messages;
 ghost use Rattle.sip_transcript.specs.Fields.{text_field, byte_field, query_field, element_field, is_version, is_depth, is_count, query_of};
 ghost use Rattle.sip_transcript.specs.Heads.{longest_field};
-ghost use Rattle.sip_transcript.specs.Parts.{AsksIn, ReadsByte, ReadsField, HasFrame, MayAsk, TakesMore};
+ghost use Rattle.sip_transcript.specs.Parts.{AsksIn, ReadsField, MayAsk};
 
+use crate::frames::{next_byte, take_frame};
 use arrayvec::ArrayVec;
 use sip_field::{Field, M61};
 use sip_ports::{PortStop, Source, read_exact_into};
 use sip_vector::{Depth, Query};
-use sip_wire::{MOST_QUERIES, Message, Place, Version, frame_length, read};
+use sip_wire::{MOST_QUERIES, Message, Place, Version, read};
 
 /// The text SIPT, as a number.
 const MAGIC: u32 = 0x5349_5054;
 
-/// How many bytes of a frame say how many it has.
-const FRAME_HEAD: usize = 3;
-
 /// How many bytes the frame of a query has at most, that of a range with wide items.
 const LONGEST_QUERY: usize = 21;
-
-/// The next byte, or `None` at the end.
-fn next_byte<S: Source>(source: &mut S) -> Result<Option<u8>, PortStop>
-    ensures reads { ReadsByte (S.left source.old) (S.left source.new) result }
-    ensures cause { HasCause S.faults S.wants S.is_sure source.old source.new result }
-{
-    let mut byte = [0];
-    let came = read_exact_into(source, &mut byte)?;
-    if came == 0 {
-        Ok(None)
-    } else {
-        Ok(Some(byte[0]))
-    }
-}
 
 /// The number that four bytes spell.
 fn number_of_4(bytes: [u8; 4]) -> u32
@@ -61,6 +45,7 @@ fn number_of_8(bytes: [u8; 8]) -> u64
 pub fn read_magic<S: Source>(source: &mut S) -> Result<Option<()>, PortStop>
     ensures reads { ReadsField (text_field magic) (λ _. magic) (λ _. Unit {0})
         (S.left source.old) (S.left source.new) result }
+    ensures told { IsSome (S.left source.old) → IsSome (S.left source.new) }
     ensures cause { HasCause S.faults S.wants S.is_sure source.old source.new result }
 {
     let mut bytes = [0; 4];
@@ -79,6 +64,7 @@ pub fn read_magic<S: Source>(source: &mut S) -> Result<Option<()>, PortStop>
 pub fn read_version<S: Source>(source: &mut S) -> Result<Option<Version>, PortStop>
     ensures reads { ReadsField (byte_field is_version) (λ version. number_of version ∷ [])
         (λ _. Unit {0}) (S.left source.old) (S.left source.new) result }
+    ensures told { IsSome (S.left source.old) → IsSome (S.left source.new) }
     ensures cause { HasCause S.faults S.wants S.is_sure source.old source.new result }
 {
     let Some(number) = next_byte(source)? else {
@@ -91,6 +77,7 @@ pub fn read_version<S: Source>(source: &mut S) -> Result<Option<Version>, PortSt
 pub fn read_depth<S: Source>(source: &mut S, version: Version) -> Result<Option<Depth>, PortStop>
     ensures reads { ReadsField (byte_field (is_depth version)) (λ depth. depth ∷ [])
         (λ depth. IsTrue (is_depth version depth)) (S.left source.old) (S.left source.new) result }
+    ensures told { IsSome (S.left source.old) → IsSome (S.left source.new) }
     ensures cause { HasCause S.faults S.wants S.is_sure source.old source.new result }
 {
     let Some(levels) = next_byte(source)? else {
@@ -106,6 +93,7 @@ pub fn read_depth<S: Source>(source: &mut S, version: Version) -> Result<Option<
 pub fn read_count<S: Source>(source: &mut S) -> Result<Option<u8>, PortStop>
     ensures reads { ReadsField (byte_field is_count) (λ count. count ∷ [])
         (λ count. IsTrue (is_count count)) (S.left source.old) (S.left source.new) result }
+    ensures told { IsSome (S.left source.old) → IsSome (S.left source.new) }
     ensures cause { HasCause S.faults S.wants S.is_sure source.old source.new result }
 {
     let Some(count) = next_byte(source)? else {
@@ -115,52 +103,6 @@ pub fn read_count<S: Source>(source: &mut S) -> Result<Option<u8>, PortStop>
         return Ok(None);
     }
     Ok(Some(count))
-}
-
-/// Adds bytes of a source to a frame until it has so many, or the source ends.
-fn take_more<S: Source>(
-    source: &mut S,
-    upto: usize,
-    frame: &mut ArrayVec<u8, LONGEST_QUERY>,
-) -> Result<(), PortStop>
-    requires room { upto ≤ longest_field }
-    requires order { length frame.old.items ≤ upto }
-    ensures took { OnOk result (TakesMore (S.left source.old) (S.left source.new)
-        frame.old.items frame.new.items upto) }
-    ensures cause { HasCause S.faults S.wants S.is_sure source.old source.new result }
-{
-    while frame.len() < upto {
-        let next = next_byte(source)?;
-        match next {
-            Some(byte) => frame.push(byte),
-            None => return Ok(()),
-        }
-    }
-    Ok(())
-}
-
-#[tactic(auto, using(crate::proofs::Frames::least_asked))]
-/// Takes a frame to a helper, or what the source has of it; `false` where the frame is longer than
-/// any of a query.
-fn take_frame<S: Source>(
-    source: &mut S,
-    version: Version,
-    frame: &mut ArrayVec<u8, LONGEST_QUERY>,
-) -> Result<bool, PortStop>
-    requires empty { frame.old.items ≡ [] }
-    ensures has { HasFrame version (S.left source.old) (S.left source.new) frame.new.items result }
-    ensures cause { HasCause S.faults S.wants S.is_sure source.old source.new result }
-{
-    take_more(source, FRAME_HEAD, frame)?;
-    if frame.len() < FRAME_HEAD {
-        return Ok(true);
-    }
-    let size = frame_length(Place::ToHelper, version, frame.as_slice());
-    if size > LONGEST_QUERY {
-        return Ok(false);
-    }
-    take_more(source, size, frame)?;
-    Ok(true)
 }
 
 /// The query that a message asks, if it asks one.
@@ -205,10 +147,11 @@ pub fn read_query<S: Source>(
         (λ asked. spelling version (messages.Query asked.0)) (MayAsk version depth)
         (S.left source.old) (S.left source.new) result }
     ensures short { IfOk result (λ next. IfSome next (λ asked. asked.1 ≤ longest_field)) }
+    ensures told { IsSome (S.left source.old) → IsSome (S.left source.new) }
     ensures cause { HasCause S.faults S.wants S.is_sure source.old source.new result }
 {
-    let mut frame = ArrayVec::new();
-    let fits = take_frame(source, version, &mut frame)?;
+    let mut frame: ArrayVec<u8, LONGEST_QUERY> = ArrayVec::new();
+    let fits = take_frame(source, Place::ToHelper, version, &mut frame)?;
     if !fits {
         return Ok(None);
     }
@@ -223,6 +166,7 @@ pub fn read_query<S: Source>(
 pub fn read_challenge<S: Source>(source: &mut S) -> Result<Option<u64>, PortStop>
     ensures reads { ReadsField element_field (in_bytes 8) (λ x. IsTrue (is_element x))
         (S.left source.old) (S.left source.new) result }
+    ensures told { IsSome (S.left source.old) → IsSome (S.left source.new) }
     ensures cause { HasCause S.faults S.wants S.is_sure source.old source.new result }
 {
     let mut bytes = [0; 8];

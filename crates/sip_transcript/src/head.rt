@@ -1,6 +1,6 @@
 //! The head of a transcript.
 
-ghost use Rattle.std.specs.Prelude.{◌≡◌, ◌≤◌, ◌<◌, ◌+◌, ◌*◌, ℕ, [], ◌∷◌, length, IfErr, IsErrOf, OnOk};
+ghost use Rattle.std.specs.Prelude.{◌≡◌, ◌≤◌, ◌<◌, ◌+◌, ◌*◌, ℕ, [], ◌∷◌, length, IfErr, IsErrOf, IsSome, OnOk};
 ghost use Rattle.arrayvec.specs.ArrayVec.{array_vec_len};
 ghost use Rattle.sip_wire.specs.Table.{most_queries};
 ghost use Rattle.sip_wire.specs.Versions.{deepest};
@@ -69,6 +69,7 @@ fn read_block<S: Source>(
         → Rose (S.faults source.old) (S.faults source.new) }
     ensures memory { IsErrOf result HeadFault.OutOfMemory
         → Rose (S.wants source.old) (S.wants source.new) }
+    ensures told { IsSome (S.left source.old) → IsSome (S.left source.new) }
     ensures lasts { Lasts S.faults S.wants S.is_sure source.old source.new }
 {
     for level in 0..levels {
@@ -93,6 +94,7 @@ impl Head {
             → Rose (S.faults source.old) (S.faults source.new) }
         ensures memory { IsErrOf result HeadFault.OutOfMemory
             → Rose (S.wants source.old) (S.wants source.new) }
+        ensures told { IsSome (S.left source.old) → IsSome (S.left source.new) }
         ensures lasts { Lasts S.faults S.wants S.is_sure source.old source.new }
     {
         let levels = self.depth.get();
@@ -124,6 +126,7 @@ impl TranscriptReader {
             → Rose (S.faults source.old) (S.faults source.new) }
         ensures memory { IsErrOf result HeadFault.OutOfMemory
             → Rose (S.wants source.old) (S.wants source.new) }
+        ensures told { IsSome (S.left source.old) → IsSome (S.left source.new) }
         ensures lasts { Lasts S.faults S.wants S.is_sure source.old source.new }
     {
         there(read_magic(source), 0)?;

@@ -1,13 +1,15 @@
 //! What the fields of a head are like, and how the definitions are tied to each other.
 
-ghost use Rattle.std.specs.Prelude.{◌≡◌, ◌↔◌, ℕ, List, Some, None, IsTrue, take};
+ghost use Rattle.std.specs.Prelude.{◌≡◌, ◌↔◌, ◌++◌, ◌∷◌, [], ℕ, List, Some, None, IsTrue, codes, take};
 ghost use Rattle.sip_vector.specs.Answers.{Fits};
 ghost use Rattle.sip_vector.specs.declared.query.Query.{Query as AnyQuery};
 ghost use Rattle.sip_wire.specs.Transcript.{transcript};
 ghost use Rattle.sip_wire.specs.declared.version.Version.{Version as AnyVersion};
-ghost use Rattle.sip_transcript.specs.Examples.{head_by_hand};
+ghost use Rattle.sip_transcript.specs.Examples.{head_by_hand, lines_by_hand, replies_by_hand};
 ghost use Rattle.sip_transcript.specs.Fields.{fits_at, head_fault};
 ghost use Rattle.sip_transcript.specs.Heads.{Ask, IsRun};
+ghost use Rattle.sip_transcript.specs.Listings.{listing};
+ghost use Rattle.sip_transcript.specs.Tales.{text_of, transcript_fault};
 
 /// The transcript of a run has no fault in its head, whatever the replies are. So a head that is
 /// there is read, and none that is there is refused.
@@ -29,4 +31,16 @@ pub fn a_head_by_hand()
     ensures cut { head_fault (take 34 head_by_hand) ≡ Some 27 }
     ensures query { head_fault (take 18 head_by_hand) ≡ Some 7 }
     ensures text { head_fault (take 3 head_by_hand) ≡ Some 0 }
+{}
+
+/// A transcript by hand is listed whole. Without its last byte it has a fault where its last frame
+/// begins, and with a byte more at its old end; its listing is then that of all before.
+pub fn a_transcript_by_hand()
+    ensures whole { transcript_fault (head_by_hand ++ replies_by_hand) ≡ None }
+    ensures lines { text_of listing (head_by_hand ++ replies_by_hand)
+        ≡ lines_by_hand ++ codes "frame Siblings 00" ++ 10 ∷ [] }
+    ensures cut { transcript_fault (take 75 (head_by_hand ++ replies_by_hand)) ≡ Some 72 }
+    ensures fewer { text_of listing (take 75 (head_by_hand ++ replies_by_hand)) ≡ lines_by_hand }
+    ensures longer { transcript_fault (head_by_hand ++ replies_by_hand ++ 0 ∷ []) ≡ Some 76 }
+    ensures no_head { text_of listing (take 34 head_by_hand) ≡ [] }
 {}

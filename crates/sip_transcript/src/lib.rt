@@ -22,11 +22,18 @@
 
 mod fault;
 mod fields;
+mod frames;
 mod head;
 pub mod laws;
+mod listing;
+mod rendering;
+mod showing;
+mod stopping;
 
 pub use fault::HeadFault;
 pub use head::{Head, MOST_CHALLENGES, TranscriptReader};
+pub use listing::show_line;
+pub use showing::{convert, show};
 
 #[cfg(test)]
 mod tests;

@@ -2,7 +2,7 @@
 use Rattle.std.proofs.Common.{sym, ap, ◌∙◌, rules}
 use Rattle.sip_vector.specs.Answers.{Fits}
 use Rattle.sip_transcript.specs.Fields.{if_fits}
-use Rattle.sip_transcript.proofs.Frames.{asked_of, asks-none, asks-query, unfit}
+use Rattle.sip_transcript.proofs.Framing.{asked_of, asks-none, asks-query, unfit}
 use Rattle.sip_transcript.proofs.fields.query_in.Goals as goal
 
 pub returns-in-Err : goal.returns-in-Err

@@ -1,6 +1,6 @@
 -- A frame that is longer than any of a query, one that asks none, and one that does.
 use Rattle.std.proofs.Common.{rules}
-use Rattle.sip_transcript.proofs.Frames.{query-long, query-none, query-taken}
+use Rattle.sip_transcript.proofs.Framing.{query-long, query-none, query-taken}
 use Rattle.sip_transcript.proofs.fields.read_query.Goals as goal
 
 pub returns-then-not-fits-clause-reads : goal.returns-then-not-fits-clause-reads

@@ -2,8 +2,8 @@
 use Rattle.std.proofs.Common.{List, ℕ, [], ◌∷◌, ◌++◌, sym, ap, ◌∙◌, append_assoc, arith, rules}
 use Rattle.std.proofs.KnownBytes.{Consumes-nil, Consumes-trans}
 use Rattle.std.proofs.lemmas.List.{append-nil}
-use Rattle.sip_transcript.proofs.Frames.{more-end}
-use Rattle.sip_transcript.proofs.fields.take_more.Goals as goal
+use Rattle.sip_transcript.proofs.Framing.{more-end}
+use Rattle.sip_transcript.proofs.frames.take_more.Goals as goal
 
 pub loop-source-init : goal.loop-source-init
 loop-source-init g c = record {

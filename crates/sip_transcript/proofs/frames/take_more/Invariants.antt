@@ -2,7 +2,7 @@
 use Rattle.std.proofs.Common.{◌≡◌, ◌-◌, ◌≤◌, ℕ, List, ◌++◌, length}
 use Rattle.std.specs.Io.KnownBytes.{Consumes}
 use Rattle.sip_ports.specs.Ports.{Lasts}
-use Rattle.sip_transcript.proofs.fields.take_more.Given as goal
+use Rattle.sip_transcript.proofs.frames.take_more.Given as goal
 
 abbrev pub invariant-loop-source : goal.invariant-loop-source
 invariant-loop-source g l = record {
