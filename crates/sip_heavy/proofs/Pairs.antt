@@ -1,14 +1,15 @@
 -- Levels that are walked pair by pair.
-use Rattle.std.proofs.Common.{◌≡◌, ℕ, suc, ◌+◌, ◌-◌, ◌*◌, ◌/◌, ◌%◌, ◌^◌, ◌<◌, ◌≤◌, Bool, true, List, [], ◌∷◌, ◌++◌, length, get_or, take, drop, All, refl, ap, ◌∙◌, arith, append_assoc, inl, inr}
+use Rattle.std.proofs.Common.{◌≡◌, ℕ, suc, ◌+◌, ◌-◌, ◌*◌, ◌/◌, ◌%◌, ◌^◌, ◌<◌, ◌≤◌, Bool, true, List, [], ◌∷◌, ◌++◌, length, get_or, take, drop, All, refl, sym, ap, ◌∙◌, arith, append_assoc, inl, inr}
 use Rattle.std.specs.List.{list_all}
 use Rattle.std.specs.Prelude.{◌==◌, nat_lt}
 use Rattle.std.proofs.Common.{pow-add}
 use Rattle.std.proofs.lemmas.Bool.{lt-ltb}
-use Rattle.std.proofs.Math.Nat.{pow-zero, pow-succ', div-eq_of_lt, div-lt_iff_lt-mul, one-le-pow, mul-le-mul_left}
+use Rattle.std.proofs.Math.Nat.{pow-zero, pow-succ', div-eq_of_lt, div-lt_iff_lt-mul, one-le-pow, mul-le-mul_left, add-mod-mod, mod-add-mod}
+use Rattle.std.proofs.lemmas.Nat.{mul-mod_first}
 use Rattle.std.proofs.lemmas.Bool.Decides.{eqb_tells, leb_tells}
 use Rattle.std.proofs.lemmas.List.{take_all}
 use Rattle.std.proofs.lemmas.List.Elements.{All-take, All-drop}
-use Rattle.sip_field.specs.Residue.{sum_mod, product_mod}
+use Rattle.sip_field.specs.Residue.{product_mod}
 use Rattle.sip_field.proofs.Residues.{residues}
 use Rattle.sip_wire.specs.declared.message.Node.{Node}
 use Rattle.sip_heavy.specs.AcceptsHeavy.{pair_counts, joined, nodes_above}
@@ -44,20 +45,33 @@ above_behind p r ys [] d two = absurd (omega arith)
 above_behind p r ys (l ∷ []) d two = absurd (omega arith)
 above_behind p r ys (l ∷ h ∷ xs) d two = rw (behind-cons l h xs) (append_assoc ys (joined p r l h ∷ []) (nodes_above p r xs))
 
--- Horner's rule for the hash above a pair
+-- ---- the hash above a pair
+
 square : (r : ℕ) → r ^ 2 ≡ r * r
 square r = rw (pow-succ' r 1, pow-succ' r 0, pow-zero r) (omega arith)
 
 cube : (r : ℕ) → r ^ 3 ≡ r * (r * r)
 cube r = rw (pow-succ' r 2, square r) refl
 
-by_horner : (r hl a hr b : ℕ) → hl + r * (a + r * (hr + r * b)) ≡ hl + a * r + hr * r ^ 2 + b * r ^ 3
-by_horner r hl a hr b = rw (cube r, square r) (omega arith)
+-- what a node adds to it as a left child
+abbrev pub half_hash : ℕ → ℕ → ℕ → ℕ
+half_hash r h n = h + n * r
 
-pub horner_hash : (p r hl a hr b : ℕ)
-    → sum_mod p (hl % p) (product_mod p r (sum_mod p a (product_mod p r (sum_mod p (hr % p) (product_mod p r b)))))
-    ≡ (hl + a * r + hr * r ^ 2 + b * r ^ 3) % p
-horner_hash p r hl a hr b = simp residues (ap (λ n. n % p) (by_horner r hl a hr b))
+pub half_residue : (p r h n m : ℕ) → m % p ≡ product_mod p n r → (h + m) % p ≡ half_hash r h (n % p) % p
+half_residue p r h n m is = sym (add-mod-mod h m p) ∙ ap (λ k. (h + k) % p) (is ∙ sym (mul-mod_first n r p)) ∙ add-mod-mod h (n % p * r) p
+
+-- the right child's part times the square of the challenge
+pub right_residue : (p r h n b s c : ℕ) → b % p ≡ half_hash r (h % p) n % p → s ≡ product_mod p r r → c % p ≡ product_mod p b s → c % p ≡ (h * r ^ 2 + n * r ^ 3) % p
+right_residue p r h n b s c half squared product =
+    let by_powers : (h + n * r) * (r * r) ≡ h * r ^ 2 + n * r ^ 3 = rw (cube r, square r) (omega arith) in
+    product ∙ sym (mul-mod_first b s p) ∙ rw (half, squared) (simp residues (ap (λ k. k % p) by_powers))
+
+pub pair_residue : (p r hl nl hr nr a b s c : ℕ) → a % p ≡ half_hash r (hl % p) nl % p → b % p ≡ half_hash r (hr % p) nr % p → s ≡ product_mod p r r → c % p ≡ product_mod p b s
+    → (a + c) % p ≡ (hl + nl * r + hr * r ^ 2 + nr * r ^ 3) % p
+pair_residue p r hl nl hr nr a b s c left right squared product =
+    let other = right_residue p r hr nr b s c right squared product in
+    let regroup : hl + nl * r + (hr * r ^ 2 + nr * r ^ 3) ≡ hl + nl * r + hr * r ^ 2 + nr * r ^ 3 = omega arith in
+    sym (mod-add-mod a p c) ∙ sym (add-mod-mod (a % p) c p) ∙ rw (left, other) (simp residues (ap (λ k. k % p) regroup))
 
 -- ---- an index in a level
 

@@ -48,6 +48,12 @@ shown_spots t is_leaf (x ∷ y ∷ more) =
 abbrev pub from_on : ℕ → List Node → List Node
 from_on i xs = filter (λ x. nat_le i x.index) xs
 
+-- the count of the node at a place of a list, 0 behind the end
+abbrev pub count_at : ℕ → List Node → ℕ
+count_at i [] = 0
+count_at zero (x ∷ xs) = x.count
+count_at (suc i) (x ∷ xs) = count_at i xs
+
 -- ---- the whole level
 
 abbrev pub nothing : Counted

@@ -207,7 +207,7 @@ impl<F: Field, const CAP: usize> HeavyCheck<F, CAP> {
     /// node; else `Reason::LightParent` where a pair's count is below the threshold; else
     /// `Reason::Total` where one is above the total.
     ///
-    /// Three `times` a pair, which make the known nodes of the level above.
+    /// One `times`, and three a pair, which make the known nodes of the level above.
     pub fn level_end(&mut self) -> Result<(), Reason>
         requires unspent { self.old.spent ≡ false }
         requires left { self.old.level < length self.old.challenges }

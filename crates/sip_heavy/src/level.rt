@@ -1,6 +1,7 @@
 //! The nodes of a level: what the check does with lists of them.
 ghost use Rattle.std.specs.Prelude.{◌≡◌, ℕ, ◌+◌, ◌*◌, ◌/◌, ◌%◌, ◌^◌, ◌<◌, ◌≤◌, ◌++◌, All, length, nat_le, pos, vec_len, vec_capacity};
 ghost use Rattle.std.specs.List.{list_all};
+ghost use Rattle.sip_field.specs.Residue.{product_mod};
 ghost use Rattle.sip_heavy.specs.AcceptsHeavy as heavy;
 
 use sip_field::Field;
@@ -70,15 +71,27 @@ pub(crate) fn are_within(nodes: &[Node], total: u64) -> bool
     true
 }
 
-// The node above a pair. Three `times`.
-pub(crate) fn joined<F: Field>(r: F, left: Node, right: Node) -> Node
+// A number with the residue of a hash and of a count times a challenge, reduced only as far as a
+// product is by `loose_times`.
+pub(crate) fn half<F: Field>(r: F, hash: u64, count: u64) -> u64
+    requires hash { hash < 2 ^ 61 }
+    requires count { count < 2 ^ 61 }
+    ensures residue { result % F.MODULUS ≡ (hash + count % F.MODULUS * F.number r) % F.MODULUS }
+    ensures most { result < 3 * 2 ^ 61 }
+{
+    hash + F::loose_times(count, r.number())
+}
+
+// The node above a pair, by the challenge and its square. Three products.
+pub(crate) fn joined<F: Field>(r: F, square: F, left: Node, right: Node) -> Node
+    requires square { F.number square ≡ product_mod F.MODULUS (F.number r) (F.number r) }
     requires left { left.count < 2 ^ 61 }
     requires right { right.count < 2 ^ 61 }
     ensures { result ≡ heavy.joined F.MODULUS (F.number r) left right }
 {
-    let of_right = F::of(right.hash).plus(r.times(F::of(right.count)));
-    let inner = F::of(left.count).plus(r.times(of_right));
-    let hash = F::of(left.hash).plus(r.times(inner));
+    let of_left = half(r, F::of(left.hash).number(), left.count);
+    let of_right = half(r, F::of(right.hash).number(), right.count);
+    let hash = F::of(of_left + F::loose_times(of_right, square.number()));
     Node {
         index: left.index / 2,
         hash: hash.number(),
@@ -94,9 +107,10 @@ pub(crate) fn fold_pairs<F: Field>(nodes: &[Node], r: F, above: &mut Vec<Node>)
         ≡ above.old.items ++ heavy.nodes_above F.MODULUS (F.number r) nodes.now }
     ensures capacity { vec_capacity above.old ≤ vec_capacity above.new }
 {
+    let square = r.times(r);
     let mut rest = nodes;
     while let [left, right, more @ ..] = rest {
-        above.push(joined(r, *left, *right)).unwrap();
+        above.push(joined(r, square, *left, *right)).unwrap();
         rest = more;
     }
 }

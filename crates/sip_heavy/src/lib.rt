@@ -50,10 +50,10 @@
 //! |---|---|
 //! | `HeavyCheck::start`, `HeavyAsking::start` | 0, and one copy of the challenges |
 //! | `HeavyCheck::leaf`, `HeavyCheck::node` | 0; over a level, time linear in its nodes |
-//! | `HeavyCheck::level_end` | 3 for each pair of the level |
+//! | `HeavyCheck::level_end` | 1, and 3 for each pair of the level |
 //! | `HeavyCheck::reveal`, `HeavyCheck::finish`, `into_space` | 0 |
 //! | `HeavyProver::start`, `HeavyProver::next_node` | 0 |
-//! | `HeavyProver::learn` | 3 for each node above that is not zero |
+//! | `HeavyProver::learn` | 1, and 1 to 3 for each node above that is not zero |
 //!
 //! A level has at most 2·floor(n / T) nodes for a total n and a threshold T. A prover over m
 //! entries that are not 0 has 24·m bytes, all taken by `start`; a level costs it time linear in m,

@@ -103,7 +103,7 @@ impl<F: Field> HeavyProver<F> {
             return None;
         }
         let start = self.spots.partition_point(|spot| spot.index / 2 < from / 2);
-        let node = first_shown(&self.spots[start..], self.at_least, self.is_leaf, from)?;
+        let node = first_shown(&self.spots, start, self.at_least, self.is_leaf, from)?;
         Some(HeavyNode {
             index: node.index,
             hash: F::of(node.hash),
@@ -111,8 +111,8 @@ impl<F: Field> HeavyProver<F> {
         })
     }
 
-    /// Goes to the level above by its challenge. O(m), three `times` for each node above, without
-    /// memory.
+    /// Goes to the level above by its challenge. O(m), without memory: at most three `times` for
+    /// each node above, one or two where one of its children is zero.
     pub fn learn(&mut self, r: F)
         requires { 2 ≤ length self.old.level }
         ensures learnt { self.new ≡ learnt F.MODULUS self.old (F.number r) }

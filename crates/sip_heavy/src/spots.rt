@@ -1,13 +1,15 @@
 //! A level kept by its nodes that are not zero.
 
-ghost use Rattle.std.specs.Prelude.{◌≡◌, ℕ, ◌^◌, ◌<◌, ◌≤◌, pos, ◌≤ℤ◌, All, length, map, drop, ◌∷◌, ◌++◌, slice_get, IfOk};
+ghost use Rattle.std.specs.Prelude.{◌≡◌, ℕ, ◌/◌, ◌^◌, ◌<◌, ◌≤◌, pos, ◌≤ℤ◌, All, length, map, drop, ◌∷◌, ◌++◌, slice_get, IfOk};
 ghost use Rattle.std.specs.Prelude.{Bool as AnyBool};
+ghost use Rattle.sip_field.specs.Residue.{product_mod};
 ghost use Rattle.sip_vector.specs.Vectors.{nonzero};
 ghost use Rattle.sip_heavy.specs.AcceptsHeavy as heavy;
 ghost use Rattle.sip_heavy.specs.Honest as honest;
+ghost use Rattle.sip_heavy.specs.Rising.{Rises};
 ghost use Rattle.sip_heavy.specs.Spots as spots_of;
 
-use crate::level::joined;
+use crate::level::{half, joined};
 use sip_field::{Field, OutOfMemory};
 use sip_vector::{Entry, Vector};
 use sip_wire::Node;
@@ -104,20 +106,84 @@ fn first_pair(spots: &[Node]) -> Pair
     }
 }
 
+// The node above the first of these nodes, and how many of them lie below it.
+#[derive(Clone, Copy)]
+struct Above {
+    node: Node,
+    spots: usize,
+}
+
+// The node above one that has a zero beside it, by its hash.
+fn above_one<F: Field>(node: Node, hash: F) -> Node
+    ensures { result ≡ record {
+      index = node.index / 2;
+      hash = F.number hash;
+      count = node.count;
+    } }
+{
+    Node {
+        index: node.index / 2,
+        hash: hash.number(),
+        count: node.count,
+    }
+}
+
+// The same by the challenge and its square. One product for a left child, and two for a right one.
+fn raised<F: Field>(r: F, square: F, node: Node) -> Node
+    requires square { F.number square ≡ product_mod F.MODULUS (F.number r) (F.number r) }
+    requires hash { node.hash < 2 ^ 61 }
+    requires count { node.count < 2 ^ 61 }
+    ensures { result ≡ heavy.joined F.MODULUS (F.number r)
+        (spots_of.left_of node) (spots_of.right_of node) }
+{
+    let half = half(r, node.hash, node.count);
+    if node.index % 2 == 0 {
+        return above_one(node, F::of(half));
+    }
+    above_one(node, F::of(F::loose_times(half, square.number())))
+}
+
+// The node above the first of these nodes.
+fn first_above<F: Field>(spots: &[Node], r: F, square: F) -> Above
+    requires square { F.number square ≡ product_mod F.MODULUS (F.number r) (F.number r) }
+    requires some { 0 < length spots.now }
+    requires light { All (λ x. x.count < 2 ^ 61) spots.now }
+    requires hashes { All (λ x. x.hash < F.MODULUS) spots.now }
+    ensures some { 1 ≤ result.spots }
+    ensures within { result.spots ≤ length spots.now }
+    ensures above { spots_of.spots_above F.MODULUS (F.number r) spots.now ≡ result.node
+        ∷ spots_of.spots_above F.MODULUS (F.number r) (drop result.spots spots.now) }
+{
+    let first = spots[0];
+    if let [_, second, ..] = spots {
+        if first.index / 2 == second.index / 2 {
+            return Above {
+                node: joined(r, square, first, *second),
+                spots: 2,
+            };
+        }
+    }
+    Above {
+        node: raised(r, square, first),
+        spots: 1,
+    }
+}
+
 // Writes the nodes above over these. A node above comes after one node or two, so it never takes
-// the place of one that is still to be read. Three `times` for each node above.
+// the place of one that is still to be read. At most three products for each node above.
 pub(crate) fn fold_spots<F: Field>(spots: &mut Vec<Node>, r: F)
-    requires small { All (λ x. x.index < 2 ^ 48) spots.old.items }
     requires light { All (λ x. x.count < 2 ^ 61) spots.old.items }
+    requires hashes { All (λ x. x.hash < F.MODULUS) spots.old.items }
     ensures { spots.new.items
         ≡ spots_of.spots_above F.MODULUS (F.number r) spots.old.items }
 {
+    let square = r.times(r);
     let mut written = 0;
     let mut read = 0;
     while read < spots.len() {
-        let pair = first_pair(&spots[read..]);
-        read += pair.spots;
-        spots[written] = joined(r, pair.left, pair.right);
+        let above = first_above(&spots[read..], r, square);
+        spots[written] = above.node;
+        read += above.spots;
         written += 1;
     }
     spots.truncate(written);
@@ -142,20 +208,59 @@ fn shown_of(pair: Pair, at_least: u64, is_leaf: bool, from: u64) -> Option<Node>
     None
 }
 
-// The first node that is shown of these, at an index or after it.
-pub(crate) fn first_shown(spots: &[Node], at_least: u64, is_leaf: bool, from: u64) -> Option<Node>
+// The count of the node at a place; 0 behind the end.
+fn count_at(spots: &[Node], place: usize) -> u64
+    requires { All (λ x. x.count < 2 ^ 61) spots.now }
+    ensures exact { result ≡ spots_of.count_at place spots.now }
+    ensures light { result < 2 ^ 61 }
+{
+    match spots.get(place) {
+        Some(node) => node.count,
+        None => 0,
+    }
+}
+
+// The first place at `from` or after it whose node is not light together with the one behind it:
+// those before it show nothing, whoever their siblings are.
+fn pass_light(spots: &[Node], from: usize, at_least: u64) -> usize
+    requires light { All (λ x. x.count < 2 ^ 61) spots.now }
+    requires rises { (least n : ℕ) × Rises least n spots.now }
+    requires from { from ≤ length spots.now }
+    ensures order { from ≤ result }
+    ensures within { result ≤ length spots.now }
+    ensures shown { (is_leaf : AnyBool)
+        → spots_of.shown_spots at_least is_leaf (drop from spots.now)
+        ≡ spots_of.shown_spots at_least is_leaf (drop result spots.now) }
+{
+    let mut place = from;
+    while place < spots.len() && count_at(spots, place) + count_at(spots, place + 1) < at_least {
+        place += 1;
+    }
+    place
+}
+
+// The first node that is shown of those at `start` and behind it, at an index or after it.
+pub(crate) fn first_shown(
+    spots: &[Node],
+    start: usize,
+    at_least: u64,
+    is_leaf: bool,
+    from: u64,
+) -> Option<Node>
     requires small { All (λ x. x.index < 2 ^ 48) spots.now }
     requires light { All (λ x. x.count < 2 ^ 61) spots.now }
-    ensures { result ≡ slice_get
-        (spots_of.from_on from (spots_of.shown_spots at_least is_leaf spots.now)) 0 }
+    requires rises { (least n : ℕ) × Rises least n spots.now }
+    requires start { start ≤ length spots.now }
+    ensures { result ≡ slice_get (spots_of.from_on from
+        (spots_of.shown_spots at_least is_leaf (drop start spots.now))) 0 }
 {
-    let mut read = 0;
+    let mut read = pass_light(spots, start, at_least);
     while read < spots.len() {
         let pair = first_pair(&spots[read..]);
         if let Some(node) = shown_of(pair, at_least, is_leaf, from) {
             return Some(node);
         }
-        read += pair.spots;
+        read = pass_light(spots, read + pair.spots, at_least);
     }
     None
 }

@@ -2,7 +2,6 @@ use Rattle.std.proofs.Common.{◌≡◌, ◌≤◌, ◌/◌, ◌^◌, ◌<◌, �
 use Rattle.std.specs.Prelude.{nat_lt}
 use Rattle.std.specs.Option.{option_map}
 use Rattle.std.proofs.Math.Nat.{mod-eq_of_lt}
-use Rattle.std.proofs.lemmas.List.{take_rest}
 use Rattle.std.proofs.lemmas.List.Elements.{All-drop}
 use Rattle.std.proofs.lemmas.List.Sorted.{IsPartitionPoint-from_clause, IsPartitionedBy-ltb}
 use Rattle.sip_wire.specs.declared.message.Node.{Node}
@@ -21,7 +20,12 @@ returns-then-self-eq0-clause-first g c =
 pub first_shown-requires-clause-small : goal.first_shown-requires-clause-small
 first_shown-requires-clause-small g c =
     let spots = c.self.inside.spots.items in
-    rw (c.deref-2.ensures.value, take_rest spots c.partition_point-start.result) (All-drop (λ x. x.index < 2 ^ 48) c.partition_point-start.result spots (kept_small g.F.Field.MODULUS c.self.inside.at_least c.self.inside.levels_left spots c.self.invariant))
+    rw c.deref-2.ensures.value (kept_small g.F.Field.MODULUS c.self.inside.at_least c.self.inside.levels_left spots c.self.invariant)
+
+pub first_shown-requires-clause-rises : goal.first_shown-requires-clause-rises
+first_shown-requires-clause-rises g c =
+    let rises = c.self.invariant.rises in
+    (0, 2 ^ c.self.inside.levels_left, rw c.deref-2.ensures.value rises)
 
 some_left : (n : ℕ) → (n ≡ 0 → ⊥) → 1 ≤ n
 some_left zero off = absurd (off refl)
@@ -36,7 +40,7 @@ returns-in_err-node-clause-first g c =
     let level : 1 ≤ s.levels_left = some_left s.levels_left c.if-self-eq0.false in
     let parts = IsPartitionPoint-from_clause (λ (y : Node). nat_lt (y.index / 2) (from / 2)) spots start (rw c.deref.ensures.value at c.partition_point-start.ensures.partitioned)
     (IsPartitionedBy-ltb (λ (y : Node). y.index / 2) spots (from / 2) (λ i j d le lt. halves_rise spots 0 (2 ^ s.levels_left) i j d c.self.invariant.rises le lt)) (λ a r f called. search (rules, tests)) in
-    let found = rw (c.deref-2.ensures.value, take_rest spots start) at c.first_shown.ensures in
+    let found = rw c.deref-2.ensures.value at c.first_shown.ensures in
     let first = found ∙ first_of_level g.F.Field.MODULUS s.at_least s.levels_left s.is_leaf from start spots c.self.invariant level parts
     ∙ ap (λ (k : Proving). slice_get (from_on from (its_nodes k)) 0) c.self.view_is in
     ap (option_map (node_of g.F.Field.number)) c.from_residual.ensures ∙ sym c.in_err-node.was ∙ first
@@ -50,7 +54,7 @@ returns-clause-first g c =
     let level : 1 ≤ s.levels_left = some_left s.levels_left c.if-self-eq0.false in
     let parts = IsPartitionPoint-from_clause (λ (y : Node). nat_lt (y.index / 2) (from / 2)) spots start (rw c.deref.ensures.value at c.partition_point-start.ensures.partitioned)
     (IsPartitionedBy-ltb (λ (y : Node). y.index / 2) spots (from / 2) (λ i j d le lt. halves_rise spots 0 (2 ^ s.levels_left) i j d c.self.invariant.rises le lt)) (λ a r f called. search (rules, tests)) in
-    let found = rw (c.deref-2.ensures.value, take_rest spots start) at c.first_shown.ensures in
+    let found = rw c.deref-2.ensures.value at c.first_shown.ensures in
     let first = found ∙ first_of_level g.F.Field.MODULUS s.at_least s.levels_left s.is_leaf from start spots c.self.invariant level parts
     ∙ ap (λ (k : Proving). slice_get (from_on from (its_nodes k)) 0) c.self.view_is in
     let node = c.in_ok-node.node in
@@ -69,7 +73,7 @@ returns-clause-within g c =
     let level : 1 ≤ s.levels_left = some_left s.levels_left c.if-self-eq0.false in
     let parts = IsPartitionPoint-from_clause (λ (y : Node). nat_lt (y.index / 2) (from / 2)) spots start (rw c.deref.ensures.value at c.partition_point-start.ensures.partitioned)
     (IsPartitionedBy-ltb (λ (y : Node). y.index / 2) spots (from / 2) (λ i j d le lt. halves_rise spots 0 (2 ^ s.levels_left) i j d c.self.invariant.rises le lt)) (λ a r f called. search (rules, tests)) in
-    let found = rw (c.deref-2.ensures.value, take_rest spots start) at c.first_shown.ensures in
+    let found = rw c.deref-2.ensures.value at c.first_shown.ensures in
     let first = found ∙ first_of_level g.F.Field.MODULUS s.at_least s.levels_left s.is_leaf from start spots c.self.invariant level parts
     ∙ ap (λ (k : Proving). slice_get (from_on from (its_nodes k)) 0) c.self.view_is in
     let now = c.args.self.now in
