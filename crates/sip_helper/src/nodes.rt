@@ -80,7 +80,11 @@ fn put_leaves<K: Sink>(
         if rows.is_empty() {
             return Ok(());
         }
+        let is_last = !rows.is_full();
         encode(&Message::Leaves(rows), version, out)?;
+        if is_last {
+            return Ok(());
+        }
         next = behind;
     }
 }
@@ -102,7 +106,11 @@ fn put_nodes<K: Sink>(
         if rows.is_empty() {
             return Ok(());
         }
+        let is_last = !rows.is_full();
         encode(&Message::Nodes(rows), version, out)?;
+        if is_last {
+            return Ok(());
+        }
         next = behind;
     }
 }

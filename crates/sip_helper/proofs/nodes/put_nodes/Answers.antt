@@ -1,10 +1,11 @@
 -- One frame after another is sent.
-use Rattle.std.proofs.Common.{◌<◌, ◌≤◌, length, rules}
+use Rattle.std.proofs.Common.{ℕ, ◌<◌, ◌≤◌, [], length, refl, rules, arith}
 use Rattle.std.proofs.lemmas.Result.{err_from_is_err_and}
 use Rattle.sip_ports.proofs.FaultLemmas.{Lasts-refl, Lasts-trans, Lasts-of_HasCause}
 use Rattle.sip_heavy.specs.Honest.{its_nodes}
+use Rattle.sip_heavy.specs.Spots.{from_on}
 use Rattle.sip_heavy.proofs.ShownWalks.{all_found}
-use Rattle.sip_helper.proofs.Frames.{begins, frame_fits, goes_on, stops}
+use Rattle.sip_helper.proofs.Frames.{begins, ends, frame_fits, goes_on, stops}
 use Rattle.sip_helper.proofs.ShownFrames.{nodes}
 use Rattle.sip_helper.proofs.nodes.put_nodes.Goals as goal
 
@@ -41,3 +42,13 @@ loop-version-preserved g c =
       partly = goes_on nodes 256 c.args.version _ _ _ _ _ _ c.loop-version.invariant.partly c.next_nodes-rows.ensures.split c.next_nodes-rows.ensures.last some most _ c.in_ok-encode.ensures.talk;
       lasts = Lasts-trans faults wants is_sure c.args.out.now c.loop-version.out c.encode.new.sink c.loop-version.invariant.lasts (Lasts-of_HasCause faults wants is_sure c.loop-version.out c.encode.new.sink c.encode.result c.encode.ensures.cause);
     }
+
+-- a frame that is not full is the last one
+pub returns-then-is_last-clause-talk : goal.returns-then-is_last-clause-talk
+returns-then-is_last-clause-talk g c =
+    let rows = c.next_nodes-rows.result.0.items in
+    let some : 0 < length rows = search rules in
+    let short : length rows < 256 = search rules in
+    let sent = goes_on nodes 256 c.args.version _ _ _ _ _ _ c.loop-version.invariant.partly c.next_nodes-rows.ensures.split c.next_nodes-rows.ensures.last some (omega (arith, short)) _ c.in_ok-encode.ensures.talk in
+    ends nodes 256 c.args.version (g.K.Sink.talk c.args.out.now) (g.K.Sink.talk c.encode.new.sink) (its_nodes c.args.prover.now) (from_on c.next_nodes-rows.result.1 (its_nodes c.args.prover.now)) [] [] sent
+    (c.next_nodes-rows.ensures.last short) (λ _. refl) ℕ (omega arith) refl
