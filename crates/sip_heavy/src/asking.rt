@@ -200,6 +200,3 @@ fn write_found(found: &[Entry], places: &mut [Entry])
 {
     places[..found.len()].copy_from_slice(found);
 }
-
-#[cfg(test)]
-mod tests;

@@ -497,6 +497,3 @@ fn copy_of<F: Field, const CAP: usize>(root: &AugRoot<F, CAP>) -> AugRoot<F, CAP
         total: root.total,
     }
 }
-
-#[cfg(test)]
-mod tests;

@@ -78,6 +78,3 @@ mod prover;
 mod spots;
 
 pub use prover::{HeavyNode, HeavyProver};
-
-#[cfg(test)]
-mod counting_tests;

@@ -123,6 +123,3 @@ impl<F: Field> HeavyProver<F> {
         self.levels_left -= 1;
     }
 }
-
-#[cfg(test)]
-mod tests;

@@ -1,4 +1,4 @@
-//! What the public calls of the two checks, of their honest sides, of the helper and of the call that asks do over worked rows.
+//! What the public calls of the checks, of their honest sides, of the helper and of the call that asks do over worked rows.
 //! Nothing but tests stands here, so that each of these layers is proved once.
 #![tactic(auto)]
 
@@ -8,6 +8,12 @@ mod entry_check_tests;
 mod entry_prover_tests;
 #[cfg(test)]
 mod event_tests;
+#[cfg(test)]
+mod heavy_asking_tests;
+#[cfg(test)]
+mod heavy_check_tests;
+#[cfg(test)]
+mod heavy_prover_tests;
 #[cfg(test)]
 mod helper_tests;
 #[cfg(test)]

@@ -1,5 +1,5 @@
 use Rattle.std.proofs.Common.{◌≤◌}
-use Rattle.sip_heavy.proofs.counting_tests.a_misplaced_entry_passes_at_91_of_961_challenges.Given as goal
+use Rattle.sip_talk_rows.proofs.heavy_check_tests.a_misplaced_entry_passes_at_91_of_961_challenges.Given as goal
 
 -- the room stays
 abbrev pub invariant-loop-second : goal.invariant-loop-second

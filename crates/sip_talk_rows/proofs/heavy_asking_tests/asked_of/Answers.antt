@@ -1,6 +1,6 @@
 use Rattle.std.proofs.Common.{arith, refl}
 use Rattle.sip_wire.specs.Spelling.{fits, has_room, all_hold}
-use Rattle.sip_heavy.proofs.asking.tests.asked_of.Goals as goal
+use Rattle.sip_talk_rows.proofs.heavy_asking_tests.asked_of.Goals as goal
 
 pub ask-said-requires-clause-stood : goal.ask-said-requires-clause-stood
 ask-said-requires-clause-stood c =

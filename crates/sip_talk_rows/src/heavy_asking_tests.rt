@@ -4,8 +4,8 @@ ghost use Rattle.sip_replies.specs.Protocols.{Begins};
 ghost use Rattle.sip_heavy.specs.Asking.{HeavyStands, phase_of};
 ghost use Rattle.sip_heavy.specs.Protocol.{HeavyAsked, nothing_came};
 
-use crate::{HeavyAsking, HeavySpace};
 use sip_field::{Field, M61, Seat};
+use sip_heavy::{HeavyAsking, HeavySpace};
 use sip_ports::{MemoryLink, NullSink};
 use sip_replies::{AskStop, Check, Said, ask};
 use sip_tree::AugRoot;
@@ -99,6 +99,7 @@ fn asked_of(
     Ok((said, places[0]))
 }
 
+// Nothing is asked where the total is below the threshold, as 9 is below 10, and -1 below 1.
 #[test]
 fn the_heavy_entry_is_answered(rt: HostRuntime) -> Result<(), Fail> {
     let replies: [&[u8]; 7] = [
@@ -115,6 +116,12 @@ fn the_heavy_entry_is_answered(rt: HostRuntime) -> Result<(), Fail> {
         assert_eq!(rt; said, Ok(Said::Pairs(1)));
         assert_eq!(rt; place, Entry { index: 2, value: 5 });
     }
+    let (said, _) = asked_of(rt.alloc(), 10, &[], 1)?;
+    assert_eq!(rt; said, Ok(Said::Pairs(0)));
+    let mut root: AugRoot<M61, CAP> = AugRoot::new(Seat::of(&[M61::of(2)]).unwrap());
+    root.update(1, -1);
+    let check = HeavyAsking::start(&root, 1, HeavySpace::reserve(rt.alloc(), 0)?);
+    assert_eq!(rt; check.unasked(), Some(Said::Pairs(0)));
     Ok(())
 }
 
@@ -184,17 +191,5 @@ fn each_fault_has_its_round_and_its_reason(rt: HostRuntime) -> Result<(), Fail> 
         (0, Reason::Refused(3)),
     ];
     assert_eq!(rt; faults, want.map(Some));
-    Ok(())
-}
-
-// Nothing is asked where the total is below the threshold, as 9 is, or -1.
-#[test]
-fn a_total_below_the_threshold_is_not_asked(rt: HostRuntime) -> Result<(), Fail> {
-    let (said, _) = asked_of(rt.alloc(), 10, &[], 1)?;
-    assert_eq!(rt; said, Ok(Said::Pairs(0)));
-    let mut root: AugRoot<M61, CAP> = AugRoot::new(Seat::of(&[M61::of(2)]).unwrap());
-    root.update(1, -1);
-    let check = HeavyAsking::start(&root, 1, HeavySpace::reserve(rt.alloc(), 0)?);
-    assert_eq!(rt; check.unasked(), Some(Said::Pairs(0)));
     Ok(())
 }
