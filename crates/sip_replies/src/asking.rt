@@ -13,7 +13,7 @@ use crate::keeper::Keeper;
 use crate::taking::{ReplyStop, take_reply};
 use sip_ports::{Link, PortStop};
 use sip_vector::{Entry, Query};
-use sip_wire::{Frame, Message, Reason, Version, encode};
+use sip_wire::{Frame, Message, Reason, Version, encode, encode_reveal};
 
 /// Why a query has no answer.
 #[derive(Clone, Copy, Debug, PartialEq, Eq)]
@@ -88,7 +88,7 @@ fn send_reveal<L: Link>(challenge: u64, version: Version, link: &mut L) -> Resul
         (spelling version (messages.Reveal challenge)) }
     ensures cause { HasCause L.faults L.wants L.is_sure link.old link.new result }
 {
-    encode(&Message::Reveal { challenge }, version, link)
+    encode_reveal(challenge, link)
 }
 
 /// Asks a query, takes the replies, reveals a challenge between two of them, and checks them.

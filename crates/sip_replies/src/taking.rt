@@ -10,7 +10,7 @@ use crate::check::{Check, More};
 use crate::keeper::Keeper;
 use sip_ports::{Link, PortStop};
 use sip_vector::Entry;
-use sip_wire::{Frame, Message, Place, Reason, Version, WireFault, decode_into};
+use sip_wire::{Frame, Place, Reason, Version, WireFault, decode_within};
 
 /// Why a reply was not taken.
 #[derive(Clone, Copy, Debug, PartialEq, Eq)]
@@ -81,10 +81,9 @@ pub(crate) fn receive<L: Link, K: Keeper>(
     frame: &mut Frame,
     link: &mut L,
     keep: &mut K,
-    message: &mut Message,
 ) -> Result<(), ReplyStop>
     ensures took { Takes (read_one version place) (L.talk link.old) (L.talk link.new)
-        (K.talk keep.old) (K.talk keep.new) (Shows version) (filled message.new result) }
+        (K.talk keep.old) (K.talk keep.new) (Shows version) (filled frame.new result) }
     ensures link { Lasts L.faults L.wants L.is_sure link.old link.new }
     ensures keep { Lasts K.faults K.wants K.is_sure keep.old keep.new }
     ensures peer { result ≡ Err ReplyStop.PeerFault → Rose (L.faults link.old) (L.faults link.new) }
@@ -95,7 +94,7 @@ pub(crate) fn receive<L: Link, K: Keeper>(
     ensures keeper_memory { result ≡ Err ReplyStop.KeepOutOfMemory
         → Rose (K.wants keep.old) (K.wants keep.new) }
 {
-    match decode_into(link, place, version, frame, message) {
+    match decode_within(link, place, version, frame) {
         Err(WireFault::PeerFault) => Err(ReplyStop::PeerFault),
         Err(WireFault::OutOfMemory) => Err(ReplyStop::OutOfMemory),
         judged => {
@@ -136,12 +135,9 @@ pub(crate) fn take_reply<C: Check, L: Link, K: Keeper>(
     ensures keeper_memory { result ≡ Err ReplyStop.KeepOutOfMemory
         → Rose (K.wants keep.old) (K.wants keep.new) }
 {
-    // One message for the whole reply: the rows of a frame are read in place of those of the frame
-    // before.
-    let mut message = Message::Bye;
     loop {
-        receive(version, check.place(), frame, link, keep, &mut message)?;
-        match check.take(&message, places)? {
+        receive(version, check.place(), frame, link, keep)?;
+        match check.take(frame.message(), places)? {
             More::Due => {}
             More::Complete => return Ok(()),
         }

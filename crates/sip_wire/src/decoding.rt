@@ -106,3 +106,17 @@ pub fn decode<L: Link>(
         Err(fault) => Err(fault),
     }
 }
+
+/// Receives exactly one frame of a version into `frame`, and reads its message, which `frame` then has.
+pub fn decode_within<L: Link>(
+    link: &mut L,
+    place: Place,
+    version: Version,
+    frame: &mut Frame,
+) -> Result<(), WireFault> {
+    frame.clear();
+    frame.receive(link, HEAD)?;
+    let (kind, len) = head_of(version, place, frame.bytes())?;
+    frame.receive(link, HEAD + len)?;
+    frame.read(version, kind)
+}

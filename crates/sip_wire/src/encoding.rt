@@ -69,3 +69,9 @@ pub fn encode<K: Sink>(message: &Message, version: Version, sink: &mut K) -> Res
     put_frame(version, message, &mut out);
     write_whole(sink, &out)
 }
+
+/// Writes the frame of a challenge.
+pub fn encode_reveal<K: Sink>(challenge: u64, sink: &mut K) -> Result<(), PortStop> {
+    let [a, b, c, d, e, f, g, h] = challenge.to_be_bytes();
+    write_whole(sink, &[Kind::Reveal.byte(), 0, 8, a, b, c, d, e, f, g, h])
+}

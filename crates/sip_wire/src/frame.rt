@@ -3,7 +3,10 @@
 ghost use Rattle.std.specs.Prelude.{◌≡◌, ◌≤◌, vec_len};
 ghost use Rattle.sip_wire.specs.Table.{longest_frame};
 
-use crate::message::WireFault;
+use crate::Version;
+use crate::kind::Kind;
+use crate::message::{Message, WireFault};
+use crate::reading::read_body;
 use sip_field::OutOfMemory;
 use sip_ports::Link;
 use std::alloc::Global;
@@ -15,11 +18,16 @@ pub const HEAD: usize = 3;
 pub const LONGEST_FRAME: usize = 8709;
 
 /// What was received of a frame: room for the longest one, taken once, and how many bytes of it
-/// came.
+/// came; and the message that was read off them last.
 #[derive(Drop)]
 pub struct Frame {
     buffer: Vec<u8>,
     taken: usize,
+    // The last message with rows that was read here, and the last one of another kind. Each is as
+    // large as the longest frame's rows, and so is read in place of the one before.
+    rows: Box<Message>,
+    other: Box<Message>,
+    has_rows: bool,
     ghost room: { vec_len buffer ≡ longest_frame },
     ghost within: { taken ≤ longest_frame },
 }
@@ -36,7 +44,19 @@ impl Frame {
         let Ok(buffer) = vec![in alloc; 0; LONGEST_FRAME] else {
             return Err(OutOfMemory);
         };
-        Ok(Frame { buffer, taken: 0 })
+        let Ok(rows) = Box::new(alloc, Message::Bye) else {
+            return Err(OutOfMemory);
+        };
+        let Ok(other) = Box::new(alloc, Message::LevelEnd) else {
+            return Err(OutOfMemory);
+        };
+        Ok(Frame {
+            buffer,
+            taken: 0,
+            rows,
+            other,
+            has_rows: false,
+        })
     }
 
     /// The bytes that the last `decode` received, also where it failed.
@@ -74,5 +94,23 @@ impl Frame {
             self.taken += came;
         }
         Ok(())
+    }
+
+    /// The message that `decode_within` read last.
+    pub fn message(&self) -> &Message {
+        if self.has_rows {
+            return &*self.rows;
+        }
+        &*self.other
+    }
+
+    /// Reads the message of a frame.
+    pub(crate) fn read(&mut self, version: Version, kind: Kind) -> Result<(), WireFault> {
+        self.has_rows = kind.has_rows();
+        let bytes = &self.buffer[HEAD..self.taken];
+        if self.has_rows {
+            return read_body(version, kind, bytes, &mut *self.rows);
+        }
+        read_body(version, kind, bytes, &mut *self.other)
     }
 }

@@ -49,6 +49,11 @@ pub enum Place {
 }
 
 impl Kind {
+    /// Whether the frame has rows.
+    pub fn has_rows(self) -> bool {
+        matches!(self, Kind::Updates | Kind::Entries | Kind::Leaves | Kind::Nodes)
+    }
+
     /// The byte that stands for the kind.
     pub fn byte(self) -> u8
         ensures { result ≡ byte_of self }

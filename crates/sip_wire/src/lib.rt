@@ -56,8 +56,8 @@ mod version;
 mod writing;
 
 pub use at_hand::{frame_length, read};
-pub use decoding::{decode, decode_into};
-pub use encoding::{encode, encode_updates};
+pub use decoding::{decode, decode_into, decode_within};
+pub use encoding::{encode, encode_reveal, encode_updates};
 pub use frame::{Frame, LONGEST_FRAME};
 pub use kind::Place;
 pub use message::{Leaf, MOST_NODES, MOST_QUERIES, MOST_ROWS, Message, Node, Reason, WireFault};

@@ -263,6 +263,11 @@ fn read_query(version: Version, body: &[u8], message: &mut Message) -> Result<()
 // Rows are read into those of the message where it is of their kind, so that a frame like the last
 // one moves nothing.
 
+#[inline(never)]
+fn begin_updates(message: &mut Message) {
+    *message = Message::Updates(ArrayVec::new());
+}
+
 fn read_updates(version: Version, body: &[u8], message: &mut Message) -> Result<(), WireFault>
     requires { 2 ≤ length body.now }
     ensures { ReadsBody version kinds.Updates body.now (filled message.new result) }
@@ -270,10 +275,16 @@ fn read_updates(version: Version, body: &[u8], message: &mut Message) -> Result<
     if let Message::Updates(rows) = message {
         return fill_counted(version, body, rows);
     }
-    let mut rows = ArrayVec::new();
-    fill_counted(version, body, &mut rows)?;
-    *message = Message::Updates(rows);
-    Ok(())
+    begin_updates(message);
+    if let Message::Updates(rows) = message {
+        return fill_counted(version, body, rows);
+    }
+    unreachable!()
+}
+
+#[inline(never)]
+fn begin_entries(message: &mut Message) {
+    *message = Message::Entries(ArrayVec::new());
 }
 
 fn read_entries(version: Version, body: &[u8], message: &mut Message) -> Result<(), WireFault>
@@ -283,10 +294,16 @@ fn read_entries(version: Version, body: &[u8], message: &mut Message) -> Result<
     if let Message::Entries(rows) = message {
         return fill_counted(version, body, rows);
     }
-    let mut rows = ArrayVec::new();
-    fill_counted(version, body, &mut rows)?;
-    *message = Message::Entries(rows);
-    Ok(())
+    begin_entries(message);
+    if let Message::Entries(rows) = message {
+        return fill_counted(version, body, rows);
+    }
+    unreachable!()
+}
+
+#[inline(never)]
+fn begin_leaves(message: &mut Message) {
+    *message = Message::Leaves(ArrayVec::new());
 }
 
 fn read_leaves(version: Version, body: &[u8], message: &mut Message) -> Result<(), WireFault>
@@ -296,10 +313,16 @@ fn read_leaves(version: Version, body: &[u8], message: &mut Message) -> Result<(
     if let Message::Leaves(rows) = message {
         return fill_counted(version, body, rows);
     }
-    let mut rows = ArrayVec::new();
-    fill_counted(version, body, &mut rows)?;
-    *message = Message::Leaves(rows);
-    Ok(())
+    begin_leaves(message);
+    if let Message::Leaves(rows) = message {
+        return fill_counted(version, body, rows);
+    }
+    unreachable!()
+}
+
+#[inline(never)]
+fn begin_nodes(message: &mut Message) {
+    *message = Message::Nodes(ArrayVec::new());
 }
 
 fn read_nodes(version: Version, body: &[u8], message: &mut Message) -> Result<(), WireFault>
@@ -309,10 +332,16 @@ fn read_nodes(version: Version, body: &[u8], message: &mut Message) -> Result<()
     if let Message::Nodes(rows) = message {
         return fill_counted(version, body, rows);
     }
-    let mut rows = ArrayVec::new();
-    fill_counted(version, body, &mut rows)?;
-    *message = Message::Nodes(rows);
-    Ok(())
+    begin_nodes(message);
+    if let Message::Nodes(rows) = message {
+        return fill_counted(version, body, rows);
+    }
+    unreachable!()
+}
+
+#[inline(never)]
+fn end_level(message: &mut Message) {
+    *message = Message::LevelEnd;
 }
 
 /// Reads the message of a body that is as long as its kind has it. After a fault `message` is any.
@@ -345,7 +374,10 @@ pub fn read_body(
         Kind::Leaves => read_leaves(version, body, message),
         Kind::Nodes => read_nodes(version, body, message),
         Kind::LevelEnd => {
-            *message = Message::LevelEnd;
+            if let Message::LevelEnd = message {
+                return Ok(());
+            }
+            end_level(message);
             Ok(())
         }
         Kind::Refuse => read_refuse(version, body, message),
