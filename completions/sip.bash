@@ -5,13 +5,14 @@ _sip_kinds() {
     case $1 in
         verify) echo stream file file file record depth query ;;
         help) echo file file ;;
+        show | convert) echo file ;;
         gen) echo number number depth ;;
         lines | widen) echo stream depth ;;
         play) echo stream file helper record depth query ;;
     esac
 }
 
-_sip_commands='verify help gen lines widen play --help --version'
+_sip_commands='verify help show convert gen lines widen play --help -h --progress --version -V'
 _sip_queries='sub: range:0: range:1: f2:0 f2:1 inner heavy:0: heavy:1: share:0: share:1:'
 
 # What may be written in the place of the last word, whose kind is given first.
@@ -19,6 +20,7 @@ _sip_candidates() {
     local kind=$1 word=$2 depths
     case $kind in
         command) compgen -W "$_sip_commands" -- "$word" ;;
+        help) compgen -W '--help -h' -- "$word" ;;
         query) compgen -W "$_sip_queries" -- "$word" ;;
         record)
             compgen -W - -- "$word"
@@ -50,9 +52,14 @@ _sip() {
             words+=("$piece")
         fi
     done
+    if [[ ${#words[@]} -gt 2 && ${words[1]} == --progress ]]; then
+        words=("${words[0]}" "${words[@]:2}")
+    fi
     place=$((${#words[@]} - 1))
     if ((place == 1)); then
         kind='command'
+    elif ((place == 2)) && [[ ${words[2]} == -* && -n $(_sip_kinds "${words[1]}") ]]; then
+        kind='help'
     else
         read -ra kinds <<<"$(_sip_kinds "${words[1]}")"
         kind=${kinds[place - 2]:-}

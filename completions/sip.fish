@@ -1,5 +1,10 @@
 # Completes the words of sip in fish.
 
+# The words before the present one. Those of a command behind --progress are as if it was not there.
+function __sip_words
+    commandline -opc | string match -v -- --progress
+end
+
 # The kinds of the words behind a command. Where the last one is `query`, more of it may follow.
 function __sip_kinds
     switch $argv[1]
@@ -7,6 +12,8 @@ function __sip_kinds
             printf '%s\n' stream file file file record depth query
         case help
             printf '%s\n' file file
+        case show convert
+            printf '%s\n' file
         case gen
             printf '%s\n' number number depth
         case lines widen
@@ -18,7 +25,7 @@ end
 
 # What may be written in the place of the present word.
 function __sip_candidates
-    set -l words (commandline -opc)
+    set -l words (__sip_words)
     set -l word (commandline -ct)
     set -l kinds (__sip_kinds $words[2])
     set -l place (math (count $words) - 1)
@@ -56,16 +63,26 @@ function __sip_candidates
 end
 
 function __sip_is_first
-    test (count (commandline -opc)) -eq 1
+    test (count (__sip_words)) -eq 1
+end
+
+# Behind a command, where its part of the page may be asked for.
+function __sip_is_second
+    set -l words (__sip_words)
+    test (count $words) -eq 2; and __sip_kinds $words[2] | string length -q
 end
 
 complete -c sip -f
 complete -c sip -n __sip_is_first -a verify -d 'ask a helper and check what it answers'
 complete -c sip -n __sip_is_first -a help -d 'be the helper'
+complete -c sip -n __sip_is_first -a show -d 'list a transcript'
+complete -c sip -n __sip_is_first -a convert -d 'write a transcript in version 2'
 complete -c sip -n __sip_is_first -a gen -d 'write a made stream'
 complete -c sip -n __sip_is_first -a lines -d 'print a stream as lines of text'
 complete -c sip -n __sip_is_first -a widen -d 'write a stream as wide records'
 complete -c sip -n __sip_is_first -a play -d 'ask a helper in the same program'
-complete -c sip -n __sip_is_first -l help -d 'print the page of all commands'
-complete -c sip -n __sip_is_first -l version -d 'print the version'
+complete -c sip -n __sip_is_first -s h -l help -d 'print the page of all commands'
+complete -c sip -n __sip_is_first -l progress -d 'say how far the command is'
+complete -c sip -n __sip_is_first -s V -l version -d 'print the version'
+complete -c sip -n __sip_is_second -s h -l help -d 'print the words of the command'
 complete -c sip -n 'not __sip_is_first' -a '(__sip_candidates)'

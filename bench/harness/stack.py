@@ -1,11 +1,15 @@
 """The stack that either end uses at most."""
 
 from harness.children import run
+from harness.hitters import AT_LEAST
 from harness.settings import reachable
 from harness.talks import Talks, made, parts
 
 MOST = 64 * 1024
 RECORDS = 100_000
+
+# Beside queries for sub-vectors: one of each kind for which an end keeps other numbers.
+OTHERS = ("f2:0", "inner", f"heavy:0:{AT_LEAST}")
 
 
 def measure(programs, settings, work):
@@ -17,13 +21,14 @@ def measure(programs, settings, work):
     print(f"{'gen of one record':26}" + "".join(f"{stack:>9}" for stack in starts))
     above = []
     for depth in settings.depths:
-        for queries in settings.queries:
-            talks = Talks(made(programs["sip"], RECORDS, depth), depth, work)
+        talks = Talks(made(programs["sip"], RECORDS, depth), depth, work)
+        asked = [(f"{queries:2}", parts(queries)) for queries in settings.queries]
+        for label, words in asked + [(word, [word]) for word in OTHERS]:
             stacks = {}
             for name, program in reachable(programs, depth):
-                stacks[name] = [child.stack for child in talks.talk(name, program, parts(queries), traced=True)]
+                stacks[name] = [child.stack for child in talks.talk(name, program, words, traced=True)]
             for which, end in enumerate(("help", "verify")):
-                line = f"{end:6} {depth} {queries:2}"
+                line = f"{end:6} {depth} {label}"
                 cells = [str(stacks[name][which]) if name in stacks else "-" for name in programs]
                 print(line.ljust(26) + "".join(f"{cell:>9}" for cell in cells), flush=True)
                 if stacks["sip"][which] > MOST:

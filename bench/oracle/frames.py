@@ -15,6 +15,9 @@ CODES = {name: code for code, name in KINDS.items()}
 
 PLACES = {
     "ToHelper": {"Open", "Updates", "EndStream", "Query", "Reveal", "Bye"},
+    "ToVerifier": {
+        "Claim", "Poly", "Entries", "Siblings", "Leaves", "Nodes", "LevelEnd", "Refuse"
+    },
     "Entries": {"Entries", "Siblings", "Refuse"},
     "Siblings": {"Siblings", "Refuse"},
     "Claim": {"Claim", "Refuse"},

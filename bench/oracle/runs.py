@@ -10,6 +10,7 @@ from .frames import spelling
 from .judging import verdict
 from .questions import rejection, version_needed
 from .streams import made, made_form, record, records, vectors
+from .transcripts import Bad, listing, told, wide
 from .turns import serve
 from .words import Usage, read_words
 
@@ -18,8 +19,8 @@ FULL = 512
 
 CODES = {
     "Accepted": 0, "Served": 0, "Wrote": 0, "Page": 0, "Rejected": 1, "Usage": 2, "BadStream": 3,
-    "BadSeed": 3, "BadFrame": 3, "TooWide": 3, "ReadFault": 4, "WriteFault": 4, "PeerFault": 4,
-    "PeerClosed": 4,
+    "BadSeed": 3, "BadTranscript": 3, "BadFrame": 3, "TooWide": 3, "ReadFault": 4,
+    "WriteFault": 4, "PeerFault": 4, "PeerClosed": 4,
 }  # fmt: skip
 
 
@@ -42,18 +43,31 @@ class Outcome(NamedTuple):
 def run(words, files, may_be_made=lambda name: True):
     """The run of these words, which are bytes, where these files stand. A file that a name can't be
     made of has no bytes."""
+    words = behind_progress(words)
     try:
         verb, said = read_words([word.decode() for word in words])
     except UnicodeDecodeError:
         return Outcome("Usage", "sip: usage at word 0", b"", None)
     except Usage as usage:
-        if words in ([b"--help"], [b"--version"]):
+        if asks_for_text(words):
             return Outcome("Page", "", b"", None)
         return Outcome("Usage", f"sip: usage at word {usage.word}", b"", None)
     port = Ports(said, files, may_be_made)
     return {
-        "verify": verify, "play": play, "help": help_, "gen": gen, "lines": copy, "widen": copy,
+        "verify": verify, "play": play, "help": help_, "show": read_back, "convert": read_back,
+        "gen": gen, "lines": copy, "widen": copy,
     }[verb](verb, said, port)  # fmt: skip
+
+
+def behind_progress(words):
+    return words[1:] if words[:1] == [b"--progress"] else words
+
+
+def asks_for_text(words):
+    """Words for help or the version, alone, or for help behind a verb."""
+    helps, versions = [[b"--help"], [b"-h"]], [[b"--version"], [b"-V"]]
+    verbs = [[verb] for verb in (b"verify", b"play", b"help", b"gen", b"lines", b"widen")]
+    return words in helps + versions or words[:1] in verbs and words[1:] in helps
 
 
 class Ports:
@@ -61,10 +75,17 @@ class Ports:
 
     def __init__(self, said, files, may_be_made):
         self.first = source(said["stream"], said["depth"], files) if "stream" in said else None
-        self.second = files.get(said.get("seed"))
+        self.second = files.get(said.get("transcript", said.get("seed")))
         self.replies = files.get(said.get("from"))
-        self.to = b"" if "to" in said and may_be_made(said["to"]) else None
-        self.keeps = said.get("record", "-") == "-" or may_be_made(said["record"])
+        # An output that is a file of the command is not opened. TO is there before RECORD is opened.
+        to, record = said.get("to"), said.get("record", "-")
+        read = {said.get("seed"), said.get("from")}
+        if "stream" in said and said["stream"].form != "made":
+            read.add(said["stream"].path)
+        taken = to in files and (to in read or to == record != "-")
+        self.to = None if to is None or taken or not may_be_made(to) else b""
+        taken = record == to or record in files and record in read
+        self.keeps = record == "-" or may_be_made(record) and not taken
 
 
 def source(stream, depth, files):
@@ -94,6 +115,23 @@ def help_(_, __, port):
         served.reason,
         tuple(served.turns),
     )
+
+
+def read_back(verb, _, port):
+    if port.second is None:
+        return Outcome("ReadFault", "sip: read fault on second", b"", None)
+    try:
+        it = told(port.second)
+    except Bad as bad:
+        return bad_transcript(bad.at, b"")
+    report = listing(it) if verb == "show" else wide(it)
+    if it.bad is not None:
+        return bad_transcript(it.bad, report)
+    return Outcome("Wrote", "", report, None)
+
+
+def bad_transcript(at, report):
+    return Outcome("BadTranscript", f"sip: bad transcript at offset {at}", report, None)
 
 
 def gen(_, said, __):

@@ -13,6 +13,8 @@ QUERIES = 16
 COMMANDS = {
     "verify": ("stream", "seed", "from", "to", "record", "depth", "queries"),
     "help": ("from", "to"),
+    "show": ("transcript",),
+    "convert": ("transcript",),
     "gen": ("number", "count", "depth"),
     "lines": ("stream", "depth"),
     "widen": ("stream", "depth"),

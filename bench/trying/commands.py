@@ -3,6 +3,7 @@ not."""
 
 from oracle.frames import spelling
 from oracle.questions import Question
+from oracle.runs import behind_progress
 from oracle.streams import record
 from oracle.words import Usage, read_words
 
@@ -11,7 +12,7 @@ from .program import FROM, TO
 
 WORDS = (
     "verify", "help", "gen", "lines", "widen", "play", "audit", "show", "convert", "", "-",
-    "--help", "--version", "-h", "honest", "skewed", "mute", "stream", "text:lines",
+    "--help", "--version", "-h", "-V", "honest", "skewed", "mute", "stream", "text:lines",
     "wide:records", "made:7:3", "made:0:0", "made:7:10000000", "made:7:10000001",
     "made:18446744073709551615:1", "made:18446744073709551616:1", "made:07:1", "made:7:",
     "made::1", "made:7:1:1", "made:", "text:", "wide:", "text:made:7:3", "seed", "short", "none",
@@ -34,18 +35,27 @@ QUERIES = (
 NO_TEXT = (b"\xff", b"a\xc0\xafb", b"\xed\xa0\x80")
 
 UPDATES = [(0, 0, 3), (0, 2, 5), (0, 3, 1)]
+
+# The replies to `sub:1:2` about this stream at depth 2, which are the same at all challenges.
+SUB = bytes.fromhex(
+    "13000e0001000000020000000000000005 140011030000000000000003 0000000000000001 140001 00"
+)
+
+# The transcript of a run that asks it, at the challenges 2 and 10.
+RECORD = b"SIPT" + bytes([1, 2, 1]) + spelling(("Query", Question("sub", 0, 1, 2)), 1)
+RECORD += (2).to_bytes(8, "big") + (10).to_bytes(8, "big") + SUB
+
 FILES = {
     "stream": b"".join(record(update, "binary") for update in UPDATES),
     "lines": b"".join(record(update, "text") for update in UPDATES),
     "records": b"".join(record(update, "wide") for update in UPDATES),
     "seed": bytes(32),
     "short": bytes(31),
+    "record": RECORD,
+    "broken": RECORD[:75],
+    "deep": RECORD[:5] + b"\x21" + RECORD[6:],
 }
 
-# The replies to `sub:1:2` about this stream at depth 2, which are the same at all challenges.
-SUB = bytes.fromhex(
-    "13000e0001000000020000000000000005 140011030000000000000003 0000000000000001 140001 00"
-)
 TALK = b"".join(
     spelling(message, 1)
     for message in (
@@ -64,14 +74,16 @@ def case(chance):
     for _ in range(chance.choice((0, 0, 0, 1, 1, 1, 2))):
         words = changed(chance, words)
     words = [word.encode() for word in short_and_apart(words)]
+    if chance.one_in(8):
+        words.insert(0, b"--progress")
     if words and chance.one_in(200):
         words[chance.randrange(len(words))] = chance.choice(NO_TEXT)
     replies = chance.choice((SUB, b"", SUB[:20]))
-    return Case(words, FILES, TALK if words[:1] == [b"help"] else replies)
+    return Case(words, FILES, TALK if behind_progress(words)[:1] == [b"help"] else replies)
 
 
 def short_and_apart(words):
-    """The same words, where they don't make a long stream, and write to no file that they read."""
+    """The same words, where they don't make a long stream, and make no file that they read later."""
     try:
         _, said = read_words(words)
     except Usage:
@@ -80,9 +92,10 @@ def short_and_apart(words):
     if max(said.get("count", 0), stream.count if stream else 0) > 1000:
         return ["lines", "made:7:1000", "20"]
     read = {said.get("seed"), said.get("from"), stream.path if stream else None}
+    read -= {*FILES, FROM}
     if "to" in said and said["to"] in read:
         return [*words[:-1], "apart"] if words[0] == "help" else [*words[:4], "apart", *words[5:]]
-    if said.get("record", "-") != "-" and said["record"] in {*read, said.get("to")}:
+    if said.get("record", "-") != "-" and said["record"] in read:
         at = 5 if words[0] == "verify" else 4
         return [*words[:at], "kept", *words[at + 1 :]]
     return words
@@ -90,11 +103,14 @@ def short_and_apart(words):
 
 def whole(chance):
     """The words of a command."""
-    verb = chance.choice(("verify", "verify", "play", "play", "help", "gen", "lines", "widen"))
+    verb = chance.choice(
+        ("verify", "verify", "play", "play", "help", "show", "convert", "gen", "lines", "widen")
+    )
     stream = chance.choice(("stream", "text:lines", "wide:records", "made:7:3", "none"))
     seed = chance.choice(("seed", "seed", "seed", "short", "none"))
+    transcript = chance.choice(("record", "record", "broken", "deep", "stream", "none"))
     depth = chance.choice(("2", "2", "2", "1", "20", "32", "33", "48"))
-    kept = chance.choice(("-", "-", "-", "kept"))
+    kept = chance.choice(("-", "-", "-", "-", "-", "-", "kept", "kept", seed, TO))
     queries = ["sub:1:2"] if depth != "1" else []
     queries += [chance.choice(QUERIES) for _ in range(chance.choice((0, 0, 1, 2, 15, 16)))]
     return {
@@ -103,6 +119,8 @@ def whole(chance):
             verb, stream, seed, chance.choice(("honest", "skewed", "mute")), kept, depth, *queries
         ],
         "help": [verb, FROM, TO],
+        "show": [verb, transcript],
+        "convert": [verb, transcript],
         "gen": [
             verb, str(chance.choice((0, 7, 2**64 - 1))), chance.choice(("0", "1", "30")), depth
         ],

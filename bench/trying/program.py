@@ -17,17 +17,23 @@ FROM, TO = "link.from", "link.to"
 
 class Ran(NamedTuple):
     """`code` is negative where a signal ended the run, and None where it hung. `to` is the file TO,
-    where it is there."""
+    where it is there. `changed` are the names of files that were there and have other bytes now."""
 
     code: Optional[int]
     report: bytes
     said: bytes
     to: Optional[bytes]
     early: bool = False
+    changed: tuple = ()
 
 
 class Hangs(Exception):
     pass
+
+
+def bytes_of(name):
+    with open(name, "rb") as file:
+        return file.read()
 
 
 def rings(*_):
@@ -96,9 +102,11 @@ class Program:
         if to is not None and os.path.isfile(to):
             with open(to, "rb") as file:
                 written = file.read()
+        changed = tuple(name for name, data in files.items() if bytes_of(name) != data)
         for name in os.listdir():
             os.unlink(name)
-        return Ran(code, self.written(self.out), self.written(self.err), written)
+        said = self.written(self.err)
+        return Ran(code, self.written(self.out), said, written, changed=changed)
 
     def talk(self, words, files, data, turns, cuts):
         """Runs it over the two FIFOs, whose other end this is. In each turn so many bytes have

@@ -8,7 +8,8 @@ from collections import Counter
 from typing import Callable, NamedTuple
 
 from harness.programs import proved
-from oracle.runs import run
+from oracle.runs import behind_progress, run
+from oracle.words import Usage, read_words
 
 from .chances import Chances
 from .program import FROM, TO, Program
@@ -73,7 +74,9 @@ class Trial:
             if outcome.to is None and to:
                 # What stood there stays as it was.
                 outcome = outcome._replace(to=files.get(to.decode(errors="replace")))
+        lost = [name for name in read_by(case.words) if name in ran.changed]
         found = [*compared(outcome, ran), *self.group.also(case, ran.report)]
+        found += [f"it changes {name}, which it reads" for name in lost]
         if found and self.settings.keep:
             keep(os.path.join(self.settings.keep, name.replace(" ", "-")), case, files)
         return [f"{name}: {' '.join(map(repr, case.words))}: {line}" for line in found]
@@ -99,8 +102,20 @@ def may_be_made(name):
 
 def to_of(words):
     """The name of the file that these words make, if they make one."""
+    words = behind_progress(words)
     at = {b"verify": 4, b"help": 2}.get(words[0] if words else b"")
     return words[at] if at and len(words) > at else None
+
+
+def read_by(words):
+    """The names of the files that these words read, if they are a command."""
+    try:
+        _, said = read_words([word.decode() for word in behind_progress(words)])
+    except (UnicodeDecodeError, Usage):
+        return set()
+    stream = said.get("stream")
+    path = stream.path if stream and stream.form != "made" else None
+    return {said.get("seed"), said.get("from"), path} - {None}
 
 
 def compared(outcome, ran):
@@ -114,7 +129,9 @@ def compared(outcome, ran):
     if outcome.status != "Page" and ran.report != outcome.report:
         yield f"its report is {shown(ran.report)}, not {shown(outcome.report)}"
     # A second line may be advice.
-    said, _, advice = ran.said.decode(errors="replace").partition("\n")
+    lines = ran.said.decode(errors="replace").splitlines(keepends=True)
+    lines = [line for line in lines if not line.startswith("sip: progress: ")]
+    said, _, advice = "".join(lines).partition("\n")
     if said != outcome.said or advice and not advice.startswith("sip: hint:"):
         yield f"it says {ran.said[:300]!r}, not {outcome.said!r}"
     if ran.to != outcome.to:

@@ -2,13 +2,18 @@
 #![tactic(auto)]
 
 use sip_cli::{
-    LinkOrder, Opening, PortPlan, Words, finish, page_of, play_words, ports, run,
-    status_without_words, write_page,
+    FileId, LinkOrder, OPENING_FROM, OPENING_TO, Opening, PlanFiles, PortPlan, Reading, ToldReader,
+    Words, finish, page_of, play_words, ports, run, status_without_words, write_page,
 };
-use sip_ports::{FileLink, FileSink, FileSource, NullSink, Sink, Source, StderrSink, StdoutSink};
+use sip_ports::{
+    FileSink, FileSource, NullSink, ReaderSource, Sink, Source, StderrSink, StdoutSink, TwoWayLink,
+    write_whole,
+};
 use sip_stream::MadeSource;
 use sip_verifier::Status;
-use std::fs::File;
+use std::fs::{self, File};
+use std::io::Stderr;
+use std::os::unix::fs::MetadataExt;
 use std::process::ExitCode;
 use std::{env, io};
 
@@ -33,6 +38,26 @@ fn words(rt: &HostRuntime) -> io::Result<Words> {
     Ok(Words::of(list))
 }
 
+/// The regular file that an opening is on, if it is on one.
+fn regular(rt: &HostRuntime, words: &Words, opening: Opening) -> Option<FileId> {
+    let told = fs::metadata(rt, opening.name(words)?).ok()?;
+    told.is_file().then_some(FileId {
+        device: told.dev(),
+        inode: told.ino(),
+    })
+}
+
+/// The plan without the outputs that are another file of it: see `PortPlan::sparing`.
+fn sparing(rt: &HostRuntime, words: &Words, plan: &PortPlan) -> PortPlan {
+    plan.sparing(&PlanFiles {
+        first: regular(rt, words, plan.first),
+        second: regular(rt, words, plan.second),
+        from: regular(rt, words, plan.from),
+        to: regular(rt, words, plan.to),
+        keep: regular(rt, words, plan.keep),
+    })
+}
+
 /// A file to read.
 fn opened(rt: &HostRuntime, words: &Words, opening: Opening) -> Option<File> {
     File::open(rt, opening.name(words)?).ok()
@@ -41,6 +66,36 @@ fn opened(rt: &HostRuntime, words: &Words, opening: Opening) -> Option<File> {
 /// A file to write, which is made or emptied.
 fn emptied(rt: &HostRuntime, words: &Words, opening: Opening) -> Option<File> {
     File::create(rt, opening.name(words)?).ok()
+}
+
+/// A file that is read, and says on the way how far it was.
+type ToldFile = ToldReader<File, Stderr>;
+
+/// That file, which says nothing unless it is to.
+fn told(rt: &HostRuntime, file: Option<File>, what: Reading, tells: bool) -> Option<ToldFile> {
+    let lines = if tells { Some(rt.stderr()) } else { None };
+    Some(ToldReader::new(file?, what, lines))
+}
+
+/// Says that an end of the link is opened, which may wait, if it is to. That this could not be written changes nothing.
+fn say(rt: &HostRuntime, opening: Opening, line: &str, tells: bool) {
+    if let Opening::Path { .. } = opening
+        && tells
+    {
+        let _ = write_whole(&mut StderrSink::new(rt.stderr()), line.as_bytes());
+    }
+}
+
+/// A source over the file of a stream; `None` where memory is refused.
+#[inline(never)]
+fn stream(
+    rt: &HostRuntime,
+    words: &Words,
+    opening: Opening,
+    tells: bool,
+) -> Option<Box<ReaderSource<ToldFile>>> {
+    let file = told(rt, opened(rt, words, opening), Reading::Stream, tells);
+    Box::new(rt.alloc(), ReaderSource::new(file)).ok()
 }
 
 /// A source over a file to read; `None` where memory is refused.
@@ -53,21 +108,29 @@ fn source(rt: &HostRuntime, words: &Words, opening: Opening) -> Option<Box<FileS
     Box::new(rt.alloc(), FileSource::new(file)).ok()
 }
 
+/// The link, whose end that brings bytes says how far it was read.
+type ToldLink = TwoWayLink<ToldFile, File>;
+
 /// Opens the two ends of the link, in the order of the plan: so two FIFOs can stand between the two sides. `None` where
 /// memory is refused.
 #[inline(never)]
-fn link(rt: &HostRuntime, words: &Words, plan: &PortPlan) -> Option<Box<FileLink>> {
+fn link(rt: &HostRuntime, words: &Words, plan: &PortPlan, tells: bool) -> Option<Box<ToldLink>> {
     let (from, to) = match plan.link_order() {
         LinkOrder::ToFirst => {
+            say(rt, plan.to, OPENING_TO, tells);
             let to = emptied(rt, words, plan.to);
+            say(rt, plan.from, OPENING_FROM, tells);
             (opened(rt, words, plan.from), to)
         }
         LinkOrder::FromFirst => {
+            say(rt, plan.from, OPENING_FROM, tells);
             let from = opened(rt, words, plan.from);
+            say(rt, plan.to, OPENING_TO, tells);
             (from, emptied(rt, words, plan.to))
         }
     };
-    Box::new(rt.alloc(), FileLink::new(from, to)).ok()
+    let from = told(rt, from, Reading::From, tells);
+    Box::new(rt.alloc(), ToldLink::new(from, to)).ok()
 }
 
 /// The file that keeps the transcript, which is made or emptied; `None` where memory is refused.
@@ -81,7 +144,7 @@ fn record(rt: &HostRuntime, words: &Words, opening: Opening) -> Option<Box<FileS
 #[derive(Drop)]
 struct RunPorts {
     second: Box<FileSource>,
-    peer: Box<FileLink>,
+    peer: Box<ToldLink>,
 }
 
 /// Does what the words say over these ports. Words of `play` have no use for the link.
@@ -118,13 +181,16 @@ fn obey_over<S: Source>(
     words: &Words,
     plan: &PortPlan,
     first: &mut S,
+    tells: bool,
 ) -> Option<Status> {
     let second = source(rt, words, plan.second)?;
-    let peer = link(rt, words, plan)?;
+    let peer = link(rt, words, plan, tells)?;
     let mut held = RunPorts { second, peer };
-    Some(match plan.keep {
-        Opening::Path { .. } => {
-            let mut keep = record(rt, words, plan.keep)?;
+    // Where neither TO nor RECORD was there, they may be one file now.
+    let keep = sparing(rt, words, plan).keep;
+    Some(match keep {
+        Opening::Path { .. } | Opening::Spared => {
+            let mut keep = record(rt, words, keep)?;
             obey_keeping(rt, words, first, &mut held, &mut *keep)
         }
         Opening::Nothing | Opening::Made { .. } => {
@@ -135,32 +201,46 @@ fn obey_over<S: Source>(
 
 /// Does what the words say, over the file or the made stream that is the first source. `None` where memory is refused to
 /// a port.
-fn obey(rt: &HostRuntime, words: &Words) -> Option<Status> {
-    let plan = ports(words);
-    match &plan.first {
+fn obey(rt: &HostRuntime, words: &Words, tells: bool) -> Option<Status> {
+    let asked = ports(words);
+    let plan = sparing(rt, words, &asked);
+    match &asked.first {
         Opening::Made {
             number,
             count,
             depth,
         } => {
             let mut first = MadeSource::new(*number, *count, *depth);
-            obey_over(rt, words, &plan, &mut first)
+            obey_over(rt, words, &plan, &mut first, tells)
         }
-        Opening::Nothing | Opening::Path { .. } => {
-            let mut first = source(rt, words, plan.first)?;
-            obey_over(rt, words, &plan, &mut *first)
+        Opening::Nothing | Opening::Spared | Opening::Path { .. } => {
+            let mut first = stream(rt, words, asked.first, tells)?;
+            obey_over(rt, words, &plan, &mut *first, tells)
         }
+    }
+}
+
+/// The status of the words: that of the page that they ask for, or of what they say.
+fn done(rt: &HostRuntime, words: &Words, tells: bool) -> Status {
+    match page_of(words) {
+        Some(text) => write_page(text, &mut StdoutSink::new(io::writer(rt))),
+        None => obey(rt, words, tells).unwrap_or(Status::OutOfMemory),
     }
 }
 
 fn main(rt: HostRuntime) -> ExitCode {
     let _stand_ins = stand_ins(&rt);
-    let status = match words(&rt) {
-        Ok(words) => match page_of(&words) {
-            Some(text) => write_page(text, &mut StdoutSink::new(io::writer(&rt))),
-            None => obey(&rt, &words).unwrap_or(Status::OutOfMemory),
-        },
-        Err(error) => status_without_words(&error),
+    let ending = match words(&rt) {
+        Ok(given) => {
+            let (words, tells) = given.behind_progress();
+            let status = done(&rt, &words, tells);
+            let mut errors = StderrSink::new(rt.stderr());
+            finish(&status, &mut errors).advise(&words, &status, &mut errors)
+        }
+        Err(error) => {
+            let status = status_without_words(&error);
+            finish(&status, &mut StderrSink::new(rt.stderr()))
+        }
     };
-    ExitCode::from(finish(&status, &mut StderrSink::new(rt.stderr())).code)
+    ExitCode::from(ending.code)
 }

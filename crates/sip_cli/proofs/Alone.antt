@@ -1,12 +1,13 @@
 -- Words that are one word alone, and that those which ask for a page are no command.
-use Rattle.std.proofs.Common.{◌≡◌, ◌≢◌, ℕ, List, [], ◌∷◌, get_or, Option, None, Some, Bor, MatchOption, false, ap, sym, ◌∙◌, arith}
-use Rattle.std.specs.Prelude.{is_some}
+use Rattle.std.proofs.Common.{◌≡◌, ◌≢◌, ◌⊎◌, inl, inr, ℕ, List, [], ◌∷◌, get_or, Option, None, Some, Bor, MatchOption, false, ap, sym, ◌∙◌, arith}
+use Rattle.std.specs.Prelude.{is_some, IsSome, IfSome}
 use Rattle.std.specs.List.{slice_get}
 use Rattle.std.specs.Option.{option_copied}
 use Rattle.sip_cli.specs.declared.verb.Verb.{Verb}
-use Rattle.sip_cli.specs.declared.verb.Verb.TheVariants.{Verify, Help, Gen, Lines, Widen, Play}
+use Rattle.sip_cli.specs.declared.verb.Verb.TheVariants.{Verify, Help, Show, Convert, Gen, Lines, Widen, Play}
 use Rattle.sip_cli.specs.Verbs.{verb_word}
 use Rattle.sip_cli.specs.Words.{word, IsRefusedAt}
+use Rattle.sip_cli.specs.Pages.{AsksHelp, AsksVersion, AsksPart, AsksText}
 use Rattle.sip_cli.proofs.Beginning.{refused_verb}
 
 -- the word that the first get gives is the only one, where the second gives none
@@ -22,6 +23,8 @@ alone (x ∷ (y ∷ rest)) first (Some z) is also none = absurd (let h = none in
 pub no_verb : (w : List ℕ) (verb : Verb) → get_or w 0 0 ≡ 45 → w ≢ verb_word verb
 no_verb w Verify dash = λ e. let h : get_or w 0 0 ≡ 118 = ap (λ v. get_or v 0 0) e in omega arith
 no_verb w Help dash = λ e. let h : get_or w 0 0 ≡ 104 = ap (λ v. get_or v 0 0) e in omega arith
+no_verb w Show dash = λ e. let h : get_or w 0 0 ≡ 115 = ap (λ v. get_or v 0 0) e in omega arith
+no_verb w Convert dash = λ e. let h : get_or w 0 0 ≡ 99 = ap (λ v. get_or v 0 0) e in omega arith
 no_verb w Gen dash = λ e. let h : get_or w 0 0 ≡ 103 = ap (λ v. get_or v 0 0) e in omega arith
 no_verb w Lines dash = λ e. let h : get_or w 0 0 ≡ 108 = ap (λ v. get_or v 0 0) e in omega arith
 no_verb w Widen dash = λ e. let h : get_or w 0 0 ≡ 119 = ap (λ v. get_or v 0 0) e in omega arith
@@ -30,3 +33,27 @@ no_verb w Play dash = λ e. let h : get_or w 0 0 ≡ 112 = ap (λ v. get_or v 0 
 -- one word that begins with a dash is refused at once
 pub refused_alone : (words : List (List ℕ)) (w : List ℕ) → words ≡ w ∷ [] → get_or w 0 0 ≡ 45 → IsRefusedAt words 0
 refused_alone words w is dash = refused_verb words (λ verb some same. no_verb w verb dash (sym (ap (λ ws. word ws 0) is) ∙ same))
+
+-- the words are two where the third get gives none
+pub paired : (words : List (List ℕ)) (a b : List ℕ) (third : Option (Bor (List ℕ))) → Some a ≡ slice_get words 0 → Some b ≡ slice_get words 1 → option_copied third ≡ slice_get words 2 → is_some third ≡ false → words ≡ a ∷ b ∷ []
+paired [] a b third one two is none = absurd (let h : Some a ≡ None = one in cc)
+paired (x ∷ []) a b third one two is none = absurd (let h : Some b ≡ None = two in cc)
+paired (x ∷ (y ∷ [])) a b third one two is none = let h : Some a ≡ Some x = one in let k : Some b ≡ Some y = two in cc
+paired (x ∷ (y ∷ (z ∷ rest))) a b None one two is none = absurd (let h : None ≡ Some z = is in cc)
+paired (x ∷ (y ∷ (z ∷ rest))) a b (Some w) one two is none = absurd (let h = none in cc)
+
+-- the words that ask for a text alone begin with a dash
+pub dashed : (w : List ℕ) → AsksHelp w ⊎ AsksVersion w → get_or w 0 0 ≡ 45
+dashed w (inl (inl long)) = ap (λ v. get_or v 0 0) long
+dashed w (inl (inr short)) = ap (λ v. get_or v 0 0) short
+dashed w (inr (inl long)) = ap (λ v. get_or v 0 0) long
+dashed w (inr (inr short)) = ap (λ v. get_or v 0 0) short
+
+-- so they are refused at once
+pub refused_text : (words : List (List ℕ)) (w : List ℕ) → words ≡ w ∷ [] → AsksHelp w ⊎ AsksVersion w → IsRefusedAt words 0
+refused_text words w is asks = refused_alone words w is (dashed w asks)
+
+-- words whose part of the page was found ask for it
+pub part_is_text : (words : List (List ℕ)) (r : Option (Bor (List ℕ))) → IfSome r (λ text. AsksPart words text.now) → IsSome r → AsksText words
+part_is_text words None is some = absurd (let h = some in cc)
+part_is_text words (Some text) is some = inr (text.now, is)

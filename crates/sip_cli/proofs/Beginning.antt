@@ -11,7 +11,7 @@ use Rattle.sip_cli.specs.declared.helper_name.HelperName.TheVariants.{Mute}
 use Rattle.sip_cli.specs.declared.shape.Shape.TheVariants.{Name}
 use Rattle.sip_cli.specs.declared.stream.Stream.TheVariants as stream
 use Rattle.sip_cli.specs.declared.verb.Verb.{Verb}
-use Rattle.sip_cli.specs.declared.verb.Verb.TheVariants.{Verify, Help, Gen, Lines, Widen, Play}
+use Rattle.sip_cli.specs.declared.verb.Verb.TheVariants.{Verify, Help, Show, Convert, Gen, Lines, Widen, Play}
 use Rattle.sip_cli.specs.Shapes.{IsOf, IsDepth, Asks}
 use Rattle.sip_cli.specs.Verbs.{verb_word, shapes, depth_at, least_asked, most_asked}
 use Rattle.sip_cli.specs.Words.{word, IsCommandOf, BeginCommand, IsRefusedAt}
@@ -20,6 +20,8 @@ use Rattle.sip_cli.specs.Words.{word, IsCommandOf, BeginCommand, IsRefusedAt}
 abbrev pub examples : Verb → List (List ℕ)
 examples Verify = codes "verify" ∷ codes "s" ∷ codes "s" ∷ codes "f" ∷ codes "t" ∷ codes "-" ∷ decimal 1 ∷ query_word (Sub 0 0) ∷ []
 examples Help = codes "help" ∷ codes "f" ∷ codes "t" ∷ []
+examples Show = codes "show" ∷ codes "f" ∷ []
+examples Convert = codes "convert" ∷ codes "f" ∷ []
 examples Gen = codes "gen" ∷ decimal 0 ∷ decimal 0 ∷ decimal 1 ∷ []
 examples Lines = codes "lines" ∷ codes "s" ∷ decimal 1 ∷ []
 examples Widen = codes "widen" ∷ codes "s" ∷ decimal 1 ∷ []
@@ -29,6 +31,8 @@ examples Play = codes "play" ∷ codes "s" ∷ codes "s" ∷ codes "mute" ∷ co
 pub examples_long : (verb : Verb) → length (examples verb) ≡ 1 + length (shapes verb) + least_asked verb
 examples_long Verify = refl
 examples_long Help = refl
+examples_long Show = refl
+examples_long Convert = refl
 examples_long Gen = refl
 examples_long Lines = refl
 examples_long Widen = refl
@@ -46,6 +50,10 @@ examples_fit Verify (suc (suc (suc (suc (suc (suc n)))))) h = absurd (omega arit
 examples_fit Help zero h = λ e. cc
 examples_fit Help (suc zero) h = λ e. cc
 examples_fit Help (suc (suc n)) h = absurd (omega arith)
+examples_fit Show zero h = λ e. cc
+examples_fit Show (suc n) h = absurd (omega arith)
+examples_fit Convert zero h = λ e. cc
+examples_fit Convert (suc n) h = absurd (omega arith)
 examples_fit Gen zero h = (0, omega arith, omega arith, refl)
 examples_fit Gen (suc zero) h = (0, omega arith, omega arith, refl)
 examples_fit Gen (suc (suc zero)) h = (1, (omega arith, omega arith, refl))
@@ -67,6 +75,8 @@ examples_fit Play (suc (suc (suc (suc (suc n))))) h = absurd (omega arith)
 pub example_asks : (verb : Verb) (n d : ℕ) → length (shapes verb) < n → n < length (examples verb) → Asks d (Sub 0 0) (word (examples verb) n)
 example_asks Verify n d low high = let one : n ≡ 7 = omega arith in let item = pow_pos d in rw one (refl, (omega arith, omega arith), refl)
 example_asks Help n d low high = absurd (omega arith)
+example_asks Show n d low high = absurd (omega arith)
+example_asks Convert n d low high = absurd (omega arith)
 example_asks Gen n d low high = absurd (omega arith)
 example_asks Lines n d low high = absurd (omega arith)
 example_asks Widen n d low high = absurd (omega arith)
@@ -76,6 +86,8 @@ example_asks Play n d low high = let one : n ≡ 6 = omega arith in let item = p
 pub depth_shape : (verb : Verb) (n : ℕ) → length (shapes verb) < n → n < 1 + length (shapes verb) + most_asked verb → (words : List (List ℕ)) → IsOf (get_or (shapes verb) (length (shapes verb) - 1) Name) (word words (depth_at verb)) → (d : ℕ) × IsDepth d (word words (depth_at verb))
 depth_shape Verify n low high words is = is
 depth_shape Help n low high words is = absurd (omega arith)
+depth_shape Show n low high words is = absurd (omega arith)
+depth_shape Convert n low high words is = absurd (omega arith)
 depth_shape Gen n low high words is = absurd (omega arith)
 depth_shape Lines n low high words is = absurd (omega arith)
 depth_shape Widen n low high words is = absurd (omega arith)
@@ -85,6 +97,8 @@ depth_shape Play n low high words is = is
 pub has_shapes : (verb : Verb) → 1 ≤ length (shapes verb)
 has_shapes Verify = omega arith
 has_shapes Help = omega arith
+has_shapes Show = omega arith
+has_shapes Convert = omega arith
 has_shapes Gen = omega arith
 has_shapes Lines = omega arith
 has_shapes Widen = omega arith
@@ -93,6 +107,8 @@ has_shapes Play = omega arith
 pub least_below_most : (verb : Verb) → least_asked verb ≤ most_asked verb
 least_below_most Verify = omega arith
 least_below_most Help = omega arith
+least_below_most Show = omega arith
+least_below_most Convert = omega arith
 least_below_most Gen = omega arith
 least_below_most Lines = omega arith
 least_below_most Widen = omega arith
@@ -193,11 +209,15 @@ lettered letter =
     if letter == 104 then Help else (
     if letter == 103 then Gen else (
     if letter == 108 then Lines else (
-    if letter == 112 then Play else Widen))))
+    if letter == 112 then Play else (
+    if letter == 115 then Show else (
+    if letter == 99 then Convert else Widen))))))
 
 lettered_word : (verb : Verb) → lettered (get_or (verb_word verb) 0 0) ≡ verb
 lettered_word Verify = refl
 lettered_word Help = refl
+lettered_word Show = refl
+lettered_word Convert = refl
 lettered_word Gen = refl
 lettered_word Lines = refl
 lettered_word Widen = refl

@@ -9,4 +9,5 @@ pub mod Getting
 pub mod RunLemmas
 pub mod PlayLemmas
 pub mod Alone
+pub mod Behind
 pub mod NamedPorts

@@ -3,7 +3,7 @@ use Rattle.std.proofs.Common.{◌≡◌, ℕ, ◌≤◌, List, ap, arith}
 use Rattle.sip_cli.specs.declared.command.Command.{Command}
 use Rattle.sip_cli.specs.declared.command.Command.TheVariants as command
 use Rattle.sip_cli.specs.declared.plan.Opening.{Opening}
-use Rattle.sip_cli.specs.declared.plan.Opening.TheVariants.{Nothing, Path, Made}
+use Rattle.sip_cli.specs.declared.plan.Opening.TheVariants.{Nothing, Spared, Path, Made}
 use Rattle.sip_cli.specs.declared.plan.PortPlan.{PortPlan}
 use Rattle.sip_cli.specs.declared.stream.Stream.{Stream}
 use Rattle.sip_cli.specs.declared.stream.Stream.TheVariants as stream
@@ -15,6 +15,7 @@ use Rattle.sip_stream.specs.Made.{most_made}
 -- how many records an opening has
 abbrev pub count_of : Opening → ℕ
 count_of Nothing = 0
+count_of Spared = 0
 count_of (Path _ _) = 0
 count_of (Made _ count _) = count
 
@@ -39,6 +40,10 @@ first_counted words (command.Verify task) plan (s, names, keep, record_is, is) =
     let few = stream_counted s (word words 1) task.depth names in
     omega arith
 first_counted words command.Help plan is =
+    let same : count_of plan.first ≡ 0 = ap (λ (p : PortPlan). count_of p.first) is in omega arith
+first_counted words command.Show plan is =
+    let same : count_of plan.first ≡ 0 = ap (λ (p : PortPlan). count_of p.first) is in omega arith
+first_counted words command.Convert plan is =
     let same : count_of plan.first ≡ 0 = ap (λ (p : PortPlan). count_of p.first) is in omega arith
 first_counted words (command.Gen depth) plan (number, count, low, few, one, two, is) =
     let same : count_of plan.first ≡ count = ap (λ (p : PortPlan). count_of p.first) is in omega arith

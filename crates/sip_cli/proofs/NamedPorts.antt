@@ -11,7 +11,7 @@ use Rattle.sip_cli.specs.declared.plan.Opening.TheVariants.{Path}
 use Rattle.sip_cli.specs.declared.plan.PortPlan.{PortPlan}
 use Rattle.sip_cli.specs.declared.stream.Stream.{Stream}
 use Rattle.sip_cli.specs.declared.stream.Stream.TheVariants as stream
-use Rattle.sip_cli.specs.Plan.{HasName, HaveNames, IsMarked, IsRecord, Opens, opening_of, source_ports}
+use Rattle.sip_cli.specs.Plan.{HasName, HaveNames, IsMarked, IsRecord, Opens, opening_of, source_ports, transcript_ports}
 use Rattle.sip_cli.specs.Shapes.{IsStreamWord}
 use Rattle.sip_cli.specs.Words.{word, Spells}
 
@@ -41,6 +41,16 @@ source_named words s depth plan more names is = subst (HaveNames words) (sym is)
   keep = tt;
 })
 
+-- so does that of a transcript
+transcript_named : (words : List (List ℕ)) (plan : PortPlan) → 1 < length words → plan ≡ transcript_ports → HaveNames words plan
+transcript_named words plan more is = subst (HaveNames words) (sym is) (record {
+  first = tt;
+  second = file_named words 1 more;
+  from = tt;
+  to = tt;
+  keep = tt;
+})
+
 -- all files of a command have their names
 pub opens_named : (words : List (List ℕ)) (c : Command) (plan : PortPlan) → Spells words c → Opens words c plan → HaveNames words plan
 opens_named words (command.Verify task) plan spells (s, names, keep, record_is, is) =
@@ -61,6 +71,10 @@ opens_named words command.Help plan spells is =
       to = file_named words 2 (omega arith);
       keep = tt;
     })
+opens_named words command.Show plan spells is =
+    let least = spells.least in transcript_named words plan (omega arith) is
+opens_named words command.Convert plan spells is =
+    let least = spells.least in transcript_named words plan (omega arith) is
 opens_named words (command.Gen depth) plan spells (number, count, low, few, one, two, is) =
     subst (HaveNames words) (sym is) (record { first = tt; second = tt; from = tt; to = tt; keep = tt })
 opens_named words (command.Lines form depth) plan spells (s, names, is) =

@@ -52,6 +52,8 @@ refused_once words m n first second =
 abbrev pub verb_of : Command → Verb
 verb_of (command.Verify task) = verb.Verify
 verb_of command.Help = verb.Help
+verb_of command.Show = verb.Show
+verb_of command.Convert = verb.Convert
 verb_of (command.Gen depth) = verb.Gen
 verb_of (command.Lines form depth) = verb.Lines
 verb_of (command.Widen form depth) = verb.Widen
@@ -61,6 +63,8 @@ verb_of (command.Play task name) = verb.Play
 pub whole_of : (words : List (List ℕ)) (c : Command) → Spells words c → IsCommandOf (verb_of c) words
 whole_of words (command.Verify task) s = s.0
 whole_of words command.Help s = s
+whole_of words command.Show s = s
+whole_of words command.Convert s = s
 whole_of words (command.Gen depth) s = s.0
 whole_of words (command.Lines form depth) s = s.0
 whole_of words (command.Widen form depth) s = s.0
@@ -121,6 +125,8 @@ helper_once word name other is also = sym (named_word name) ∙ (ap (λ w. named
 pub command_once : (words : List (List ℕ)) (c d : Command) → Spells words c → Spells words d → c ≡ d
 command_once words (command.Verify task) (command.Verify other) s t = ap command.Verify (task_once verb.Verify words task other s.1 t.1)
 command_once words command.Help command.Help s t = refl
+command_once words command.Show command.Show s t = refl
+command_once words command.Convert command.Convert s t = refl
 command_once words (command.Gen d) (command.Gen e) s t = ap command.Gen (depth_once (word words 3) d e s.1 t.1)
 command_once words (command.Lines f d) (command.Lines g e) s t =
     let one = copy_once words f g d e s.1 s.2 t.1 t.2 in rw (one.0, one.1) refl

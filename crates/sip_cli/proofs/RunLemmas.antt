@@ -10,7 +10,7 @@ use Rattle.sip_vector.specs.Limits.{most_depth, most_narrow_depth}
 use Rattle.sip_vector.specs.declared.query.Query.{Query}
 use Rattle.sip_vector.specs.declared.query.Query.TheVariants.{Inner}
 use Rattle.sip_cli.specs.declared.command.Command.{Command}
-use Rattle.sip_cli.specs.declared.command.Command.TheVariants.{Verify, Help, Gen, Lines, Widen, Play}
+use Rattle.sip_cli.specs.declared.command.Command.TheVariants.{Verify, Help, Show, Convert, Gen, Lines, Widen, Play}
 use Rattle.sip_cli.specs.declared.helper_name.HelperName.{HelperName}
 use Rattle.sip_cli.specs.declared.verb.Verb.{Verb}
 use Rattle.sip_cli.specs.declared.verb.Verb.TheVariants as verbs
@@ -24,6 +24,10 @@ use Rattle.sip_verifier.specs.RunClause.{RunClause}
 use Rattle.sip_verifier.specs.Statuses.{FaultClause}
 use Rattle.sip_verifier.specs.Tasks.{CanBeAsked, CanBeDone}
 use Rattle.sip_verifier.proofs.RunTalks.{tells}
+use Rattle.sip_transcript.specs.Conversions.{in_version_2}
+use Rattle.sip_transcript.specs.Listings.{listing}
+use Rattle.sip_transcript.specs.Tales.{Tale}
+use Rattle.sip_transcript.specs.Writing.{EndsWriting, Writes}
 use Rattle.sip_cli.specs.CommandClause.{CommandClause}
 use Rattle.sip_cli.specs.CopyClause.{CopyClause}
 use Rattle.sip_cli.specs.HelpClause.{HelpClause}
@@ -66,6 +70,8 @@ played_task words c s task name e = played words task name (subst (Spells words)
 ends_otherwise : (c : Command) (word : ℕ) → Ends c (statuses.Usage word) → ⊥
 ends_otherwise (Verify task) word listed = absurd (true≢false (sym listed))
 ends_otherwise Help word listed = listed
+ends_otherwise Show word listed = absurd (true≢false (sym listed))
+ends_otherwise Convert word listed = absurd (true≢false (sym listed))
 ends_otherwise (Gen depth) word listed = listed
 ends_otherwise (Lines form depth) word listed = listed
 ends_otherwise (Widen form depth) word listed = listed
@@ -105,6 +111,8 @@ Copied before now status depth from to = (bytes : List ℕ) → before.first ≡
 abbrev Kept : Moment → Moment → Status → Command → Type 0
 Kept before now status (Verify task) = ⊥
 Kept before now status Help = ⊥
+Kept before now status Show = ⊥
+Kept before now status Convert = ⊥
 Kept before now status (Gen depth) = Copied before now status depth (made_form depth) (made_form depth)
 Kept before now status (Lines form depth) = Copied before now status depth form Text
 Kept before now status (Widen form depth) = Copied before now status depth form Wide
@@ -114,10 +122,39 @@ Kept before now status (Play task name) = ⊥
 ends_as_copy : (before now : Moment) (status : Status) (c : Command) → Kept before now status c → EndsCopy status → Ends c status
 ends_as_copy before now status (Verify task) copied listed = absurd copied
 ends_as_copy before now status Help copied listed = absurd copied
+ends_as_copy before now status Show copied listed = absurd copied
+ends_as_copy before now status Convert copied listed = absurd copied
 ends_as_copy before now status (Gen depth) copied listed = listed
 ends_as_copy before now status (Lines form depth) copied listed = listed
 ends_as_copy before now status (Widen form depth) copied listed = listed
 ends_as_copy before now status (Play task name) copied listed = absurd copied
+
+-- from one moment to another, with this status, what a transcript tells was written in a form of it
+abbrev pub Rendered : Moment → Moment → Status → (Tale → List ℕ) → Type 0
+Rendered before now status text = (bytes : List ℕ) → before.second ≡ Some bytes
+    → Writes text bytes now.second before.report now.report status
+
+-- what a command writes of a transcript, if it does
+abbrev Written : Moment → Moment → Status → Command → Type 0
+Written before now status (Verify task) = ⊥
+Written before now status Help = ⊥
+Written before now status Show = Rendered before now status listing
+Written before now status Convert = Rendered before now status in_version_2
+Written before now status (Gen depth) = ⊥
+Written before now status (Lines form depth) = ⊥
+Written before now status (Widen form depth) = ⊥
+Written before now status (Play task name) = ⊥
+
+-- a command that does ends as such a writing does
+ends_as_writing : (before now : Moment) (status : Status) (c : Command) → Written before now status c → EndsWriting status → Ends c status
+ends_as_writing before now status (Verify task) written listed = absurd written
+ends_as_writing before now status Help written listed = absurd written
+ends_as_writing before now status Show written listed = listed
+ends_as_writing before now status Convert written listed = listed
+ends_as_writing before now status (Gen depth) written listed = absurd written
+ends_as_writing before now status (Lines form depth) written listed = absurd written
+ends_as_writing before now status (Widen form depth) written listed = absurd written
+ends_as_writing before now status (Play task name) written listed = absurd written
 
 module _ {before now : Moment} {status : Status} where
   pub verify_keeps : {c : Command} (task : Task) → c ≡ Verify task
@@ -129,6 +166,8 @@ module _ {before now : Moment} {status : Status} where
     lines = λ form depth is. absurd (let same = is in cc);
     wide = λ form depth is. absurd (let same = is in cc);
     help = λ is. absurd (let same = is in cc);
+    show = λ is. absurd (let same = is in cc);
+    convert = λ is. absurd (let same = is in cc);
     moves = k.moves;
     fault = k.fault;
     listed = λ command is. subst (λ (c : Command). Ends c status) is k.listed;
@@ -143,6 +182,8 @@ module _ {before now : Moment} {status : Status} where
     lines = λ form depth is. absurd (let same = is in cc);
     wide = λ form depth is. absurd (let same = is in cc);
     help = λ is. absurd (let same = is in cc);
+    show = λ is. absurd (let same = is in cc);
+    convert = λ is. absurd (let same = is in cc);
     moves = k.moves;
     fault = k.fault;
     listed = λ command is. subst (λ (c : Command). Ends c status) is k.listed;
@@ -159,6 +200,8 @@ module _ {before now : Moment} {status : Status} where
     lines = λ form depth is. absurd (let same = is in cc);
     wide = λ form depth is. absurd (let same = is in cc);
     help = λ is. served;
+    show = λ is. absurd (let same = is in cc);
+    convert = λ is. absurd (let same = is in cc);
     moves = moves;
     fault = fault;
     listed = λ command is. subst (λ (c : Command). Ends c status) is listed;
@@ -175,9 +218,29 @@ module _ {before now : Moment} {status : Status} where
     lines = λ form depth is. subst (Kept before now status) is copied;
     wide = λ form depth is. subst (Kept before now status) is copied;
     help = λ is. absurd (subst (Kept before now status) is copied);
+    show = λ is. absurd (subst (Kept before now status) is copied);
+    convert = λ is. absurd (subst (Kept before now status) is copied);
     moves = moves;
     fault = fault;
     listed = λ command is. subst (λ (c : Command). Ends c status) is (ends_as_copy before now status d copied listed);
+  })
+
+  pub transcript_keeps : {c : Command} (d : Command) → c ≡ d → Written before now status d
+      → (IsTold before → (x : Exchange) × Tells before now x)
+      → FaultClause before.faults now.faults status → EndsWriting status
+      → CommandClause (λ is. c ≡ is) before now status
+  transcript_keeps d e written moves fault listed = subst (λ (c : Command). CommandClause (λ is. c ≡ is) before now status) (sym e) (record {
+    verify = λ task is. absurd (subst (Written before now status) is written);
+    play = λ task name is. absurd (subst (Written before now status) is written);
+    made = λ depth is. absurd (subst (Written before now status) is written);
+    lines = λ form depth is. absurd (subst (Written before now status) is written);
+    wide = λ form depth is. absurd (subst (Written before now status) is written);
+    help = λ is. absurd (subst (Written before now status) is written);
+    show = λ is. subst (Written before now status) is written;
+    convert = λ is. subst (Written before now status) is written;
+    moves = moves;
+    fault = fault;
+    listed = λ command is. subst (λ (c : Command). Ends c status) is (ends_as_writing before now status d written listed);
   })
 
   -- what a command keeps, it keeps for all who know it by another sign
@@ -190,6 +253,8 @@ module _ {before now : Moment} {status : Status} where
     lines = λ form depth is. k.lines form depth (tells (Lines form depth) is);
     wide = λ form depth is. k.wide form depth (tells (Widen form depth) is);
     help = λ is. k.help (tells Help is);
+    show = λ is. k.show (tells Show is);
+    convert = λ is. k.convert (tells Convert is);
     moves = k.moves;
     fault = k.fault;
     listed = λ command is. k.listed command (tells command is);
@@ -205,6 +270,8 @@ none_keeps {m = m} word none = record {
   lines = λ form depth is. absurd (none (Lines form depth) is);
   wide = λ form depth is. absurd (none (Widen form depth) is);
   help = λ is. absurd (none Help is);
+  show = λ is. absurd (none Show is);
+  convert = λ is. absurd (none Convert is);
   moves = λ is. tells m m is (λ some. some) [] (GoesOn-refl _) [] (GoesOn-refl _) [] (GoesOn-refl _);
   fault = tt;
   listed = λ command is. absurd (none command is);

@@ -3,13 +3,16 @@
 use Rattle.std.specs.Prelude.{◌≡◌, ℕ, List, Some}
 use Rattle.sip_cli.specs.CopyClause.{CopyClause}
 use Rattle.sip_cli.specs.declared.command.Command.{Command}
-use Rattle.sip_cli.specs.declared.command.Command.TheVariants.{Verify, Help, Gen, Lines, Widen, Play}
+use Rattle.sip_cli.specs.declared.command.Command.TheVariants.{Verify, Help, Show, Convert, Gen, Lines, Widen, Play}
 use Rattle.sip_cli.specs.declared.helper_name.HelperName.{HelperName}
 use Rattle.sip_cli.specs.HelpClause.{HelpClause}
 use Rattle.sip_cli.specs.Statuses.{Ends}
 use Rattle.sip_stream.specs.declared.form.Form.{Form}
 use Rattle.sip_stream.specs.declared.form.Form.TheVariants.{Text, Wide}
 use Rattle.sip_stream.specs.Layouts.{made_form}
+use Rattle.sip_transcript.specs.Conversions.{in_version_2}
+use Rattle.sip_transcript.specs.Listings.{listing}
+use Rattle.sip_transcript.specs.Writing.{Writes}
 use Rattle.sip_verifier.specs.declared.status.Status.{Status}
 use Rattle.sip_verifier.specs.declared.task.Task.{Task}
 use Rattle.sip_verifier.specs.Exchanges.{Exchange, Tells}
@@ -41,6 +44,12 @@ pub record CommandClause (Is : Command → Type 0) (before now : Moment) (status
       → CopyClause depth form Wide bytes now.first before.report now.report status
   -- `help`: a talk is served
   pub help : Is Help → HelpClause before.talk now.talk status
+  -- `show`: the transcript is listed
+  pub show : Is Show → (bytes : List ℕ) → before.second ≡ Some bytes
+      → Writes listing bytes now.second before.report now.report status
+  -- `convert`: it is written in version 2
+  pub convert : Is Convert → (bytes : List ℕ) → before.second ≡ Some bytes
+      → Writes in_version_2 bytes now.second before.report now.report status
   -- ports that tell go on telling, so there is an exchange that they tell
   pub moves : IsTold before → (x : Exchange) × Tells before now x
   -- whatever the ports tell, a fault of a port comes only where its own count rose

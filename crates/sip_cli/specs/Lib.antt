@@ -2,7 +2,11 @@ pub mod Words
 pub mod Shapes
 pub mod Verbs
 pub mod Plan
+pub mod Sparing
 pub mod Pages
+pub mod Hints
+pub mod Telling
+pub mod Behind
 pub mod Exit
 pub mod StatusLine
 pub mod CopyClause

@@ -1,18 +1,44 @@
 -- The texts that words ask for in place of a command, and what writing one promises.
-use Rattle.std.specs.Prelude.{ℕ, ◌<◌, List, length, take, codes, Option}
+use Rattle.std.specs.Prelude.{◌≡◌, ◌⊎◌, ℕ, ◌<◌, List, [], ◌∷◌, length, take, codes, Option}
+use Rattle.sip_cli.specs.declared.page_text.TheConstants.{CONVERT_PART, GEN_PART, HELP_PART, LINES_PART, PLAY_PART, SHOW_PART, VERIFY_PART, WIDEN_PART}
+use Rattle.sip_cli.specs.declared.verb.Verb.{Verb}
+use Rattle.sip_cli.specs.declared.verb.Verb.TheVariants.{Verify, Help, Show, Convert, Gen, Lines, Widen, Play}
+use Rattle.sip_cli.specs.Verbs.{verb_word}
 use Rattle.sip_ports.specs.declared.port.TalkEvent.{TalkEvent}
 use Rattle.sip_ports.specs.Ports.{GoesOn, outs}
 use Rattle.sip_verifier.specs.declared.status.Port.TheVariants as ports
 use Rattle.sip_verifier.specs.declared.status.Status.{Status}
 use Rattle.sip_verifier.specs.declared.status.Status.TheVariants as statuses
 
--- the word that asks for the page of all commands
-abbrev pub help_word : List ℕ
-help_word = codes "--help"
+-- the words that ask for the page, or for a part of it
+abbrev pub AsksHelp : List ℕ → Type 0
+AsksHelp word = (word ≡ codes "--help") ⊎ (word ≡ codes "-h")
 
--- the word that asks for the version
-abbrev pub version_word : List ℕ
-version_word = codes "--version"
+-- the words that ask for the version
+abbrev pub AsksVersion : List ℕ → Type 0
+AsksVersion word = (word ≡ codes "--version") ⊎ (word ≡ codes "-V")
+
+-- the part of the page that is about a verb
+abbrev pub part_of : Verb → List ℕ
+part_of Verify = VERIFY_PART.now
+part_of Help = HELP_PART.now
+part_of Show = SHOW_PART.now
+part_of Convert = CONVERT_PART.now
+part_of Gen = GEN_PART.now
+part_of Lines = LINES_PART.now
+part_of Widen = WIDEN_PART.now
+part_of Play = PLAY_PART.now
+
+-- the words are a verb and one that asks for help, and this is the verb's part of the page
+abbrev pub AsksPart : List (List ℕ) → List ℕ → Type 0
+AsksPart words text = (verb : Verb) × (word : List ℕ) × AsksHelp word
+    × (words ≡ verb_word verb ∷ word ∷ []) × (text ≡ part_of verb)
+
+-- no other words ask for a text
+abbrev pub AsksText : List (List ℕ) → Type 0
+AsksText words =
+    ((word : List ℕ) × (AsksHelp word ⊎ AsksVersion word) × (words ≡ word ∷ []))
+    ⊎ ((text : List ℕ) × AsksPart words text)
 
 -- The report told `old`, and tells `new`, where a text was to be written.
 module _ (old new : Option (List TalkEvent)) (text : List ℕ) where

@@ -5,7 +5,7 @@ use Rattle.std.specs.Option.{option_map}
 use Rattle.sip_cli.specs.declared.command.Command.{Command}
 use Rattle.sip_cli.specs.declared.command.Command.TheVariants as command
 use Rattle.sip_cli.specs.declared.plan.Opening.{Opening}
-use Rattle.sip_cli.specs.declared.plan.Opening.TheVariants.{Nothing, Path, Made}
+use Rattle.sip_cli.specs.declared.plan.Opening.TheVariants.{Nothing, Spared, Path, Made}
 use Rattle.sip_cli.specs.declared.plan.PortPlan.{PortPlan}
 use Rattle.sip_cli.specs.declared.stream.Stream.{Stream}
 use Rattle.sip_cli.specs.declared.stream.Stream.TheVariants as stream
@@ -48,6 +48,10 @@ play_ports first keep = record no_ports { first = first; second = Path 2 0; keep
 abbrev pub help_ports : PortPlan
 help_ports = record no_ports { from = Path 1 0; to = Path 2 0 }
 
+-- show TRANSCRIPT and convert TRANSCRIPT
+abbrev pub transcript_ports : PortPlan
+transcript_ports = record no_ports { second = Path 1 0 }
+
 -- the ports of a command whose words these are
 abbrev pub Opens : List (List ℕ) → Command → PortPlan → Type 0
 Opens words (command.Verify task) plan =
@@ -55,6 +59,8 @@ Opens words (command.Verify task) plan =
     × (keep : Opening) × IsRecord (word words 5) 5 keep
     × (plan ≡ verify_ports (opening_of s task.depth) keep)
 Opens words command.Help plan = plan ≡ help_ports
+Opens words command.Show plan = plan ≡ transcript_ports
+Opens words command.Convert plan = plan ≡ transcript_ports
 Opens words (command.Gen depth) plan =
     (number : ℕ) × (count : ℕ) × (number < 2 ^ 64) × (count ≤ most_made)
     × (word words 1 ≡ decimal number) × (word words 2 ≡ decimal count)
@@ -72,6 +78,7 @@ Opens words (command.Play task name) plan =
 -- word
 abbrev pub file_name : Opening → List (List ℕ) → Option (List ℕ)
 file_name Nothing words = None
+file_name Spared words = None
 file_name (Made number count depth) words = None
 file_name (Path n skip) words = option_map (drop skip) (slice_get words n)
 
@@ -83,6 +90,7 @@ IsMarked word = (path : List ℕ) × ((word ≡ codes "text:" ++ path) ⊎ (word
 -- mark
 abbrev pub HasName : List (List ℕ) → Opening → Type 0
 HasName words Nothing = Unit {0}
+HasName words Spared = Unit {0}
 HasName words (Made number count depth) = Unit {0}
 HasName words (Path n skip) = (n < length words)
     × ((skip ≡ 0) ⊎ ((skip ≡ 5) × IsMarked (word words n)))

@@ -5,6 +5,7 @@ use Rattle.sip_verifier.specs.declared.status.Port.TheVariants as ports
 use Rattle.sip_verifier.specs.declared.status.Status.{Status}
 use Rattle.sip_verifier.specs.declared.status.Status.TheVariants as statuses
 use Rattle.sip_verifier.specs.Statuses.{IsListed}
+use Rattle.sip_transcript.specs.Writing.{EndsWriting}
 
 -- of `gen`, `lines` and `widen`
 abbrev pub EndsCopy : Status → Type 0
@@ -27,6 +28,8 @@ EndsHelp _ = ⊥
 abbrev pub Ends : Command → Status → Type 0
 Ends (command.Verify task) status = IsListed status
 Ends command.Help status = EndsHelp status
+Ends command.Show status = EndsWriting status
+Ends command.Convert status = EndsWriting status
 Ends (command.Gen depth) status = EndsCopy status
 Ends (command.Lines form depth) status = EndsCopy status
 Ends (command.Widen form depth) status = EndsCopy status
@@ -36,7 +39,20 @@ Ends (command.Play task name) status = IsListed status
 abbrev pub IsCopy : Command → Type 0
 IsCopy (command.Verify task) = ⊥
 IsCopy command.Help = ⊥
+IsCopy command.Show = ⊥
+IsCopy command.Convert = ⊥
 IsCopy (command.Gen depth) = Unit {0}
 IsCopy (command.Lines form depth) = Unit {0}
 IsCopy (command.Widen form depth) = Unit {0}
 IsCopy (command.Play task name) = ⊥
+
+-- the command reads a transcript
+abbrev pub ReadsTranscript : Command → Type 0
+ReadsTranscript (command.Verify task) = ⊥
+ReadsTranscript command.Help = ⊥
+ReadsTranscript command.Show = Unit {0}
+ReadsTranscript command.Convert = Unit {0}
+ReadsTranscript (command.Gen depth) = ⊥
+ReadsTranscript (command.Lines form depth) = ⊥
+ReadsTranscript (command.Widen form depth) = ⊥
+ReadsTranscript (command.Play task name) = ⊥

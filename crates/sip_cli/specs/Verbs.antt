@@ -3,7 +3,7 @@ use Rattle.std.specs.Prelude.{ℕ, List, [], ◌∷◌, codes, length}
 use Rattle.sip_cli.specs.declared.shape.Shape.{Shape}
 use Rattle.sip_cli.specs.declared.shape.Shape.TheVariants.{Name, Stream, Helper, Number, Depth}
 use Rattle.sip_cli.specs.declared.verb.Verb.{Verb}
-use Rattle.sip_cli.specs.declared.verb.Verb.TheVariants.{Verify, Help, Gen, Lines, Widen, Play}
+use Rattle.sip_cli.specs.declared.verb.Verb.TheVariants.{Verify, Help, Show, Convert, Gen, Lines, Widen, Play}
 use Rattle.sip_stream.specs.Made.{most_made}
 use Rattle.sip_wire.specs.Table.{most_queries}
 
@@ -11,6 +11,8 @@ use Rattle.sip_wire.specs.Table.{most_queries}
 abbrev pub verb_word : Verb → List ℕ
 verb_word Verify = codes "verify"
 verb_word Help = codes "help"
+verb_word Show = codes "show"
+verb_word Convert = codes "convert"
 verb_word Gen = codes "gen"
 verb_word Lines = codes "lines"
 verb_word Widen = codes "widen"
@@ -19,6 +21,8 @@ verb_word Play = codes "play"
 -- The words behind the verb, and before the queries.
 --   verify STREAM SEED FROM TO RECORD DEPTH
 --   help FROM TO
+--   show TRANSCRIPT
+--   convert TRANSCRIPT
 --   gen NUMBER COUNT DEPTH
 --   lines STREAM DEPTH
 --   widen STREAM DEPTH
@@ -26,6 +30,8 @@ verb_word Play = codes "play"
 abbrev pub shapes : Verb → List Shape
 shapes Verify = Stream ∷ Name ∷ Name ∷ Name ∷ Name ∷ Depth ∷ []
 shapes Help = Name ∷ Name ∷ []
+shapes Show = Name ∷ []
+shapes Convert = Name ∷ []
 shapes Gen = Number 18446744073709551615 ∷ Number most_made ∷ Depth ∷ []
 shapes Lines = Stream ∷ Depth ∷ []
 shapes Widen = Stream ∷ Depth ∷ []
@@ -39,6 +45,8 @@ depth_at verb = length (shapes verb)
 abbrev pub least_asked : Verb → ℕ
 least_asked Verify = 1
 least_asked Help = 0
+least_asked Show = 0
+least_asked Convert = 0
 least_asked Gen = 0
 least_asked Lines = 0
 least_asked Widen = 0
@@ -48,6 +56,8 @@ least_asked Play = 1
 abbrev pub most_asked : Verb → ℕ
 most_asked Verify = most_queries
 most_asked Help = 0
+most_asked Show = 0
+most_asked Convert = 0
 most_asked Gen = 0
 most_asked Lines = 0
 most_asked Widen = 0

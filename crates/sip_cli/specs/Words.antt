@@ -40,6 +40,8 @@ abbrev pub Spells : List (List ℕ) → Command → Type 0
 Spells words (command.Verify task) =
     IsCommandOf verb.Verify words × SaysTask verb.Verify words task
 Spells words command.Help = IsCommandOf verb.Help words
+Spells words command.Show = IsCommandOf verb.Show words
+Spells words command.Convert = IsCommandOf verb.Convert words
 Spells words (command.Gen depth) = IsCommandOf verb.Gen words × IsDepth depth (word words 3)
 Spells words (command.Lines form depth) =
     IsCommandOf verb.Lines words × HasForm depth form (word words 1) × IsDepth depth (word words 2)

@@ -7,7 +7,7 @@ ghost use Rattle.sip_cli.specs.declared.helper_name.HelperName.{HelperName as An
 ghost use Rattle.sip_cli.specs.Shapes.{IsDepth, HasForm, IsStreamWord, helper_word};
 ghost use Rattle.sip_cli.specs.Words.{IsCommandOf, SaysTask, Spells, IsRefusedAt, word};
 ghost use Rattle.sip_cli.specs.Verbs.{verb_word};
-ghost use Rattle.sip_cli.specs.inside.Progress.{Fitted, HaveShapes, TakesStream, TakesTask, AreAsked, StopsInShapes, StopsInQueries};
+ghost use Rattle.sip_cli.specs.inside.Progress.{Fitted, HaveShapes, TakesName, TakesStream, TakesTask, AreAsked, StopsInShapes, StopsInQueries};
 ghost use Rattle.sip_cli.specs.declared.verb.Verb.{Verb as AnyVerb};
 ghost use Rattle.sip_wire.specs.Table.{most_queries};
 
@@ -30,6 +30,10 @@ pub enum Command {
     Verify(Task),
     /// To help another side to verify: `help FROM TO`.
     Help,
+    /// To list a transcript: `show TRANSCRIPT`.
+    Show,
+    /// To write a transcript in version 2: `convert TRANSCRIPT`.
+    Convert,
     /// To write a made stream: `gen NUMBER COUNT DEPTH`.
     Gen { depth: Depth },
     /// To write a stream as lines of text: `lines STREAM DEPTH`.
@@ -51,6 +55,8 @@ impl Command {
             Command::Play(task, name) => Some((task, name)),
             Command::Verify(_)
             | Command::Help
+            | Command::Show
+            | Command::Convert
             | Command::Gen { .. }
             | Command::Lines { .. }
             | Command::Widen { .. } => None,
@@ -67,8 +73,8 @@ const PLAY_DEPTH: usize = 5;
 /// The number of the helper of `play`.
 const PLAY_HELPER: usize = 3;
 
-// The verb that word 0 is.
-fn verb_of(words: &Words) -> Option<Verb>
+/// The verb that word 0 is.
+pub(crate) fn verb_of(words: &Words) -> Option<Verb>
     ensures { MatchOption result
         ((verb : AnyVerb) → 0 < length words.now → word words.now 0 ≢ verb_word verb)
         (λ verb. (0 < length words.now) × (word words.now 0 ≡ verb_word verb)) }
@@ -233,6 +239,19 @@ fn read_help(words: &Words) -> Result<Command, Usage>
     Ok(Command::Help)
 }
 
+// The rest of `show` and of `convert`, which have no more words.
+fn read_transcript(words: &Words) -> Result<(), Usage>
+    ensures read { OnOk result ((verb : AnyVerb) → TakesName verb
+        → Fitted verb words.now → IsCommandOf verb words.now) }
+    ensures refused { IfErr result (λ usage. (verb : AnyVerb) → TakesName verb
+        → Fitted verb words.now → IsRefusedAt words.now usage.word) }
+{
+    if has_word(words, 2) {
+        return Err(Usage { word: 2 });
+    }
+    Ok(())
+}
+
 // The rest of `gen`.
 fn read_gen(words: &Words) -> Result<Command, Usage>
     ensures command { IfOk result (λ command. Fitted Verb.Gen words.now
@@ -286,6 +305,14 @@ pub fn read_words(words: &Words) -> Result<Command, Usage>
     match verb {
         Verb::Verify => read_verify(words),
         Verb::Help => read_help(words),
+        Verb::Show => {
+            read_transcript(words)?;
+            Ok(Command::Show)
+        }
+        Verb::Convert => {
+            read_transcript(words)?;
+            Ok(Command::Convert)
+        }
         Verb::Gen => read_gen(words),
         Verb::Lines => {
             let (form, depth) = read_copy(words)?;

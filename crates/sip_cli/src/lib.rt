@@ -1,29 +1,41 @@
 //! The command `sip`: its words, its run, its exit code and the line of its status.
 #![tactic(auto)]
 
+mod advice;
 mod command;
 mod copying;
 mod decimal;
 mod exit;
 mod helper_name;
 mod helping;
+mod hint_text;
 mod page;
+mod page_text;
+mod place;
 mod plan;
 mod playing;
+mod progress;
 mod query;
 mod shape;
+mod sparing;
 mod status_text;
 mod stream;
 mod top;
 mod verb;
 mod words;
 
+pub use advice::hint;
 pub use command::{Command, read_words};
 pub use exit::{Ending, exit_code, finish, status_without_words};
 pub use helper_name::HelperName;
-pub use page::{HELP, VERSION, page_of, write_page};
+pub use page::{page_of, write_page};
+pub use page_text::{
+    GEN_PART, HELP, HELP_PART, LINES_PART, PLAY_PART, VERIFY_PART, VERSION, WIDEN_PART,
+};
 pub use plan::{LinkOrder, Opening, PortPlan, ports};
 pub use playing::play_words;
+pub use progress::{OPENING_FROM, OPENING_TO, Reading, ToldReader};
+pub use sparing::{FileId, PlanFiles};
 pub use status_text::status_line;
 pub use top::run;
 pub use words::{Usage, Words};

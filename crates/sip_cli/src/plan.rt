@@ -6,7 +6,7 @@ ghost use Rattle.sip_verifier.specs.declared.task.Task.{Task as AnyTask};
 ghost use Rattle.sip_cli.specs.declared.command.Command.{Command as AnyCommand};
 ghost use Rattle.sip_cli.specs.declared.stream.Stream.{Stream as AnyStream};
 ghost use Rattle.sip_stream.specs.Made.{most_made};
-ghost use Rattle.sip_cli.specs.Plan.{HasName, HaveNames, IsMarked, IsRecord, Opens, file_name, help_ports, no_ports, opening_of, play_ports, source_ports, verify_ports};
+ghost use Rattle.sip_cli.specs.Plan.{HasName, HaveNames, IsMarked, IsRecord, Opens, file_name, help_ports, no_ports, opening_of, play_ports, source_ports, transcript_ports, verify_ports};
 ghost use Rattle.sip_cli.specs.Shapes.{IsStreamWord};
 ghost use Rattle.sip_cli.specs.Words.{Spells, IsRefusedAt, word, word as word_at};
 
@@ -20,6 +20,9 @@ use sip_vector::Depth;
 pub enum Opening {
     /// On nothing.
     Nothing,
+    /// On a file that must not be emptied, since the command reads it or writes it at another port.
+    /// So nothing is opened, and the port's calls fail.
+    Spared,
     /// On the file whose name is a word of the command without its first `skip` bytes. Words are numbered from 0.
     Path {
         word: usize,
@@ -51,7 +54,7 @@ impl Opening {
         ensures only { IfSome result (λ name. file_name self words.now ≡ Some name.now) }
     {
         match self {
-            Opening::Nothing | Opening::Made { .. } => None,
+            Opening::Nothing | Opening::Spared | Opening::Made { .. } => None,
             Opening::Path { word, skip } => without(words.get(word)?, skip),
         }
     }
@@ -159,7 +162,7 @@ impl PortPlan {
         // A helper has no stream.
         match self.first {
             Opening::Nothing => LinkOrder::FromFirst,
-            Opening::Path { .. } | Opening::Made { .. } => LinkOrder::ToFirst,
+            Opening::Spared | Opening::Path { .. } | Opening::Made { .. } => LinkOrder::ToFirst,
         }
     }
 
@@ -215,6 +218,19 @@ impl PortPlan {
         }
     }
 
+    // The ports of `show` and of `convert`.
+    fn transcript() -> PortPlan
+        ensures { result ≡ transcript_ports }
+    {
+        PortPlan {
+            first: Opening::Nothing,
+            second: Opening::file(1),
+            from: Opening::Nothing,
+            to: Opening::Nothing,
+            keep: Opening::Nothing,
+        }
+    }
+
     // The ports of a command that the words are.
     fn of(words: &Words, command: &Command) -> PortPlan
         ensures { Spells words.now command.now → Opens words.now command.now result }
@@ -225,6 +241,7 @@ impl PortPlan {
                 PortPlan::verify(stream, Opening::keep(words, 5))
             }
             Command::Help => PortPlan::help(),
+            Command::Show | Command::Convert => PortPlan::transcript(),
             Command::Gen { depth } => {
                 PortPlan::source(Opening::numbers(words, *depth).unwrap_or(Opening::Nothing))
             }
@@ -242,7 +259,7 @@ impl PortPlan {
 
 /// The files and made streams that a command opens: for `verify` its stream, its seed, the two ends of its link and the
 /// file of its transcript, if it is to keep one, for `play` the same without a link, for `help` the two ends of its
-/// link, for `gen`, `lines` and `widen` their stream. Words that are no command open nothing.
+/// link, for `show` and `convert` the transcript, for `gen`, `lines` and `widen` their stream. Words that are no command open nothing.
 pub fn ports(words: &Words) -> PortPlan
     ensures spelled { (command : AnyCommand) → Spells words.now command
         → Opens words.now command result }

@@ -12,8 +12,8 @@ use sip_stream::text::{put, put_number};
 use sip_vector::Side;
 use sip_verifier::{Port, Status};
 
-/// No line of a status is longer.
-const ROOM: usize = 256;
+/// No line of a status, or of progress, is longer.
+pub(crate) const ROOM: usize = 256;
 
 // Adds the name of why a record is not legal.
 fn put_why(gathered: &mut ArrayVec<u8, ROOM>, why: Why)
@@ -57,8 +57,8 @@ fn plain(text: &[u8]) -> ArrayVec<u8, ROOM>
     gathered
 }
 
-// A line of a text, a number and another text.
-fn numbered(text: &[u8], number: u64, rest: &[u8]) -> ArrayVec<u8, ROOM>
+/// A line of a text, a number and another text.
+pub(crate) fn numbered(text: &[u8], number: u64, rest: &[u8]) -> ArrayVec<u8, ROOM>
     requires first { length text.now ≤ 100 }
     requires last { length rest.now ≤ 100 }
     ensures { result.items ≡ text.now ++ decimal number ++ rest.now ++ 10 ∷ [] }

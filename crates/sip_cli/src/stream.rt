@@ -1,6 +1,6 @@
 //! The word that names a stream.
 
-ghost use Rattle.std.specs.Prelude.{◌≡◌, ◌≢◌, ℕ, ◌≤◌, ◌<◌, ◌^◌, MatchOption, decimal, length, ◌++◌, ◌∷◌};
+ghost use Rattle.std.specs.Prelude.{◌≡◌, ◌≢◌, ◌↔◌, IsTrue, ℕ, ◌≤◌, ◌<◌, ◌^◌, MatchOption, decimal, length, ◌++◌, ◌∷◌};
 ghost use Rattle.sip_stream.specs.Made.{most_made};
 ghost use Rattle.sip_cli.specs.declared.stream.Stream.{Stream as AnyStream};
 ghost use Rattle.sip_cli.specs.Shapes.{IsStreamWord, form_of};
@@ -25,6 +25,16 @@ pub(crate) enum Stream {
 }
 
 impl Stream {
+    /// Whether it is a file of records whose items have four bytes.
+    pub(crate) fn is_file(self) -> bool
+        ensures { IsTrue result ↔ (self ≡ Stream.File) }
+    {
+        match self {
+            Stream::File => true,
+            Stream::Made { .. } | Stream::Text | Stream::Wide => false,
+        }
+    }
+
     /// How the stream is written, at a depth.
     pub(crate) fn form(self, depth: Depth) -> Form
         ensures { result ≡ form_of depth self }

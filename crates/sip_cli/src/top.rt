@@ -9,7 +9,7 @@ ghost use Rattle.sip_verifier.specs.Tasks.{CanBeDone};
 ghost use Rattle.sip_cli.specs.declared.command.Command.{Command as AnyCommand};
 ghost use Rattle.sip_cli.specs.declared.helper_name.HelperName.{HelperName as AnyName};
 ghost use Rattle.sip_cli.specs.CommandClause.{CommandClause};
-ghost use Rattle.sip_cli.specs.Statuses.{IsCopy};
+ghost use Rattle.sip_cli.specs.Statuses.{IsCopy, ReadsTranscript};
 ghost use Rattle.sip_cli.specs.Words.{Spells, IsRefusedAt};
 
 use crate::copying::copy_stream;
@@ -17,6 +17,7 @@ use crate::helping::help;
 use crate::{Command, Usage, Words, read_words};
 use sip_ports::{Link, Sink, Source};
 use sip_stream::Form;
+use sip_transcript::{convert, show};
 use sip_verifier::{Status, check_stream};
 use std::alloc::Global;
 
@@ -48,8 +49,11 @@ fn obey<A: Source, B: Source, L: Link, K: Sink, C: Sink>(
         ⊎ Rose (K.wants report.old) (K.wants report.new) }
     ensures helps_apart { command.now ≡ Command.Help → (first.new ≡ first.old)
         × (second.new ≡ second.old) × (report.new ≡ report.old) × (keep.new ≡ keep.old) }
+    ensures shows_apart { ReadsTranscript command.now → (first.new ≡ first.old)
+        × (peer.new ≡ peer.old) × (keep.new ≡ keep.old) }
     ensures first { Lasts A.faults A.wants A.is_sure first.old first.new }
-    ensures seed { TakesAtMost 32 (B.left second.old) (B.left second.new) }
+    ensures seed { (ReadsTranscript command.now → ⊥)
+        → TakesAtMost 32 (B.left second.old) (B.left second.new) }
     ensures second { Lasts B.faults B.wants B.is_sure second.old second.new }
     ensures peer { Lasts L.faults L.wants L.is_sure peer.old peer.new }
     ensures report { Lasts K.faults K.wants K.is_sure report.old report.new }
@@ -59,6 +63,8 @@ fn obey<A: Source, B: Source, L: Link, K: Sink, C: Sink>(
         Command::Verify(task) => check_stream(alloc, task, first, second, peer, report, keep),
         Command::Play(task, _) => check_stream(alloc, task, first, second, peer, report, keep),
         Command::Help => help(alloc, peer),
+        Command::Show => show(alloc, second, report),
+        Command::Convert => convert(alloc, second, report),
         Command::Gen { depth } => {
             let form = Form::made(*depth);
             copy_stream(*depth, form, form, first, report)
@@ -77,6 +83,9 @@ fn obey<A: Source, B: Source, L: Link, K: Sink, C: Sink>(
 ///
 /// `help FROM TO`: serves one talk over `peer`. Memory grows with the entries that are not 0.
 ///
+/// `show TRANSCRIPT`: lists the transcript of `second`. `convert TRANSCRIPT`: writes it in version 2. Nothing is written
+/// before the whole head was read, and then all up to the first frame that has no spelling. The memory is that of a frame.
+///
 /// `gen NUMBER COUNT DEPTH`, `lines STREAM DEPTH` and `widen STREAM DEPTH`: write the legal records of `first` to `report`,
 /// as they were made, as lines of text or as wide records, up to the first record that is not legal. They take no memory.
 ///
@@ -92,7 +101,8 @@ pub fn run<A: Source, B: Source, L: Link, K: Sink, C: Sink>(
     keep: &mut C,
 ) -> Status
     // Of `verify` and `play` the six promises, of `gen`, `lines` and `widen` the copy that the
-    // report gets, of `help` the talk that it serves; and whatever the command, its faults have
+    // report gets, of `help` the talk that it serves, of `show` and `convert` what the report gets of
+    // the transcript; and whatever the command, its faults have
     // their cause, and its status is one of its own.
     ensures keeps { CommandClause (Spells words.now)
         (moment (A.left first.old) (A.faults first.old) (B.left second.old) (B.faults second.old)
@@ -114,16 +124,23 @@ pub fn run<A: Source, B: Source, L: Link, K: Sink, C: Sink>(
     ensures helps_apart { Spells words.now Command.Help → (first.new ≡ first.old)
         × (second.new ≡ second.old) × (report.new ≡ report.old) × (keep.new ≡ keep.old) }
 
+    // To read a transcript leaves all ports alone but that of the transcript and the report.
+    ensures shows_apart { (command : AnyCommand) → Spells words.now command
+        → ReadsTranscript command
+        → (first.new ≡ first.old) × (peer.new ≡ peer.old) × (keep.new ≡ keep.old) }
+
     // Words are refused exactly where they are no command, and then no port is called.
     ensures usage { (word : ℕ) → (result ≡ Status.Usage word) ↔ IsRefusedAt words.now word }
     ensures untouched { (word : ℕ) → result ≡ Status.Usage word
         → (first.new ≡ first.old) × (second.new ≡ second.old) × (peer.new ≡ peer.old)
         × (report.new ≡ report.old) × (keep.new ≡ keep.old) }
 
-    // Counts of faults and of wants of memory never fall, and no more than 32 bytes of the seed are
-    // taken.
+    // Counts of faults and of wants of memory never fall, and no more than 32 bytes of the second
+    // source are taken, but where it is a transcript.
     ensures first { Lasts A.faults A.wants A.is_sure first.old first.new }
-    ensures seed { TakesAtMost 32 (B.left second.old) (B.left second.new) }
+    ensures seed { ((command : AnyCommand) → Spells words.now command
+        → ReadsTranscript command → ⊥)
+        → TakesAtMost 32 (B.left second.old) (B.left second.new) }
     ensures second { Lasts B.faults B.wants B.is_sure second.old second.new }
     ensures peer { Lasts L.faults L.wants L.is_sure peer.old peer.new }
     ensures report { Lasts K.faults K.wants K.is_sure report.old report.new }

@@ -14,6 +14,10 @@ pub(crate) enum Verb {
     Verify,
     /// To help another side to verify.
     Help,
+    /// To list a transcript.
+    Show,
+    /// To write a transcript in version 2.
+    Convert,
     /// To write a made stream.
     Gen,
     /// To write a stream as lines of text.
@@ -34,6 +38,10 @@ const VERIFY: [Shape; 6] = [
 ];
 
 const HELP: [Shape; 2] = [Shape::Name, Shape::Name];
+
+const SHOW: [Shape; 1] = [Shape::Name];
+
+const CONVERT: [Shape; 1] = [Shape::Name];
 
 const GEN: [Shape; 3] = [
     Shape::Number { most: u64::MAX },
@@ -65,6 +73,8 @@ impl Verb {
         match word {
             "verify" => Some(Verb::Verify),
             "help" => Some(Verb::Help),
+            "show" => Some(Verb::Show),
+            "convert" => Some(Verb::Convert),
             "gen" => Some(Verb::Gen),
             "lines" => Some(Verb::Lines),
             "widen" => Some(Verb::Widen),
@@ -80,6 +90,8 @@ impl Verb {
         match self {
             Verb::Verify => &VERIFY,
             Verb::Help => &HELP,
+            Verb::Show => &SHOW,
+            Verb::Convert => &CONVERT,
             Verb::Gen => &GEN,
             Verb::Lines => &LINES,
             Verb::Widen => &WIDEN,

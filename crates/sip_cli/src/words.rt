@@ -1,7 +1,8 @@
 //! The words of a command.
 
-ghost use Rattle.std.specs.Prelude.{◌≡◌, ◌≢◌, ℕ, List, [], ◌∷◌, map, string_bytes, MatchOption};
+ghost use Rattle.std.specs.Prelude.{◌≡◌, ◌≢◌, ◌↔◌, IsTrue, ℕ, List, [], ◌∷◌, map, string_bytes, MatchOption};
 ghost use Rattle.std.specs.List.{slice_get};
+ghost use Rattle.sip_cli.specs.Behind.{IsBehind, progress_word};
 ghost use Rattle.std.specs.Option.{option_copied};
 
 use std::marker::Model;
@@ -20,6 +21,13 @@ impl Model for Words {
     ghost view = { λ w. map (λ s. string_bytes s) w.list.items };
 }
 
+// Whether a word is `--progress`.
+fn is_progress(word: &str) -> bool
+    ensures { IsTrue result ↔ (word.now ≡ progress_word) }
+{
+    word == "--progress"
+}
+
 impl Words {
     /// These words.
     pub fn of(list: Vec<String>) -> Words
@@ -35,6 +43,30 @@ impl Words {
         Some(self.list.get(word)?.as_str())
     }
 
+    /// The words of a command, which are those behind `--progress` where that stands first, and
+    /// whether it does.
+    pub fn behind_progress(self) -> (Words, bool)
+        ensures { IsBehind self result.0 result.1 }
+    {
+        if self.leads_with_progress() {
+            let Words { mut list } = self;
+            let _ = list.remove(0);
+            (Words { list }, true)
+        } else {
+            (self, false)
+        }
+    }
+
+    // Whether `--progress` stands first.
+    fn leads_with_progress(&self) -> bool
+        ensures { IsTrue result ↔ ((rest : List (List ℕ)) × (self.now ≡ progress_word ∷ rest)) }
+    {
+        match self.get(0) {
+            Some(word) => is_progress(word),
+            None => false,
+        }
+    }
+
     /// The word that stands alone; `None` where there is none, or more than one.
     pub(crate) fn only(&self) -> Option<&str>
         ensures { MatchOption result
@@ -45,6 +77,18 @@ impl Words {
             return None;
         }
         self.get(0)
+    }
+
+    /// The two words that stand alone; `None` where there are fewer, or more.
+    pub(crate) fn pair(&self) -> Option<(&str, &str)>
+        ensures { MatchOption result
+            ((first second : List ℕ) → self.now ≢ first ∷ second ∷ [])
+            (λ pair. self.now ≡ pair.0.now ∷ pair.1.now ∷ []) }
+    {
+        if self.get(2).is_some() {
+            return None;
+        }
+        Some((self.get(0)?, self.get(1)?))
     }
 }
 

@@ -4,7 +4,6 @@ pub mod HonestLemmas
 pub mod KeepsLemmas
 pub mod LyingLemmas
 pub mod PartLemmas
-pub mod SpeakingLemmas
 pub mod TurnLemmas
 pub mod WalkLemmas
 pub mod StrayLemmas

@@ -10,7 +10,7 @@ ghost use Rattle.sip_wire.specs.declared.version.Version.TheVariants as versions
 ghost use Rattle.sip_duel.specs.Taking.{Takes};
 
 use crate::part::{Part, Taken};
-use sip_ports::{MemorySink, TalkEvent};
+use sip_ports::{MemorySink, TalkEvent, received_events, sent_events};
 use std::alloc::{AllocError, Global};
 
 /// Whether more may come.
@@ -22,21 +22,6 @@ pub(crate) enum Mood {
     Over,
     /// Memory was refused to it.
     Failed,
-}
-
-fn sent_events(alloc: Global, bytes: &[u8]) -> Result<Vec<TalkEvent>, AllocError>
-    ensures { IfOk result (λ events. events.items ≡ outs bytes.now) }
-{
-    bytes
-        .iter()
-        .map(|byte| TalkEvent::Out(*byte))
-        .collect(alloc)
-}
-
-fn received_events(alloc: Global, bytes: &[u8]) -> Result<Vec<TalkEvent>, AllocError>
-    ensures { IfOk result (λ events. events.items ≡ ins bytes.now) }
-{
-    bytes.iter().map(|byte| TalkEvent::In(*byte)).collect(alloc)
 }
 
 /// The talk, the frame that is being sent, what the helper appended, and how much of it was given:

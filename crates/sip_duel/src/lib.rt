@@ -51,16 +51,3 @@ pub use lie::Lie;
 pub use link::HelperLink;
 pub use mute::Mute;
 pub use skewed::Skewed;
-
-#[cfg(test)]
-mod cases;
-#[cfg(test)]
-mod counting;
-#[cfg(test)]
-mod exit_tests;
-#[cfg(test)]
-mod liar_tests;
-#[cfg(test)]
-mod link_tests;
-#[cfg(test)]
-mod row_tests;

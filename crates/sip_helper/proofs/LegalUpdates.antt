@@ -1,18 +1,21 @@
 -- Updates are legal and are added one after another.
-use Rattle.std.proofs.Common.{◌≡◌, ℕ, ◌+◌, ◌^◌, ◌<◌, ◌≤◌, Bool, true, false, ◌&&◌, cond, nat_lt, nat_le, List, [], ◌∷◌, Option, Some, None, nat_abs, refl, sym, ap, subst, ◌∙◌, inl, inr, arith}
+use Rattle.std.proofs.Common.{◌≡◌, ℕ, ◌+◌, ◌^◌, ◌≤◌, Bool, true, false, ◌&&◌, cond, nat_lt, nat_le, List, [], ◌∷◌, ◌++◌, Option, Some, None, refl, sym, ap, subst, ◌∙◌, inl, inr, arith}
 use Rattle.std.specs.Prelude.{IsTrue}
 use Rattle.std.specs.List.{fold, list_all}
-use Rattle.std.proofs.lemmas.Bool.{and_from, and_parts, both_ways, ltb-true, leb-true, le-leb}
+use Rattle.std.proofs.lemmas.Bool.{and_from, and_parts, both_ways, leb-true, le-leb}
+use Rattle.std.proofs.lemmas.List.Sums.{fold-append}
+use Rattle.std.proofs.lemmas.List.Folds.{list_all-append}
 use Rattle.sip_vector.specs.declared.update.Side.{Side}
 use Rattle.sip_vector.specs.declared.update.Side.TheVariants.{First, Second}
 use Rattle.sip_vector.specs.declared.update.Update.{Update}
-use Rattle.sip_vector.specs.Streams.{same_side, weight, most_weight}
+use Rattle.sip_vector.specs.Streams.{same_side, of_side, weight, most_weight}
 use Rattle.sip_vector.specs.Vectors.{SideVector, with_added, with_update}
 use Rattle.std.proofs.lemmas.Bool.{cases_Bool}
 use Rattle.sip_vector.proofs.Sides.{weight-append, weight-one, weight-one_other_side}
 use Rattle.sip_helper.specs.Vectors.{Vectors}
 use Rattle.sip_helper.specs.declared.vectors.Weights.{Weights}
 use Rattle.sip_helper.specs.Turns.{with_updates, weights_after, is_light, stays_legal}
+use Rattle.sip_helper.specs.inside.Adding.{with_own}
 use Rattle.sip_helper.specs.inside.Legal.{HaveWeights, weights_of, legal_weights}
 
 -- ---- weights
@@ -103,48 +106,19 @@ settled_now depth w h =
 
 -- ---- vectors
 
--- the first update is within, and the others may follow it
-pub record Follows (v next : Vectors) (u : Update) (us : List Update) : Type 0 where
-  pub within : u.item < 2 ^ v.first.depth
-  pub legal : IsTrue (stays_legal v.first.depth (weights_of next) us)
-  pub all : with_updates v (u ∷ us) ≡ with_updates next us
-
-abbrev pub with_first : Vectors → Update → Vectors
-with_first v u = record { first = with_added v.first u.item u.delta; second = v.second }
-
-abbrev pub with_second : Vectors → Update → Vectors
-with_second v u = record { first = v.first; second = with_added v.second u.item u.delta }
-
--- what stays_legal says of the first update, by the weights with it
-follows : (v next : Vectors) (u : Update) (us : List Update) → weights_after (weights_of v) (u ∷ []) ≡ weights_of next → with_updates v (u ∷ us) ≡ with_updates next us
-    → IsTrue (stays_legal v.first.depth (weights_of v) (u ∷ us)) → Follows v next u us
-follows v next u us weights all h =
-    let d = v.first.depth in
-    let both = and_parts (list_all (is_item d) (u ∷ us)) (is_light (weights_after (weights_of v) (u ∷ us))) h in
-    let items = and_parts (is_item d u) (list_all (is_item d) us) both.0 in
-    let light : is_light (weights_after (weights_of next) us) ≡ true =
-    subst (λ (x : Weights). is_light (weights_after x us) ≡ true) weights (subst (λ (x : Weights). is_light x ≡ true) (weights-more (weights_of v) u us) both.1) in
-    record { within = ltb-true u.item (2 ^ d) items.0; legal = and_from _ _ items.1 light; all = all }
-
-pub follows_first : (v : Vectors) (u : Update) (us : List Update) → u.side ≡ First → IsTrue (stays_legal v.first.depth (weights_of v) (u ∷ us))
-    → Follows v (with_first v u) u us × (v.first.weight + nat_abs u.delta ≤ most_weight)
-follows_first v u us side h =
-    let mine = weight-one u First (ap (λ (s : Side). same_side s First) side) in
-    let other = weight-one_other_side u Second (ap (λ (s : Side). same_side s Second) side) in
-    let both = and_parts (list_all (is_item v.first.depth) (u ∷ us)) (is_light (weights_after (weights_of v) (u ∷ us))) h in
-    let light = light_parts (weights_after (weights_of v) (u ∷ us)) both.1 in
-    let more = weight-append (u ∷ []) us First in
-    (follows v (with_first v u) u us (same_weights _ _ _ _ (omega (arith, mine)) (omega (arith, other))) (rw side refl) h, omega (arith, mine, more, light.0))
-
-pub follows_second : (v : Vectors) (u : Update) (us : List Update) → u.side ≡ Second → IsTrue (stays_legal v.first.depth (weights_of v) (u ∷ us))
-    → Follows v (with_second v u) u us × (v.second.weight + nat_abs u.delta ≤ most_weight)
-follows_second v u us side h =
-    let mine = weight-one u Second (ap (λ (s : Side). same_side s Second) side) in
-    let other = weight-one_other_side u First (ap (λ (s : Side). same_side s First) side) in
-    let both = and_parts (list_all (is_item v.first.depth) (u ∷ us)) (is_light (weights_after (weights_of v) (u ∷ us))) h in
-    let light = light_parts (weights_after (weights_of v) (u ∷ us)) both.1 in
-    let more = weight-append (u ∷ []) us Second in
-    (follows v (with_second v u) u us (same_weights _ _ _ _ (omega (arith, other)) (omega (arith, mine))) (rw side refl) h, omega (arith, mine, more, light.1))
+-- the updates of one side, added one after another, give what all give of which those of that side are added
+pub fold_of_side : (side : Side) (v : SideVector) (us : List Update) → fold with_own v (of_side us side) ≡ fold (with_update side) v us
+fold_of_side side v [] = refl
+fold_of_side side v (u ∷ us) = elim (cases_Bool (same_side u.side side)) [
+  | inl same ↦
+      ap (λ (b : Bool). fold with_own v (cond b (u ∷ of_side us side) (of_side us side))) same
+      ∙ fold_of_side side (with_own v u) us
+      ∙ ap (λ (b : Bool). fold (with_update side) (cond b (with_own v u) v) us) (sym same)
+  | inr other ↦
+      ap (λ (b : Bool). fold with_own v (cond b (u ∷ of_side us side) (of_side us side))) other
+      ∙ fold_of_side side v us
+      ∙ ap (λ (b : Bool). fold (with_update side) (cond b (with_own v u) v) us) (sym other)
+]
 
 -- ---- depths and weights
 
@@ -173,4 +147,35 @@ are_after depth w v us are =
       first = one.0 ∙ are.first;
       second = two.0 ∙ are.second;
       weights = same_weights _ _ _ _ one.1 two.1 ∙ ap (λ (x : Weights). weights_after x us) are.weights;
+    }
+
+-- ---- updates in two parts
+
+same_vectors : (a b c d : SideVector) → a ≡ b → c ≡ d → ◌≡◌ {A = Vectors} (record { first = a; second = c }) (record { first = b; second = d })
+same_vectors a b c d e f = cc
+
+-- each part may follow what is before it, and both give what all give
+pub record Parted (v : Vectors) (some more : List Update) : Type 0 where
+  pub front : IsTrue (stays_legal v.first.depth (weights_of v) some)
+  pub back : IsTrue (stays_legal (with_updates v some).first.depth (weights_of (with_updates v some)) more)
+  pub depths : (v.second.depth ≡ v.first.depth) → ((with_updates v some).second.depth ≡ (with_updates v some).first.depth)
+  pub all : with_updates (with_updates v some) more ≡ with_updates v (some ++ more)
+
+pub parted : (v : Vectors) (front back : List Update) → IsTrue (stays_legal v.first.depth (weights_of v) (front ++ back)) → Parted v front back
+parted v front back h =
+    let d = v.first.depth in
+    let w = weights_of v in
+    let both = and_parts (list_all (is_item d) (front ++ back)) (is_light (weights_after w (front ++ back))) h in
+    let items = and_parts (list_all (is_item d) front) (list_all (is_item d) back) (sym (list_all-append (is_item d) front back) ∙ both.0) in
+    let first = weight-append front back First in
+    let second = weight-append front back Second in
+    let light = light_parts (weights_after w (front ++ back)) both.1 in
+    let one = kept_by First v.first front in
+    let two = kept_by Second v.second front in
+    record {
+      front = and_from _ _ items.0 (light_from (weights_after w front) (omega (arith, first, light.0)) (omega (arith, second, light.1)));
+      back = and_from _ _ (subst (λ n. list_all (is_item n) back ≡ true) (sym one.0) items.1)
+          (light_from (weights_after (weights_of (with_updates v front)) back) (omega (arith, first, light.0, one.1)) (omega (arith, second, light.1, two.1)));
+      depths = λ same. two.0 ∙ same ∙ sym one.0;
+      all = same_vectors _ _ _ _ (sym (fold-append (with_update First) v.first front back)) (sym (fold-append (with_update Second) v.second front back));
     }

@@ -12,7 +12,7 @@ use crate::asked::is_known;
 use crate::refusal::OUT_OF_TURN;
 use crate::{HelpStatus, HelperCore};
 use sip_ports::{Link, PortStop};
-use sip_wire::{Frame, Message, Place, Version, decode_into, encode};
+use sip_wire::{Frame, Message, Place, Version, decode_within, encode};
 use std::alloc::Global;
 
 /// Sends the refusal of a message out of turn. It is made in a call of its own, since a message is as large as the longest frame's
@@ -32,7 +32,6 @@ fn take_turn<L: Link>(
     core: &mut HelperCore,
     link: &mut L,
     frame: &mut Frame,
-    message: &mut Message,
     offset: u64,
 ) -> Result<(), HelpStatus>
     requires live { core.old.spent ≡ false }
@@ -47,9 +46,10 @@ fn take_turn<L: Link>(
 {
     // A frame is read, and refused, in the version of the talk up to it.
     let version = core.version();
-    if let Err(fault) = decode_into(link, Place::ToHelper, version, frame, message) {
+    if let Err(fault) = decode_within(link, Place::ToHelper, version, frame) {
         return Err(HelpStatus::of_fault(fault, offset));
     }
+    let message = frame.message();
     if !is_known(message) {
         return Err(HelpStatus::BadFrame { offset });
     }
@@ -88,11 +88,9 @@ pub fn serve<L: Link>(alloc: Global, link: &mut L) -> HelpStatus
         return HelpStatus::OutOfMemory;
     };
     let mut core = HelperCore::new(alloc);
-    // One message for the whole talk: the updates of a frame are read in place of those of the frame before.
-    let mut message = Message::Bye;
     let mut offset = 0;
     loop {
-        if let Err(status) = take_turn(&mut core, link, &mut frame, &mut message, offset) {
+        if let Err(status) = take_turn(&mut core, link, &mut frame, offset) {
             return status;
         }
         offset += frame.bytes().len() as u64;

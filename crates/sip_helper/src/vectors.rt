@@ -1,19 +1,25 @@
 //! What the updates of a stream add up to.
 
-ghost use Rattle.std.specs.Prelude.{◌≡◌, ◌∷◌, [], Bool, IfOk, IfSome, IsTrue, if◌then◌else◌};
+ghost use Rattle.std.specs.Prelude.{◌≡◌, ◌<◌, ◌≤◌, ◌+◌, ◌^◌, ◌∷◌, [], All, Bool, IfOk, IfSome, IsTrue, OnOk, fold, length, nat_abs, sum_by, if◌then◌else◌};
 ghost use Rattle.std.specs.Option.{option_map};
-ghost use Rattle.sip_vector.specs.Vectors.{contents};
+ghost use Rattle.sip_vector.specs.Streams.{most_weight, weight};
+ghost use Rattle.sip_vector.specs.Vectors.{contents, with_update};
 ghost use Rattle.sip_helper.specs.Turns.{is_light, stays_legal, zero_vectors, with_updates};
 ghost use Rattle.sip_helper.specs.Vectors.{vector_of};
+ghost use Rattle.sip_helper.specs.inside.Adding.{most_in_piece, with_own};
 ghost use Rattle.sip_helper.specs.inside.Legal.{weights_of, legal_weights};
 
 use sip_field::OutOfMemory;
-use sip_vector::{Depth, Side, Update, Vector};
+use sip_vector::{Depth, Side, Update, Vector, take_side};
 use std::alloc::Global;
 use std::marker::Model;
 
 /// The greatest weight of a side.
 const MOST_WEIGHT: u64 = (1 << 30) - 1;
+
+/// How many updates are split by side at once: few, so that their buffer is short on the stack and
+/// soon filled with zeros.
+const PIECE: usize = 128;
 
 /// The weights of the two sides: the sums of the absolute deltas.
 #[derive(Clone, Copy, Debug, PartialEq, Eq)]
@@ -56,6 +62,36 @@ impl Weights {
     }
 }
 
+// Adds the updates of one side to its vector. They are gathered in `taken` first: a branch on the
+// side would be guessed wrongly for every other update.
+fn add_side(
+    vector: &mut Vector,
+    side: Side,
+    updates: &[Update],
+    taken: &mut [Update; PIECE],
+) -> Result<(), OutOfMemory>
+    requires most { length updates.now ≤ most_in_piece }
+    requires items { All (λ u. u.item < 2 ^ vector.old.depth) updates.now }
+    requires light { vector.old.weight + weight updates.now side ≤ most_weight }
+    ensures { OnOk result (contents vector.new ≡ fold (with_update side) (contents vector.old)
+        updates.now) }
+{
+    let count = take_side(updates, side, taken);
+    add_all(vector, &taken[..count])
+}
+
+// Adds updates to the vector of their side.
+fn add_all(vector: &mut Vector, updates: &[Update]) -> Result<(), OutOfMemory>
+    requires items { All (λ u. u.item < 2 ^ vector.old.depth) updates.now }
+    requires light { vector.old.weight + sum_by (λ u. nat_abs u.delta) updates.now ≤ most_weight }
+    ensures { OnOk result (contents vector.new ≡ fold with_own (contents vector.old) updates.now) }
+{
+    for update in updates {
+        vector.add(update.item, update.delta)?;
+    }
+    Ok(())
+}
+
 /// The vectors of the two sides.
 #[derive(Drop)]
 pub(crate) struct Vectors {
@@ -84,19 +120,37 @@ impl Vectors {
     }
 
     /// The vectors once these updates are added. Where memory is refused, they are gone.
+    ///
+    /// It is a call of its own, so that the stack has its buffer only while updates are added.
+    #[inline(never)]
     pub(crate) fn with(self, updates: &[Update]) -> Result<Vectors, OutOfMemory>
         requires legal { IsTrue (stays_legal self.first.depth (weights_of self) updates.now) }
         requires depths { self.second.depth ≡ self.first.depth }
         ensures { IfOk result (λ vectors. vectors ≡ with_updates self updates.now) }
     {
         let mut vectors = self;
-        for update in updates {
-            match update.side {
-                Side::First => vectors.first.add(update.item, update.delta)?,
-                Side::Second => vectors.second.add(update.item, update.delta)?,
-            }
+        // One buffer for all pieces and both sides.
+        let mut taken = [Update::default(); PIECE];
+        for piece in updates.chunks(PIECE) {
+            vectors.add_piece(piece, &mut taken)?;
         }
         Ok(vectors)
+    }
+
+    // Adds a few updates, those of one side after those of the other. They are gathered in `taken`.
+    // Where memory is refused, some of them are added.
+    fn add_piece(
+        &mut self,
+        piece: &[Update],
+        taken: &mut [Update; PIECE],
+    ) -> Result<(), OutOfMemory>
+        requires legal { IsTrue (stays_legal self.old.first.depth (weights_of self.old) piece.now) }
+        requires depths { self.old.second.depth ≡ self.old.first.depth }
+        requires most { length piece.now ≤ most_in_piece }
+        ensures { OnOk result (self.new ≡ with_updates self.old piece.now) }
+    {
+        add_side(&mut self.first, Side::First, piece, taken)?;
+        add_side(&mut self.second, Side::Second, piece, taken)
     }
 
     /// The vector of a side.

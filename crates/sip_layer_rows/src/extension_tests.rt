@@ -1,11 +1,9 @@
-ghost use Rattle.std.specs.Prelude.{◌≡◌, ◌^◌, ◌<◌, ◌≤◌, All, length};
+ghost use Rattle.std.specs.Prelude.{◌≡◌, length};
 
-use crate::block_tests::{block, challenges};
 use crate::facts::expect;
-use sip_field::{F31, Field, M61, Seat};
+use sip_field::{Field, M61, Seat};
 use sip_mle::{IntervalFold, Point, chi, interval_at};
 use sip_vector::Depth;
-use std::process::Abort;
 
 fn two_and_ten() -> Seat<M61, 32>
     ensures { length result ≡ 2 }
@@ -59,99 +57,4 @@ fn an_interval_is_folded_by_its_two_ends(rt: HostRuntime) {
     expect(&rt, 1, &facts);
     interval.fold(M61::of(10));
     expect(&rt, 2, &[interval.at(0) == M61::of_signed(-8)]);
-}
-
-// The list of eight entries, by its own program.
-fn ones_and_zeros(lo: u64, hi: u64) -> [F31; 8] {
-    let mut list = [F31::of(0); 8];
-    for (index, entry) in list.iter_mut().enumerate() {
-        if lo <= index as u64 && index as u64 <= hi {
-            *entry = F31::of(1);
-        }
-    }
-    list
-}
-
-// A plain fold of a whole list: each pair becomes a mixture of its entries.
-fn folded(list: [F31; 8], r: F31) -> [F31; 8] {
-    let mut above = [F31::of(0); 8];
-    for at in 0..4 {
-        let left = F31::of(1).minus(r).times(list[2 * at]);
-        above[at] = left.plus(r.times(list[2 * at + 1]));
-    }
-    above
-}
-
-fn begins_with(list: [F31; 8], interval: &IntervalFold<F31>, count: usize) -> bool
-    requires short { count ≤ 8 }
-    requires long { count ≤ length interval.now }
-{
-    for index in 0..count {
-        if interval.at(index as u64) != list[index] {
-            return false;
-        }
-    }
-    true
-}
-
-fn folds_like_a_whole_list(rt: &impl Abort, challenges: [F31; 3], lo: u64, hi: u64)
-    requires order { lo ≤ hi }
-    requires within { hi < 8 }
-{
-    let seat = Seat::<F31, 3>::of(&challenges).unwrap();
-    let [first, second, third] = challenges;
-    let list = ones_and_zeros(lo, hi);
-    let mut interval = IntervalFold::<F31>::new(Depth::new(3).unwrap(), lo, hi);
-    let eight = begins_with(list, &interval, 8);
-    interval.fold(first);
-    let list = folded(list, first);
-    let four = begins_with(list, &interval, 4);
-    interval.fold(second);
-    let list = folded(list, second);
-    let two = begins_with(list, &interval, 2);
-    interval.fold(third);
-    let list = folded(list, third);
-    let one = begins_with(list, &interval, 1);
-    let facts = [eight, four, two, one, interval_at(&seat, lo, hi) == list[0]];
-    expect(rt, lo as usize, &facts);
-}
-
-#[test]
-fn intervals_fold_like_whole_lists(rt: HostRuntime) {
-    let challenges = [F31::of(2), F31::of(30), F31::of(7)];
-    for lo in 0..8 {
-        for hi in lo..8 {
-            folds_like_a_whole_list(&rt, challenges, lo, hi);
-        }
-    }
-}
-
-// Whether a block gives what its updates give one by one, at the first challenges.
-fn block_is_its_updates<F: Field>(challenges: &[F], count: usize) -> bool
-    requires some { 1 ≤ length challenges.now }
-    requires deep { length challenges.now ≤ 48 }
-    requires fits { count ≤ 500 }
-{
-    let updates = block(challenges.len(), count);
-    let mut single = Point::new(Seat::<F, 48>::of(challenges).unwrap());
-    let mut whole = Point::new(Seat::<F, 48>::of(challenges).unwrap());
-    for update in &updates[..count] {
-        single.update(update.item, update.delta);
-    }
-    whole.update_all(&updates[..count]);
-    single.value() == whole.value()
-}
-
-#[test]
-fn a_block_gives_what_its_updates_give(rt: HostRuntime) {
-    let (small, large) = challenges();
-    for depth in [1, 7, 8, 20, 48] {
-        for count in [0, 1, 31, 32, 127, 500] {
-            let facts = [
-                block_is_its_updates(&small[..depth], count),
-                block_is_its_updates(&large[..depth], count),
-            ];
-            expect(&rt, count, &facts);
-        }
-    }
 }

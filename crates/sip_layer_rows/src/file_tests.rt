@@ -8,44 +8,43 @@ use sip_ports::{
 use std::fs::File;
 use std::io;
 
-#[test]
-fn a_file_that_could_not_be_opened_fails_at_every_call(rt: HostRuntime) {
-    let missing: Option<File> = std::fs::open(&rt, "no/such/file").ok();
-    let is_missing = missing.is_none();
-    let mut buf = [0; 4];
-    let mut source = FileSource::new(missing);
-    let mut link = FileLink::new(None, None);
-    let facts = [
-        is_missing,
-        source.read(&mut buf) == Err(PortStop::Failed),
-        source.read(&mut buf) == Err(PortStop::Failed),
-        FileSink::new(None).write(b"a") == Err(PortStop::Failed),
-        link.recv(&mut buf) == Err(PortStop::Failed),
-        link.write(b"a") == Err(PortStop::Failed),
-        link.recv(&mut []) == Err(PortStop::Failed),
-    ];
-    expect(&rt, 0, &facts);
+fn no_read(file: Option<File>) -> bool {
+    let mut source = FileSource::new(file);
+    source.read(&mut [0; 4]) == Err(PortStop::Failed)
 }
 
-// Files of the machine that open and then refuse: one opened to read is written, a full device, and
-// a folder.
+fn no_write(file: Option<File>) -> bool {
+    FileSink::new(file).write(b"a") == Err(PortStop::Failed)
+}
+
+// Whether a link of these files gives nothing, not even nothing where nothing is asked for if
+// there is no file.
+fn no_receipt(incoming: Option<File>, asked: usize) -> bool {
+    let mut buf = [0; 4];
+    let mut link = FileLink::new(incoming, None);
+    link.recv(&mut buf[..asked.min(4)]) == Err(PortStop::Failed)
+}
+
+fn no_sending(outgoing: Option<File>) -> bool {
+    FileLink::new(None, outgoing).write(b"a") == Err(PortStop::Failed)
+}
+
+// A file that is none, or could not be opened; and files of the machine that open and then refuse:
+// one opened to read is written, a full device, and a folder.
 #[test]
 fn files_that_refuse(rt: HostRuntime) {
     let mut target = FileSink::new(std::fs::create(&rt, "target").ok());
-    let written = write_whole(&mut target, b"a");
-    let mut read_only = FileSink::new(std::fs::open(&rt, "target").ok());
-    let mut full = FileSink::new(std::fs::create(&rt, "/dev/full").ok());
-    let mut link = FileLink::new(
-        std::fs::open(&rt, "/").ok(),
-        std::fs::create(&rt, "/dev/full").ok(),
-    );
     let facts = [
-        written == Ok(()),
-        read_only.write(b"a") == Err(PortStop::Failed),
-        full.write(&[]) == Ok(0),
-        write_whole(&mut full, b"a") == Err(PortStop::Failed),
-        link.recv(&mut [0; 1]) == Err(PortStop::Failed),
-        link.write(b"a") == Err(PortStop::Failed),
+        write_whole(&mut target, b"a") == Ok(()),
+        no_read(std::fs::open(&rt, "no/such/file").ok()),
+        no_write(None),
+        no_receipt(None, 4),
+        no_receipt(None, 0),
+        no_sending(None),
+        no_write(std::fs::open(&rt, "target").ok()),
+        no_write(std::fs::create(&rt, "/dev/full").ok()),
+        no_receipt(std::fs::open(&rt, "/").ok(), 4),
+        no_sending(std::fs::create(&rt, "/dev/full").ok()),
     ];
     expect(&rt, 0, &facts);
 }
@@ -64,20 +63,30 @@ fn a_file_ends_in_mid_record(rt: HostRuntime) {
         read_exact_into(&mut source, &mut buf) == Ok(0),
     ];
     expect(&rt, 0, &facts);
+}
+
+// Both ways of a link.
+#[test]
+fn a_link_of_two_files(rt: HostRuntime) {
+    let mut sink = FileSink::new(std::fs::create(&rt, "question").ok());
+    let asked = write_whole(&mut sink, b"twelve bytes");
+    let mut buf = [0; 13];
     let mut link = FileLink::new(
-        std::fs::open(&rt, "short").ok(),
+        std::fs::open(&rt, "question").ok(),
         std::fs::create(&rt, "answer").ok(),
     );
     let heard = recv_whole(&mut link, &mut buf);
     let answered = write_whole(&mut link, b"ok");
     let mut answer = FileSource::new(std::fs::open(&rt, "answer").ok());
     let facts = [
+        asked == Ok(()),
         heard == Ok(12),
+        buf == *b"twelve bytes\0",
         answered == Ok(()),
         read_exact_into(&mut answer, &mut buf) == Ok(2),
         buf[..2] == [b'o', b'k'],
     ];
-    expect(&rt, 1, &facts);
+    expect(&rt, 0, &facts);
 }
 
 // 1,000 records of 13 bytes, each full of its number modulo 251, fill the read-ahead more than

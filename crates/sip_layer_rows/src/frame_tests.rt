@@ -1,15 +1,9 @@
 ghost use Rattle.std.specs.Prelude.{◌≤◌};
 
 use crate::facts::expect;
-use crate::frames::{FAULTS, FRAMES, NUMBERS, P, WIDE_FAULTS, WIDE_FRAMES, WIDE_NUMBERS};
-use arrayvec::ArrayVec;
-use sip_field::{Field, M61, Seat};
-use sip_ports::{MemoryLink, MemorySink, PortStop};
-use sip_vector::{CAP, Depth, Entry, Query, Side, Update};
-use sip_wire::{
-    Frame, Leaf, Message, Node, Place, Version, WireFault, decode, encode, frame_length, put_ask,
-    put_head, read,
-};
+use crate::frames::{FAULTS, FRAMES, NUMBERS, WIDE_FAULTS, WIDE_FRAMES, WIDE_NUMBERS};
+use sip_ports::{MemoryLink, MemorySink};
+use sip_wire::{Frame, Message, Place, Version, WireFault, decode, encode, frame_length, read};
 use std::alloc::Global;
 use std::process::Abort;
 use std::test::Fail;
@@ -203,121 +197,6 @@ fn numbers_are_in_range(rt: HostRuntime) -> Result<(), Fail> {
     numbers_hold(&rt, alloc, Version::Two, &WIDE_NUMBERS)
 }
 
-fn three_updates() -> Message {
-    let mut updates = ArrayVec::new();
-    for (item, delta) in [(0, 3), (2, 5), (3, 1)] {
-        let _ = updates.try_push(Update {
-            side: Side::First,
-            item,
-            delta,
-        });
-    }
-    Message::Updates(updates)
-}
-
-fn one_entry(index: u64, value: i64) -> Message {
-    let mut entries = ArrayVec::new();
-    let _ = entries.try_push(Entry { index, value });
-    Message::Entries(entries)
-}
-
-fn two_leaves() -> Message {
-    let mut leaves = ArrayVec::new();
-    let _ = leaves.try_push(Leaf { item: 2, count: 5 });
-    let _ = leaves.try_push(Leaf { item: 3, count: 1 });
-    Message::Leaves(leaves)
-}
-
-fn one_node() -> Message {
-    let mut nodes = ArrayVec::new();
-    let _ = nodes.try_push(Node {
-        index: 0,
-        hash: 9,
-        count: 3,
-    });
-    Message::Nodes(nodes)
-}
-
-// Whether the message is spelled by the bytes of this row of the table.
-fn is_frame(alloc: Global, row: usize, message: &Message) -> bool {
-    match (
-        spelled(alloc, Version::One, message, 10_000),
-        FRAMES.get(row),
-    ) {
-        (Some(sink), Some((_, bytes))) => sink.bytes() == *bytes,
-        _ => false,
-    }
-}
-
-fn siblings(left: Option<u64>, right: Option<u64>) -> Message {
-    Message::Siblings { left, right }
-}
-
-// Messages that are made by hand.
-#[test]
-fn messages_are_encoded(rt: HostRuntime) {
-    let alloc = rt.alloc();
-    let open = Message::Open {
-        version: 1,
-        depth: 2,
-    };
-    let least = 1 - (1 << 60);
-    let poly = Message::Poly {
-        c0: 34,
-        c1: P - 58,
-        c2: 25,
-    };
-    let facts = [
-        is_frame(alloc, 0, &open),
-        is_frame(alloc, 1, &three_updates()),
-        is_frame(alloc, 2, &Message::EndStream),
-        is_frame(alloc, 3, &Message::Query(Query::Sub { lo: 1, hi: 2 })),
-        is_frame(alloc, 8, &Message::Reveal { challenge: 2 }),
-        is_frame(alloc, 10, &Message::Bye),
-        is_frame(alloc, 11, &one_entry(2, 5)),
-        is_frame(alloc, 12, &siblings(Some(3), Some(1))),
-        is_frame(alloc, 13, &siblings(None, None)),
-        is_frame(alloc, 16, &Message::Claim { value: 35 }),
-        is_frame(alloc, 18, &Message::Claim { value: least }),
-        is_frame(alloc, 19, &poly),
-        is_frame(alloc, 20, &two_leaves()),
-        is_frame(alloc, 21, &Message::LevelEnd),
-        is_frame(alloc, 22, &one_node()),
-        is_frame(alloc, 24, &Message::Refuse { code: 4 }),
-    ];
-    expect(&rt, 0, &facts);
-}
-
-// A wide item and a share have a spelling in version 2 alone.
-#[test]
-fn messages_that_do_not_fit(rt: HostRuntime) {
-    let mut wide = ArrayVec::new();
-    let _ = wide.try_push(Update {
-        side: Side::Second,
-        item: 1 << 32,
-        delta: 1,
-    });
-    let wide = Message::Updates(wide);
-    let share = Message::Query(Query::Share {
-        side: Side::First,
-        num: 1,
-        den: 2,
-    });
-    let facts = [
-        !Message::Updates(ArrayVec::new()).fits(Version::One),
-        !wide.fits(Version::One),
-        wide.fits(Version::Two),
-        !one_entry(1, 0).fits(Version::One),
-        !Message::Claim { value: 1 << 60 }.fits(Version::One),
-        !Message::Query(Query::Sub { lo: 2, hi: 1 }).fits(Version::One),
-        !Message::Reveal { challenge: P }.fits(Version::One),
-        !Message::Refuse { code: 0 }.fits(Version::One),
-        !share.fits(Version::One),
-        share.fits(Version::Two),
-    ];
-    expect(&rt, 0, &facts);
-}
-
 // After a failing call the frame shows what came, and the next call goes on behind it.
 #[test]
 fn a_link_fails_in_mid_frame(rt: HostRuntime) -> Result<(), Fail> {
@@ -332,40 +211,6 @@ fn a_link_fails_in_mid_frame(rt: HostRuntime) -> Result<(), Fail> {
         came,
         matches!(next, Some(Message::Bye)),
         frame.bytes() == b"\x06\0\0".as_slice(),
-    ];
-    expect(&rt, 0, &facts);
-    Ok(())
-}
-
-#[test]
-fn a_sink_fails_in_mid_frame(rt: HostRuntime) -> Result<(), Fail> {
-    let alloc = rt.alloc();
-    let mut sink = MemorySink::new(alloc, 4, vec![in alloc; 2]?);
-    let message = Message::Claim { value: 35 };
-    if !message.fits(Version::One) {
-        return Err("a claim fits")?;
-    }
-    let facts = [
-        encode(&message, Version::One, &mut sink) == Err(PortStop::Failed),
-        sink.bytes() == b"\x11\0\x08\0".as_slice(),
-    ];
-    expect(&rt, 0, &facts);
-    Ok(())
-}
-
-#[test]
-fn the_head_of_a_transcript(rt: HostRuntime) -> Result<(), Fail> {
-    let alloc = rt.alloc();
-    let mut sink = MemorySink::new(alloc, 10_000, Vec::new(alloc));
-    let depth = Depth::new(2).ok_or("a depth")?;
-    let query = Query::Sub { lo: 1, hi: 2 };
-    let seat: Seat<M61, CAP> = Seat::of(&[M61::of(2), M61::of(10)]).ok_or("a seat")?;
-    let want = b"SIPT\x01\x02\x01\x04\0\x09\x01\0\0\0\x01\0\0\0\x02\
-        \0\0\0\0\0\0\0\x02\0\0\0\0\0\0\0\x0a";
-    let facts = [
-        put_head(Version::One, depth, 1, &mut sink) == Ok(()),
-        put_ask(Version::One, &query, &seat, &mut sink) == Ok(()),
-        sink.bytes() == want.as_slice(),
     ];
     expect(&rt, 0, &facts);
     Ok(())

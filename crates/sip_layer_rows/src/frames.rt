@@ -3,7 +3,7 @@
 use sip_wire::{Place, WireFault};
 
 /// The least number that is no element, 2^61 - 1.
-pub(crate) const P: u64 = 0x1fff_ffff_ffff_ffff;
+const P: u64 = 0x1fff_ffff_ffff_ffff;
 
 /// Frames of version 1, each at a place that allows it: a whole talk over the vector (3, 0, 5, 1),
 /// replies to other queries over it, each query, and each way in which siblings are present.

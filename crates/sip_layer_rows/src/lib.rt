@@ -4,10 +4,6 @@
 #![tactic(auto)]
 
 #[cfg(test)]
-mod block_tests;
-#[cfg(test)]
-mod copy_tests;
-#[cfg(test)]
 mod extension_tests;
 #[cfg(test)]
 mod facts;
@@ -35,5 +31,3 @@ mod tree_tests;
 mod vector_calls;
 #[cfg(test)]
 mod vector_tests;
-#[cfg(test)]
-mod writing_tests;

@@ -157,33 +157,6 @@ fn first_records_are_those_of_the_tables(rt: HostRuntime) -> Result<(), Fail> {
     Ok(())
 }
 
-// The first read of a stream, and what it gives.
-fn first_read(alloc: Global, number: u64, count: u64, depth: u8) -> Result<Vec<u8>, Fail>
-    requires { count ≤ 10_000_000 }
-{
-    let mut bytes = [0; 20];
-    let Ok(came) = made(number, count, depth)?.read(&mut bytes) else {
-        return Err("it never fails")?;
-    };
-    Ok(bytes[..came].to_vec(alloc)?)
-}
-
-#[test]
-fn one_record_of_7_and_of_0(rt: HostRuntime) -> Result<(), Fail> {
-    let alloc = rt.alloc();
-    let seven = b"\0\0\x08\x1e\xfb\0\0\0\0\0\0\0\x08".as_slice();
-    let zero = b"\0\0\x0d\xee\xcf\0\0\0\0\0\0\0\x01".as_slice();
-    let wide = b"\0\0\0\xfc\x86\x51\x78\x1e\xfb\0\0\0\0\0\0\0\x08".as_slice();
-    let facts = [
-        first_read(alloc, 7, 1, 20)?.as_slice() == seven,
-        first_read(alloc, 0, 1, 20)?.as_slice() == zero,
-        first_read(alloc, 7, 1, 48)?.as_slice() == wide,
-        first_read(alloc, 7, 0, 20)?.is_empty(),
-    ];
-    expect(&rt, 0, &facts);
-    Ok(())
-}
-
 // All bytes that reads of at most so many bytes give, and how many reads gave some.
 fn read_by(alloc: Global, depth: u8, chunk: usize) -> Result<(Vec<u8>, usize), Fail>
     requires chunk { chunk ≤ 10_000 }

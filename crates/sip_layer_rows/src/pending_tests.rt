@@ -1,9 +1,8 @@
 // What a vector shows while additions are pending, and after memory was refused to it.
 
 use crate::facts::expect;
-use crate::vector_calls::{added, count_between, first_entry, node_at, number_at};
-use sip_field::{Field, M61};
-use sip_vector::{Depth, Entry, Level, Vector};
+use crate::vector_calls::{added, count_between, first_entry, number_at};
+use sip_vector::{Depth, Entry, Vector};
 use std::alloc::Global;
 use std::process::Abort;
 use std::test::Fail;
@@ -106,17 +105,6 @@ impl Pair {
         expect(rt, hi as usize, &facts);
     }
 
-    // The residues are those of the numbers.
-    fn has_level(&self, rt: &impl Abort, alloc: Global) -> Result<(), Fail> {
-        let level = Level::<M61>::of(alloc, &self.vector)?;
-        for (index, number) in self.numbers.iter().enumerate() {
-            let node = node_at(&level, index as u64);
-            let residue = M61::of_signed(*number).number();
-            expect(rt, index, &[node == Some(residue)]);
-        }
-        Ok(())
-    }
-
     // A settled vector lends the numbers that are not 0.
     fn lends(&self, rt: &impl Abort) -> Result<(), Fail> {
         let entries = self.vector.entries().ok_or(())?;
@@ -134,24 +122,6 @@ impl Pair {
         expect(rt, 8, &[entries.len() == count]);
         Ok(())
     }
-}
-
-#[test]
-fn each_call_sees_what_is_pending(rt: HostRuntime) -> Result<(), Fail> {
-    let mut pair = Pair::new(rt.alloc())?;
-    for round in 0..200 {
-        pair.add(&rt)?;
-        expect(&rt, round, &[pair.vector.entries().is_none()]);
-        pair.shows(&rt);
-        pair.has_level(&rt, rt.alloc())?;
-        if round % 5 == 0 {
-            pair.settle(&rt)?;
-            pair.shows(&rt);
-            pair.has_level(&rt, rt.alloc())?;
-            pair.lends(&rt)?;
-        }
-    }
-    Ok(())
 }
 
 #[test]

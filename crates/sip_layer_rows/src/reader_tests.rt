@@ -190,48 +190,60 @@ fn all_forms_are_read_in_any_chunks(rt: HostRuntime) -> Result<(), Fail> {
     is_read_in_any_chunks(&rt, alloc, Form::Text, b"0 0 3\n0 2 5\n1 3 -1\n")
 }
 
-// Each record fails one test, or several of which the first one is named.
-const BAD_RECORDS: [((u8, u64, i64), Why); 8] = [
-    ((2, 0, 1), Why::BadSide),
-    ((255, 9, 0), Why::BadSide),
-    ((0, 4, 1), Why::BadItem),
-    ((0, 4_294_967_295, 0), Why::BadItem),
-    ((1, 9, i64::MIN), Why::BadItem),
-    ((1, 0, 0), Why::ZeroDelta),
-    ((0, 0, i64::MIN), Why::TooHeavy(Side::First)),
-    ((1, 0, HEAVIEST + 1), Why::TooHeavy(Side::Second)),
+// Records, and the number of the one with a fault, if there is one.
+type Records = (&'static [(u8, u64, i64)], Option<(u64, Why)>);
+
+// Each record fails one test, or several of which the first one is named: alone, and behind a legal
+// one.
+const RECORDS: [Records; 18] = [
+    (&[(2, 0, 1)], Some((0, Why::BadSide))),
+    (&[(0, 3, -2), (2, 0, 1)], Some((1, Why::BadSide))),
+    (&[(255, 9, 0)], Some((0, Why::BadSide))),
+    (&[(0, 3, -2), (255, 9, 0)], Some((1, Why::BadSide))),
+    (&[(0, 4, 1)], Some((0, Why::BadItem))),
+    (&[(0, 3, -2), (0, 4, 1)], Some((1, Why::BadItem))),
+    (&[(0, 4_294_967_295, 0)], Some((0, Why::BadItem))),
+    (
+        &[(0, 3, -2), (0, 4_294_967_295, 0)],
+        Some((1, Why::BadItem)),
+    ),
+    (&[(1, 9, i64::MIN)], Some((0, Why::BadItem))),
+    (&[(0, 3, -2), (1, 9, i64::MIN)], Some((1, Why::BadItem))),
+    (&[(1, 0, 0)], Some((0, Why::ZeroDelta))),
+    (&[(0, 3, -2), (1, 0, 0)], Some((1, Why::ZeroDelta))),
+    (&[(0, 0, i64::MIN)], Some((0, Why::TooHeavy(Side::First)))),
+    (
+        &[(0, 3, -2), (0, 0, i64::MIN)],
+        Some((1, Why::TooHeavy(Side::First))),
+    ),
+    (
+        &[(1, 0, HEAVIEST + 1)],
+        Some((0, Why::TooHeavy(Side::Second))),
+    ),
+    (
+        &[(0, 3, -2), (1, 0, HEAVIEST + 1)],
+        Some((1, Why::TooHeavy(Side::Second))),
+    ),
+    (
+        &[(0, 0, HEAVIEST), (0, 0, -1)],
+        Some((1, Why::TooHeavy(Side::First))),
+    ),
+    (&[], None),
 ];
 
-fn have_faults(
-    rt: &impl Abort,
-    alloc: Global,
-    form: Form,
-    table: &[((u8, u64, i64), Why)],
-) -> Result<(), Fail> {
-    for (row, (record, why)) in table.iter().enumerate() {
-        let first = stream(alloc, form, &[*record])?;
-        let second = stream(alloc, form, &[(0, 3, -2), *record])?;
-        let facts = [
-            ends(alloc, 2, form, &first, Some((0, *why)))?,
-            ends(alloc, 2, form, &second, Some((1, *why)))?,
-        ];
-        expect(rt, row, &facts);
+fn records_end(rt: &impl Abort, alloc: Global, form: Form, table: &[Records]) -> Result<(), Fail> {
+    for (row, (records, want)) in table.iter().enumerate() {
+        let bytes = stream(alloc, form, records)?;
+        expect(rt, row, &[ends(alloc, 2, form, &bytes, *want)?]);
     }
-    let heavy = stream(alloc, form, &[(0, 0, HEAVIEST), (0, 0, -1)])?;
-    let too_heavy = Some((1, Why::TooHeavy(Side::First)));
-    let facts = [
-        ends(alloc, 2, form, &heavy, too_heavy)?,
-        ends(alloc, 2, form, &[], None)?,
-    ];
-    expect(rt, 8, &facts);
     Ok(())
 }
 
 #[test]
 fn records_with_a_fault(rt: HostRuntime) -> Result<(), Fail> {
     let alloc = rt.alloc();
-    have_faults(&rt, alloc, Form::Binary, &BAD_RECORDS)?;
-    have_faults(&rt, alloc, Form::Wide, &BAD_RECORDS)
+    records_end(&rt, alloc, Form::Binary, &RECORDS)?;
+    records_end(&rt, alloc, Form::Wide, &RECORDS)
 }
 
 // Whether a wide record of this item is legal at a depth, or else its item is bad.

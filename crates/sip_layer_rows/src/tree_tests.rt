@@ -1,10 +1,8 @@
-ghost use Rattle.std.specs.Prelude.{◌≡◌, ◌<◌, ◌≤◌, length};
+ghost use Rattle.std.specs.Prelude.{◌≡◌, length};
 
-use crate::block_tests::{block, challenges, next_word};
 use crate::facts::expect;
-use sip_field::{F31, Field, M61, Seat};
+use sip_field::{Field, M61, Seat};
 use sip_tree::{AugRoot, Root, up};
-use std::alloc::{AllocError, Global};
 use std::test::Fail;
 
 fn two_and_ten() -> Seat<M61, 32>
@@ -70,122 +68,4 @@ fn a_level_is_folded_in_place(rt: HostRuntime) -> Result<(), Fail> {
     up(&mut empty, M61::of(2));
     expect(&rt, 0, &[two, one, empty.is_empty()]);
     Ok(())
-}
-
-// A plain fold of the whole vector, by its own program: hashes and counts, each node from its pair.
-fn folded(
-    alloc: Global,
-    level: &[(F31, F31)],
-    r: F31,
-    counts: bool,
-) -> Result<Vec<(F31, F31)>, AllocError> {
-    let mut above = Vec::new(alloc);
-    for pair in level.chunks(2) {
-        if let [(left, left_count), (right, right_count)] = pair {
-            let square = r.times(r);
-            let hash = if counts {
-                left.plus(left_count.times(r))
-                    .plus(right.times(square))
-                    .plus(right_count.times(square).times(r))
-            } else {
-                left.plus(right.times(r))
-            };
-            above.push((hash, left_count.plus(*right_count)))?;
-        }
-    }
-    Ok(above)
-}
-
-// The hash at the top, where `counts` tells whether the nodes count.
-fn top(
-    alloc: Global,
-    numbers: &[i64; 32],
-    challenges: &[F31; 5],
-    counts: bool,
-) -> Result<u64, AllocError> {
-    let mut level = Vec::new(alloc);
-    for number in numbers {
-        level.push((F31::of_signed(*number), F31::of_signed(*number)))?;
-    }
-    for r in challenges {
-        level = folded(alloc, &level, *r, counts)?;
-    }
-    Ok(match level.as_slice() {
-        [(hash, _)] => hash.number(),
-        _ => 31,
-    })
-}
-
-// An update of an augmented root, where the total stays small.
-fn feed(root: &mut AugRoot<F31, 5>, index: u64, delta: i8) -> bool
-    requires seat { length root.old.seat ≡ 5 }
-    requires index { index < 32 }
-    ensures { length root.new.seat ≡ 5 }
-{
-    let delta = i64::from(delta);
-    let total = root.total() + delta;
-    if total.unsigned_abs() > 10_000 {
-        return false;
-    }
-    root.update(index, delta);
-    true
-}
-
-#[test]
-fn roots_are_those_of_a_plain_fold(rt: HostRuntime) -> Result<(), Fail> {
-    let challenges = [F31::of(2), F31::of(30), F31::of(7), F31::of(0), F31::of(19)];
-    let mut root = Root::new(Seat::<F31, 5>::of(&challenges).unwrap());
-    let mut counting = AugRoot::new(Seat::<F31, 5>::of(&challenges).unwrap());
-    let mut numbers = [0i64; 32];
-    let mut word = 1;
-    for round in 0..48 {
-        word = next_word(word);
-        let index = word >> 59;
-        let delta = ((word >> 32) % 128) as i8 - 64;
-        root.update(index, i64::from(delta));
-        let is_fed = feed(&mut counting, index, delta);
-        let number = &mut numbers[index as usize];
-        *number = number.wrapping_add(i64::from(delta));
-        let sum = numbers
-            .iter()
-            .fold(0i64, |sum, number| sum.wrapping_add(*number));
-        let facts = [
-            is_fed,
-            counting.total() == sum,
-            root.value().number() == top(rt.alloc(), &numbers, &challenges, false)?,
-            counting.hash().number() == top(rt.alloc(), &numbers, &challenges, true)?,
-        ];
-        expect(&rt, round, &facts);
-    }
-    Ok(())
-}
-
-// Whether a block gives what its updates give one by one, at the first challenges.
-fn block_is_its_updates<F: Field>(challenges: &[F], count: usize) -> bool
-    requires some { 1 ≤ length challenges.now }
-    requires deep { length challenges.now ≤ 48 }
-    requires fits { count ≤ 500 }
-{
-    let updates = block(challenges.len(), count);
-    let mut single = Root::new(Seat::<F, 48>::of(challenges).unwrap());
-    let mut whole = Root::new(Seat::<F, 48>::of(challenges).unwrap());
-    for update in &updates[..count] {
-        single.update(update.item, update.delta);
-    }
-    whole.update_all(&updates[..count]);
-    single.value() == whole.value()
-}
-
-#[test]
-fn a_block_gives_what_its_updates_give(rt: HostRuntime) {
-    let (small, large) = challenges();
-    for depth in [1, 7, 8, 20, 48] {
-        for count in [0, 1, 31, 32, 127, 500] {
-            let facts = [
-                block_is_its_updates(&small[..depth], count),
-                block_is_its_updates(&large[..depth], count),
-            ];
-            expect(&rt, count, &facts);
-        }
-    }
 }

@@ -14,6 +14,7 @@
 
 mod calls;
 mod count;
+mod events;
 mod file;
 mod give;
 pub mod laws;
@@ -28,6 +29,7 @@ mod uninterrupted;
 mod whole;
 mod writer_sink;
 
+pub use events::{received_events, sent_events};
 pub use file::{FileLink, FileSink, FileSource};
 pub use memory::{MemoryLink, MemorySink, MemorySource};
 pub use null::NullSink;

@@ -7,24 +7,10 @@ ghost use Rattle.sip_ports.specs.Calls.{MakesCall, failed_of-fits, failed_of-sur
 
 use crate::calls::Calls;
 use crate::count::Count;
+use crate::events::{received_events, sent_events};
 use crate::give::give;
 use crate::{Link, PortStop, Sink, Source, TalkEvent};
 use std::alloc::{AllocError, Global};
-
-fn sent_events(alloc: Global, bytes: &[u8]) -> Result<Vec<TalkEvent>, AllocError>
-    ensures { IfOk result (λ events. events.items ≡ outs bytes.now) }
-{
-    bytes
-        .iter()
-        .map(|byte| TalkEvent::Out(*byte))
-        .collect(alloc)
-}
-
-fn received_events(alloc: Global, bytes: &[u8]) -> Result<Vec<TalkEvent>, AllocError>
-    ensures { IfOk result (λ events. events.items ≡ ins bytes.now) }
-{
-    bytes.iter().map(|byte| TalkEvent::In(*byte)).collect(alloc)
-}
 
 /// A source of bytes in memory. A call moves at most a chunk, and the calls whose numbers, from 1,
 /// are in a list fail. It takes no memory.

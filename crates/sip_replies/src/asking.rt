@@ -12,7 +12,7 @@ use crate::check::{Check, Said};
 use crate::taking::{ReplyStop, take_reply};
 use sip_ports::{Link, PortStop, Sink};
 use sip_vector::{Entry, Query};
-use sip_wire::{Frame, Message, Reason, Version, encode};
+use sip_wire::{Frame, Reason, Version, encode_query, encode_reveal};
 
 /// Why a query has no answer.
 #[derive(Clone, Copy, Debug, PartialEq, Eq)]
@@ -65,29 +65,24 @@ fn in_round(round: u8, taken: Result<(), ReplyStop>) -> Result<(), AskStop>
     }
 }
 
-// A message is as large as the longest frame's rows, so each that is sent is made in a call of its
-// own: the stack has it no longer than that, and never while a reply is taken.
-
 /// Sends a query.
-#[inline(never)]
 fn send_query<L: Link>(query: Query, version: Version, link: &mut L) -> Result<(), PortStop>
     requires { IsTrue (fits version (messages.Query query)) }
     ensures talk { SendsWhole (L.talk link.old) (L.talk link.new) result
         (spelling version (messages.Query query)) }
     ensures cause { HasCause L.faults L.wants L.is_sure link.old link.new result }
 {
-    encode(&Message::Query(query), version, link)
+    encode_query(query, version, link)
 }
 
 /// Reveals a challenge.
-#[inline(never)]
 fn send_reveal<L: Link>(challenge: u64, version: Version, link: &mut L) -> Result<(), PortStop>
     requires { IsTrue (fits version (messages.Reveal challenge)) }
     ensures talk { SendsWhole (L.talk link.old) (L.talk link.new) result
         (spelling version (messages.Reveal challenge)) }
     ensures cause { HasCause L.faults L.wants L.is_sure link.old link.new result }
 {
-    encode(&Message::Reveal { challenge }, version, link)
+    encode_reveal(challenge, version, link)
 }
 
 /// Asks a query, takes the replies, reveals a challenge between two of them, and checks them.

@@ -1,6 +1,7 @@
 // One reply, taken off a link frame by frame, with all that comes kept.
 ghost use Rattle.std.specs.Prelude.{◌≡◌, ℕ, List, length, Ok, Err, IfOk, MatchResult};
 ghost use Rattle.sip_ports.specs.Ports.{Lasts, Rose};
+ghost use Rattle.sip_wire.specs.Frames.{frame_message};
 ghost use Rattle.sip_replies.specs.Protocols.{Awaits, after};
 ghost use Rattle.sip_replies.specs.Replies.{read_one, read_reply};
 ghost use Rattle.sip_replies.specs.Asking.{Shows, Takes, filled};
@@ -9,7 +10,7 @@ ghost use Rattle.sip_replies.specs.declared.check.More.TheVariants.{Complete};
 use crate::check::{Check, More};
 use sip_ports::{Link, PortStop, Sink, write_whole};
 use sip_vector::Entry;
-use sip_wire::{Frame, Message, Place, Reason, Version, WireFault, decode_into};
+use sip_wire::{Frame, Place, Reason, Version, WireFault, decode_within};
 
 /// Why a reply was not taken.
 #[derive(Clone, Copy, Debug, PartialEq, Eq)]
@@ -72,18 +73,17 @@ impl From<Reason> for ReplyStop {
 }
 
 /// Receives one frame, writes its bytes to `keep`, and then judges it. Where the link stopped
-/// inside the frame nothing is kept. What the frame says is read into `message`, so that nothing is
-/// moved.
+/// inside the frame nothing is kept. What the frame says is then its message.
 pub(crate) fn receive<L: Link, K: Sink>(
     version: Version,
     place: Place,
     frame: &mut Frame,
     link: &mut L,
     keep: &mut K,
-    message: &mut Message,
 ) -> Result<(), ReplyStop>
     ensures took { Takes (read_one version place) (L.talk link.old) (L.talk link.new)
-        (K.talk keep.old) (K.talk keep.new) (Shows version) (filled message.new result) }
+        (K.talk keep.old) (K.talk keep.new) (Shows version)
+        (filled (frame_message frame.new) result) }
     ensures link { Lasts L.faults L.wants L.is_sure link.old link.new }
     ensures keep { Lasts K.faults K.wants K.is_sure keep.old keep.new }
     ensures peer { result ≡ Err ReplyStop.PeerFault → Rose (L.faults link.old) (L.faults link.new) }
@@ -94,7 +94,7 @@ pub(crate) fn receive<L: Link, K: Sink>(
     ensures keeper_memory { result ≡ Err ReplyStop.KeepOutOfMemory
         → Rose (K.wants keep.old) (K.wants keep.new) }
 {
-    match decode_into(link, place, version, frame, message) {
+    match decode_within(link, place, version, frame) {
         Err(WireFault::PeerFault) => Err(ReplyStop::PeerFault),
         Err(WireFault::OutOfMemory) => Err(ReplyStop::OutOfMemory),
         judged => {
@@ -135,12 +135,9 @@ pub(crate) fn take_reply<C: Check, L: Link, K: Sink>(
     ensures keeper_memory { result ≡ Err ReplyStop.KeepOutOfMemory
         → Rose (K.wants keep.old) (K.wants keep.new) }
 {
-    // One message for the whole reply: the rows of a frame are read in place of those of the frame
-    // before.
-    let mut message = Message::Bye;
     loop {
-        receive(version, check.place(), frame, link, keep, &mut message)?;
-        match check.take(&message, places)? {
+        receive(version, check.place(), frame, link, keep)?;
+        match check.take(frame.message(), places)? {
             More::Due => {}
             More::Complete => return Ok(()),
         }

@@ -1,16 +1,17 @@
+// Words that are commands, and words that are none.
+
+use crate::case::Case;
+use crate::page_tests::words_between;
 use sip_cli::{Command, Opening, Usage, Words, ports, read_words};
 use sip_stream::Form;
 use sip_vector::{Query, Side};
 use std::alloc::Global;
+use std::process::Abort;
 use std::test::Fail;
 
 // The words of a text, with a bar between them.
 fn words(alloc: Global, text: &str) -> Result<Words, Fail> {
-    let mut list = Vec::new(alloc);
-    for word in text.split('|') {
-        list.push(String::from_str(alloc, word)?)?;
-    }
-    Ok(Words::of(list))
+    words_between(alloc, text, '|')
 }
 
 fn refused_at(words: &Words) -> Option<u32> {
@@ -22,10 +23,23 @@ fn refused_at(words: &Words) -> Option<u32> {
 
 // Words, and the number of the first of them that no command has behind the words before it, found by hand; none where
 // they are a command.
-const REFUSALS: [(&str, Option<u32>); 210] = [
+type Refusal<'a> = (&'a str, Option<u32>);
+
+const REFUSALS: &[Refusal<'static>] = &[
     ("", Some(0)),
     ("audit|s|t", Some(0)),
-    ("show|t", Some(0)),
+    ("show", Some(1)),
+    ("show|", Some(1)),
+    ("show|t", None),
+    ("show|--help", None),
+    ("show|t|", Some(2)),
+    ("show|t|t", Some(2)),
+    ("Show|t", Some(0)),
+    ("convert", Some(1)),
+    ("convert|", Some(1)),
+    ("convert|made:7:1", None),
+    ("convert|t|t", Some(2)),
+    ("convert |t", Some(0)),
     ("Verify|s|k|f|t|-|3|sub:1:2", Some(0)),
     ("verify ", Some(0)),
     ("verify", Some(1)),
@@ -242,37 +256,85 @@ const REFUSALS: [(&str, Option<u32>); 210] = [
     ("play|wide:s|made:|honest|-|33|sub:0:8589934591", None),
     ("Play|s|k|honest|-|3|inner", Some(0)),
     ("verify|s|k|honest|-|3|inner", Some(6)),
+    // Sixteen queries are a command, and a seventeenth is word 23 of `verify` and word 22 of
+    // `play`.
+    (
+        "verify|s|k|f|t|-|3|sub:1:2|sub:1:2|sub:1:2|sub:1:2|sub:1:2\
+         |sub:1:2|sub:1:2|sub:1:2|sub:1:2|sub:1:2|sub:1:2|sub:1:2\
+         |sub:1:2|sub:1:2|sub:1:2|sub:1:2",
+        None,
+    ),
+    (
+        "verify|s|k|f|t|-|3|sub:1:2|sub:1:2|sub:1:2|sub:1:2|sub:1:2\
+         |sub:1:2|sub:1:2|sub:1:2|sub:1:2|sub:1:2|sub:1:2|sub:1:2\
+         |sub:1:2|sub:1:2|sub:1:2|sub:1:2|sub:1:2",
+        Some(23),
+    ),
+    (
+        "verify|s|k|f|t|-|3|sub:1:2|sub:1:2|sub:1:2|sub:1:2|sub:1:2\
+         |sub:1:2|sub:1:2|sub:1:2|sub:1:2|sub:1:2|sub:1:2|sub:1:2\
+         |sub:1:2|sub:1:2|sub:1:2|sub:1:2|sub:1:2|sub:1:2|sub:1:2\
+         |sub:1:2",
+        Some(23),
+    ),
+    (
+        "play|s|k|mute|-|3|sub:1:2|sub:1:2|sub:1:2|sub:1:2|sub:1:2\
+         |sub:1:2|sub:1:2|sub:1:2|sub:1:2|sub:1:2|sub:1:2|sub:1:2\
+         |sub:1:2|sub:1:2|sub:1:2|sub:1:2",
+        None,
+    ),
+    (
+        "play|s|k|mute|-|3|sub:1:2|sub:1:2|sub:1:2|sub:1:2|sub:1:2\
+         |sub:1:2|sub:1:2|sub:1:2|sub:1:2|sub:1:2|sub:1:2|sub:1:2\
+         |sub:1:2|sub:1:2|sub:1:2|sub:1:2|sub:1:2",
+        Some(22),
+    ),
 ];
 
-#[test]
-fn refuses_the_first_word_that_begins_no_command(rt: HostRuntime) -> Result<(), Fail> {
-    let alloc = rt.alloc();
-    for (text, want) in &REFUSALS {
-        assert_eq!(rt; refused_at(&words(alloc, text)?), *want, "at {text}");
+fn check_refusals(rt: &impl Abort, alloc: Global, rows: &[Refusal]) -> Result<(), Fail> {
+    for &(name, want) in rows {
+        let word = refused_at(&words(alloc, name)?);
+        Case { name, number: 0 }.holds(rt, word == want);
     }
-    assert_eq!(rt; refused_at(&Words::of(Vec::new(alloc))), Some(0));
+    let nothing = Case {
+        name: "no word",
+        number: 0,
+    };
+    nothing.holds(rt, refused_at(&Words::of(Vec::new(alloc))) == Some(0));
     Ok(())
 }
 
-// Sixteen queries are a command, and a seventeenth is word 23 of `verify` and word 22 of `play`.
 #[test]
-fn reads_16_queries(rt: HostRuntime) -> Result<(), Fail> {
-    let alloc = rt.alloc();
-    for (before, count, want) in [
-        ("verify|s|k|f|t|-|3", 1, None),
-        ("verify|s|k|f|t|-|3", 16, None),
-        ("verify|s|k|f|t|-|3", 17, Some(23)),
-        ("verify|s|k|f|t|-|3", 20, Some(23)),
-        ("play|s|k|mute|-|3", 16, None),
-        ("play|s|k|mute|-|3", 17, Some(22)),
-    ] {
-        let mut text = String::from_str(alloc, before)?;
-        for _ in 0..count {
-            text.push_str("|sub:1:2")?;
+fn refuses_the_first_word_that_begins_no_command(rt: HostRuntime) -> Result<(), Fail> {
+    check_refusals(&rt, rt.alloc(), REFUSALS)
+}
+
+// The queries of the task below.
+const QUERIES: &[Query] = &[
+    Query::Sub { lo: 10, hi: 4095 },
+    Query::Range {
+        side: Side::First,
+        lo: 1,
+        hi: 4094,
+    },
+    Query::Range {
+        side: Side::Second,
+        lo: 7,
+        hi: 7,
+    },
+    Query::F2 { side: Side::First },
+    Query::F2 { side: Side::Second },
+    Query::Inner,
+    Query::Sub { lo: 0, hi: 0 },
+];
+
+fn reads_queries(words: &Words, queries: &[Query]) -> bool {
+    match read_words(words) {
+        Ok(Command::Verify(task)) => {
+            task.depth.get() == 12 && task.form == Form::Text && task.queries.as_slice() == queries
         }
-        assert_eq!(rt; refused_at(&words(alloc, &text)?), want, "{count} queries");
+        _ => false,
     }
-    Ok(())
 }
 
 #[test]
@@ -281,160 +343,147 @@ fn reads_the_task(rt: HostRuntime) -> Result<(), Fail> {
         rt.alloc(),
         "verify|text:s|k|f|t|-|12|sub:10:4095|range:0:1:4094|range:1:7:7|f2:0|f2:1|inner|sub:0:0",
     )?;
-    match read_words(&words) {
-        Ok(Command::Verify(task)) => {
-            assert_eq!(rt; task.depth.get(), 12);
-            assert_eq!(rt; task.form, Form::Text);
-            let (first, second) = (Side::First, Side::Second);
-            let asked = [
-                Query::Sub { lo: 10, hi: 4095 },
-                Query::Range {
-                    side: first,
-                    lo: 1,
-                    hi: 4094,
-                },
-                Query::Range {
-                    side: second,
-                    lo: 7,
-                    hi: 7,
-                },
-                Query::F2 { side: first },
-                Query::F2 { side: second },
-                Query::Inner,
-                Query::Sub { lo: 0, hi: 0 },
-            ];
-            assert_eq!(rt; task.queries.as_slice(), asked.as_slice());
-        }
-        _ => assert!(rt; false),
-    }
-    assert_eq!(rt; words.get(3), Some("f"));
-    assert_eq!(rt; words.get(14), None);
-    Ok(())
-}
-
-// The form of the stream of `verify`.
-#[test]
-fn the_form_of_a_made_stream_is_that_of_its_depth(rt: HostRuntime) -> Result<(), Fail> {
-    let alloc = rt.alloc();
-    for (text, form) in [
-        ("verify|made:7:20|k|f|t|-|32|sub:1:2", Form::Binary),
-        ("verify|made:7:20|k|f|t|-|33|sub:1:2", Form::Wide),
-        ("verify|made:7:20|k|f|t|-|48|sub:1:2", Form::Wide),
-        ("verify|s|k|f|t|-|48|sub:1:2", Form::Binary),
-        ("verify|wide:s|k|f|t|-|3|sub:1:2", Form::Wide),
-        ("verify|text:s|k|f|t|-|48|sub:1:2", Form::Text),
-    ] {
-        match read_words(&words(alloc, text)?) {
-            Ok(Command::Verify(task)) => assert_eq!(rt; task.form, form, "at {text}"),
-            _ => assert!(rt; false, "at {text}"),
-        }
-    }
+    let case = Case {
+        name: "seven queries",
+        number: 0,
+    };
+    case.holds(&rt, reads_queries(&words, QUERIES));
+    case.holds(&rt, words.get(3) == Some("f") && words.get(14).is_none());
     Ok(())
 }
 
 // The form of what is read, if it has one, and the depth.
 fn form_and_depth(command: &Command) -> (Option<Form>, u8) {
     match command {
+        Command::Verify(task) => (Some(task.form), task.depth.get()),
         Command::Gen { depth } => (None, depth.get()),
         Command::Lines { form, depth } | Command::Widen { form, depth } => {
             (Some(*form), depth.get())
         }
-        Command::Verify(_) | Command::Play(..) | Command::Help => (None, 0),
+        Command::Play(..) | Command::Help | Command::Show | Command::Convert => (None, 0),
     }
 }
 
-#[test]
-fn reads_a_depth_and_a_form(rt: HostRuntime) -> Result<(), Fail> {
-    let alloc = rt.alloc();
-    for (text, form, depth) in [
-        ("gen|7|1|32", None, 32),
-        ("gen|7|1|48", None, 48),
-        ("lines|s|1", Some(Form::Binary), 1),
-        ("lines|made:7:1|20", Some(Form::Binary), 20),
-        ("lines|text:s|13", Some(Form::Text), 13),
-        ("lines|made:7:1|32", Some(Form::Binary), 32),
-        ("lines|made:7:1|33", Some(Form::Wide), 33),
-        ("lines|wide:s|20", Some(Form::Wide), 20),
-        ("widen|s|48", Some(Form::Binary), 48),
-        ("widen|made:7:1|20", Some(Form::Binary), 20),
-        ("widen|made:7:1|48", Some(Form::Wide), 48),
-        ("widen|wide:s|33", Some(Form::Wide), 33),
-        ("widen|text:s|33", Some(Form::Text), 33),
-    ] {
-        match read_words(&words(alloc, text)?) {
-            Ok(command) => assert_eq!(rt; form_and_depth(&command), (form, depth), "at {text}"),
-            Err(_) => assert!(rt; false, "at {text}"),
-        }
+// Words, and the form and the depth that they name. The form of a made stream is that of its depth.
+type Read<'a> = (&'a str, Option<Form>, u8);
+
+const READ: &[Read<'static>] = &[
+    (
+        "verify|made:7:20|k|f|t|-|32|sub:1:2",
+        Some(Form::Binary),
+        32,
+    ),
+    ("verify|made:7:20|k|f|t|-|33|sub:1:2", Some(Form::Wide), 33),
+    ("verify|made:7:20|k|f|t|-|48|sub:1:2", Some(Form::Wide), 48),
+    ("verify|s|k|f|t|-|48|sub:1:2", Some(Form::Binary), 48),
+    ("verify|wide:s|k|f|t|-|3|sub:1:2", Some(Form::Wide), 3),
+    ("verify|text:s|k|f|t|-|48|sub:1:2", Some(Form::Text), 48),
+    ("gen|7|1|32", None, 32),
+    ("gen|7|1|48", None, 48),
+    ("lines|s|1", Some(Form::Binary), 1),
+    ("lines|made:7:1|20", Some(Form::Binary), 20),
+    ("lines|text:s|13", Some(Form::Text), 13),
+    ("lines|made:7:1|32", Some(Form::Binary), 32),
+    ("lines|made:7:1|33", Some(Form::Wide), 33),
+    ("lines|wide:s|20", Some(Form::Wide), 20),
+    ("widen|s|48", Some(Form::Binary), 48),
+    ("widen|made:7:1|20", Some(Form::Binary), 20),
+    ("widen|made:7:1|48", Some(Form::Wide), 48),
+    ("widen|wide:s|33", Some(Form::Wide), 33),
+    ("widen|text:s|33", Some(Form::Text), 33),
+];
+
+fn check_read(rt: &impl Abort, alloc: Global, rows: &[Read]) -> Result<(), Fail> {
+    for &(name, form, depth) in rows {
+        let is_read = match read_words(&words(alloc, name)?) {
+            Ok(command) => form_and_depth(&command) == (form, depth),
+            Err(_) => false,
+        };
+        Case { name, number: 0 }.holds(rt, is_read);
     }
     Ok(())
 }
 
+#[test]
+fn reads_a_form_and_a_depth(rt: HostRuntime) -> Result<(), Fail> {
+    check_read(&rt, rt.alloc(), READ)
+}
+
 // The files of commands: of the stream and the seed, the two ends of the link, and the transcript.
-const FILES: [(&str, [Option<&str>; 5]); 17] = [
+type Files<'a> = (&'a str, &'a [Option<&'a str>]);
+
+const NO_FILES: &[Option<&str>] = &[None, None, None, None, None];
+
+const FILES: &[Files<'static>] = &[
     (
         "verify|s|k|f|t|-|3|sub:1:2",
-        [Some("s"), Some("k"), Some("f"), Some("t"), None],
+        &[Some("s"), Some("k"), Some("f"), Some("t"), None],
     ),
     (
         "verify|text:s|k|f|t|-|32|sub:1:2|sub:3:4",
-        [Some("s"), Some("k"), Some("f"), Some("t"), None],
+        &[Some("s"), Some("k"), Some("f"), Some("t"), None],
     ),
     (
         "verify|made:7:20|made:|text:t|-|-|3|sub:1:2",
-        [None, Some("made:"), Some("text:t"), Some("-"), None],
+        &[None, Some("made:"), Some("text:t"), Some("-"), None],
     ),
     (
         "verify|s|k|f|t|r|48|sub:1:2",
-        [Some("s"), Some("k"), Some("f"), Some("t"), Some("r")],
+        &[Some("s"), Some("k"), Some("f"), Some("t"), Some("r")],
     ),
     (
         "verify|made:7:20|k|f|t|--|3|sub:1:2",
-        [None, Some("k"), Some("f"), Some("t"), Some("--")],
+        &[None, Some("k"), Some("f"), Some("t"), Some("--")],
     ),
-    ("verify|s|k|f|t|-|3", [None; 5]),
+    ("verify|s|k|f|t|-|3", NO_FILES),
     (
         "play|text:s|k|mute|-|3|inner",
-        [Some("s"), Some("k"), None, None, None],
+        &[Some("s"), Some("k"), None, None, None],
     ),
     (
         "play|s|k|honest|r|3|inner",
-        [Some("s"), Some("k"), None, None, Some("r")],
+        &[Some("s"), Some("k"), None, None, Some("r")],
     ),
-    ("help|f|t", [None, None, Some("f"), Some("t"), None]),
-    ("gen|7|100|20", [None; 5]),
+    ("help|f|t", &[None, None, Some("f"), Some("t"), None]),
+    ("show|t", &[None, Some("t"), None, None, None]),
+    (
+        "convert|made:7:1",
+        &[None, Some("made:7:1"), None, None, None],
+    ),
+    ("gen|7|100|20", NO_FILES),
     (
         "lines|text:\u{e9}t\u{e9}|32",
-        [Some("\u{e9}t\u{e9}"), None, None, None, None],
+        &[Some("\u{e9}t\u{e9}"), None, None, None, None],
     ),
-    ("lines|s|32", [Some("s"), None, None, None, None]),
-    ("lines|s|49", [None; 5]),
-    ("lines|wide:w|48", [Some("w"), None, None, None, None]),
+    ("lines|s|32", &[Some("s"), None, None, None, None]),
+    ("lines|s|49", NO_FILES),
+    ("lines|wide:w|48", &[Some("w"), None, None, None, None]),
     (
         "widen|wide:text:|48",
-        [Some("text:"), None, None, None, None],
+        &[Some("text:"), None, None, None, None],
     ),
-    ("widen|s|48", [Some("s"), None, None, None, None]),
-    ("widen|s|49", [None; 5]),
+    ("widen|s|48", &[Some("s"), None, None, None, None]),
+    ("widen|s|49", NO_FILES),
 ];
 
-#[test]
-fn opens_the_files_of_a_command(rt: HostRuntime) -> Result<(), Fail> {
-    let alloc = rt.alloc();
-    for (text, want) in &FILES {
-        let words = words(alloc, text)?;
+fn check_files(rt: &impl Abort, alloc: Global, rows: &[Files]) -> Result<(), Fail> {
+    for (name, want) in rows {
+        let words = words(alloc, name)?;
         let plan = ports(&words);
-        for (opening, name) in [plan.first, plan.second, plan.from, plan.to, plan.keep]
+        for (opening, file) in [plan.first, plan.second, plan.from, plan.to, plan.keep]
             .iter()
-            .zip(want)
+            .zip(*want)
         {
-            assert_eq!(rt; opening.name(&words), *name, "at {text}");
+            Case { name, number: 0 }.holds(rt, opening.name(&words) == *file);
         }
     }
     Ok(())
 }
 
 // The made streams of commands: their numbers, how many records, and their depths.
-const MADE: [(&str, (u64, u64, u8)); 6] = [
+type Made<'a> = (&'a str, (u64, u64, u8));
+
+const MADE: &[Made<'static>] = &[
     ("verify|made:7:20|k|f|t|-|3|sub:1:2", (7, 20, 3)),
     ("gen|7|100|20", (7, 100, 20)),
     (
@@ -454,16 +503,20 @@ fn made(opening: &Opening) -> Option<(u64, u64, u8)> {
             count,
             depth,
         } => Some((*number, *count, depth.get())),
-        Opening::Nothing | Opening::Path { .. } => None,
+        Opening::Nothing | Opening::Spared | Opening::Path { .. } => None,
     }
 }
 
-#[test]
-fn makes_the_stream_of_a_command(rt: HostRuntime) -> Result<(), Fail> {
-    let alloc = rt.alloc();
-    for (text, want) in &MADE {
-        let plan = ports(&words(alloc, text)?);
-        assert_eq!(rt; made(&plan.first), Some(*want), "at {text}");
+fn check_made(rt: &impl Abort, alloc: Global, rows: &[Made]) -> Result<(), Fail> {
+    for &(name, want) in rows {
+        let plan = ports(&words(alloc, name)?);
+        Case { name, number: 0 }.holds(rt, made(&plan.first) == Some(want));
     }
     Ok(())
+}
+
+#[test]
+fn opens_what_a_command_names(rt: HostRuntime) -> Result<(), Fail> {
+    check_files(&rt, rt.alloc(), FILES)?;
+    check_made(&rt, rt.alloc(), MADE)
 }

@@ -85,22 +85,22 @@ pub fn duel(alloc: Global, words: &str, stream: &[u8]) -> Result<Shown, Fail> {
         push_reveals(&mut said, block)?;
         let replies = sent(alloc, help(alloc, &said)?.peer.talk())?;
         let answered = Given {
+            words,
+            stream,
+            seed: &ZERO_SEED,
             replies: &[&replies],
-            ..asking
         };
         shown = answered.run(alloc, 10_000, None)?;
     }
     Ok(shown)
 }
 
+// The words of a run, its stream, and its lines.
+pub type Talk<'a> = (&'a str, &'a [u8], &'a str);
+
 // Runs it against our own helper: it is accepted, these are its lines, and the helper serves the very talk that was held.
-pub fn check_duel(
-    rt: &impl Abort,
-    alloc: Global,
-    words: &str,
-    stream: &[u8],
-    lines: &str,
-) -> Result<Shown, Fail> {
+pub fn check_duel(rt: &impl Abort, alloc: Global, talk: Talk) -> Result<Shown, Fail> {
+    let (words, stream, lines) = talk;
     let shown = duel(alloc, words, stream)?;
     let case = Case {
         name: words,
@@ -117,4 +117,11 @@ pub fn check_duel(
         &heard(alloc, events)?,
     );
     Ok(shown)
+}
+
+pub fn check_duels(rt: &impl Abort, alloc: Global, talks: &[Talk]) -> Result<(), Fail> {
+    for talk in talks {
+        check_duel(rt, alloc, *talk)?;
+    }
+    Ok(())
 }

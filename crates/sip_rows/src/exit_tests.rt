@@ -1,16 +1,23 @@
+// The line and the exit code that each status has.
+
+use crate::case::Case;
 use sip_cli::finish;
 use sip_ports::{MemorySink, PortStop};
 use sip_stream::Why;
 use sip_vector::Side;
 use sip_verifier::{Port, Status};
 use sip_wire::Reason;
+use std::alloc::Global;
+use std::process::Abort;
 use std::test::Fail;
 
-// Each status with its exit code and its line.
-const ROWS: [(Status, u8, &[u8]); 26] = [
-    (Status::Accepted, 0, b""),
-    (Status::Served, 0, b""),
-    (Status::Wrote, 0, b""),
+// A status, its exit code and its line.
+type Ending<'a> = (Status, u8, &'a str);
+
+const ENDINGS: &[Ending<'static>] = &[
+    (Status::Accepted, 0, ""),
+    (Status::Served, 0, ""),
+    (Status::Wrote, 0, ""),
     (
         Status::Rejected {
             query: 1,
@@ -18,16 +25,16 @@ const ROWS: [(Status, u8, &[u8]); 26] = [
             reason: Reason::Root,
         },
         1,
-        b"",
+        "",
     ),
-    (Status::Usage { word: 7 }, 2, b"sip: usage at word 7\n"),
+    (Status::Usage { word: 7 }, 2, "sip: usage at word 7\n"),
     (
         Status::BadStream {
             at: 0,
             why: Why::Truncated,
         },
         3,
-        b"sip: bad stream at record 0: Truncated\n",
+        "sip: bad stream at record 0: Truncated\n",
     ),
     (
         Status::BadStream {
@@ -35,7 +42,7 @@ const ROWS: [(Status, u8, &[u8]); 26] = [
             why: Why::BadLine,
         },
         3,
-        b"sip: bad stream at record 2: BadLine\n",
+        "sip: bad stream at record 2: BadLine\n",
     ),
     (
         Status::BadStream {
@@ -43,7 +50,7 @@ const ROWS: [(Status, u8, &[u8]); 26] = [
             why: Why::BadSide,
         },
         3,
-        b"sip: bad stream at record 10: BadSide\n",
+        "sip: bad stream at record 10: BadSide\n",
     ),
     (
         Status::BadStream {
@@ -51,7 +58,7 @@ const ROWS: [(Status, u8, &[u8]); 26] = [
             why: Why::BadItem,
         },
         3,
-        b"sip: bad stream at record 511: BadItem\n",
+        "sip: bad stream at record 511: BadItem\n",
     ),
     (
         Status::BadStream {
@@ -59,7 +66,7 @@ const ROWS: [(Status, u8, &[u8]); 26] = [
             why: Why::ZeroDelta,
         },
         3,
-        b"sip: bad stream at record 512: ZeroDelta\n",
+        "sip: bad stream at record 512: ZeroDelta\n",
     ),
     (
         Status::BadStream {
@@ -67,7 +74,7 @@ const ROWS: [(Status, u8, &[u8]); 26] = [
             why: Why::TooHeavy(Side::First),
         },
         3,
-        b"sip: bad stream at record 2147483646: TooHeavy(0)\n",
+        "sip: bad stream at record 2147483646: TooHeavy(0)\n",
     ),
     (
         Status::BadStream {
@@ -75,77 +82,81 @@ const ROWS: [(Status, u8, &[u8]); 26] = [
             why: Why::TooHeavy(Side::Second),
         },
         3,
-        b"sip: bad stream at record 1: TooHeavy(1)\n",
+        "sip: bad stream at record 1: TooHeavy(1)\n",
     ),
-    (Status::BadSeed, 3, b"sip: seed too short\n"),
-    (Status::SeedSpent, 3, b"sip: seed spent\n"),
+    (Status::BadSeed, 3, "sip: seed too short\n"),
+    (Status::SeedSpent, 3, "sip: seed spent\n"),
     (
         Status::BadTranscript { offset: 8 },
         3,
-        b"sip: bad transcript at offset 8\n",
+        "sip: bad transcript at offset 8\n",
     ),
     (
         Status::BadFrame { offset: 5 },
         3,
-        b"sip: bad frame at offset 5\n",
+        "sip: bad frame at offset 5\n",
     ),
-    (
-        Status::TooWide { query: 16 },
-        3,
-        b"sip: query 16 too wide\n",
-    ),
+    (Status::TooWide { query: 16 }, 3, "sip: query 16 too wide\n"),
     (
         Status::ReadFault { port: Port::First },
         4,
-        b"sip: read fault on first\n",
+        "sip: read fault on first\n",
     ),
     (
         Status::ReadFault { port: Port::Second },
         4,
-        b"sip: read fault on second\n",
+        "sip: read fault on second\n",
     ),
     (
         Status::WriteFault { port: Port::Report },
         4,
-        b"sip: write fault on report\n",
+        "sip: write fault on report\n",
     ),
     (
         Status::WriteFault { port: Port::Keep },
         4,
-        b"sip: write fault on record\n",
+        "sip: write fault on record\n",
     ),
-    (Status::PeerFault, 4, b"sip: peer fault\n"),
-    (Status::PeerClosed, 4, b"sip: peer closed\n"),
-    (Status::OutOfMemory, 5, b"sip: out of memory\n"),
-    (Status::Usage { word: 0 }, 2, b"sip: usage at word 0\n"),
+    (Status::PeerFault, 4, "sip: peer fault\n"),
+    (Status::PeerClosed, 4, "sip: peer closed\n"),
+    (Status::OutOfMemory, 5, "sip: out of memory\n"),
+    (Status::Usage { word: 0 }, 2, "sip: usage at word 0\n"),
     (
         Status::BadTranscript { offset: u64::MAX },
         3,
-        b"sip: bad transcript at offset 18446744073709551615\n",
+        "sip: bad transcript at offset 18446744073709551615\n",
     ),
 ];
 
+fn check_endings(rt: &impl Abort, alloc: Global, rows: &[Ending]) {
+    for (index, (status, code, line)) in rows.iter().enumerate() {
+        let mut sink = MemorySink::new(alloc, 4096, Vec::new(alloc));
+        let ending = finish(status, &mut sink);
+        let case = Case {
+            name: line,
+            number: index as u64,
+        };
+        case.holds(rt, ending.code == *code && ending.line == Ok(()));
+        case.writes(rt, sink.bytes(), line.as_bytes());
+    }
+}
+
+// A write that fails leaves a front of the line, and the code: one byte a call, and the sixth call
+// fails.
 #[test]
 fn each_status_has_its_line_and_code(rt: HostRuntime) -> Result<(), Fail> {
     let alloc = rt.alloc();
-    for (status, code, line) in &ROWS {
-        let mut sink = MemorySink::new(alloc, 4096, Vec::new(alloc));
-        let ending = finish(status, &mut sink);
-        assert_eq!(rt; ending.code, *code);
-        assert_eq!(rt; ending.line, Ok(()));
-        assert_eq!(rt; sink.bytes(), *line);
-    }
-    Ok(())
-}
-
-// One byte a call, and the sixth call fails.
-#[test]
-fn a_failing_write_leaves_a_front_of_the_line_and_the_code(rt: HostRuntime) -> Result<(), Fail> {
-    let alloc = rt.alloc();
+    check_endings(&rt, alloc, ENDINGS);
     let mut sink = MemorySink::new(alloc, 1, vec![in alloc; 6]?);
     let ending = finish(&Status::BadSeed, &mut sink);
-    assert_eq!(rt; ending.code, 3);
-    assert_eq!(rt; ending.line, Err(PortStop::Failed));
-    assert_eq!(rt; sink.bytes(), b"sip: ".as_slice());
+    let case = Case {
+        name: "the sixth write fails",
+        number: 6,
+    };
+    case.holds(
+        &rt,
+        ending.code == 3 && ending.line == Err(PortStop::Failed),
+    );
+    case.writes(&rt, sink.bytes(), b"sip: ");
     Ok(())
 }

@@ -64,7 +64,7 @@ fn check_far(rt: &impl Abort, alloc: Global, depth: u8, last: u64, count: u64) -
     ] {
         let words = format!(in alloc; "verify wide:s seed a b - {depth} {query}")?;
         let line = format!(in alloc; "{query} {sum}\n")?;
-        check_duel(rt, alloc, &words, &far.stream, &line)?;
+        check_duel(rt, alloc, (&words, &far.stream, &line))?;
     }
     Ok(())
 }

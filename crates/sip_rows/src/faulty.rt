@@ -15,7 +15,15 @@ pub struct Faulty<'a> {
     pub then: &'a [Said<'a>],
     pub round: u8,
     pub reason: Reason,
-    pub line: &'a str,
+    pub line: &'a [u8],
+}
+
+// Runs behind what was said and written before, where this query is open.
+#[derive(Clone, Copy)]
+pub struct Behind<'a> {
+    pub before: Row<'a>,
+    pub query: u8,
+    pub rows: &'a [Faulty<'a>],
 }
 
 impl Faulty<'_> {
@@ -25,8 +33,8 @@ impl Faulty<'_> {
         replies.extend_from_slice(&bytes_of(alloc, self.replies)?)?;
         let mut then = before.then.to_vec(alloc)?;
         then.extend_from_slice(self.then)?;
-        let mut report = String::from_str(alloc, before.report)?;
-        report.push_str(self.line)?;
+        let mut report = before.report.to_vec(alloc)?;
+        report.extend_from_slice(self.line)?;
         let rejected = Row {
             name: self.name,
             given: Given {
@@ -47,16 +55,12 @@ impl Faulty<'_> {
     }
 }
 
-// Runs each of them behind what was said and written before, where this query is open.
-pub fn check_faulty(
-    rt: &impl Abort,
-    alloc: Global,
-    before: &Row,
-    query: u8,
-    rows: &[Faulty],
-) -> Result<(), Fail> {
-    for row in rows {
-        row.check(rt, alloc, before, query)?;
+// Runs all of them.
+pub fn check_faulty(rt: &impl Abort, alloc: Global, tables: &[Behind]) -> Result<(), Fail> {
+    for table in tables {
+        for row in table.rows {
+            row.check(rt, alloc, &table.before, table.query)?;
+        }
     }
     Ok(())
 }

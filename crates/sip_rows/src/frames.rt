@@ -41,6 +41,13 @@ pub const TOO_HEAVY: [u8; 26] = [
 // The first of these two.
 pub const GREATEST_RECORD: [u8; 13] = [0, 0, 0, 0, 0, 0, 0, 0, 0, 0x3f, 0xff, 0xff, 0xff];
 
+// The three records without their last byte.
+pub const RECORDS_CUT_SHORT: [u8; 38] = [
+    0, 0, 0, 0, 0, 0, 0, 0, 0, 0, 0, 0, 3, // item 0
+    0, 0, 0, 0, 2, 0, 0, 0, 0, 0, 0, 0, 5, // item 2
+    0, 0, 0, 0, 3, 0, 0, 0, 0, 0, 0, 0, // item 3
+];
+
 // The three records as lines of text.
 pub const THREE_LINES: [u8; 18] = *b"0 0 3\n0 2 5\n0 3 1\n";
 
@@ -71,6 +78,18 @@ pub const THREE_WIDE_RECORDS: [u8; 51] = [
     0, 0, 0, 0, 0, 0, 0, 0, 0, 0, 0, 0, 0, 0, 0, 0, 3, // item 0
     0, 0, 0, 0, 0, 0, 0, 0, 2, 0, 0, 0, 0, 0, 0, 0, 5, // item 2
     0, 0, 0, 0, 0, 0, 0, 0, 3, 0, 0, 0, 0, 0, 0, 0, 1, // item 3
+];
+
+// The first two of them, and all three without the last byte.
+pub const TWO_WIDE_RECORDS: [u8; 34] = [
+    0, 0, 0, 0, 0, 0, 0, 0, 0, 0, 0, 0, 0, 0, 0, 0, 3, // item 0
+    0, 0, 0, 0, 0, 0, 0, 0, 2, 0, 0, 0, 0, 0, 0, 0, 5, // item 2
+];
+
+pub const WIDE_RECORDS_CUT_SHORT: [u8; 50] = [
+    0, 0, 0, 0, 0, 0, 0, 0, 0, 0, 0, 0, 0, 0, 0, 0, 3, // item 0
+    0, 0, 0, 0, 0, 0, 0, 0, 2, 0, 0, 0, 0, 0, 0, 0, 5, // item 2
+    0, 0, 0, 0, 0, 0, 0, 0, 3, 0, 0, 0, 0, 0, 0, 0, // item 3
 ];
 
 pub const END_STREAM: [u8; 3] = [0x03, 0, 0];
@@ -167,6 +186,9 @@ pub const ENTRIES_1_2: [u8; 29] = [
 pub const ONE_AS_TWO: [u8; 17] = [0x13, 0, 0x0e, 0, 2, 0, 0, 0, 2, 0, 0, 0, 0, 0, 0, 0, 5];
 // The length is that of one sibling and the flags are those of both.
 pub const ONE_AS_BOTH: [u8; 12] = [0x14, 0, 9, 3, 0, 0, 0, 0, 0, 0, 0, 3];
+
+// Sibling 3 alone, on the left, and sibling 1 alone, on the right.
+pub const LEFT_SIBLING_3: [u8; 12] = [0x14, 0, 9, 1, 0, 0, 0, 0, 0, 0, 0, 3];
 
 pub const RIGHT_SIBLING_1: [u8; 12] = [0x14, 0, 9, 2, 0, 0, 0, 0, 0, 0, 0, 1];
 

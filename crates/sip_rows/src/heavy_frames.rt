@@ -19,6 +19,15 @@ pub const WIDE_NODES_AT_ZERO_SEED: [u8; 53] = [
     0, 0, 0, 0, 0, 0, 0, 1, 0x0f, 0x25, 0x91, 0xe1, 0x63, 0x02, 0x2e, 0x44, 0, 0, 0, 0, 0, 0, 0, 6,
 ];
 
+// Version 2 at depth 1, and an update of item 0 by 65,537, in both versions.
+pub const OPEN_1_WIDE: [u8; 5] = [0x01, 0, 2, 2, 1];
+
+pub const UPDATE_OF_65537: [u8; 18] = [0x02, 0, 0x0f, 0, 1, 0, 0, 0, 0, 0, 0, 0, 0, 0, 0, 1, 0, 1];
+
+pub const WIDE_UPDATE_OF_65537: [u8; 22] = [
+    0x02, 0, 0x13, 0, 1, 0, 0, 0, 0, 0, 0, 0, 0, 0, 0, 0, 0, 0, 0, 1, 0, 1,
+];
+
 // Frames with a fault, or of a reply with one.
 
 // Leaf 2 is 5 and its sibling is not shown.

@@ -1,16 +1,13 @@
 // Heavy hitters and shares asked by `verify` of our own helper.
 
 use crate::case::Case;
-use crate::duel::{check_duel, duel};
+use crate::duel::{Talk, check_duels, duel};
 use crate::frames::*;
 use crate::heavy_frames::*;
-use crate::row::{Given, Row, Said, first_run};
+use crate::row::{FIRST_GIVEN, FIRST_RUN, Given, Row, Said, check_rows};
 use sip_verifier::Status;
 use sip_wire::Reason;
 use std::test::Fail;
-
-// The words of a run, its stream, and its lines.
-type Talk<'a> = (&'a str, &'a [u8], &'a str);
 
 // The numbers 3, 0, 5 and 1, of which the total is 9.
 const FOUR: &[u8] = b"0 0 3\n0 2 5\n0 3 1\n";
@@ -20,86 +17,78 @@ const FOUR: &[u8] = b"0 0 3\n0 2 5\n0 3 1\n";
 const PACKETS: &[u8] = b"0 3232235521 1500\n0 3232235527 40\n0 167772165 2000\n0 3232235521 -200\n";
 
 // Each answer was found by hand.
-#[test]
-fn heavy_hitters_by_both_ends(rt: HostRuntime) -> Result<(), Fail> {
-    let talks: [Talk<'static>; 7] = [
-        (
-            "verify text:s seed a b - 2 sub:1:2 f2:0 heavy:0:4 range:0:1:3",
-            FOUR,
-            "sub:1:2 2:5\nf2:0 35\nheavy:0:4 2:5\nrange:0:1:3 6\n",
-        ),
-        (
-            "verify text:s seed a b - 2 heavy:0:4 heavy:0:3 heavy:0:1 heavy:0:9 heavy:1:1",
-            FOUR,
-            "heavy:0:4 2:5\nheavy:0:3 0:3 2:5\nheavy:0:1 0:3 2:5 3:1\nheavy:0:9 none\nheavy:1:1 none\n",
-        ),
-        (
-            "verify text:s seed a b - 33 heavy:1:4 inner",
-            b"1 0 3\n1 2 5\n1 3 1\n0 2 2\n",
-            "heavy:1:4 2:5\ninner 10\n",
-        ),
-        (
-            "verify text:s seed a b - 1 heavy:0:1",
-            b"0 0 65536\n",
-            "heavy:0:1 0:65536\n",
-        ),
-        (
-            "verify text:s seed a b - 32 heavy:0:1000 sub:3232235520:3232235775 f2:0 \
-             range:0:0:4294967295",
-            PACKETS,
-            "heavy:0:1000 167772165:2000 3232235521:1300\n\
-             sub:3232235520:3232235775 3232235521:1300 3232235527:40\n\
-             f2:0 5691600\nrange:0:0:4294967295 3340\n",
-        ),
-        (
-            "verify text:s seed a b - 32 sub:4294967295:4294967295 heavy:0:7 range:0:0:4294967294",
-            b"0 4294967295 7\n",
-            "sub:4294967295:4294967295 4294967295:7\nheavy:0:7 4294967295:7\n\
-             range:0:0:4294967294 0\n",
-        ),
-        (
-            "verify text:s seed a b - 2 heavy:0:10 heavy:0:9223372036854775807",
-            FOUR,
-            "heavy:0:10 none\nheavy:0:9223372036854775807 none\n",
-        ),
-    ];
-    for (words, stream, lines) in &talks {
-        check_duel(&rt, rt.alloc(), words, stream, lines)?;
-    }
-    Ok(())
-}
+const HITTERS: &[Talk<'static>] = &[
+    (
+        "verify text:s seed a b - 2 sub:1:2 f2:0 heavy:0:4 range:0:1:3",
+        FOUR,
+        "sub:1:2 2:5\nf2:0 35\nheavy:0:4 2:5\nrange:0:1:3 6\n",
+    ),
+    (
+        "verify text:s seed a b - 2 heavy:0:4 heavy:0:3 heavy:0:1 heavy:0:9 heavy:1:1",
+        FOUR,
+        "heavy:0:4 2:5\nheavy:0:3 0:3 2:5\nheavy:0:1 0:3 2:5 3:1\nheavy:0:9 none\nheavy:1:1 none\n",
+    ),
+    (
+        "verify text:s seed a b - 33 heavy:1:4 inner",
+        b"1 0 3\n1 2 5\n1 3 1\n0 2 2\n",
+        "heavy:1:4 2:5\ninner 10\n",
+    ),
+    (
+        "verify text:s seed a b - 1 heavy:0:1",
+        b"0 0 65536\n",
+        "heavy:0:1 0:65536\n",
+    ),
+    (
+        "verify text:s seed a b - 32 heavy:0:1000 sub:3232235520:3232235775 f2:0 \
+         range:0:0:4294967295",
+        PACKETS,
+        "heavy:0:1000 167772165:2000 3232235521:1300\n\
+         sub:3232235520:3232235775 3232235521:1300 3232235527:40\n\
+         f2:0 5691600\nrange:0:0:4294967295 3340\n",
+    ),
+    (
+        "verify text:s seed a b - 32 sub:4294967295:4294967295 heavy:0:7 range:0:0:4294967294",
+        b"0 4294967295 7\n",
+        "sub:4294967295:4294967295 4294967295:7\nheavy:0:7 4294967295:7\n\
+         range:0:0:4294967294 0\n",
+    ),
+    (
+        "verify text:s seed a b - 2 heavy:0:10 heavy:0:9223372036854775807",
+        FOUR,
+        "heavy:0:10 none\nheavy:0:9223372036854775807 none\n",
+    ),
+];
 
 // The same of shares. The last one of the first run is asked for with the threshold 9. Of 3340 bytes a half is 1670, and 38 of a
 // hundred are 1269.2.
+const SHARES: &[Talk<'static>] = &[
+    (
+        "verify text:s seed a b - 2 share:0:1:2 share:0:5:9 share:0:1:3 share:0:1:1",
+        FOUR,
+        "share:0:1:2 2:5\nshare:0:5:9 2:5\nshare:0:1:3 0:3 2:5\nshare:0:1:1 none\n",
+    ),
+    (
+        "verify text:s seed a b - 2 share:0:1:2",
+        b"",
+        "share:0:1:2 none\n",
+    ),
+    (
+        "verify text:s seed a b - 1 share:0:1:65537",
+        b"0 0 65536\n",
+        "share:0:1:65537 0:65536\n",
+    ),
+    (
+        "verify text:s seed a b - 32 sub:167772165:167772165 share:0:1:2 f2:0 share:0:38:100",
+        PACKETS,
+        "sub:167772165:167772165 167772165:2000\nshare:0:1:2 167772165:2000\nf2:0 5691600\n\
+         share:0:38:100 167772165:2000 3232235521:1300\n",
+    ),
+];
+
 #[test]
-fn shares_by_both_ends(rt: HostRuntime) -> Result<(), Fail> {
-    let talks: [Talk<'static>; 4] = [
-        (
-            "verify text:s seed a b - 2 share:0:1:2 share:0:5:9 share:0:1:3 share:0:1:1",
-            FOUR,
-            "share:0:1:2 2:5\nshare:0:5:9 2:5\nshare:0:1:3 0:3 2:5\nshare:0:1:1 none\n",
-        ),
-        (
-            "verify text:s seed a b - 2 share:0:1:2",
-            b"",
-            "share:0:1:2 none\n",
-        ),
-        (
-            "verify text:s seed a b - 1 share:0:1:65537",
-            b"0 0 65536\n",
-            "share:0:1:65537 0:65536\n",
-        ),
-        (
-            "verify text:s seed a b - 32 sub:167772165:167772165 share:0:1:2 f2:0 share:0:38:100",
-            PACKETS,
-            "sub:167772165:167772165 167772165:2000\nshare:0:1:2 167772165:2000\nf2:0 5691600\n\
-             share:0:38:100 167772165:2000 3232235521:1300\n",
-        ),
-    ];
-    for (words, stream, lines) in &talks {
-        check_duel(&rt, rt.alloc(), words, stream, lines)?;
-    }
-    Ok(())
+fn hitters_and_shares_by_both_ends(rt: HostRuntime) -> Result<(), Fail> {
+    check_duels(&rt, rt.alloc(), HITTERS)?;
+    check_duels(&rt, rt.alloc(), SHARES)
 }
 
 // No count is below 0, so heavy hitters of -2 and 5 are refused. The lines of the queries before stand.
@@ -123,99 +112,123 @@ fn a_negative_entry_is_refused(rt: HostRuntime) -> Result<(), Fail> {
 }
 
 // Nothing is heard, and what is sent has no query. A share has version 2.
-#[test]
-fn what_is_none_by_the_total_is_not_asked(rt: HostRuntime) -> Result<(), Fail> {
-    let rows: [Row<'static>; 2] = [
-        Row {
-            name: "9 is less than 10",
-            given: Given {
-                words: "verify s seed a b - 2 heavy:0:10",
-                replies: &[],
-                ..first_run().given
-            },
-            report: "heavy:0:10 none\n",
-            sent: &[
-                Said::Out(&OPEN_2),
-                Said::Out(&UPDATES_OF_THREE),
-                Said::Out(&THREE_RECORDS),
-                Said::Out(&END_STREAM),
-            ],
-            then: &[Said::Out(&BYE)],
-            ..first_run()
+const NOT_ASKED: &[Row<'static>] = &[
+    Row {
+        name: "9 is less than 10",
+        given: Given {
+            words: "verify s seed a b - 2 heavy:0:10",
+            replies: &[],
+            ..FIRST_GIVEN
         },
-        Row {
-            name: "a share of nothing",
-            given: Given {
-                words: "verify s seed a b - 2 share:0:1:2",
-                stream: &[],
-                replies: &[],
-                ..first_run().given
-            },
-            report: "share:0:1:2 none\n",
-            sent: &[Said::Out(&OPEN_2_WIDE), Said::Out(&END_STREAM)],
-            then: &[Said::Out(&BYE)],
-            ..first_run()
+        report: b"heavy:0:10 none\n",
+        sent: &[
+            Said::Out(&OPEN_2),
+            Said::Out(&UPDATES_OF_THREE),
+            Said::Out(&THREE_RECORDS),
+            Said::Out(&END_STREAM),
+        ],
+        then: &[Said::Out(&BYE)],
+        ..FIRST_RUN
+    },
+    Row {
+        name: "a share of nothing",
+        given: Given {
+            words: "verify s seed a b - 2 share:0:1:2",
+            stream: &[],
+            replies: &[],
+            ..FIRST_GIVEN
         },
-    ];
-    for row in &rows {
-        row.check(&rt, rt.alloc())?;
-    }
-    Ok(())
-}
+        report: b"share:0:1:2 none\n",
+        sent: &[Said::Out(&OPEN_2_WIDE), Said::Out(&END_STREAM)],
+        then: &[Said::Out(&BYE)],
+        ..FIRST_RUN
+    },
+];
 
 // No entry is all of the total. The threshold is the total itself, so the query is asked.
-#[test]
-fn a_share_that_comes_to_the_total_is_asked(rt: HostRuntime) -> Result<(), Fail> {
-    let row = Row {
-        name: "no entry is 9",
-        given: Given {
-            words: "verify s seed a b - 2 share:0:1:1",
-            replies: &[&LEVEL_END, &WIDE_NODES_AT_ZERO_SEED, &LEVEL_END],
-            ..first_run().given
-        },
-        report: "share:0:1:1 none\n",
-        sent: &[
-            Said::Out(&OPEN_2_WIDE),
-            Said::Out(&UPDATES_OF_THREE_WIDE),
-            Said::Out(&THREE_WIDE_RECORDS),
-            Said::Out(&END_STREAM),
-            Said::Out(&ALL),
-        ],
-        then: &[
-            Said::In(&LEVEL_END),
-            Said::Out(&REVEAL),
-            Said::In(&WIDE_NODES_AT_ZERO_SEED),
-            Said::In(&LEVEL_END),
-            Said::Out(&BYE),
-        ],
-        ..first_run()
-    };
-    row.check(&rt, rt.alloc())
-}
+const ASKED: &[Row<'static>] = &[Row {
+    name: "no entry is 9",
+    given: Given {
+        words: "verify s seed a b - 2 share:0:1:1",
+        replies: &[&LEVEL_END, &WIDE_NODES_AT_ZERO_SEED, &LEVEL_END],
+        ..FIRST_GIVEN
+    },
+    report: b"share:0:1:1 none\n",
+    sent: &[
+        Said::Out(&OPEN_2_WIDE),
+        Said::Out(&UPDATES_OF_THREE_WIDE),
+        Said::Out(&THREE_WIDE_RECORDS),
+        Said::Out(&END_STREAM),
+        Said::Out(&ALL),
+    ],
+    then: &[
+        Said::In(&LEVEL_END),
+        Said::Out(&REVEAL),
+        Said::In(&WIDE_NODES_AT_ZERO_SEED),
+        Said::In(&LEVEL_END),
+        Said::Out(&BYE),
+    ],
+    ..FIRST_RUN
+}];
 
-// A total of 65,537 is too wide for a threshold of 1, which a share of 1/65537 comes to. No query is asked.
+// A total of 65,537 is too wide for a threshold of 1, which a share of 1/65537 comes to. The talk
+// ends with the stream.
+const TOO_WIDE: Row<'static> = Row {
+    name: "",
+    given: ONE_OF_65537,
+    status: Status::TooWide { query: 1 },
+    code: 3,
+    report: b"",
+    sent: &[
+        Said::Out(&OPEN_1),
+        Said::Out(&UPDATE_OF_65537),
+        Said::Out(&END_STREAM),
+    ],
+    then: &[],
+};
+
+const ONE_OF_65537: Given<'static> = Given {
+    words: "",
+    stream: b"0 0 65537\n",
+    seed: &ZERO_SEED,
+    replies: &[],
+};
+
+const WIDE: &[Row<'static>] = &[
+    Row {
+        name: "heavy:0:1 is too wide",
+        given: Given {
+            words: "verify text:s seed a b - 1 heavy:0:1",
+            ..ONE_OF_65537
+        },
+        ..TOO_WIDE
+    },
+    Row {
+        name: "share:0:1:65537 is too wide",
+        given: Given {
+            words: "verify text:s seed a b - 1 share:0:1:65537",
+            ..ONE_OF_65537
+        },
+        sent: &[
+            Said::Out(&OPEN_1_WIDE),
+            Said::Out(&WIDE_UPDATE_OF_65537),
+            Said::Out(&END_STREAM),
+        ],
+        ..TOO_WIDE
+    },
+    Row {
+        name: "heavy:0:1 is too wide before another query",
+        given: Given {
+            words: "verify text:s seed a b - 1 heavy:0:1 sub:0:1",
+            ..ONE_OF_65537
+        },
+        ..TOO_WIDE
+    },
+];
+
 #[test]
-fn one_over_the_greatest_width_is_too_wide(rt: HostRuntime) -> Result<(), Fail> {
-    for words in [
-        "verify text:s seed a b - 1 heavy:0:1",
-        "verify text:s seed a b - 1 share:0:1:65537",
-        "verify text:s seed a b - 1 heavy:0:1 sub:0:1",
-    ] {
-        let given = Given {
-            words,
-            stream: b"0 0 65537\n",
-            replies: &[],
-            ..first_run().given
-        };
-        for chunk in [1, 10_000] {
-            let shown = given.run(rt.alloc(), chunk, None)?;
-            let case = Case {
-                name: words,
-                number: chunk as u64,
-            };
-            case.ends(&rt, shown.status, Status::TooWide { query: 1 });
-            case.writes(&rt, shown.report.bytes(), b"");
-        }
-    }
-    Ok(())
+fn queries_by_their_total(rt: HostRuntime) -> Result<(), Fail> {
+    check_rows(&rt, rt.alloc(), NOT_ASKED)?;
+    check_rows(&rt, rt.alloc(), ASKED)?;
+    check_rows(&rt, rt.alloc(), WIDE)
 }

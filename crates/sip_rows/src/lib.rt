@@ -10,9 +10,9 @@ pub use memory::run_in_memory;
 #[cfg(test)]
 mod case;
 #[cfg(test)]
-mod check_tests;
-#[cfg(test)]
 mod command_tests;
+#[cfg(test)]
+mod copy_cut_tests;
 #[cfg(test)]
 mod copy_tests;
 #[cfg(test)]
@@ -42,13 +42,21 @@ mod heavy_tests;
 #[cfg(test)]
 mod help_tests;
 #[cfg(test)]
+mod hint_tests;
+#[cfg(test)]
+mod made_tests;
+#[cfg(test)]
 mod many_tests;
 #[cfg(test)]
 mod ones;
 #[cfg(test)]
 mod page_tests;
 #[cfg(test)]
+mod page_words_tests;
+#[cfg(test)]
 mod play_tests;
+#[cfg(test)]
+mod progress_tests;
 #[cfg(test)]
 mod query_tests;
 #[cfg(test)]
@@ -58,10 +66,12 @@ mod row;
 #[cfg(test)]
 mod row_tests;
 #[cfg(test)]
+mod sparing_tests;
+#[cfg(test)]
 mod sum_duel_tests;
 #[cfg(test)]
 mod sum_fault_tests;
 #[cfg(test)]
 mod sum_frames;
 #[cfg(test)]
-mod sum_tests;
+mod transcript_tests;

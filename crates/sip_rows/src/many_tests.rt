@@ -65,7 +65,7 @@ fn check_help(rt: &impl Abort, alloc: Global, one_more: &[u8], answer: &[u8]) ->
         },
         status: Status::PeerClosed,
         code: 4,
-        report: "",
+        report: b"",
         sent: &[Said::In(&heard)],
         then: &[Said::Out(answer), Said::Ended],
     };
@@ -144,7 +144,7 @@ fn verify_rejects_one_entry_more(rt: HostRuntime) -> Result<(), Fail> {
             reason: Reason::TooMany,
         },
         code: 1,
-        report: "rejected query 1 round 0 TooMany\n",
+        report: b"rejected query 1 round 0 TooMany\n",
         sent: &[Said::Out(&sent)],
         then: &[Said::In(&taken)],
     };

@@ -11,12 +11,15 @@ ghost use Rattle.sip_verifier.specs.declared.status.Port.TheVariants as ports;
 ghost use Rattle.sip_verifier.specs.Exchanges.{Exchange};
 ghost use Rattle.sip_verifier.specs.Promises.{Promises};
 ghost use Rattle.sip_cli.specs.declared.command.Command.{Command};
-ghost use Rattle.sip_cli.specs.declared.command.Command.TheVariants.{Verify, Gen, Lines, Widen, Help, Play};
+ghost use Rattle.sip_cli.specs.declared.command.Command.TheVariants.{Verify, Gen, Lines, Widen, Help, Play, Show, Convert};
 ghost use Rattle.sip_cli.specs.declared.helper_name.HelperName.{HelperName};
 ghost use Rattle.sip_cli.specs.CopyClause.{CopyClause};
 ghost use Rattle.sip_cli.specs.HelpClause.{HelpClause};
 ghost use Rattle.sip_cli.specs.Statuses.{Ends};
 ghost use Rattle.sip_cli.specs.Words.{Spells, IsRefusedAt};
+ghost use Rattle.sip_transcript.specs.Conversions.{in_version_2};
+ghost use Rattle.sip_transcript.specs.Listings.{listing};
+ghost use Rattle.sip_transcript.specs.Writing.{Writes};
 ghost use Rattle.sip_rows.specs.Moves.{Moves, held_by, faults_of};
 
 use sip_cli::{Words, run};
@@ -52,7 +55,8 @@ pub fn run_in_memory(
         × Promises task x (faults_of first.old second.old peer.old report.old keep.old)
         (faults_of first.new second.new peer.new report.new keep.new) result }
 
-    // A copy is written to the report, and a talk is served on the link.
+    // A copy is written to the report, and so is what there is of a transcript; a talk is served on
+    // the link.
     ensures made { (depth : ℕ) → Spells words.now (Gen depth)
         → CopyClause depth (made_form depth) (made_form depth) (source_left first.old)
         (Some (source_left first.new)) (Some (outs (sink_bytes report.old)))
@@ -64,6 +68,12 @@ pub fn run_in_memory(
     ensures wide { (form : Form) (depth : ℕ) → Spells words.now (Widen form depth)
         → CopyClause depth form Wide (source_left first.old)
         (Some (source_left first.new)) (Some (outs (sink_bytes report.old)))
+        (Some (outs (sink_bytes report.new))) result }
+    ensures shown { Spells words.now Show → Writes listing (source_left second.old)
+        (Some (source_left second.new)) (Some (outs (sink_bytes report.old)))
+        (Some (outs (sink_bytes report.new))) result }
+    ensures converted { Spells words.now Convert → Writes in_version_2 (source_left second.old)
+        (Some (source_left second.new)) (Some (outs (sink_bytes report.old)))
         (Some (outs (sink_bytes report.new))) result }
     ensures help { Spells words.now Help → HelpClause (Some (link_talk peer.old))
         (Some (link_talk peer.new)) result }

@@ -1,9 +1,10 @@
 // The transcript that a run of `verify` keeps.
+ghost use Rattle.std.specs.Prelude.{◌≤◌};
 
 use crate::case::Case;
 use crate::duel::{duel, heard};
 use crate::frames::*;
-use crate::row::{At, Failing, Given, Shown, bytes_of, first_run};
+use crate::row::{At, FIRST_GIVEN, Failing, Given, bytes_of};
 use sip_stream::Why;
 use sip_verifier::{Port, Status};
 use sip_wire::Reason;
@@ -23,118 +24,135 @@ const HEAD: [u8; 35] = [
 // A run, how it ends, and the parts that are kept of it.
 #[derive(Clone, Copy)]
 struct Kept<'a> {
+    name: &'a str,
     given: Given<'a>,
     status: Status,
     kept: &'a [&'a [u8]],
 }
 
 impl Kept<'_> {
-    // Runs it in single bytes, and in pieces that are as long as is asked for.
-    fn check(&self, rt: &impl Abort, alloc: Global) -> Result<(), Fail> {
-        let kept = bytes_of(alloc, self.kept)?;
-        for chunk in [1, 10_000] {
-            let shown = self.given.run(alloc, chunk, None)?;
-            let case = Case {
-                name: "what is kept",
-                number: chunk as u64,
-            };
-            case.ends(rt, shown.status, self.status);
-            case.writes(rt, shown.keep.bytes(), &kept);
-        }
+    fn check_in(&self, rt: &impl Abort, alloc: Global, chunk: usize) -> Result<(), Fail>
+        requires { 1 ≤ chunk }
+    {
+        let shown = self.given.run(alloc, chunk, None)?;
+        let case = Case {
+            name: self.name,
+            number: chunk as u64,
+        };
+        case.ends(rt, shown.status, self.status);
+        case.writes(rt, shown.keep.bytes(), &bytes_of(alloc, self.kept)?);
         Ok(())
     }
 }
 
-// The first run where these replies come and these parts are kept.
-fn heard_in_first_run<'a>(
-    replies: &'a [&'a [u8]],
-    kept: &'a [&'a [u8]],
-    round: u8,
-    reason: Reason,
-) -> Kept<'a> {
-    Kept {
-        given: Given {
-            replies,
-            ..first_run().given
-        },
-        status: Status::Rejected {
-            query: 1,
-            round,
-            reason,
-        },
-        kept,
-    }
-}
-
-// The head, and what was heard: of a rejected run too, where it ends in a part of a frame. The bytes behind the fault are not
-// taken, and so not kept. A run that ends before its query has the head alone, and one without challenges nothing.
-#[test]
-fn what_was_heard_is_kept_behind_the_head(rt: HostRuntime) -> Result<(), Fail> {
-    let whole = first_run().given;
-    let rows = [
-        Kept {
-            given: whole,
-            status: Status::Accepted,
-            kept: &[&HEAD, &ENTRY_2, &SIBLINGS_3_1, &NO_SIBLINGS],
-        },
-        heard_in_first_run(
-            &[&ENTRY_2, &SIBLINGS_4_1, &NO_SIBLINGS],
-            &[&HEAD, &ENTRY_2, &SIBLINGS_4_1, &NO_SIBLINGS],
-            2,
-            Reason::Root,
-        ),
-        heard_in_first_run(
-            &[&ENTRY_2, &SIBLINGS_3_1, &PART_OF_NO_SIBLINGS],
-            &[&HEAD, &ENTRY_2, &SIBLINGS_3_1, &PART_OF_NO_SIBLINGS],
-            1,
-            Reason::Closed,
-        ),
-        heard_in_first_run(
-            &[&CLAIM_HEADER, &ZEROS],
-            &[&HEAD, &CLAIM_HEADER],
-            0,
-            Reason::BadKind,
-        ),
-        heard_in_first_run(
-            &[&ENTRIES_2_1, &SIBLINGS_3_1],
-            &[&HEAD, &ENTRIES_2_1],
-            0,
-            Reason::BadOrder,
-        ),
-        Kept {
-            given: Given {
-                stream: &DELTA_0,
-                ..whole
-            },
-            status: Status::BadStream {
-                at: 0,
-                why: Why::ZeroDelta,
-            },
-            kept: &[&HEAD],
-        },
-        Kept {
-            given: Given {
-                seed: &SHORT_SEED,
-                ..whole
-            },
-            status: Status::BadSeed,
-            kept: &[],
-        },
-    ];
-    for row in &rows {
-        row.check(&rt, rt.alloc())?;
+// Runs each of them in single bytes, and in pieces that are as long as is asked for.
+fn check_kept(rt: &impl Abort, alloc: Global, rows: &[Kept]) -> Result<(), Fail> {
+    for row in rows {
+        row.check_in(rt, alloc, 1)?;
+        row.check_in(rt, alloc, 10_000)?;
     }
     Ok(())
 }
 
-// Runs it in single bytes where a write to the record fails: a front of this is kept.
+// The head, and what was heard: of a rejected run too, where it ends in a part of a frame. The bytes behind the fault are not
+// taken, and so not kept. A run that ends before its query has the head alone, and one without challenges nothing.
+const KEPT: &[Kept<'static>] = &[
+    Kept {
+        name: "the first run",
+        given: FIRST_GIVEN,
+        status: Status::Accepted,
+        kept: &[&HEAD, &ENTRY_2, &SIBLINGS_3_1, &NO_SIBLINGS],
+    },
+    Kept {
+        name: "leaf 0 is not 4",
+        given: Given {
+            replies: &[&ENTRY_2, &SIBLINGS_4_1, &NO_SIBLINGS],
+            ..FIRST_GIVEN
+        },
+        status: Status::Rejected {
+            query: 1,
+            round: 2,
+            reason: Reason::Root,
+        },
+        kept: &[&HEAD, &ENTRY_2, &SIBLINGS_4_1, &NO_SIBLINGS],
+    },
+    Kept {
+        name: "two bytes of reply 1 come",
+        given: Given {
+            replies: &[&ENTRY_2, &SIBLINGS_3_1, &PART_OF_NO_SIBLINGS],
+            ..FIRST_GIVEN
+        },
+        status: Status::Rejected {
+            query: 1,
+            round: 1,
+            reason: Reason::Closed,
+        },
+        kept: &[&HEAD, &ENTRY_2, &SIBLINGS_3_1, &PART_OF_NO_SIBLINGS],
+    },
+    Kept {
+        name: "a claim may not stand here",
+        given: Given {
+            replies: &[&CLAIM_HEADER, &ZEROS],
+            ..FIRST_GIVEN
+        },
+        status: Status::Rejected {
+            query: 1,
+            round: 0,
+            reason: Reason::BadKind,
+        },
+        kept: &[&HEAD, &CLAIM_HEADER],
+    },
+    Kept {
+        name: "entries fall",
+        given: Given {
+            replies: &[&ENTRIES_2_1, &SIBLINGS_3_1],
+            ..FIRST_GIVEN
+        },
+        status: Status::Rejected {
+            query: 1,
+            round: 0,
+            reason: Reason::BadOrder,
+        },
+        kept: &[&HEAD, &ENTRIES_2_1],
+    },
+    Kept {
+        name: "delta 0 is none",
+        given: Given {
+            stream: &DELTA_0,
+            ..FIRST_GIVEN
+        },
+        status: Status::BadStream {
+            at: 0,
+            why: Why::ZeroDelta,
+        },
+        kept: &[&HEAD],
+    },
+    Kept {
+        name: "31 bytes are no seed",
+        given: Given {
+            seed: &SHORT_SEED,
+            ..FIRST_GIVEN
+        },
+        status: Status::BadSeed,
+        kept: &[],
+    },
+];
+
+#[test]
+fn what_was_heard_is_kept_behind_the_head(rt: HostRuntime) -> Result<(), Fail> {
+    check_kept(&rt, rt.alloc(), KEPT)
+}
+
+// Runs it in single bytes where a write to the record fails: a front of this is kept, and the
+// report is whole lines of these.
 fn check_failing(
     rt: &impl Abort,
     alloc: Global,
     given: &Given,
     number: u64,
     whole: &[u8],
-) -> Result<Shown, Fail> {
+    lines: &[u8],
+) -> Result<(), Fail> {
     let at = At::Keep;
     let shown = given.run(alloc, 1, Some(Failing { at, number }))?;
     let case = Case {
@@ -142,28 +160,15 @@ fn check_failing(
         number,
     };
     case.ends(rt, shown.status, Status::WriteFault { port: Port::Keep });
-    let kept = shown.keep.bytes();
+    let (kept, report) = (shown.keep.bytes(), shown.report.bytes());
     case.holds(rt, whole.starts_with(kept));
     case.holds(rt, kept.len() as u64 == number.wrapping_sub(1));
-    Ok(shown)
-}
-
-// Nothing is said before the head is kept.
-#[test]
-fn the_head_comes_first(rt: HostRuntime) -> Result<(), Fail> {
-    for number in 1..36 {
-        let shown = check_failing(&rt, rt.alloc(), &first_run().given, number, &HEAD)?;
-        let case = Case {
-            name: "the head fails",
-            number,
-        };
-        case.says(&rt, shown.peer.talk(), &[]);
-        case.writes(&rt, shown.report.bytes(), b"");
-    }
+    case.holds(rt, lines.starts_with(report));
+    case.holds(rt, report.is_empty() || report.ends_with(b"\n"));
     Ok(())
 }
 
-// Each write of the record fails once in a run of four queries. The report is whole lines.
+// Each write of the record fails once in a run of four queries.
 #[test]
 fn each_write_of_the_record_fails_once(rt: HostRuntime) -> Result<(), Fail> {
     let alloc = rt.alloc();
@@ -177,17 +182,9 @@ fn each_write_of_the_record_fails_once(rt: HostRuntime) -> Result<(), Fail> {
         seed: &ZERO_SEED,
         replies: &[&replies],
     };
-    let mut number = 0u64;
-    for _ in whole.keep.bytes() {
-        number = number.wrapping_add(1);
-        let shown = check_failing(&rt, alloc, &given, number, whole.keep.bytes())?;
-        let report = shown.report.bytes();
-        let case = Case {
-            name: "the report is whole lines",
-            number,
-        };
-        case.holds(&rt, lines.starts_with(report));
-        case.holds(&rt, report.is_empty() || report.ends_with(b"\n"));
+    let kept = whole.keep.bytes();
+    for number in 1..=kept.len() as u64 {
+        check_failing(&rt, alloc, &given, number, kept, lines)?;
     }
     Ok(())
 }

@@ -1,277 +1,339 @@
+// Worked runs of `verify`, by the bytes that go in and those that come out.
+
 use crate::frames::*;
-use crate::row::{Given, Row, Said, first_run};
+use crate::row::{FIRST_GIVEN, FIRST_RUN, Given, Row, Said, check_rows};
 use sip_stream::Why;
 use sip_vector::Side;
 use sip_verifier::Status;
-use std::alloc::Global;
-use std::process::Abort;
 use std::test::Fail;
 
-// The first run, of a stream of text: what is said is the same.
-fn of_lines() -> Row<'static> {
+// What is said is the same, whatever the form of the stream.
+const ACCEPTED: &[Row<'static>] = &[
+    FIRST_RUN,
     Row {
         name: "a stream of text",
         given: Given {
             words: "verify text:s seed a b - 2 sub:1:2",
             stream: &THREE_LINES,
-            ..first_run().given
+            ..FIRST_GIVEN
         },
-        ..first_run()
-    }
-}
-
-// The same of a stream of wide records.
-fn of_wide_records() -> Row<'static> {
+        ..FIRST_RUN
+    },
     Row {
         name: "a stream of wide records",
         given: Given {
             words: "verify wide:s seed a b - 2 sub:1:2",
             stream: &THREE_WIDE_RECORDS,
-            ..first_run().given
+            ..FIRST_GIVEN
         },
-        ..first_run()
-    }
-}
-
-// A program that always answers that memory ran out would keep every promise, since that answer is free. It fails here.
-#[test]
-fn runs_that_are_accepted(rt: HostRuntime) -> Result<(), Fail> {
-    let rows = [
-        first_run(),
-        of_lines(),
-        of_wide_records(),
-        Row {
-            name: "a stream of nothing has no entries",
-            given: Given {
-                words: "verify s seed a b - 2 sub:0:3",
-                stream: &[],
-                seed: &ZERO_SEED,
-                replies: &[&NO_SIBLINGS, &NO_SIBLINGS],
-            },
-            status: Status::Accepted,
-            code: 0,
-            report: "sub:0:3 none\n",
-            sent: &[
-                Said::Out(&OPEN_2),
-                Said::Out(&END_STREAM),
-                Said::Out(&SUB_0_3),
-            ],
-            then: &[
-                Said::In(&NO_SIBLINGS),
-                Said::Out(&REVEAL),
-                Said::In(&NO_SIBLINGS),
-                Said::Out(&BYE),
-            ],
+        ..FIRST_RUN
+    },
+    Row {
+        name: "a stream of nothing has no entries",
+        given: Given {
+            words: "verify s seed a b - 2 sub:0:3",
+            stream: &[],
+            seed: &ZERO_SEED,
+            replies: &[&NO_SIBLINGS, &NO_SIBLINGS],
         },
-        Row {
-            name: "depth 1 has one reply, and no challenge is revealed",
-            given: Given {
-                words: "verify s seed a b - 1 sub:0:1",
-                stream: &TWO_RECORDS,
-                seed: &ZERO_SEED,
-                replies: &[&ENTRIES_0_1, &NO_SIBLINGS],
-            },
-            status: Status::Accepted,
-            code: 0,
-            report: "sub:0:1 0:3 1:5\n",
-            sent: &[
-                Said::Out(&OPEN_1),
-                Said::Out(&UPDATES_OF_TWO),
-                Said::Out(&TWO_RECORDS),
-                Said::Out(&END_STREAM),
-                Said::Out(&SUB_0_1),
-            ],
-            then: &[
-                Said::In(&ENTRIES_0_1),
-                Said::In(&NO_SIBLINGS),
-                Said::Out(&BYE),
-            ],
+        status: Status::Accepted,
+        code: 0,
+        report: b"sub:0:3 none\n",
+        sent: &[
+            Said::Out(&OPEN_2),
+            Said::Out(&END_STREAM),
+            Said::Out(&SUB_0_3),
+        ],
+        then: &[
+            Said::In(&NO_SIBLINGS),
+            Said::Out(&REVEAL),
+            Said::In(&NO_SIBLINGS),
+            Said::Out(&BYE),
+        ],
+    },
+    Row {
+        name: "depth 1 has one reply, and no challenge is revealed",
+        given: Given {
+            words: "verify s seed a b - 1 sub:0:1",
+            stream: &TWO_RECORDS,
+            seed: &ZERO_SEED,
+            replies: &[&ENTRIES_0_1, &NO_SIBLINGS],
         },
-    ];
-    for row in &rows {
-        row.check(&rt, rt.alloc())?;
-    }
-    Ok(())
-}
-
-// The words and the bytes of a stream, its first record that is not legal, and why.
-#[derive(Clone, Copy)]
-struct Bad<'a> {
-    name: &'a str,
-    words: &'a str,
-    stream: &'a [u8],
-    at: u64,
-    why: Why,
-}
-
-// The words for a stream of records, for one of text, and for one of wide records.
-const RECORDS: &str = "verify s seed a b - 2 sub:1:2";
-
-const TEXT: &str = "verify text:s seed a b - 2 sub:1:2";
-
-const WIDE: &str = "verify wide:s seed a b - 2 sub:1:2";
-
-fn check_bad(rt: &impl Abort, alloc: Global, rows: &[Bad]) -> Result<(), Fail> {
-    let honest = first_run();
-    for row in rows {
-        let given = Given {
-            words: row.words,
-            stream: row.stream,
-            ..honest.given
-        };
-        let bad = Row {
-            name: row.name,
-            given,
-            status: Status::BadStream {
-                at: row.at,
-                why: row.why,
-            },
-            code: 3,
-            report: "",
-            sent: &[Said::Out(&OPEN_2)],
-            then: &[],
-        };
-        bad.check(rt, alloc)?;
-    }
-    Ok(())
-}
+        status: Status::Accepted,
+        code: 0,
+        report: b"sub:0:1 0:3 1:5\n",
+        sent: &[
+            Said::Out(&OPEN_1),
+            Said::Out(&UPDATES_OF_TWO),
+            Said::Out(&TWO_RECORDS),
+            Said::Out(&END_STREAM),
+            Said::Out(&SUB_0_1),
+        ],
+        then: &[
+            Said::In(&ENTRIES_0_1),
+            Said::In(&NO_SIBLINGS),
+            Said::Out(&BYE),
+        ],
+    },
+];
 
 // The first record that is not legal is named, and nothing but the opening is said.
-#[test]
-fn streams_that_are_bad(rt: HostRuntime) -> Result<(), Fail> {
-    let rows = [
-        Bad {
-            name: "12 bytes are no record",
-            words: RECORDS,
+const BAD: Row<'static> = Row {
+    name: "",
+    given: FIRST_GIVEN,
+    status: Status::BadStream {
+        at: 0,
+        why: Why::Truncated,
+    },
+    code: 3,
+    report: b"",
+    sent: &[Said::Out(&OPEN_2)],
+    then: &[],
+};
+
+// What is given with a stream of records, with one of text, and with one of wide records.
+const RECORDS: Given<'static> = FIRST_GIVEN;
+
+const TEXT: Given<'static> = Given {
+    words: "verify text:s seed a b - 2 sub:1:2",
+    ..FIRST_GIVEN
+};
+
+const WIDE: Given<'static> = Given {
+    words: "verify wide:s seed a b - 2 sub:1:2",
+    ..FIRST_GIVEN
+};
+
+const BAD_STREAMS: &[Row<'static>] = &[
+    Row {
+        name: "12 bytes are no record",
+        given: Given {
             stream: &TWELVE_BYTES,
+            ..RECORDS
+        },
+        status: Status::BadStream {
             at: 0,
             why: Why::Truncated,
         },
-        Bad {
-            name: "item 4 is none of 4",
-            words: RECORDS,
+        ..BAD
+    },
+    Row {
+        name: "item 4 is none of 4",
+        given: Given {
             stream: &ITEM_4,
+            ..RECORDS
+        },
+        status: Status::BadStream {
             at: 0,
             why: Why::BadItem,
         },
-        Bad {
-            name: "side 2 is none",
-            words: RECORDS,
+        ..BAD
+    },
+    Row {
+        name: "side 2 is none",
+        given: Given {
             stream: &SIDE_2,
+            ..RECORDS
+        },
+        status: Status::BadStream {
             at: 0,
             why: Why::BadSide,
         },
-        Bad {
-            name: "delta 0 is none",
-            words: RECORDS,
+        ..BAD
+    },
+    Row {
+        name: "delta 0 is none",
+        given: Given {
             stream: &DELTA_0,
+            ..RECORDS
+        },
+        status: Status::BadStream {
             at: 0,
             why: Why::ZeroDelta,
         },
-        Bad {
-            name: "a side weighs 2^30",
-            words: RECORDS,
+        ..BAD
+    },
+    Row {
+        name: "a side weighs 2^30",
+        given: Given {
             stream: &TOO_HEAVY,
+            ..RECORDS
+        },
+        status: Status::BadStream {
             at: 1,
             why: Why::TooHeavy(Side::First),
         },
-        Bad {
-            name: "a record weighs 2^63",
-            words: RECORDS,
+        ..BAD
+    },
+    Row {
+        name: "a record weighs 2^63",
+        given: Given {
             stream: &LEAST_DELTA,
+            ..RECORDS
+        },
+        status: Status::BadStream {
             at: 0,
             why: Why::TooHeavy(Side::First),
         },
-        Bad {
-            name: "a line of two numbers is none",
-            words: TEXT,
+        ..BAD
+    },
+    Row {
+        name: "a line of two numbers is none",
+        given: Given {
             stream: b"0 0 3\n0 2\n0 3 1\n",
+            ..TEXT
+        },
+        status: Status::BadStream {
             at: 1,
             why: Why::BadLine,
         },
-        Bad {
-            name: "the last line has no end",
-            words: TEXT,
+        ..BAD
+    },
+    Row {
+        name: "the last line has no end",
+        given: Given {
             stream: b"0 0 3\n0 2 5",
+            ..TEXT
+        },
+        status: Status::BadStream {
             at: 1,
             why: Why::Truncated,
         },
-        Bad {
-            name: "item 4 of a line is none of 4",
-            words: TEXT,
+        ..BAD
+    },
+    Row {
+        name: "item 4 of a line is none of 4",
+        given: Given {
             stream: b"0 4 3\n",
+            ..TEXT
+        },
+        status: Status::BadStream {
             at: 0,
             why: Why::BadItem,
         },
-        Bad {
-            name: "16 bytes are no wide record",
-            words: WIDE,
-            stream: &THREE_WIDE_RECORDS[..50],
+        ..BAD
+    },
+    Row {
+        name: "16 bytes are no wide record",
+        given: Given {
+            stream: &WIDE_RECORDS_CUT_SHORT,
+            ..WIDE
+        },
+        status: Status::BadStream {
             at: 2,
             why: Why::Truncated,
         },
-        Bad {
-            name: "item 2^48 of a wide record is none of 4",
-            words: WIDE,
+        ..BAD
+    },
+    Row {
+        name: "item 2^48 of a wide record is none of 4",
+        given: Given {
             stream: &ITEM_2_TO_48,
+            ..WIDE
+        },
+        status: Status::BadStream {
             at: 0,
             why: Why::BadItem,
         },
-        Bad {
-            name: "records are no lines",
-            words: TEXT,
+        ..BAD
+    },
+    Row {
+        name: "records are no lines",
+        given: Given {
             stream: &THREE_RECORDS,
+            ..TEXT
+        },
+        status: Status::BadStream {
             at: 0,
             why: Why::Truncated,
         },
-    ];
-    check_bad(&rt, rt.alloc(), &rows)
-}
+        ..BAD
+    },
+];
 
-// Words that are no command, and the first one that is none.
-fn refused<'a>(words: &'a str, word: u32) -> Row<'a> {
+// Words that are no command, and the first one that is none; and a seed that is too short.
+const SILENT: Row<'static> = Row {
+    name: "",
+    given: FIRST_GIVEN,
+    status: Status::BadSeed,
+    code: 3,
+    report: b"",
+    sent: &[],
+    then: &[],
+};
+
+const REFUSED: Row<'static> = Row { code: 2, ..SILENT };
+
+const NOTHING_SAID: &[Row<'static>] = &[
     Row {
-        name: words,
+        name: "31 bytes are no seed",
         given: Given {
-            words,
-            ..first_run().given
+            seed: &SHORT_SEED,
+            ..FIRST_GIVEN
         },
-        status: Status::Usage { word },
-        code: 2,
-        report: "",
-        sent: &[],
-        then: &[],
-    }
-}
+        ..SILENT
+    },
+    Row {
+        name: "verify",
+        given: Given {
+            words: "verify",
+            ..FIRST_GIVEN
+        },
+        status: Status::Usage { word: 1 },
+        ..REFUSED
+    },
+    Row {
+        name: "verify s seed a b - 2 sub:1:4",
+        given: Given {
+            words: "verify s seed a b - 2 sub:1:4",
+            ..FIRST_GIVEN
+        },
+        status: Status::Usage { word: 7 },
+        ..REFUSED
+    },
+    Row {
+        name: "verify s seed a b - 2 f2:2",
+        given: Given {
+            words: "verify s seed a b - 2 f2:2",
+            ..FIRST_GIVEN
+        },
+        status: Status::Usage { word: 7 },
+        ..REFUSED
+    },
+    Row {
+        name: "verify s seed a b - 2 sub:01:2",
+        given: Given {
+            words: "verify s seed a b - 2 sub:01:2",
+            ..FIRST_GIVEN
+        },
+        status: Status::Usage { word: 7 },
+        ..REFUSED
+    },
+    Row {
+        name: "verify s seed a b - 49 sub:1:2",
+        given: Given {
+            words: "verify s seed a b - 49 sub:1:2",
+            ..FIRST_GIVEN
+        },
+        status: Status::Usage { word: 6 },
+        ..REFUSED
+    },
+    Row {
+        name: "seventeen queries",
+        given: Given {
+            words: "verify s seed a b - 2 sub:0:0 sub:0:0 sub:0:0 sub:0:0 sub:0:0 sub:0:0 sub:0:0 \
+                    sub:0:0 sub:0:0 sub:0:0 sub:0:0 sub:0:0 sub:0:0 sub:0:0 sub:0:0 sub:0:0 sub:0:0",
+            ..FIRST_GIVEN
+        },
+        status: Status::Usage { word: 23 },
+        ..REFUSED
+    },
+];
 
+// A program that always answers that memory ran out would keep every promise, since that answer is free. It fails here.
 #[test]
-fn runs_that_say_nothing(rt: HostRuntime) -> Result<(), Fail> {
-    let rows: [Row<'static>; 7] = [
-        Row {
-            name: "31 bytes are no seed",
-            given: Given {
-                seed: &SHORT_SEED,
-                ..first_run().given
-            },
-            status: Status::BadSeed,
-            code: 3,
-            report: "",
-            sent: &[],
-            then: &[],
-        },
-        refused("verify", 1),
-        refused("verify s seed a b - 2 sub:1:4", 7),
-        refused("verify s seed a b - 2 f2:2", 7),
-        refused("verify s seed a b - 2 sub:01:2", 7),
-        refused("verify s seed a b - 49 sub:1:2", 6),
-        refused(
-            "verify s seed a b - 2 sub:0:0 sub:0:0 sub:0:0 sub:0:0 sub:0:0 sub:0:0 sub:0:0 sub:0:0 \
-             sub:0:0 sub:0:0 sub:0:0 sub:0:0 sub:0:0 sub:0:0 sub:0:0 sub:0:0 sub:0:0",
-            23,
-        ),
-    ];
-    for row in &rows {
-        row.check(&rt, rt.alloc())?;
-    }
-    Ok(())
+fn worked_runs(rt: HostRuntime) -> Result<(), Fail> {
+    check_rows(&rt, rt.alloc(), ACCEPTED)?;
+    check_rows(&rt, rt.alloc(), BAD_STREAMS)?;
+    check_rows(&rt, rt.alloc(), NOTHING_SAID)
 }

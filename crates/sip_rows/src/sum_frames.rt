@@ -92,16 +92,9 @@ pub const POLY_OF_P: [u8; 27] = [
     0, 0, 0, 0, 0,
 ];
 
-// The sums at 0 and 1 are 19, and 18; the value of the second at 10 is 28.
-pub const SQUARES_2_OF_19: [u8; 27] = [
-    0x12, 0, 0x18, 0, 0, 0, 0, 0, 0, 0, 9, 0, 0, 0, 0, 0, 0, 0, 0, 0, 0, 0, 0, 0, 0, 0, 1,
-];
-
-pub const SQUARES_2_OF_18: [u8; 27] = [
-    0x12, 0, 0x18, 0, 0, 0, 0, 0, 0, 0, 8, 0, 0, 0, 0, 0, 0, 0, 2, 0, 0, 0, 0, 0, 0, 0, 0,
-];
-
 pub const LONG_CLAIM_HEADER: [u8; 3] = [0x11, 0, 9];
+
+pub const POLY_HEADER: [u8; 3] = [0x12, 0, 0x18];
 
 pub const SHORT_POLY_HEADER: [u8; 3] = [0x12, 0, 0x10];
 

@@ -16,3 +16,4 @@ pub mod ManyRead
 pub mod PassedRecords
 pub mod PassedLines
 mod Excess
+mod Tallied

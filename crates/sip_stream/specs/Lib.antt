@@ -6,6 +6,7 @@ pub mod Made
 pub mod MadeSources
 pub mod Pieces
 pub mod Reading
+pub mod Tallies
 pub mod Examples
 pub mod Copying
 pub mod Copied

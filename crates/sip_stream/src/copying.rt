@@ -86,9 +86,9 @@ fn make_room<K: Sink>(sink: &mut K, gathered: &mut ArrayVec<u8, BLOCK>) -> Resul
     Ok(())
 }
 
-// Gathers legal records that the source holds whole, as far as there is room for them: as they lie,
-// where they are to be written in the form that they have. Others it leaves alone.
-fn gather_held<A: Source>(
+// Gathers legal records that the source holds whole, as far as there is room for them, as they lie: those that
+// are to be written in the form that they have. Others it leaves alone.
+fn gather_as_held<A: Source>(
     to: Form,
     reader: &mut Reader,
     source: &mut A,
@@ -106,6 +106,47 @@ fn gather_held<A: Source>(
     let used = reader.pass(to, near);
     put(gathered, &near[..used]);
     source.skip(used);
+}
+
+// Gathers legal records that the source holds whole, as far as there is room for them, in the spelling of a form.
+fn gather_spelled<A: Source>(
+    to: Form,
+    reader: &mut Reader,
+    source: &mut A,
+    gathered: &mut ArrayVec<u8, BLOCK>,
+)
+    requires depth { reader.old.depth ≤ deepest_in to }
+    ensures grown { (us : List Update) × (taken : List ℕ)
+        × (gathered.new.items ≡ gathered.old.items ++ all_spelled to us)
+        × HasRead reader.old reader.new taken us
+        × Consumes (A.left source.old) (A.left source.new) taken }
+    ensures told { IsSome (A.left source.old) → IsSome (A.left source.new) }
+    ensures source { Lasts A.faults A.wants A.is_sure source.old source.new }
+{
+    let used = reader.spell(to, source.held(), gathered);
+    source.skip(used);
+}
+
+// Gathers legal records that the source holds whole, as far as there is room for them. It may leave any of them alone.
+fn gather_held<A: Source>(
+    to: Form,
+    reader: &mut Reader,
+    source: &mut A,
+    gathered: &mut ArrayVec<u8, BLOCK>,
+)
+    requires depth { reader.old.depth ≤ deepest_in to }
+    ensures grown { (us : List Update) × (taken : List ℕ)
+        × (gathered.new.items ≡ gathered.old.items ++ all_spelled to us)
+        × HasRead reader.old reader.new taken us
+        × Consumes (A.left source.old) (A.left source.new) taken }
+    ensures told { IsSome (A.left source.old) → IsSome (A.left source.new) }
+    ensures source { Lasts A.faults A.wants A.is_sure source.old source.new }
+{
+    if reader.form() == to {
+        gather_as_held(to, reader, source, gathered);
+    } else {
+        gather_spelled(to, reader, source, gathered);
+    }
 }
 
 // Copies until the stream ends, is read no further, or the sink stops. What is gathered then is still to be written.

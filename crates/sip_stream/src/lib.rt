@@ -23,6 +23,7 @@ mod reader;
 mod record_bytes;
 mod record_reader;
 mod spelling;
+mod tally;
 pub mod text;
 mod why;
 

@@ -7,7 +7,7 @@ ghost use Rattle.arrayvec.specs.ArrayVec.{array_vec_len};
 ghost use Rattle.sip_ports.specs.Ports.{HasCause, Lasts, Rose};
 ghost use Rattle.sip_vector.specs.declared.update.Update.{Update};
 ghost use Rattle.sip_stream.specs.declared.why.Why.{Why};
-ghost use Rattle.sip_stream.specs.Layouts.{layout_of, of_bytes, of_line};
+ghost use Rattle.sip_stream.specs.Layouts.{deepest_in, layout_of, of_bytes, of_line};
 ghost use Rattle.sip_stream.specs.Pieces.{ReadsPiece};
 ghost use Rattle.sip_stream.specs.Reading.{IsAfter, HasRead, HasRoom, GoesOnAfter, Reads, room, unread, weight_of};
 ghost use Rattle.sip_stream.specs.Records.{update_fault};
@@ -15,7 +15,9 @@ ghost use Rattle.sip_stream.specs.Spellings.{all_spelled};
 
 use crate::line_reader::{line_in_front, next_line};
 use crate::record_bytes::{NARROW, WIDE, size_of};
-use crate::record_reader::{next_record, said_by};
+use crate::record_reader::{next_record, said_by, update_of};
+use crate::spelling::{SPELLING_ROOM, put_update};
+use crate::tally::Tally;
 use crate::{Form, StreamFault, Why};
 use arrayvec::ArrayVec;
 use sip_ports::{PortStop, Source};
@@ -26,7 +28,7 @@ use std::marker::Model;
 const WEIGHT_BITS: u32 = 30;
 
 /// The greatest weight of a side.
-const MOST_WEIGHT: u64 = (1 << WEIGHT_BITS) - 1;
+pub(crate) const MOST_WEIGHT: u64 = (1 << WEIGHT_BITS) - 1;
 
 /// A reader of a stream: how many legal records came, and the weight of each side.
 ///
@@ -84,6 +86,13 @@ impl Reader {
             second: 0,
             is_spent: false,
         }
+    }
+
+    /// The form of what is read.
+    pub(crate) fn form(&self) -> Form
+        ensures { result ≡ self.now.form }
+    {
+        self.form
     }
 
     /// A call of `next` answered an error, so none may follow.
@@ -268,6 +277,62 @@ impl Reader {
         }
     }
 
+    // Gathers the legal records of an item of so many bytes that lie whole at the front of the bytes, in the spelling of another
+    // form, as far as there is room for them, and answers how many bytes they had.
+    fn spell_records<const WIDTH: usize, const ROOM: usize>(
+        &mut self,
+        to: Form,
+        bytes: &[u8],
+        gathered: &mut ArrayVec<u8, ROOM>,
+    ) -> usize
+        requires some { 1 ≤ WIDTH }
+        requires widest { WIDTH ≤ 8 }
+        requires layout { layout_of self.old.form ≡ of_bytes WIDTH }
+        requires depth { self.old.depth ≤ deepest_in to }
+        ensures within { result ≤ length bytes.now }
+        ensures grown { (us : List Update)
+            × (gathered.new.items ≡ gathered.old.items ++ all_spelled to us)
+            × HasRead self.old self.new (take result bytes.now) us }
+    {
+        let size = size_of(WIDTH);
+        let mut reader = *self;
+        let mut used = 0;
+        while gathered.remaining_capacity() >= SPELLING_ROOM && bytes.len() - used >= size {
+            let Ok(update) = said_by::<WIDTH>(&bytes[used..used + size]) else {
+                break;
+            };
+            if !reader.has_room(&update) {
+                break;
+            }
+            reader.add(&update);
+            put_update(to, &update, gathered);
+            used += size;
+        }
+        *self = reader;
+        used
+    }
+
+    /// Gathers legal records that lie whole at the front of the bytes, in the spelling of the form `to`, as far as there is room
+    /// for them, and answers how many bytes they had. It may leave any of them to [`next`](Reader::next).
+    pub(crate) fn spell<const ROOM: usize>(
+        &mut self,
+        to: Form,
+        bytes: &[u8],
+        gathered: &mut ArrayVec<u8, ROOM>,
+    ) -> usize
+        requires depth { self.old.depth ≤ deepest_in to }
+        ensures within { result ≤ length bytes.now }
+        ensures grown { (us : List Update)
+            × (gathered.new.items ≡ gathered.old.items ++ all_spelled to us)
+            × HasRead self.old self.new (take result bytes.now) us }
+    {
+        match self.form {
+            Form::Binary => self.spell_records::<NARROW, ROOM>(to, bytes, gathered),
+            Form::Wide => self.spell_records::<WIDE, ROOM>(to, bytes, gathered),
+            Form::Text => 0,
+        }
+    }
+
     // Passes over the legal records of an item of so many bytes that lie whole at the front of the
     // bytes, and answers how many bytes they have.
     fn pass_records<const WIDTH: usize>(&mut self, bytes: &[u8]) -> usize
@@ -293,6 +358,58 @@ impl Reader {
         }
         *self = reader;
         used
+    }
+
+    // Passes over all records of an item of so many bytes that lie whole at the front of the bytes, and answers how many bytes they
+    // have; `None` where one of them is not legal. They are tested at once: a test of each costs more than the rest.
+    fn pass_all<const WIDTH: usize>(&mut self, bytes: &[u8]) -> Option<usize>
+        requires some { 1 ≤ WIDTH }
+        requires widest { WIDTH ≤ 8 }
+        requires layout { layout_of self.old.form ≡ of_bytes WIDTH }
+        ensures within { IfSome result (λ used. used ≤ length bytes.now) }
+        ensures passed { IfSome result (λ used. (us : List Update)
+            × (all_spelled self.old.form us ≡ take used bytes.now)
+            × HasRead self.old self.new (take used bytes.now) us) }
+        ensures same { IfNone result (self.new ≡ self.old) }
+    {
+        let size = size_of(WIDTH);
+        let mut tally = Tally {
+            count: self.count,
+            total: self.first + self.second,
+            second: self.second,
+            sides: 0,
+            items: 0,
+            sizes: 0,
+        };
+        let mut used = 0;
+        while bytes.len() - used >= size {
+            let record = &bytes[used..used + size];
+            tally.note(record[0], &update_of::<WIDTH>(record));
+            used += size;
+        }
+        if !tally.is_clean(self.depth) {
+            return None;
+        }
+        self.count = tally.count;
+        self.first = tally.total - tally.second;
+        self.second = tally.second;
+        Some(used)
+    }
+
+    // Passes over the legal records that lie whole at the front of the bytes: over all at once, or one by one where one of them is
+    // not legal.
+    fn pass_whole<const WIDTH: usize>(&mut self, bytes: &[u8]) -> usize
+        requires some { 1 ≤ WIDTH }
+        requires widest { WIDTH ≤ 8 }
+        requires layout { layout_of self.old.form ≡ of_bytes WIDTH }
+        ensures within { result ≤ length bytes.now }
+        ensures passed { (us : List Update) × (all_spelled self.old.form us ≡ take result bytes.now)
+            × HasRead self.old self.new (take result bytes.now) us }
+    {
+        match self.pass_all::<WIDTH>(bytes) {
+            Some(used) => used,
+            None => self.pass_records::<WIDTH>(bytes),
+        }
     }
 
     // Passes over the legal lines that lie whole at the front of the bytes, and answers how many
@@ -328,8 +445,8 @@ impl Reader {
             × HasRead self.old self.new (take result bytes.now) us }
     {
         match (self.form, to) {
-            (Form::Binary, Form::Binary) => self.pass_records::<NARROW>(bytes),
-            (Form::Wide, Form::Wide) => self.pass_records::<WIDE>(bytes),
+            (Form::Binary, Form::Binary) => self.pass_whole::<NARROW>(bytes),
+            (Form::Wide, Form::Wide) => self.pass_whole::<WIDE>(bytes),
             (Form::Text, Form::Text) => self.pass_lines(bytes),
             _ => 0,
         }

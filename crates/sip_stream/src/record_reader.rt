@@ -25,7 +25,7 @@ fn side_of(number: u8) -> Side
 }
 
 /// The update that a record says, whose item has so many bytes.
-fn update_of<const WIDTH: usize>(bytes: &[u8]) -> Update
+pub(crate) fn update_of<const WIDTH: usize>(bytes: &[u8]) -> Update
     requires some { 1 ≤ WIDTH }
     requires most { WIDTH ≤ 8 }
     requires whole { length bytes.now ≡ record_size WIDTH }

@@ -1,10 +1,8 @@
 -- A strategy has wrong replies accepted at few vectors of challenges.
 use Rattle.std.proofs.Common.{◌≡◌, ◌≢◌, ℕ, zero, suc, ◌*◌, ◌-◌, ◌/◌, ◌<◌, ◌≤◌, ◌^◌, Bool, true, not, eqb, ◌&&◌, Option, Some, None, Ok, List, [], ◌∷◌, length, All, ℤ, nat_abs, refl, ap, sym, ◌∙◌, arith, inl, inr}
 use Rattle.std.specs.List.{list_all}
-use Rattle.std.specs.Ordering.{int_eq}
-use Rattle.std.specs.Cmp.{signed_Decides}
-use Rattle.std.specs.Cmp.Lexicographic.{pointwise, pointwise_decides}
-use Rattle.std.proofs.lemmas.Bool.{cases_Bool, and_parts, and_from, eqb-true, eq-eqb, not-true, both_ways, false_from_ne_true}
+use Rattle.std.specs.Cmp.Lexicographic.{pointwise}
+use Rattle.std.proofs.lemmas.Bool.{cases_Bool, and_parts, and_from, eq-eqb, not-true, both_ways, false_from_ne_true}
 use Rattle.sip_field.specs.Prime.{IsPrime}
 use Rattle.sip_field.specs.Moduli.{m61_modulus}
 use Rattle.sip_vector.specs.declared.update.Entry.{Entry}
@@ -15,35 +13,19 @@ use Rattle.sip_counts.specs.Strategies.{Strategy, IsOfBytes, replies, all_there,
 use Rattle.sip_counts.proofs.Vectors.{counted-grows, counted-none}
 use Rattle.sip_counts.proofs.Talks.{all_there-nil, replies-length}
 use Rattle.sip_replies.proofs.Passing.{same_ok}
+use Rattle.sip_replies.specs.SameEntries.{is_same_entry}
+use Rattle.sip_replies.proofs.SameEntries.{same_entries}
 use Rattle.sip_subvec.specs.AcceptsSub.{Siblings, Stated, gives_root}
 use Rattle.sip_wire.specs.declared.version.Version.{Version}
 use Rattle.sip_replies.specs.Replies.{Fault, run}
 use Rattle.sip_subvec.specs.Checking.{nothing}
 use Rattle.sip_subvec.specs.Protocol.{sub_rules}
-use Rattle.sip_subvec.specs.Counting.{has_small_value, rise_within, are_all_asked, accepts_stated, entries_of, said, is_same_entry, is_right, accepts_sub, accepts_small}
+use Rattle.sip_subvec.specs.Counting.{has_small_value, rise_within, are_all_asked, accepts_stated, entries_of, said, is_right, accepts_sub, accepts_small}
 use Rattle.sip_subvec.proofs.FirstReply.{as_whole}
 use Rattle.sip_subvec.proofs.Runs.{run_none, same_run}
 use Rattle.sip_subvec.proofs.WrongEntries.{few_wrong_entries}
 use Rattle.sip_subvec.proofs.SaidByStrategies.{Said, said-stated, entries_said, siblings_said, Accepted, accepted_parts}
 use Rattle.sip_subvec.proofs.SmallValues.{first_small}
-
--- ---- the same entries
-
-abbrev entry : ℕ → ℤ → Entry
-entry i v = record { index = i; value = v }
-
-entry_decides : (a b : Entry) → (is_same_entry a b ≡ true → a ≡ b) × (a ≡ b → is_same_entry a b ≡ true)
-entry_decides a b = (
-  (λ h.
-      let both = and_parts (eqb a.index b.index) (int_eq a.value b.value) h in
-      let one : a.index ≡ b.index = eqb-true a.index b.index both.0 in
-      let two : a.value ≡ b.value = (signed_Decides a.value b.value).0 both.1 in
-      ap (λ (i : ℕ). entry i a.value) one ∙ ap (λ (v : ℤ). entry b.index v) two),
-  (λ e. and_from (eqb a.index b.index) (int_eq a.value b.value) (eq-eqb a.index b.index (ap (λ (x : Entry). x.index) e)) ((signed_Decides a.value b.value).1 (ap (λ (x : Entry). x.value) e))),
-)
-
-pub same_entries : (xs ys : List Entry) → (pointwise is_same_entry xs ys ≡ true → xs ≡ ys) × (xs ≡ ys → pointwise is_same_entry xs ys ≡ true)
-same_entries = pointwise_decides entry_decides
 
 -- ---- what a vector shows at which wrong replies are taken
 

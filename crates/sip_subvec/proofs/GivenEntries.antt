@@ -11,7 +11,7 @@ use Rattle.sip_wire.specs.declared.message.Reason.{Reason}
 use Rattle.sip_wire.specs.declared.message.Reason.TheVariants as reasons
 use Rattle.sip_subvec.specs.Checking.{Kept, AnswersAs}
 use Rattle.sip_subvec.specs.Replies.{most_entries, with_entries}
-use Rattle.sip_subvec.specs.LawProofs.ReplyTests.{same_err}
+use Rattle.sip_replies.specs.LawProofs.Refusals.{same_err}
 use Rattle.sip_subvec.proofs.StatedEntries.{rise-nil}
 use Rattle.sip_subvec.proofs.RisingEntries.{entries-taken}
 use Rattle.sip_subvec.proofs.TakingSteps.{in_pieces, first_piece}

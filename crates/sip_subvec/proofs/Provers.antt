@@ -3,22 +3,12 @@ use Rattle.std.proofs.Common.{◌≡◌, ℕ, zero, suc, ◌+◌, ◌-◌, ◌*�
 use Rattle.std.proofs.Math.Nat.{pow-succ', pow-le-pow_right}
 use Rattle.std.proofs.lemmas.Bool.{eq-eqb, ne_eqb}
 use Rattle.std.proofs.lemmas.List.{length-map, length-append, map-append}
-use Rattle.std.proofs.lemmas.Nat.{pow_pos}
 use Rattle.sip_vector.specs.Limits.{most_depth}
 use Rattle.sip_vector.specs.Trees.{up}
 use Rattle.sip_vector.specs.declared.update.Entry.{Entry}
 use Rattle.sip_subvec.specs.Checking.{entries_sum}
 use Rattle.sip_subvec.specs.Summing.{Rises, level_over, entries_below, IsSumming}
 use Rattle.sip_subvec.proofs.SummedNodes.{level_long, level_more, node_over}
-
--- a level of two nodes or more has a level above it
-pub has_level : (left n : ℕ) → n ≡ 2 ^ left → 2 ≤ n → 1 ≤ left
-has_level zero n is two = absurd (omega (arith, is))
-has_level (suc left) n is two = omega arith
-
-pub has_pair : (left n : ℕ) → n ≡ 2 ^ left → 1 ≤ left → 2 ≤ n
-has_pair zero n is some = absurd (omega arith)
-has_pair (suc left) n is some = omega (arith, is, pow-succ' 2 left, pow_pos left)
 
 -- the level above has half as many nodes
 pub half_of : (left above n : ℕ) → 1 ≤ left → above ≡ 2 ^ (left - 1) → n ≡ 2 ^ left → 2 * above ≡ n

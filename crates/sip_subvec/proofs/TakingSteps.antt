@@ -16,9 +16,10 @@ use Rattle.sip_vector.specs.Weights.{weight_above}
 use Rattle.sip_vector.specs.declared.update.Entry.{Entry}
 use Rattle.sip_wire.specs.declared.message.Reason.{Reason}
 use Rattle.sip_wire.specs.declared.message.Reason.TheVariants as reasons
+use Rattle.sip_replies.specs.Rising.{is_above}
 use Rattle.sip_subvec.specs.AcceptsSub.{Siblings, Stated, gives_root}
 use Rattle.sip_subvec.specs.Replies.{most_entries, with_entries, are_asked, asked_siblings}
-use Rattle.sip_subvec.specs.Checking.{Kept, HasTaken, nothing, AreAsked, AnswersAs, entry_test, is_above, entries_sum, level_sum, siblings_sum}
+use Rattle.sip_subvec.specs.Checking.{Kept, HasTaken, nothing, AreAsked, AnswersAs, entry_test, entries_sum, level_sum, siblings_sum}
 use Rattle.sip_subvec.proofs.Halvings.{whole, halved, halved_last}
 use Rattle.sip_subvec.proofs.StatedSums.{root_is_sum}
 

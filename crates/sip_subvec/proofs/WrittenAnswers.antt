@@ -16,12 +16,13 @@ use Rattle.sip_vector.specs.Answers.{Answer, pairs}
 use Rattle.sip_counts.specs.Strategies.{Strategy, replies, takes_wrong}
 use Rattle.sip_counts.proofs.Talks.{takes_wrong-at}
 use Rattle.sip_replies.proofs.Passing.{step_passed, test_passed, round_passed, same_ok}
+use Rattle.sip_replies.proofs.SameEntries.{same_entries}
 use Rattle.sip_subvec.specs.AcceptsSub.{gives_root}
 use Rattle.sip_wire.specs.declared.version.Version.{Version}
 use Rattle.sip_replies.specs.Replies.{in_round, run, verdict, IsAccepted}
 use Rattle.sip_subvec.specs.Counting.{said, is_right, accepts_sub}
 use Rattle.sip_subvec.specs.Protocol.{sub_asked, sub_protocol, sub_rules}
-use Rattle.sip_subvec.proofs.FewFooled.{same_entries, said_by}
+use Rattle.sip_subvec.proofs.FewFooled.{said_by}
 use Rattle.sip_subvec.proofs.HonestStreams.{frequency_light}
 
 -- ---- streams

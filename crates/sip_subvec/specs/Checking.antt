@@ -9,6 +9,7 @@ use Rattle.sip_vector.specs.Weights.{weight_above}
 use Rattle.sip_vector.specs.declared.update.Entry.{Entry}
 use Rattle.sip_wire.specs.declared.message.Reason.{Reason}
 use Rattle.sip_wire.specs.declared.message.Reason.TheVariants as reasons
+use Rattle.sip_replies.specs.Rising.{is_above}
 use Rattle.sip_subvec.specs.AcceptsSub.{Siblings, Stated}
 use Rattle.sip_subvec.specs.Replies.{most_entries, with_entries, are_asked}
 
@@ -70,11 +71,6 @@ pub record Kept : Type 0 where
   pub last : Option ℕ
   pub count : ℕ
   pub spent : Bool
-
--- an index is above the last one, where there is one
-abbrev pub is_above : Option ℕ → ℕ → Bool
-is_above None i = true
-is_above (Some last) i = nat_lt last i
 
 -- The check was started with this root, this interval and these challenges, and it was given what
 -- is stated, which passed.

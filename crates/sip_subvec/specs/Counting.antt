@@ -2,7 +2,6 @@
 -- promises of it.
 use Rattle.std.specs.Prelude.{ℕ, suc, ◌-◌, ◌/◌, ◌==◌, Bool, true, ◌&&◌, nat_le, nat_abs, ℤ, List, [], ◌∷◌, length, Option, Result, Ok, Err}
 use Rattle.std.specs.List.{list_all}
-use Rattle.std.specs.Ordering.{int_eq}
 use Rattle.std.specs.Cmp.Lexicographic.{pointwise}
 use Rattle.sip_field.specs.Moduli.{m61_modulus}
 use Rattle.sip_vector.specs.declared.update.Entry.{Entry}
@@ -12,6 +11,7 @@ use Rattle.sip_vector.specs.Vectors.{nonzero_within}
 use Rattle.sip_counts.specs.Clauses.{FewAndCounted}
 use Rattle.sip_wire.specs.declared.version.Version.{Version}
 use Rattle.sip_replies.specs.Replies.{Fault, run, accepts}
+use Rattle.sip_replies.specs.SameEntries.{is_same_entry}
 use Rattle.sip_subvec.specs.AcceptsSub.{Siblings, Stated, gives_root}
 use Rattle.sip_subvec.specs.Protocol.{sub_asked, sub_protocol, sub_rules}
 use Rattle.sip_subvec.specs.Replies.{are_asked}
@@ -50,9 +50,6 @@ entries_of (Err _) = []
 -- no challenge is needed to read them
 abbrev pub said : Version → ℕ → ℕ → List (List ℕ) → List Entry
 said version lo hi replies = entries_of (run (sub_rules version lo hi) [] replies)
-
-abbrev pub is_same_entry : Entry → Entry → Bool
-is_same_entry a b = (a.index == b.index) && int_eq a.value b.value
 
 -- the replies say the entries of these numbers that are not 0
 abbrev pub is_right : Version → ℕ → ℕ → List ℤ → List (List ℕ) → Bool

@@ -22,8 +22,8 @@ use std::marker::Model;
 
 /// The check of the replies to one query for a sub-vector, in the form that the general talk asks.
 ///
-/// It gives the numbers of each frame to a [`SubCheck`], and writes the entries to the places of the
-/// answer, in the order in which they come. The places need room for the longest answer of the
+/// It gives the numbers of each frame to a [`SubCheck`], and writes the entries to the places of
+/// the answer, in the order in which they come. The places need room for the longest answer of the
 /// interval: one for each of its items, or 65,536 if those are more.
 #[derive(Drop)]
 pub struct SubAsking {
@@ -139,8 +139,8 @@ impl Check for SubAsking {
     ghost tests = { sub_tests };
 }
 
-// Gives the entries of one frame to a check, and writes them to `entries`, behind the first `found`.
-// Their number with those is answered.
+// Gives the entries of one frame to a check, and writes them to `entries`, behind the first
+// `found`. Their number with those is answered.
 fn give_entries(
     check: &mut SubCheck<M61, CAP>,
     rows: &[Entry],

@@ -3,11 +3,13 @@ ghost use Rattle.std.specs.Prelude.{◌≡◌, ◌≢◌, ℕ, ◌+◌, ◌-◌,
 ghost use Rattle.std.specs.Option.{option_map};
 ghost use Rattle.sip_vector.specs.Answers.{is_within};
 ghost use Rattle.sip_vector.specs.Steps.{needs};
+ghost use Rattle.sip_replies.specs.Rising.{is_above};
 ghost use Rattle.sip_subvec.specs.AcceptsSub.{Siblings, Stated, gives_root};
 ghost use Rattle.sip_subvec.specs.Replies.{with_entries, asked_siblings, are_asked};
-ghost use Rattle.sip_subvec.specs.Checking.{HasTaken, Advances, AnswersAs, nothing, entry_test, is_above, sibling_term, level_sum};
+ghost use Rattle.sip_subvec.specs.Checking.{HasTaken, Advances, AnswersAs, nothing, entry_test, sibling_term, level_sum};
 
 use sip_field::Field;
+use sip_replies::is_above;
 use sip_tree::Root;
 use sip_wire::Reason;
 use std::marker::Model;
@@ -17,17 +19,18 @@ pub const MOST_ENTRIES: u64 = 65_536;
 
 /// The check of the replies to one query for a sub-vector.
 ///
-/// It keeps the root and its challenges, one sum, the last entry's index and a few counts: no list, and no memory beyond
-/// itself. Each entry and each sibling is added to the sum, times its weight in the root, and in the end the sum has to
-/// be the root. That is the same as to fold the level of the entries with all siblings
-/// (`laws::weighted_sums_are_folds`).
+/// It keeps the root and its challenges, one sum, the last entry's index and a few counts: no list,
+/// and no memory beyond itself. Each entry and each sibling is added to the sum, times its weight
+/// in the root, and in the end the sum has to be the root. That is the same as to fold the level of
+/// the entries with all siblings (`laws::weighted_sums_are_folds`).
 ///
-/// The calls come in the order of a talk: each `entry`, then `siblings` for level 0, then for each level above a `reveal`
-/// and its `siblings`, and at last `finish`. A refusal spends the check.
+/// The calls come in the order of a talk: each `entry`, then `siblings` for level 0, then for each
+/// level above a `reveal` and its `siblings`, and at last `finish`. A refusal spends the check.
 #[derive(Drop)]
 pub struct SubCheck<F: Field, const CAP: usize> {
     root: Root<F, CAP>,
-    // The interval of the level whose siblings come next: that of the query, halved for each level below.
+    // The interval of the level whose siblings come next: that of the query, halved for each level
+    // below.
     lo: u64,
     hi: u64,
     // The number of levels whose siblings were given.
@@ -99,8 +102,8 @@ impl<F: Field, const CAP: usize> SubCheck<F, CAP> {
         self.root.seat.depth()
     }
 
-    /// Takes an entry of reply 0: `Reason::BadOrder` where its index is not above the last one or is outside the
-    /// interval, and else `Reason::TooMany` where it is entry 65,537.
+    /// Takes an entry of reply 0: `Reason::BadOrder` where its index is not above the last one or
+    /// is outside the interval, and else `Reason::TooMany` where it is entry 65,537.
     ///
     /// One `times` for each bit of the index that is 1, and one more: d + 1 at most.
     pub fn entry(&mut self, index: u64, value: i64) -> Result<(), Reason>
@@ -150,8 +153,9 @@ impl<F: Field, const CAP: usize> SubCheck<F, CAP> {
         self.lo <= index && index <= self.hi && is_above(self.last, index)
     }
 
-    /// Takes the siblings of a reply: `Reason::BadFlags` where those present are not the ones that the interval of this
-    /// level asks for, a left one where its low end is odd, and a right one where its high end is even.
+    /// Takes the siblings of a reply: `Reason::BadFlags` where those present are not the ones that
+    /// the interval of this level asks for, a left one where its low end is odd, and a right one
+    /// where its high end is even.
     ///
     /// For each sibling one `times` for each bit of its index that is 1, and one more.
     pub fn siblings(&mut self, left: Option<F>, right: Option<F>) -> Result<(), Reason>
@@ -233,8 +237,8 @@ impl<F: Field, const CAP: usize> SubCheck<F, CAP> {
         }
     }
 
-    /// The next challenge, in the order from `r_1` on: the one that reply `j` waits for is `r_j`. The last one, `r_d`, is
-    /// never revealed.
+    /// The next challenge, in the order from `r_1` on: the one that reply `j` waits for is `r_j`.
+    /// The last one, `r_d`, is never revealed.
     pub fn reveal(&mut self) -> F
         requires unspent { self.old.spent ≡ false }
         requires given { self.old.level ≡ self.old.revealed + 1 }
@@ -283,15 +287,5 @@ fn copy_of<F: Field, const CAP: usize>(root: &Root<F, CAP>) -> Root<F, CAP>
     Root {
         seat: root.seat.clone().unwrap(),
         value: root.value,
-    }
-}
-
-// Whether an index is above the last one, where there is one.
-fn is_above(last: Option<u64>, index: u64) -> bool
-    ensures { result ≡ is_above last index }
-{
-    match last {
-        Some(last) => last < index,
-        None => true,
     }
 }

@@ -1,5 +1,5 @@
-//! Laws: honest replies are accepted, and what they state is the answer. These functions do nothing: each contract is a fact
-//! that holds.
+//! Laws: honest replies are accepted, and what they state is the answer. These functions do
+//! nothing: each contract is a fact that holds.
 
 ghost use Rattle.std.specs.Prelude.{◌≡◌, ℕ, ◌^◌, ◌≤◌, ◌<◌, ℤ, pos, All, IsTrue, List, [], ◌∷◌, ◌++◌, length};
 ghost use Rattle.sip_field.specs.Moduli.{m61_modulus};
@@ -36,8 +36,8 @@ pub fn honest_messages_have_spellings()
         → All (λ m. IsTrue (fits version m)) (honest_messages p numbers lo hi revealed) }
 {}
 
-/// The honest replies about an interval that can be shown are accepted against the root of the vector, and what they state is
-/// the entries of the interval that are not 0.
+/// The honest replies about an interval that can be shown are accepted against the root of the
+/// vector, and what they state is the entries of the interval that are not 0.
 pub fn honest_replies_are_accepted()
     ensures { (version : Version) (p depth lo hi : ℕ) (numbers : List ℤ) (challenges : List ℕ)
         → CanBeShown version p depth lo hi numbers → length challenges ≡ depth
@@ -47,7 +47,8 @@ pub fn honest_replies_are_accepted()
         (pairs (nonzero_within lo hi numbers)) }
 {}
 
-/// So it is for each legal stream, and what is stated is its answer: where that has at most 65,536 entries.
+/// So it is for each legal stream, and what is stated is its answer: where that has at most 65,536
+/// entries.
 pub fn legal_streams_are_answered()
     ensures shown { (version : Version) (depth lo hi : ℕ) (stream : List Update)
         → IsLegal depth stream → 1 ≤ depth
@@ -59,8 +60,8 @@ pub fn legal_streams_are_answered()
         ≡ pairs (nonzero_within lo hi (vector depth stream First)) }
 {}
 
-/// While honest replies come they have no fault, but that more is to come: neither where the last one is whole, nor where a front
-/// of it was taken.
+/// While honest replies come they have no fault, but that more is to come: neither where the last
+/// one is whole, nor where a front of it was taken.
 pub fn honest_replies_have_no_fault()
     ensures whole { (version : Version) (p depth lo hi : ℕ) (numbers : List ℤ)
         (revealed more : List ℕ) → CanBeShown version p depth lo hi numbers
@@ -74,8 +75,8 @@ pub fn honest_replies_have_no_fault()
         (honest_replies version p numbers lo hi revealed ++ front ∷ []) }
 {}
 
-/// The honest replies about the entries 1 to 2 of (3, 0, 5, 1), about four entries that are 0, and about
-/// both entries of (3, 5), in both versions where they differ.
+/// The honest replies about the entries 1 to 2 of (3, 0, 5, 1), about four entries that are 0, and
+/// about both entries of (3, 5), in both versions where they differ.
 #[tactic(auto, unfolding(crate::specs::Honest::honest_messages, sip_wire::specs::Spelling::spelling, sip_wire::specs::Spelling::in_bytes, sip_wire::specs::Spelling::spelled))]
 pub fn honest_replies_by_hand()
     ensures four { honest_replies One m61_modulus four 1 2 (2 ∷ 10 ∷ [])

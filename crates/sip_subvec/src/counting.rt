@@ -1,4 +1,5 @@
-//! How many challenges a helper can win by. These functions do nothing: each contract is a fact that holds.
+//! How many challenges a helper can win by. These functions do nothing: each contract is a fact
+//! that holds.
 #![tactic(auto, unfolding(crate::specs::Counting::rise_within, crate::specs::Counting::are_all_asked, sip_counts::specs::Counts::sum_below, sip_counts::specs::Counts::count_below, sip_counts::specs::Counts::counted_from, sip_counts::specs::Counts::counted))]
 
 ghost use Rattle.std.specs.Prelude.{◌≡◌, ◌≢◌, ◌↔◌, ℕ, ◌*◌, ◌-◌, ◌/◌, ◌^◌, ◌<◌, ◌≤◌, true, ℤ, pos, nat_abs, Option, Some, List, [], ◌∷◌, length, All};
@@ -20,9 +21,10 @@ ghost use Rattle.sip_subvec.specs.Protocol.{sub_asked, sub_protocol};
 ghost use Rattle.sip_subvec.specs.Counting.{accepts_stated, accepts_sub, accepts_small, is_right, said, SubCountClause};
 ghost use Rattle.sip_subvec.specs.Examples.{guessed_sibling, two_siblings, states_first};
 
-/// Over every prime modulus, entries that are not those of the numbers are accepted at no more than d·p^(d - 1) of the
-/// p^d vectors of challenges, whatever siblings are stated, each of which may depend on the challenges before it. The
-/// numbers have to be at most (p - 1)/2 in absolute value: others are the same as such modulo p.
+/// Over every prime modulus, entries that are not those of the numbers are accepted at no more than
+/// d·p^(d - 1) of the p^d vectors of challenges, whatever siblings are stated, each of which may
+/// depend on the challenges before it. The numbers have to be at most (p - 1)/2 in absolute value:
+/// others are the same as such modulo p.
 pub fn few_challenges_for_wrong_entries()
     ensures { (p d lo hi : ℕ) (numbers : List ℤ) (entries : List AnyEntry)
         (siblings : List ℕ → Siblings)
@@ -41,8 +43,8 @@ pub fn few_challenges_for_wrong_replies()
         (is_right version lo hi numbers) strategy ≤ d * p ^ (d - 1) }
 {}
 
-/// Modulo 2^61 - 1, for the vector of every legal stream, no more is asked of what is accepted: the bytes of a value have
-/// room for those alone that are small enough.
+/// Modulo 2^61 - 1, for the vector of every legal stream, no more is asked of what is accepted: the
+/// bytes of a value have room for those alone that are small enough.
 pub fn few_challenges_for_wrong_answers()
     ensures { (version : Version) (d lo hi : ℕ) (stream : List AnyUpdate) (strategy : Strategy)
         → lo ≤ hi → hi < 2 ^ d → IsLegal d stream → IsOfBytes strategy
@@ -51,7 +53,8 @@ pub fn few_challenges_for_wrong_answers()
         (is_right version lo hi (vector d stream First)) strategy ≤ d * m61_modulus ^ (d - 1) }
 {}
 
-/// Where an answer is written only for replies that are accepted and state it, the promise on helpers that lie holds.
+/// Where an answer is written only for replies that are accepted and state it, the promise on
+/// helpers that lie holds.
 pub fn accepted_answers_are_counted()
     ensures { (version : Version) (d lo hi : ℕ) (stream : List AnyUpdate) (block : List ℕ)
         (taken : List (List ℕ)) (written : Option (List AnyEntry))
@@ -70,8 +73,8 @@ pub fn right_replies_say_the_entries()
         ↔ (said version lo hi all ≡ nonzero_within lo hi numbers) }
 {}
 
-/// Over 31, for (3, 5) and the entries 0 to 0: the entry (0, 4) with the right sibling 4 is accepted at one challenge, the
-/// most that can be, and that is 1.
+/// Over 31, for (3, 5) and the entries 0 to 0: the entry (0, 4) with the right sibling 4 is
+/// accepted at one challenge, the most that can be, and that is 1.
 pub fn one_challenge_of_31()
     ensures count { counted 31 (λ r. accepts_stated 31 (root 31 (pos 3 ∷ pos 5 ∷ []) r) 0 0 r
         (states_first 4 (replies guessed_sibling r))) 1 ≡ 1 }
@@ -79,8 +82,8 @@ pub fn one_challenge_of_31()
         (states_first 4 (replies guessed_sibling (1 ∷ []))) ≡ true }
 {}
 
-/// Over 31, for four zeros and the entries 0 to 0: the entry (0, 1) with the right siblings 30 and r_1 - 1 is accepted
-/// where (1 - r_1)·(1 - r_2) is 0, at 61 of the 961 vectors; the bound is 62.
+/// Over 31, for four zeros and the entries 0 to 0: the entry (0, 1) with the right siblings 30 and
+/// r_1 - 1 is accepted where (1 - r_1)·(1 - r_2) is 0, at 61 of the 961 vectors; the bound is 62.
 pub fn sixty_one_of_961()
     ensures { counted 31 (λ r. accepts_stated 31 (root 31
         (pos 0 ∷ pos 0 ∷ pos 0 ∷ pos 0 ∷ []) r) 0 0 r

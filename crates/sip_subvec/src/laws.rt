@@ -1,5 +1,5 @@
-//! Laws of the definitions, and worked examples that hold by computation. These functions do nothing: each contract is a
-//! fact that holds.
+//! Laws of the definitions, and worked examples that hold by computation. These functions do
+//! nothing: each contract is a fact that holds.
 #![tactic(auto, unfolding(sip_replies::specs::Replies::run_from, sip_replies::specs::Replies::read_from, sip_wire::specs::Reading::read_frame, sip_wire::specs::Spelling::frame_fault, sip_wire::specs::Spelling::kind_fault, sip_wire::specs::Spelling::body_fault, sip_wire::specs::Spelling::asked, sip_wire::specs::Spelling::numbers_in, sip_wire::specs::Spelling::all_hold))]
 
 ghost use Rattle.std.specs.Prelude.{◌≡◌, ℕ, ◌+◌, ◌-◌, ◌%◌, ◌^◌, ◌<◌, ◌≤◌, ◌==◌, All, List, [], ◌∷◌, ◌++◌, length, drop, fold, zip, Ok, Err, pos};
@@ -68,9 +68,10 @@ pub fn faults_have_their_rounds()
         ≡ Err (record { round = 0; reason = reasons.Refused 1 }) }
 {}
 
-/// Folding keeps a weighted sum, in which each entry and each sibling is taken times its weight in the root. A level is
-/// folded with its own siblings and those of the levels above it to the one number that is its weighted sum and theirs;
-/// the level of the entries has their weighted sum. So what is stated gives the root exactly where its sum is the root.
+/// Folding keeps a weighted sum, in which each entry and each sibling is taken times its weight in
+/// the root. A level is folded with its own siblings and those of the levels above it to the one
+/// number that is its weighted sum and theirs; the level of the entries has their weighted sum. So
+/// what is stated gives the root exactly where its sum is the root.
 pub fn weighted_sums_are_folds()
     ensures level { (p : ℕ) (challenges : List ℕ) (level lo hi : ℕ) (nodes : List ℕ)
         (ss : List Siblings)
@@ -92,7 +93,8 @@ pub fn weighted_sums_are_folds()
         → gives_root p root lo hi challenges s ≡ (stated_sum p lo hi challenges s == root) }
 {}
 
-/// Entries can be tested in pieces, one by one too: the first fault is that of the first piece that has one.
+/// Entries can be tested in pieces, one by one too: the first fault is that of the first piece that
+/// has one.
 pub fn entries_are_tested_in_pieces()
     ensures passed { (lo hi : ℕ) (before es more taken : List AnyEntry)
         → with_entries lo hi before es ≡ Ok taken
@@ -102,8 +104,8 @@ pub fn entries_are_tested_in_pieces()
         → with_entries lo hi before (es ++ more) ≡ Err reason }
 {}
 
-/// The sum of the honest replies is the root, 5·10 + 3·1 + 1·20; that of the replies to a query for all is 3·1 + 5·10 +
-/// 1·20.
+/// The sum of the honest replies is the root, 5·10 + 3·1 + 1·20; that of the replies to a query for
+/// all is 3·1 + 5·10 + 1·20.
 pub fn sums_by_hand()
     ensures inner { stated_sum m61_modulus 1 2 (2 ∷ 10 ∷ []) stated_inner ≡ 73 }
     ensures whole { stated_sum m61_modulus 0 3 (2 ∷ 10 ∷ []) stated_whole ≡ 73 }

@@ -2,25 +2,28 @@
 //!
 //! - [`SubCheck`] is the verifier's check of the replies to one query, as one running sum.
 //! - [`SubAsking`] is that check in the form in which the general talk of `sip_replies` asks.
-//! - [`SubProver`] is the honest side. It keeps a copy of a vector's entries that are not 0, the challenges so far, and the
-//!   interval of the present level above the entries that were asked for; it gives the nodes beside the interval, each as a sum
-//!   over the entries below it, and goes up by one challenge.
+//! - [`SubProver`] is the honest side. It keeps a copy of a vector's entries that are not 0, the
+//!   challenges so far, and the interval of the present level above the entries that were asked
+//!   for; it gives the nodes beside the interval, each as a sum over the entries below it, and goes
+//!   up by one challenge.
 //!
 //! # What is proved
 //!
-//! - A check is seen as the few numbers that it keeps, and `HasTaken` says of them what was given: these entries and these
-//!   siblings, which passed, for this interval, these challenges and this root. A new check has taken nothing. Each call
-//!   then goes from what was taken to the same with one entry, or one level's siblings, more, or it refuses; which of the
-//!   two, and by which reason, is what the definition of the test gives. So a caller that keeps the fact `HasTaken` of its
-//!   own list knows at the end that `finish` answers as the definition does of the whole list.
+//! - A check is seen as the few numbers that it keeps, and `HasTaken` says of them what was given:
+//!   these entries and these siblings, which passed, for this interval, these challenges and this
+//!   root. A new check has taken nothing. Each call then goes from what was taken to the same with
+//!   one entry, or one level's siblings, more, or it refuses; which of the two, and by which
+//!   reason, is what the definition of the test gives. So a caller that keeps the fact `HasTaken`
+//!   of its own list knows at the end that `finish` answers as the definition does of the whole
+//!   list.
 //! - Folds keep weighted sums, so that one sum does for all the lists ([`laws`]).
 //! - `SubAsking` answers each frame as a step of the replies' protocol does, and the places of the
 //!   answer then hold the entries so far.
 //! - `SubProver::siblings` gives the true siblings of the level that the challenges so far lead to.
-//! - Honest replies are accepted, and what they state is the answer of the stream; while they come they have no fault
-//!   ([`completeness`]).
-//! - For every helper whose replies depend on the challenges revealed so far, at most d·p^(d-1) of the p^d challenge vectors
-//!   make the check accept wrong entries ([`counting`]).
+//! - Honest replies are accepted, and what they state is the answer of the stream; while they come
+//!   they have no fault ([`completeness`]).
+//! - For every helper whose replies depend on the challenges revealed so far, at most d·p^(d-1) of
+//!   the p^d challenge vectors make the check accept wrong entries ([`counting`]).
 //!
 //! # The definitions to read
 //!
@@ -51,7 +54,8 @@
 //! | `SubProver::start`, `SubProver::learn` | 0; in time O(m), O(1) |
 //! | `SubProver::siblings` | 127 for each seven challenges so far, and one for each entry below a sibling and seven challenges |
 //!
-//! No two siblings of one proof lie above the same entry, so over all levels each entry is used once.
+//! No two siblings of one proof lie above the same entry, so over all levels each entry is used
+//! once.
 #![tactic(auto)]
 
 mod asking;

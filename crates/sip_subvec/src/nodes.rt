@@ -39,7 +39,8 @@ fn walked(alloc: Global, vector: &Vector) -> Result<Vec<Entry>, OutOfMemory>
     Ok(list)
 }
 
-// Makes the tables of all these challenges, and says how many they are. 127 `times` for seven challenges.
+// Makes the tables of all these challenges, and says how many they are. 127 `times` for seven
+// challenges.
 pub(crate) fn tables_of<F: Field>(tables: &mut [[u64; 128]; 7], challenges: &[F]) -> usize
     requires { length challenges.now ≤ most_depth }
     ensures count { result ≤ 7 }
@@ -54,8 +55,8 @@ pub(crate) fn tables_of<F: Field>(tables: &mut [[u64; 128]; 7], challenges: &[F]
     }
 }
 
-// The node at `index` of the level that is `height` challenges above these entries, by the tables of these challenges. One
-// `times` for each table and entry below the node.
+// The node at `index` of the level that is `height` challenges above these entries, by the tables
+// of these challenges. One `times` for each table and entry below the node.
 pub(crate) fn node<F: Field>(
     entries: &[Entry],
     tables: &[[u64; 128]],
@@ -88,10 +89,12 @@ fn stretch(entries: &[Entry], first: u64, last: u64) -> &[Entry]
     &front[from..]
 }
 
-// The sum of these entries, each times the product of the challenges at the bits of its index that are 1. There are as many
-// challenges as `size` has bits 0, and the higher bits of an index count nothing.
+// The sum of these entries, each times the product of the challenges at the bits of its index that
+// are 1. There are as many challenges as `size` has bits 0, and the higher bits of an index count
+// nothing.
 //
-// Entries near each other have all but their lowest seven bits in common, and these bits' product is looked up once for them.
+// Entries near each other have all but their lowest seven bits in common, and these bits' product
+// is looked up once for them.
 fn weighed<F: Field>(entries: &[Entry], tables: &[[u64; 128]], size: u64) -> F
     requires some { 0 < size }
     requires below { All (All (λ x. x < F.MODULUS)) tables.now }
@@ -118,8 +121,8 @@ fn weighed<F: Field>(entries: &[Entry], tables: &[[u64; 128]], size: u64) -> F
     sums.sum.plus(by_tables(sums.near, high, sums.path))
 }
 
-// A sum, and beside it the sum of the entries that have a path in common above the lowest seven bits of their indices: that one
-// counts as often as the product of the path.
+// A sum, and beside it the sum of the entries that have a path in common above the lowest seven
+// bits of their indices: that one counts as often as the product of the path.
 #[derive(Clone, Copy)]
 struct Near<F: Field> {
     sum: F,

@@ -20,11 +20,12 @@ pub struct SiblingPair<F> {
 
 /// What an honest helper keeps to prove the entries from `lo` to `hi` of a vector.
 ///
-/// A contract sees the level of the tree that the challenges so far lead to, as the list of all its residues, and the interval
-/// of its nodes above the entries. What takes memory is a copy of the m entries that are not 0 and the challenges. No level is
-/// made: a node is the sum of the entries below it, each times the product of the challenges at the bits of its index that are
-/// 1 (Cormode, Thaler, Yi, PVLDB 5(1), section 4). The siblings of different levels lie above different entries, so each entry
-/// counts for one sibling at most.
+/// A contract sees the level of the tree that the challenges so far lead to, as the list of all its
+/// residues, and the interval of its nodes above the entries. What takes memory is a copy of the m
+/// entries that are not 0 and the challenges. No level is made: a node is the sum of the entries
+/// below it, each times the product of the challenges at the bits of its index that are 1 (Cormode,
+/// Thaler, Yi, PVLDB 5(1), section 4). The siblings of different levels lie above different
+/// entries, so each entry counts for one sibling at most.
 #[derive(Drop)]
 pub struct SubProver<F: Field> {
     entries: Vec<Entry>,
@@ -53,8 +54,9 @@ impl<F: Field> Model for SubProver<F> {
 }
 
 impl<F: Field> SubProver<F> {
-    /// Begins at the vector's numbers. It takes memory for the entries that are not 0 and the challenges; no later call takes
-    /// any. O(m), and slower where additions are pending in the vector.
+    /// Begins at the vector's numbers. It takes memory for the entries that are not 0 and the
+    /// challenges; no later call takes any. O(m), and slower where additions are pending in the
+    /// vector.
     pub fn start(
         alloc: Global,
         vector: &Vector,
@@ -78,7 +80,8 @@ impl<F: Field> SubProver<F> {
         })
     }
 
-    /// How many levels are left below the root, the present one among them: each has siblings to give and a challenge to learn.
+    /// How many levels are left below the root, the present one among them: each has siblings to
+    /// give and a challenge to learn.
     pub fn levels_left(&self) -> u8
         ensures exact { length self.now.level ≡ 2 ^ result }
         ensures some { (0 < result) ↔ (2 ≤ length self.now.level) }
@@ -87,12 +90,12 @@ impl<F: Field> SubProver<F> {
         self.levels_left
     }
 
-    /// The siblings of the interval: the node left of it where its first index is odd, and the one right of it where its last
-    /// index is even.
+    /// The siblings of the interval: the node left of it where its first index is odd, and the one
+    /// right of it where its last index is even.
     ///
-    /// O(log m), without memory: 127 `times` for each seven challenges so far, whose products are on the stack for this call, one
-    /// for an entry below the siblings, and one for each seven challenges above the lowest and run of entries with the same
-    /// higher bits.
+    /// O(log m), without memory: 127 `times` for each seven challenges so far, whose products are
+    /// on the stack for this call, one for an entry below the siblings, and one for each seven
+    /// challenges above the lowest and run of entries with the same higher bits.
     pub fn siblings(&self) -> SiblingPair<F>
         requires { 2 ≤ length self.now.level }
         ensures left { option_map F.number result.left ≡ (its_siblings self.now).left }

@@ -84,9 +84,9 @@ impl<F: Field, const CAP: usize> SumCheck<F, CAP> {
         self.seat.depth()
     }
 
-    /// Takes the polynomial of a reply: `Reason::Sum` where its values at 0 and at 1 do not add up to
-    /// the claim, or, in a later reply, to the value of the last polynomial at the challenge that was
-    /// revealed.
+    /// Takes the polynomial of a reply: `Reason::Sum` where its values at 0 and at 1 do not add up
+    /// to the claim, or, in a later reply, to the value of the last polynomial at the challenge
+    /// that was revealed.
     ///
     /// No `times`.
     pub fn round(&mut self, poly: Poly<F>) -> Result<(), Reason>
@@ -110,8 +110,8 @@ impl<F: Field, const CAP: usize> SumCheck<F, CAP> {
         Ok(())
     }
 
-    /// The next challenge, in the order from `r_1` on: the one that reply `j` waits for is `r_j`. The
-    /// last one, `r_d`, is never revealed.
+    /// The next challenge, in the order from `r_1` on: the one that reply `j` waits for is `r_j`.
+    /// The last one, `r_d`, is never revealed.
     ///
     /// 2 `times`.
     pub fn reveal(&mut self) -> F
@@ -127,8 +127,8 @@ impl<F: Field, const CAP: usize> SumCheck<F, CAP> {
         challenge
     }
 
-    /// Ends the check: `Reason::Root` where the last polynomial's value at the last challenge is not
-    /// `product`, which is to be the product of the two extensions at the challenges.
+    /// Ends the check: `Reason::Root` where the last polynomial's value at the last challenge is
+    /// not `product`, which is to be the product of the two extensions at the challenges.
     ///
     /// 2 `times`.
     pub fn finish(&self, product: F) -> Result<(), Reason>

@@ -12,7 +12,8 @@ use sip_field::OutOfMemory;
 use sip_vector::{Entry, Vector};
 use std::alloc::Global;
 
-/// The sum of the squares of a vector's numbers. O(m); where additions are pending they are sorted and merged in a copy.
+/// The sum of the squares of a vector's numbers. O(m); where additions are pending they are sorted
+/// and merged in a copy.
 pub(crate) fn claim_of_squares(alloc: Global, vector: &Vector) -> Result<i64, OutOfMemory>
     ensures total { IfOk result (λ claim. claim ≡ total vector.now.numbers vector.now.numbers) }
     ensures fits { IfOk result (λ claim. nat_abs claim ≤ most_claim) }
@@ -26,7 +27,8 @@ pub(crate) fn claim_of_squares(alloc: Global, vector: &Vector) -> Result<i64, Ou
     Ok(sum_of_squares(&entries))
 }
 
-/// The sum of the products of two vectors' numbers. O(m) for the entries of both, as before where additions are pending.
+/// The sum of the products of two vectors' numbers. O(m) for the entries of both, as before where
+/// additions are pending.
 pub(crate) fn claim_of_products(
     alloc: Global,
     first: &Vector,

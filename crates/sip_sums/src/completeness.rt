@@ -1,5 +1,5 @@
-//! Laws: honest replies are accepted, and what they state is the sum. These functions do nothing: each contract is a fact that
-//! holds.
+//! Laws: honest replies are accepted, and what they state is the sum. These functions do nothing:
+//! each contract is a fact that holds.
 
 ghost use Rattle.std.specs.Prelude.{◌≡◌, ℕ, ◌<◌, ◌≤◌, ℤ, All, IsTrue, Some, List, [], ◌∷◌, ◌++◌, length};
 ghost use Rattle.sip_field.specs.Moduli.{m61_modulus};
@@ -25,8 +25,8 @@ pub fn honest_messages_have_spellings()
         → All (λ m. IsTrue (fits version m)) (honest_messages p depth first second revealed) }
 {}
 
-/// The honest replies about lists that can be summed are accepted against the product of their extensions, and what they state
-/// is the sum.
+/// The honest replies about lists that can be summed are accepted against the product of their
+/// extensions, and what they state is the sum.
 pub fn honest_replies_are_accepted()
     ensures { (version : Version) (p depth : ℕ) (first second : List ℤ) (challenges : List ℕ)
         → CanBeSummed p depth first second → length challenges ≡ depth
@@ -44,8 +44,8 @@ pub fn legal_streams_can_be_summed()
         → CanBeSummed m61_modulus depth l.first l.second }
 {}
 
-/// While honest replies come they have no fault, but that more is to come: neither where the last one is whole, nor where a front
-/// of it was taken.
+/// While honest replies come they have no fault, but that more is to come: neither where the last
+/// one is whole, nor where a front of it was taken.
 pub fn honest_replies_have_no_fault()
     ensures whole { (version : Version) (p depth : ℕ) (first second : List ℤ)
         (revealed more : List ℕ) → CanBeSummed p depth first second

@@ -29,8 +29,8 @@
 //!   legal stream it fits a frame ([`proving`]).
 //! - Honest replies are accepted, and what they state is the sum of the products; while they come
 //!   they have no fault ([`completeness`]).
-//! - For every helper whose replies depend on the challenges revealed so far, at most 2·d·p^(d-1) of
-//!   the p^d challenge vectors make the check accept a wrong sum ([`counting`]).
+//! - For every helper whose replies depend on the challenges revealed so far, at most 2·d·p^(d-1)
+//!   of the p^d challenge vectors make the check accept a wrong sum ([`counting`]).
 //!
 //! # The definitions to read
 //!
@@ -64,8 +64,8 @@
 //!
 //! So a whole check of d rounds has 2d.
 //!
-//! A prover keeps 16 bytes for each entry of its vectors that is not 0, and takes them at its start,
-//! in a time that is linear in these entries. With m of them left, of n pairs of neighbours:
+//! A prover keeps 16 bytes for each entry of its vectors that is not 0, and takes them at its
+//! start, in a time that is linear in these entries. With m of them left, of n pairs of neighbours:
 //!
 //! | Call | `times` |
 //! |---|---|

@@ -18,7 +18,8 @@ struct Pair<F> {
     right: F,
 }
 
-/// The round polynomial of a list with itself. O(m) for m entries that are not 0, three `times` a pair.
+/// The round polynomial of a list with itself. O(m) for m entries that are not 0, three `times` a
+/// pair.
 pub(crate) fn polynomial_of_squares<F: Field>(level: &Level<F>) -> Poly<F>
     requires { 2 ≤ length level.now }
     ensures { coefficients_of F.number result ≡ polynomial_over F.MODULUS level.now level.now }
@@ -28,7 +29,8 @@ pub(crate) fn polynomial_of_squares<F: Field>(level: &Level<F>) -> Poly<F>
     squares(level.nonzero())
 }
 
-/// The round polynomial of two lists. O(m) for m entries of both that are not 0, four `times` for a pair in both.
+/// The round polynomial of two lists. O(m) for m entries of both that are not 0, four `times` for a
+/// pair in both.
 pub(crate) fn polynomial_of_products<F: Field>(first: &Level<F>, second: &Level<F>) -> Poly<F>
     requires some { 2 ≤ length first.now }
     requires same { length second.now ≡ length first.now }
@@ -39,8 +41,8 @@ pub(crate) fn polynomial_of_products<F: Field>(first: &Level<F>, second: &Level<
     products(first.nonzero(), second.nonzero())
 }
 
-/// The round polynomial of a list and an interval. O(m) for m entries of the list that are not 0, four `times` for the pairs at the
-/// interval's ends.
+/// The round polynomial of a list and an interval. O(m) for m entries of the list that are not 0,
+/// four `times` for the pairs at the interval's ends.
 pub(crate) fn polynomial_within<F: Field>(level: &Level<F>, interval: &IntervalFold<F>) -> Poly<F>
     requires some { 2 ≤ length level.now }
     requires same { length interval.now ≡ length level.now }
@@ -56,7 +58,7 @@ fn squares<F: Field>(spots: &[Spot<F>]) -> Poly<F>
     ensures { coefficients_of F.number result ≡ summed F.MODULUS (λ s. s) zero_polynomial
         (pairs_of F.number spots.now) }
 {
-    let mut sums = zero();
+    let mut sums = Poly::zero();
     let mut rest = spots;
     while let Some((pair, behind)) = next_pair(rest) {
         sums = with_square(sums, pair);
@@ -73,7 +75,7 @@ fn products<F: Field>(first: &[Spot<F>], second: &[Spot<F>]) -> Poly<F>
         (λ s. pair_at (pairs_of F.number second.now) s.index) zero_polynomial
         (pairs_of F.number first.now) }
 {
-    let mut sums = zero();
+    let mut sums = Poly::zero();
     let mut first = first;
     let mut second = second;
     while let (Some((one, ones)), Some((other, others))) = (next_pair(first), next_pair(second)) {
@@ -97,7 +99,7 @@ fn within<F: Field>(spots: &[Spot<F>], interval: &IntervalFold<F>) -> Poly<F>
     ensures { coefficients_of F.number result ≡ summed F.MODULUS
         (λ s. pair_in interval.now s.index) zero_polynomial (pairs_of F.number spots.now) }
 {
-    let mut sums = zero();
+    let mut sums = Poly::zero();
     let mut rest = spots;
     while let Some((pair, behind)) = next_pair(rest) {
         sums = with_weighed(sums, pair, pair_of(interval, pair.index));
@@ -155,18 +157,8 @@ fn alone<F: Field>(spot: Spot<F>) -> Pair<F>
     }
 }
 
-fn zero<F: Field>() -> Poly<F>
-    ensures { coefficients_of F.number result ≡ zero_polynomial }
-{
-    let zero = F::of(0);
-    Poly {
-        c0: zero,
-        c1: zero,
-        c2: zero,
-    }
-}
-
-// Adds the product of the line through a pair with that of an interval's pair, which is 1 throughout but at the interval's ends.
+// Adds the product of the line through a pair with that of an interval's pair, which is 1
+// throughout but at the interval's ends.
 fn with_weighed<F: Field>(sums: Poly<F>, pair: Pair<F>, weights: Pair<F>) -> Poly<F>
     ensures { coefficients_of F.number result ≡ with_product F.MODULUS
         (coefficients_of F.number sums) (neighbours_of F.number pair)

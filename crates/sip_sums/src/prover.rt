@@ -28,9 +28,10 @@ enum Factor<F: Field> {
 
 /// What an honest helper keeps to prove the sum of the products of two lists' entries.
 ///
-/// A contract sees the sum, and both lists folded by the challenges so far, as the lists of all their residues. What takes
-/// memory is one spot for each entry of a vector that is not 0: an interval takes none, and for a sum of squares the list is
-/// kept once. No call goes over the entries that are 0.
+/// A contract sees the sum, and both lists folded by the challenges so far, as the lists of all
+/// their residues. What takes memory is one spot for each entry of a vector that is not 0: an
+/// interval takes none, and for a sum of squares the list is kept once. No call goes over the
+/// entries that are 0.
 #[derive(Drop)]
 pub struct SumProver<F: Field> {
     claim: i64,
@@ -57,8 +58,9 @@ impl<F: Field> Model for SumProver<F> {
 }
 
 impl<F: Field> SumProver<F> {
-    /// Begins the sum of the squares of a vector's numbers. It takes memory for the entries that are not 0; no later call
-    /// takes any. O(m), and slower where additions are pending in the vector.
+    /// Begins the sum of the squares of a vector's numbers. It takes memory for the entries that
+    /// are not 0; no later call takes any. O(m), and slower where additions are pending in the
+    /// vector.
     pub fn start_f2(alloc: Global, vector: &Vector) -> Result<SumProver<F>, OutOfMemory>
         ensures begun { IfOk result (λ prover. prover
             ≡ begun F.MODULUS vector.now.numbers vector.now.numbers) }
@@ -74,7 +76,8 @@ impl<F: Field> SumProver<F> {
         })
     }
 
-    /// Begins the sum of the products of two vectors' numbers. Memory and time are those of `start_f2`, for both vectors.
+    /// Begins the sum of the products of two vectors' numbers. Memory and time are those of
+    /// `start_f2`, for both vectors.
     pub fn start_inner(
         alloc: Global,
         first: &Vector,
@@ -96,7 +99,8 @@ impl<F: Field> SumProver<F> {
         })
     }
 
-    /// Begins the sum of a vector's numbers from `lo` to `hi`, both included. Memory and time are those of `start_f2`.
+    /// Begins the sum of a vector's numbers from `lo` to `hi`, both included. Memory and time are
+    /// those of `start_f2`.
     pub fn start_range(
         alloc: Global,
         vector: &Vector,
@@ -139,8 +143,9 @@ impl<F: Field> SumProver<F> {
 
     /// The polynomial of the present round.
     ///
-    /// O(m) for the entries of both folded lists that are not 0, without memory: three `times` for each pair of neighbours of a
-    /// sum of squares, four for a pair in both lists, and for a range four at each of its ends.
+    /// O(m) for the entries of both folded lists that are not 0, without memory: three `times` for
+    /// each pair of neighbours of a sum of squares, four for a pair in both lists, and for a range
+    /// four at each of its ends.
     pub fn poly(&self) -> Poly<F>
         requires { 2 ≤ length self.now.first }
         ensures { coefficients_of F.number result ≡ its_polynomial F.MODULUS self.now }
@@ -154,7 +159,8 @@ impl<F: Field> SumProver<F> {
 
     /// Goes to the next round by the challenge of this one: both lists are folded, in place.
     ///
-    /// O(m) for the entries of both that are not 0, without memory: one `times` for each pair of neighbours of a list.
+    /// O(m) for the entries of both that are not 0, without memory: one `times` for each pair of
+    /// neighbours of a list.
     pub fn learn(&mut self, r: F)
         requires { 2 ≤ length self.old.first }
         ensures learnt { self.new ≡ learnt F.MODULUS self.old (F.number r) }

@@ -10,8 +10,8 @@ ghost use Rattle.sip_sums.specs.AcceptsSum.{total};
 ghost use Rattle.sip_sums.specs.Honest.{begun, its_polynomial, learnt, proving, round_polynomial};
 ghost use Rattle.sip_sums.specs.Questions.{Lists, lists_of};
 
-/// The sum over the pairs of two lists that were folded by the challenges so far is the sum over the cube: so a prover that
-/// folds its lists gives the true polynomial of each round.
+/// The sum over the pairs of two lists that were folded by the challenges so far is the sum over
+/// the cube: so a prover that folds its lists gives the true polynomial of each round.
 pub fn polynomials_over_the_cube()
     ensures { (p : ℕ) (first second : List ℤ) (revealed : List ℕ) (n : ℕ)
         → 1 < p → All (λ r. r < p) revealed

@@ -1,30 +1,49 @@
-//! What the public calls of the checks, of their honest sides, of the helper and of the call that asks do over worked rows.
+//! What the public calls of the checks, of the helper, of the call that asks and of transcripts do over
+//! worked rows.
 //! Nothing but tests stands here, so that each of these layers is proved once.
+//! Files named `session_..` try the parts of the verifier, those named `duel_..` helpers in a box, and
+//! `list_tests` and `sum_tests` two small checks of their own, which go through the same call.
 #![tactic(auto)]
 
 #[cfg(test)]
+mod duel_counting;
+#[cfg(test)]
+mod duel_exit_tests;
+#[cfg(test)]
+mod duel_liar_tests;
+#[cfg(test)]
+mod duel_link_tests;
+#[cfg(test)]
+mod duel_play_tests;
+#[cfg(test)]
+mod duel_runs;
+#[cfg(test)]
 mod entry_check_tests;
 #[cfg(test)]
-mod entry_prover_tests;
+mod events;
 #[cfg(test)]
-mod event_tests;
-#[cfg(test)]
-mod heavy_asking_tests;
+mod facts;
 #[cfg(test)]
 mod heavy_check_tests;
 #[cfg(test)]
-mod heavy_prover_tests;
-#[cfg(test)]
 mod helper_tests;
-#[cfg(test)]
-mod hitter_tests;
 #[cfg(test)]
 mod list_tests;
 #[cfg(test)]
-mod sum_asking_tests;
+mod session_facts;
+#[cfg(test)]
+mod session_feed_tests;
+#[cfg(test)]
+mod session_gather_tests;
+#[cfg(test)]
+mod session_seat_tests;
+#[cfg(test)]
+mod session_tests;
 #[cfg(test)]
 mod sum_check_tests;
 #[cfg(test)]
-mod sum_prover_tests;
-#[cfg(test)]
 mod sum_tests;
+#[cfg(test)]
+mod talks;
+#[cfg(test)]
+mod transcript_tests;

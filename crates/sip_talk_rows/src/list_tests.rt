@@ -5,13 +5,15 @@ ghost use Rattle.std.specs.Prelude.{◌≡◌, ◌≢◌, ◌≤◌, ◌+◌, �
 ghost use Rattle.sip_vector.specs.declared.update.Entry.{Entry as AnyEntry};
 ghost use Rattle.sip_talk_rows.specs.ListToy.{ListStands, list_rules};
 
-use crate::event_tests::events;
+use crate::events::events;
+use crate::facts::expect;
 use sip_field::{Field, M61, Seat};
 use sip_ports::{MemoryLink, MemorySink};
 use sip_replies::{AskStop, Check, More, Said, ask};
 use sip_vector::{CAP, Entry, Query, Side};
 use sip_wire::{Frame, Message, Place, Reason, Version};
 use std::alloc::{AllocError, Global};
+use std::process::Abort;
 use std::test::Fail;
 
 // The check of a list: how many values came, and the challenges that were revealed.
@@ -130,6 +132,8 @@ impl<'a> Check for ListCheck<'a> {
     ghost tests = { list_tests };
 }
 
+const QUERY_HEAD: [u8; 3] = [4, 0, 9];
+
 const QUERY: [u8; 12] = [4, 0, 9, 1, 0, 0, 0, 0, 0, 0, 0, 2];
 
 // The challenge 2.
@@ -141,6 +145,90 @@ const SEVEN: [u8; 11] = [0x11, 0, 8, 0, 0, 0, 0, 0, 0, 0, 7];
 const LESS: [u8; 11] = [0x11, 0, 8, 0xff, 0xff, 0xff, 0xff, 0xff, 0xff, 0xff, 0xfd];
 
 const END: [u8; 3] = [0x17, 0, 0];
+
+// A talk about a list: the frames that the link gives, and the calls of the keeper that fail; what
+// is said, the places behind the talk, the challenges that the check has, what happened on the link,
+// and what was kept.
+struct ListRow {
+    frames: &'static [&'static [u8]],
+    fails: &'static [u64],
+    said: Result<Said, AskStop>,
+    places: &'static [Entry],
+    learnt: &'static [u64],
+    talk: &'static [(bool, &'static [u8])],
+    kept: &'static [&'static [u8]],
+}
+
+// The places that two values are written to.
+const FIRST: Entry = Entry { index: 0, value: 7 };
+
+const SECOND: Entry = Entry {
+    index: 1,
+    value: -3,
+};
+
+// A place to which nothing was written.
+const FREE: Entry = Entry { index: 9, value: 9 };
+
+const ROWS: &[ListRow] = &[
+    // The first challenge asks for two values, and two came. Behind the last reply the check has
+    // both challenges.
+    ListRow {
+        frames: &[&SEVEN, &LESS, &END, &END],
+        fails: &[],
+        said: Ok(Said::Pairs(2)),
+        places: &[FIRST, SECOND, FREE],
+        learnt: &[2, 5],
+        talk: &[
+            (true, &QUERY),
+            (false, &SEVEN),
+            (false, &LESS),
+            (false, &END),
+            (true, &REVEAL),
+            (false, &END),
+        ],
+        kept: &[&SEVEN, &LESS, &END, &END],
+    },
+    // One value is rejected behind the last reply.
+    ListRow {
+        frames: &[&SEVEN, &END, &END],
+        fails: &[],
+        said: Err(AskStop::Rejected {
+            round: 2,
+            reason: Reason::Total,
+        }),
+        places: &[FIRST, FREE, FREE],
+        learnt: &[2, 5],
+        talk: &[
+            (true, &QUERY),
+            (false, &SEVEN),
+            (false, &END),
+            (true, &REVEAL),
+            (false, &END),
+        ],
+        kept: &[&SEVEN, &END, &END],
+    },
+    // Without places a list is not asked for.
+    ListRow {
+        frames: &[&END, &END],
+        fails: &[],
+        said: Ok(Said::Pairs(0)),
+        places: &[],
+        learnt: &[],
+        talk: &[],
+        kept: &[],
+    },
+    // The second frame is one that the place forbids. It can't be kept, and that is what is said.
+    ListRow {
+        frames: &[&SEVEN, &QUERY, &END],
+        fails: &[2],
+        said: Err(AskStop::KeepFault),
+        places: &[FIRST, FREE, FREE],
+        learnt: &[],
+        talk: &[(true, &QUERY), (false, &SEVEN), (false, &QUERY_HEAD)],
+        kept: &[&SEVEN],
+    },
+];
 
 // What a talk did: the answer, the challenges that the check has, what happened on the link, and what
 // was kept.
@@ -186,73 +274,24 @@ fn asked_of(
     })
 }
 
-fn entry(index: u64, value: i64) -> Entry {
-    Entry { index, value }
-}
-
-// The first challenge asks for two values, and two came. Behind the last reply the check has both
-// challenges.
-#[test]
-fn a_list_is_answered_by_its_places(rt: HostRuntime) -> Result<(), Fail> {
-    let alloc = rt.alloc();
-    let mut places = [entry(9, 9); 3];
-    let talked = asked_of(alloc, &[&SEVEN, &LESS, &END, &END], &mut places, &[])?;
-    assert_eq!(rt; talked.said, Ok(Said::Pairs(2)));
-    assert_eq!(rt; places, [entry(0, 7), entry(1, -3), entry(9, 9)]);
-    assert_eq!(rt; talked.learnt.as_slice(), [2, 5].as_slice());
-    let want = events(
-        alloc,
-        &[
-            (true, &QUERY),
-            (false, &SEVEN),
-            (false, &LESS),
-            (false, &END),
-            (true, &REVEAL),
-            (false, &END),
-        ],
-    )?;
-    assert_eq!(rt; talked.link.talk(), want.as_slice());
-    let kept = [SEVEN.as_slice(), &LESS, &END, &END].concat(alloc)?;
-    assert_eq!(rt; talked.keep.bytes(), kept.as_slice());
+fn check_row(rt: &impl Abort, alloc: Global, number: usize, row: &ListRow) -> Result<(), Fail> {
+    let mut places = vec![in alloc; FREE; row.places.len()]?;
+    let talked = asked_of(alloc, row.frames, &mut places, row.fails)?;
+    let facts = [
+        talked.said == row.said,
+        places.as_slice() == row.places,
+        talked.learnt.as_slice() == row.learnt,
+        talked.link.talk() == events(alloc, row.talk)?.as_slice(),
+        talked.keep.bytes() == row.kept.concat(alloc)?.as_slice(),
+    ];
+    expect(rt, number, &facts);
     Ok(())
 }
 
 #[test]
-fn a_list_of_one_is_rejected_behind_the_last_reply(rt: HostRuntime) -> Result<(), Fail> {
-    let mut places = [entry(0, 0); 3];
-    let talked = asked_of(rt.alloc(), &[&SEVEN, &END, &END], &mut places, &[])?;
-    assert_eq!(rt;
-        talked.said,
-        Err(AskStop::Rejected {
-            round: 2,
-            reason: Reason::Total
-        })
-    );
-    assert_eq!(rt; talked.learnt.as_slice(), [2, 5].as_slice());
-    Ok(())
-}
-
-#[test]
-fn a_list_without_places_is_not_asked(rt: HostRuntime) -> Result<(), Fail> {
-    let talked = asked_of(rt.alloc(), &[&END, &END], &mut [], &[])?;
-    assert_eq!(rt; talked.said, Ok(Said::Pairs(0)));
-    assert_eq!(rt; talked.link.talk().is_empty(), true);
-    assert_eq!(rt; talked.keep.bytes().is_empty(), true);
-    Ok(())
-}
-
-// The second frame is one that the place forbids. It can't be kept, and that is what is said.
-#[test]
-fn a_keeper_that_fails_wins_over_a_fault(rt: HostRuntime) -> Result<(), Fail> {
-    let alloc = rt.alloc();
-    let mut places = [entry(0, 0); 3];
-    let talked = asked_of(alloc, &[&SEVEN, &QUERY, &END], &mut places, &[2])?;
-    assert_eq!(rt; talked.said, Err(AskStop::KeepFault));
-    let want = events(
-        alloc,
-        &[(true, &QUERY), (false, &SEVEN), (false, &QUERY[..3])],
-    )?;
-    assert_eq!(rt; talked.link.talk(), want.as_slice());
-    assert_eq!(rt; talked.keep.bytes(), SEVEN.as_slice());
+fn lists_are_asked_for(rt: HostRuntime) -> Result<(), Fail> {
+    for (number, row) in ROWS.iter().enumerate() {
+        check_row(&rt, rt.alloc(), number, row)?;
+    }
     Ok(())
 }

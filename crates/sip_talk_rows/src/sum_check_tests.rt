@@ -1,10 +1,13 @@
+// The check of a sum, over rows that were worked out by hand.
 ghost use Rattle.std.specs.Prelude.{◌≡◌, length};
 
+use crate::facts::expect;
 use sip_field::{F31, Field, M61, Seat};
 use sip_mle::{Point, interval_at};
 use sip_sums::{Poly, SumCheck};
 use sip_vector::CAP;
 use sip_wire::Reason;
+use std::process::Abort;
 
 fn two_and_ten() -> Seat<M61, CAP>
     ensures { length result ≡ 2 }
@@ -31,44 +34,40 @@ fn answer(claim: i8, first: [i64; 3], second: [i64; 3], product: i64) -> Result<
     check.finish(M61::of_signed(product))
 }
 
+// A claim, two polynomials, the product of both extensions, and the answer.
+type Row = (i8, [i64; 3], [i64; 3], i64, Result<(), Reason>);
+
 // Over (3, 0, 5, 1): its squares, its products with (2, 7, 1, 0), and its entries 1 to 3. At
 // (2, 10) its extension is -3, that of the second list -118, and that of the interval -8.
-#[test]
-fn three_sums_are_accepted(rt: HostRuntime) {
-    for (claim, first, second, product) in [
-        (35, [34, -58, 25], [9, 0, 0], 9),
-        (11, [11, 0, -11], [-36, 39, 0], 354),
-        (6, [5, -1, -3], [-6, 3, 0], 24),
-    ] {
-        assert_eq!(rt; answer(claim, first, second, product), Ok(()));
-        assert_eq!(rt; answer(claim, first, second, -product), Err(Reason::Root));
-    }
-}
+const ROWS: [Row; 13] = [
+    (35, [34, -58, 25], [9, 0, 0], 9, Ok(())),
+    (35, [34, -58, 25], [9, 0, 0], -9, Err(Reason::Root)),
+    (11, [11, 0, -11], [-36, 39, 0], 354, Ok(())),
+    (11, [11, 0, -11], [-36, 39, 0], -354, Err(Reason::Root)),
+    (6, [5, -1, -3], [-6, 3, 0], 24, Ok(())),
+    (6, [5, -1, -3], [-6, 3, 0], -24, Err(Reason::Root)),
+    // The values of a polynomial at 0 and 1 have to add up, those of the last one too.
+    (36, [34, -58, 25], [9, 0, 0], 9, Err(Reason::Sum)),
+    (35, [35, -58, 25], [9, 0, 0], 9, Err(Reason::Sum)),
+    (35, [34, -57, 25], [9, 0, 0], 9, Err(Reason::Sum)),
+    (35, [34, -58, 26], [9, 0, 0], 9, Err(Reason::Sum)),
+    // The sum is 35, but the value at 2 is 20.
+    (35, [34, -59, 26], [9, 0, 0], 9, Err(Reason::Sum)),
+    (35, [34, -58, 25], [9, 0, 1], 9, Err(Reason::Sum)),
+    // The sum of the second is 18, but its value at 10 is 28.
+    (35, [34, -58, 25], [8, 2, 0], 9, Err(Reason::Root)),
+];
 
-// The values of a polynomial at 0 and 1 have to add up, those of the last one too.
-#[test]
-fn one_wrong_number_is_rejected(rt: HostRuntime) {
-    for (claim, first, second, reason) in [
-        (36, [34, -58, 25], [9, 0, 0], Reason::Sum),
-        (35, [35, -58, 25], [9, 0, 0], Reason::Sum),
-        (35, [34, -57, 25], [9, 0, 0], Reason::Sum),
-        (35, [34, -58, 26], [9, 0, 0], Reason::Sum),
-        // the sum is 35, but the value at 2 is 20
-        (35, [34, -59, 26], [9, 0, 0], Reason::Sum),
-        (35, [34, -58, 25], [9, 0, 1], Reason::Sum),
-        // the sum of the second is 18, but its value at 10 is 28
-        (35, [34, -58, 25], [8, 2, 0], Reason::Root),
-    ] {
-        assert_eq!(rt; answer(claim, first, second, 9), Err(reason));
+fn are_answered(rt: &impl Abort, rows: &[Row]) {
+    for (row, (claim, first, second, product, want)) in rows.iter().enumerate() {
+        let said = answer(*claim, *first, *second, *product);
+        expect(rt, row, &[said == *want]);
     }
 }
 
 #[test]
-fn a_refusal_spends_the_check(rt: HostRuntime) {
-    let mut check = SumCheck::start(36, &two_and_ten());
-    assert!(rt; !check.spent());
-    assert_eq!(rt; check.round(poly([34, -58, 25])), Err(Reason::Sum));
-    assert!(rt; check.spent());
+fn sums_have_their_answers(rt: HostRuntime) {
+    are_answered(&rt, &ROWS);
 }
 
 fn seat_of_one(r: u64) -> Seat<F31, CAP>
@@ -96,21 +95,16 @@ fn answer_of_two(r: u64, product: F31) -> Result<(), Reason> {
 fn a_lie_passes_at_two_challenges(rt: HostRuntime) {
     for r in 0..31 {
         let value = extension(r);
+        let interval = interval_at(&seat_of_one(r), 0, 0);
         let expected = if r == 2 || r == 3 {
             Ok(())
         } else {
             Err(Reason::Root)
         };
-        assert_eq!(rt;
-            answer_of_two(r, value.times(value)),
-            expected,
-            "squares at {r}"
-        );
-        let interval = interval_at(&seat_of_one(r), 0, 0);
-        assert_eq!(rt;
-            answer_of_two(r, value.times(interval)),
-            expected,
-            "entry 0 at {r}"
-        );
+        let facts = [
+            answer_of_two(r, value.times(value)) == expected,
+            answer_of_two(r, value.times(interval)) == expected,
+        ];
+        expect(&rt, r as usize, &facts);
     }
 }

@@ -6,13 +6,15 @@ ghost use Rattle.sip_field.specs.Elements.{m61_number};
 ghost use Rattle.sip_replies.specs.Protocols.{Begins};
 ghost use Rattle.sip_talk_rows.specs.SumToy.{value_of, sum_of_ends, SumStands, sum_rules};
 
-use crate::event_tests::events;
+use crate::events::events;
+use crate::facts::expect;
 use sip_field::{Field, M61, Seat};
 use sip_ports::{MemoryLink, MemorySink};
 use sip_replies::{AskStop, Check, More, Said, ask};
 use sip_vector::{CAP, Entry, Query, Side};
 use sip_wire::{Frame, Message, Place, Reason, Version};
 use std::alloc::Global;
+use std::process::Abort;
 use std::test::Fail;
 
 // The check of a sum: the claim, the last polynomial and what the next one has to sum to.
@@ -178,6 +180,49 @@ const QUERY: [u8; 5] = [4, 0, 2, 3, 0];
 // The challenge 2.
 const REVEAL: [u8; 11] = [5, 0, 8, 0, 0, 0, 0, 0, 0, 0, 2];
 
+// The claim of 36, with the same polynomial.
+const FALSE_FIRST: [u8; 38] = [
+    0x11, 0, 8, 0, 0, 0, 0, 0, 0, 0, 36, 0x12, 0, 24, 0, 0, 0, 0, 0, 0, 0, 34, 0x1f, 0xff, 0xff,
+    0xff, 0xff, 0xff, 0xff, 0xc5, 0, 0, 0, 0, 0, 0, 0, 25,
+];
+
+// A talk about a sum of squares: what the link gives, what is said, what happened on the link, and
+// what was kept.
+struct SumRow {
+    incoming: &'static [&'static [u8]],
+    said: Result<Said, AskStop>,
+    talk: &'static [(bool, &'static [u8])],
+    kept: &'static [&'static [u8]],
+}
+
+const ROWS: &[SumRow] = &[
+    // The sum is 9 + 25 + 1 = 35. At 2 the pairs (3, 0) and (5, 1) are 3 - 2 * 3 = -3 and
+    // 5 - 2 * 4 = -3. So the polynomials are (3 - 3x)^2 + (5 - 4x)^2 = 34 - 58x + 25x^2 and
+    // (-3)^2 = 9, and the last value is 9.
+    SumRow {
+        incoming: &[&FIRST, &SECOND],
+        said: Ok(Said::Number(35)),
+        talk: &[
+            (true, &QUERY),
+            (false, &FIRST),
+            (true, &REVEAL),
+            (false, &SECOND),
+        ],
+        kept: &[&FIRST, &SECOND],
+    },
+    // A claim of 36 is refused by the first polynomial: nothing is revealed, nothing of what follows
+    // is received, and the bytes that show the fault are kept.
+    SumRow {
+        incoming: &[&FALSE_FIRST, &SECOND],
+        said: Err(AskStop::Rejected {
+            round: 0,
+            reason: Reason::Sum,
+        }),
+        talk: &[(true, &QUERY), (false, &FALSE_FIRST)],
+        kept: &[&FALSE_FIRST],
+    },
+];
+
 // Asks for the sum of the squares of (3, 0, 5, 1) at the challenges 2 and 5, over a link that gives
 // these bytes: the answer, what happened on the link, and what was kept.
 fn asked_of(
@@ -202,49 +247,22 @@ fn asked_of(
     Ok((said, link, keep))
 }
 
-// The sum is 9 + 25 + 1 = 35. At 2 the pairs (3, 0) and (5, 1) are 3 - 2 * 3 = -3 and 5 - 2 * 4 = -3.
-// So the polynomials are (3 - 3x)^2 + (5 - 4x)^2 = 34 - 58x + 25x^2 and (-3)^2 = 9, and the last
-// value is 9.
-#[test]
-fn a_sum_is_answered_and_all_that_came_is_kept(rt: HostRuntime) -> Result<(), Fail> {
-    let alloc = rt.alloc();
-    let mut incoming = FIRST.to_vec(alloc)?;
-    incoming.extend_from_slice(&SECOND)?;
+fn check_row(rt: &impl Abort, alloc: Global, number: usize, row: &SumRow) -> Result<(), Fail> {
+    let incoming = row.incoming.concat(alloc)?;
     let (said, link, keep) = asked_of(alloc, &incoming, 9)?;
-    assert_eq!(rt; said, Ok(Said::Number(35)));
-    let want = events(
-        alloc,
-        &[
-            (true, &QUERY),
-            (false, &FIRST),
-            (true, &REVEAL),
-            (false, &SECOND),
-        ],
-    )?;
-    assert_eq!(rt; link.talk(), want.as_slice());
-    assert_eq!(rt; keep.bytes(), incoming.as_slice());
+    let facts = [
+        said == row.said,
+        link.talk() == events(alloc, row.talk)?.as_slice(),
+        keep.bytes() == row.kept.concat(alloc)?.as_slice(),
+    ];
+    expect(rt, number, &facts);
     Ok(())
 }
 
-// A claim of 36 is refused by the first polynomial: nothing is revealed, nothing of what follows is
-// received, and the bytes that show the fault are kept.
 #[test]
-fn a_false_claim_is_rejected_and_kept(rt: HostRuntime) -> Result<(), Fail> {
-    let alloc = rt.alloc();
-    let mut first = FIRST.to_vec(alloc)?;
-    first[10] = 36;
-    let mut incoming = first.to_vec(alloc)?;
-    incoming.extend_from_slice(&SECOND)?;
-    let (said, link, keep) = asked_of(alloc, &incoming, 9)?;
-    assert_eq!(rt;
-        said,
-        Err(AskStop::Rejected {
-            round: 0,
-            reason: Reason::Sum
-        })
-    );
-    let want = events(alloc, &[(true, &QUERY), (false, first.as_slice())])?;
-    assert_eq!(rt; link.talk(), want.as_slice());
-    assert_eq!(rt; keep.bytes(), first.as_slice());
+fn sums_are_asked_for(rt: HostRuntime) -> Result<(), Fail> {
+    for (number, row) in ROWS.iter().enumerate() {
+        check_row(&rt, rt.alloc(), number, row)?;
+    }
     Ok(())
 }

@@ -13,15 +13,20 @@ pub(crate) struct Step {
 }
 
 /// The steps for at most seven levels, those above `from`. Entry e is the step of the levels along
-/// the bits of e, the lowest bit first, for each e below 2^n, where there are n levels.
+/// the bits of e, the lowest bit first, for each e below 2^n, where there are n levels. They are
+/// made where they are to lie, whatever lies there: a table is too large to be moved about.
 ///
 /// Two `times` for each pair, and one for each level.
-pub(crate) fn steps<F: Field, const CAP: usize>(seat: &Seat<F, CAP>, from: usize) -> [Step; 128]
+pub(crate) fn steps<F: Field, const CAP: usize>(
+    table: &mut [Step; 128],
+    seat: &Seat<F, CAP>,
+    from: usize,
+)
     requires { from ≤ length seat.now }
-    ensures steps { HasSteps F.MODULUS (take 7 (drop from seat.now)) result }
-    ensures below { All (IsBelow F.MODULUS) result }
+    ensures steps { HasSteps F.MODULUS (take 7 (drop from seat.now)) table.new }
+    ensures below { All (IsBelow F.MODULUS) table.new }
 {
-    let mut table = [Step { scale: 1, shift: 0 }; 128];
+    *table = [Step { scale: 1, shift: 0 }; 128];
     let mut filled = 1;
     let left = seat.depth() - from;
     let levels = if left < 7 { left } else { 7 };
@@ -43,7 +48,6 @@ pub(crate) fn steps<F: Field, const CAP: usize>(seat: &Seat<F, CAP>, from: usize
         }
         filled *= 2;
     }
-    table
 }
 
 /// Makes the tables of all levels of a seat, and says how many they are: table g is that of the
@@ -62,7 +66,7 @@ pub(crate) fn fill_steps<F: Field, const CAP: usize>(
 {
     let count = (seat.depth() + 6) / 7;
     for group in 0..count {
-        tables[group] = steps(seat, 7 * group);
+        steps(&mut tables[group], seat, 7 * group);
     }
     count
 }

@@ -22,12 +22,12 @@ fn take_lower<'a>(
         ([], []) => None,
         ([first, rest @ ..], []) => Some((*first, rest, added)),
         ([], [first, rest @ ..]) => Some((*first, list, rest)),
-        ([first, rest @ ..], [other, others @ ..]) => {
-            if first.index <= other.index {
-                Some((*first, rest, added))
-            } else {
-                Some((*other, list, others))
-            }
+        ([first, ..], [other, ..]) => {
+            // Which list is next is as good as random: a branch would be guessed wrongly for every other entry.
+            let is_listed = first.index <= other.index;
+            let entry = if is_listed { *first } else { *other };
+            let count = usize::from(is_listed);
+            Some((entry, &list[count..], &added[1 - count..]))
         }
     }
 }

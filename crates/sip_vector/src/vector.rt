@@ -117,7 +117,8 @@ impl Vector {
         Ok(())
     }
 
-    // Merges what is pending into the list, and keeps the room that it had.
+    // Merges what is pending into the list, and keeps the room that it had. It is seldom called, and `add` is short without it.
+    #[inline(never)]
     fn merge(&mut self) -> Result<(), OutOfMemory>
         ensures ok { OnOk result (self.new ≡ record self.old { is_settled = true }) }
         ensures err { OnErr result (self.new ≡ self.old) }

@@ -1,5 +1,5 @@
 -- A run that heard honest replies is accepted, with the stream's own answers.
-use Rattle.std.proofs.Common.{◌≡◌, ◌≢◌, ℕ, ◌≤◌, Option, Some, None, List, [], ◌∷◌, ◌++◌, length, take, map, All, refl, sym, ap, subst, ◌∙◌, arith, append_assoc, append-nil}
+use Rattle.std.proofs.Common.{◌≡◌, ◌≢◌, ℕ, ◌≤◌, Option, List, [], ◌∷◌, ◌++◌, length, take, map, All, refl, sym, ap, subst, ◌∙◌, arith, append_assoc, append-nil}
 use Rattle.std.specs.Prelude.{flat_map}
 use Rattle.std.specs.List.{zip}
 use Rattle.std.proofs.lemmas.List.Elements.{All-cons, All-nil, All-head, All-tail}
@@ -10,7 +10,6 @@ use Rattle.sip_vector.specs.declared.update.Update.{Update}
 use Rattle.sip_vector.specs.Answers.{Answer, Fits, answer}
 use Rattle.sip_vector.specs.Streams.{IsLegal}
 use Rattle.sip_wire.specs.declared.message.Reason.TheVariants as reasons
-use Rattle.sip_replies.specs.Protocols.{Protocol}
 use Rattle.sip_replies.specs.Talks.{asked_unless}
 use Rattle.sip_replies.specs.Replies as replied
 use Rattle.sip_replies.specs.Replies.{Fault, IsAccepted, IsStated, joined}

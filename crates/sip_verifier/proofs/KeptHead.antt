@@ -1,6 +1,6 @@
 -- The head of a run's transcript, behind the draw.
-use Rattle.std.proofs.Common.{◌≡◌, Bool, true, Option, Result, Ok, Err, List, ℕ, sym, inl, inr, append-nil, take, drop, take-append-drop, []}
-use Rattle.std.specs.Prelude.{IsTrue, MatchResult}
+use Rattle.std.proofs.Common.{◌≡◌, Option, Result, Ok, Err, List, ℕ, sym, inr, append-nil, take, drop, take-append-drop, []}
+use Rattle.std.specs.Prelude.{IsTrue}
 use Rattle.std.specs.List.{zip}
 use Rattle.sip_ports.specs.declared.port.PortStop.{PortStop}
 use Rattle.sip_ports.specs.declared.port.PortStop.TheVariants as port_stops

@@ -6,11 +6,6 @@ use Rattle.sip_ports.specs.declared.port.PortStop.TheVariants as port_stops
 use Rattle.sip_ports.specs.declared.port.TalkEvent.{TalkEvent}
 use Rattle.sip_ports.specs.Ports.{GoesOn, SendsWhole, heard, outs}
 use Rattle.sip_ports.proofs.TalkLemmas.{GoesOn-refl, GoesOn-trans, heard-append, heard-outs, outs-append}
-use Rattle.sip_vector.specs.declared.query.Query.{Query}
-use Rattle.sip_wire.specs.declared.message.Message.TheVariants as messages
-use Rattle.sip_wire.specs.declared.version.Version.{Version}
-use Rattle.sip_wire.specs.Spelling.{spelling}
-use Rattle.sip_replies.specs.Asking.{KeepsPart}
 use Rattle.sip_replies.specs.Talks.{IsPrefix}
 use Rattle.sip_verifier.specs.declared.session.SessionStart.{SessionStart}
 use Rattle.sip_verifier.specs.declared.session.SessionStart.TheVariants as starts
@@ -18,7 +13,6 @@ use Rattle.sip_verifier.specs.declared.status.Port.TheVariants as ports
 use Rattle.sip_verifier.specs.declared.status.Status.{Status}
 use Rattle.sip_verifier.specs.declared.status.Status.TheVariants as statuses
 use Rattle.sip_verifier.specs.declared.task.Task.{Task}
-use Rattle.sip_verifier.specs.Draws.{drawn}
 use Rattle.sip_verifier.specs.Exchanges.{Appends, Exchange}
 use Rattle.sip_verifier.specs.Gathering.{Refuses, IsCut}
 use Rattle.sip_verifier.specs.inside.Ending.{status_of_link, status_of_start}

@@ -1,5 +1,5 @@
 -- What the general talk did for a query is what a session promises of it, by the protocol of the query's kind.
-use Rattle.std.proofs.Common.{◌≡◌, inl, inr, ℕ, None, Option, Result, Ok, Err, List, [], ◌∷◌, ◌++◌, length, min, zero, suc, take, refl, sym, ap, subst, ◌∙◌, arith}
+use Rattle.std.proofs.Common.{◌≡◌, inl, inr, ℕ, None, Option, Result, Ok, Err, List, [], ◌∷◌, ◌++◌, length, min, zero, suc, take, sym, ap, subst, ◌∙◌, arith}
 use Rattle.sip_wire.specs.declared.version.Version.{Version}
 use Rattle.sip_ports.specs.declared.port.TalkEvent.{TalkEvent}
 use Rattle.sip_ports.specs.Ports.{GoesOn}

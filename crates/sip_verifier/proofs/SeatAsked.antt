@@ -1,5 +1,5 @@
 -- The general talk of a seat's query, kind by kind.
-use Rattle.std.proofs.Common.{◌≡◌, ◌≢◌, ℕ, ℤ, ap, ◌*◌, ◌%◌, ◌≤◌, Option, Some, Result, Err, List, length, take, ◌^◌, refl, sym, subst, ◌∙◌, inl, inr, arith}
+use Rattle.std.proofs.Common.{◌≡◌, ℕ, ℤ, ap, ◌*◌, ◌%◌, ◌≤◌, Option, Some, Result, List, length, take, ◌^◌, refl, sym, subst, ◌∙◌, inl, inr, arith}
 use Rattle.std.specs.Prelude.{IsTrue}
 use Rattle.std.proofs.lemmas.Bool.{cases_order}
 use Rattle.std.proofs.lemmas.Nat.{pow_below}
@@ -21,7 +21,6 @@ use Rattle.sip_mle.specs.StandsFor.{PointStandsFor}
 use Rattle.sip_wire.specs.declared.message.Message.TheVariants as messages
 use Rattle.sip_wire.specs.Spelling.{fits}
 use Rattle.sip_replies.specs.declared.asking.AskStop.{AskStop}
-use Rattle.sip_replies.specs.declared.asking.AskStop.TheVariants as stops
 use Rattle.sip_replies.specs.declared.check.Said.{Said}
 use Rattle.sip_replies.specs.Asking.{Answers}
 use Rattle.sip_replies.specs.Protocols.{Protocol}

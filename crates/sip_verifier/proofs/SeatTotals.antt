@@ -1,9 +1,7 @@
 -- The sum that a seat for heavy hitters keeps is the total of its side, and the updates of a legal stream keep it within the greatest weight.
-use Rattle.std.proofs.Common.{◌≡◌, ℕ, zero, suc, ◌+◌, ◌-◌, ◌*◌, Bool, true, false, true≢false, ◌^◌, ◌<◌, ◌≤◌, ℤ, pos, ◌+ℤ◌, nat_abs, List, [], ◌∷◌, ◌++◌, length, map, get_or, take, fold, sum_by, All, refl, sym, ap, ◌∙◌, subst, arith}
+use Rattle.std.proofs.Common.{◌≡◌, ℕ, zero, suc, ◌+◌, ◌-◌, ◌*◌, true, ◌^◌, ◌<◌, ◌≤◌, ℤ, pos, ◌+ℤ◌, nat_abs, List, [], ◌∷◌, ◌++◌, length, map, get_or, take, fold, sum_by, All, refl, sym, ap, ◌∙◌, subst, arith}
 use Rattle.std.specs.Prelude.{IsTrue}
 use Rattle.std.proofs.Math.Nat.{pow-succ'}
-use Rattle.std.specs.List.{list_all}
-use Rattle.std.proofs.lemmas.Bool.{and_parts}
 use Rattle.std.proofs.lemmas.Int.{ints}
 use Rattle.std.proofs.lemmas.List.{length-map}
 use Rattle.std.proofs.lemmas.List.Sums.{sum_by-cons}
@@ -118,30 +116,3 @@ legal_room depth queries blocks stream updates s are below legal side = λ k d l
     let kept = seat_total depth stream seat side hash sum below (are.stand k d lt) heavy is in
     let before : nat_abs sum ≤ weight stream side = subst (λ z. nat_abs z ≤ weight stream side) (sym kept) (light_sum (of_side stream side)) in
     omega (arith, light_after own sum (weight stream side) n before, weight-append stream updates side, light_side depth (stream ++ updates) side legal)
-
--- seats of which none is for heavy hitters have room for everything
-abbrev pub not_heavy : Query → Bool
-not_heavy (Heavy side least) = false
-not_heavy (Share side num den) = false
-not_heavy _ = true
-
-never_heavy : (query : Query) (side : Side) → not_heavy query ≡ true → is_heavy_of query side ≡ false
-never_heavy (Sub lo hi) side is = refl
-never_heavy (Range own lo hi) side is = refl
-never_heavy (F2 own) side is = refl
-never_heavy Inner side is = refl
-never_heavy (Heavy own least) side is = absurd cc
-never_heavy (Share own num den) side is = absurd cc
-
-none_heavy : (seats : List Seated) (side : Side) → IsTrue (list_all not_heavy (map (λ (s : Seated). s.query) seats)) → All (λ s. is_heavy_of s.query side ≡ false) seats
-none_heavy [] side none = All-nil (λ (s : Seated). is_heavy_of s.query side ≡ false)
-none_heavy (s ∷ seats) side none =
-    let both = and_parts (not_heavy s.query) (list_all not_heavy (map (λ (x : Seated). x.query) seats)) none in
-    All-cons (λ (x : Seated). is_heavy_of x.query side ≡ false) s seats (never_heavy s.query side both.0) (none_heavy seats side both.1)
-
-pub no_heavy_seat : (depth : ℕ) (queries : List Query) (blocks : List (List ℕ)) (stream : List Update) (s : Seating)
-    → AreSeats depth queries blocks stream s → IsTrue (list_all not_heavy queries)
-    → (side : Side) (k : ℕ) (d : Seated) → k < length s.seats → IsTrue (is_heavy_of (get_or s.seats k d).query side) → ⊥
-no_heavy_seat depth queries blocks stream s are none side k d lt heavy =
-    let never = none_heavy s.seats side (subst (λ l. IsTrue (list_all not_heavy l)) (sym are.asked) none) k d lt in
-    true≢false (sym heavy ∙ never)

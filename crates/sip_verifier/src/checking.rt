@@ -21,12 +21,14 @@ ghost use Rattle.sip_verifier.specs.Statuses.{Stops, stops_asking};
 ghost use Rattle.sip_verifier.specs.Tasks.{CanBeDone};
 
 use crate::ending::{on_link, on_report, status_of_fault, status_of_start};
+use crate::gathering::gather_into;
 use crate::report::{write_number, write_pairs, write_rejection};
-use crate::{Seats, Session, SessionStart, Status, Task, Verdict, gather};
+use crate::{Seats, Session, SessionStart, Status, Task, Verdict};
 use sip_ports::{Link, PortStop, Sink, Source};
 use sip_vector::{Depth, Query};
 use sip_wire::{Message, Version, encode};
 use std::alloc::Global;
+use std::mem;
 
 /// Asks the next query, which has this number, and writes the line of its verdict.
 fn check_query<L: Link, K: Sink, C: Sink>(
@@ -121,23 +123,23 @@ fn begin(alloc: Global, version: Version, seats: Seats) -> Result<Box<Session>, 
     }
 }
 
-/// The session of the seats that were gathered, if they were. What was gathered is taken whole: it is large, and so the stack has it
-/// once and no longer than until then.
+/// The session of the seats that were gathered, if they were. These are taken from where they stand:
+/// they are large, and an argument would be a second place for them on the stack of the run.
 #[inline(never)]
 fn open(
     alloc: Global,
     version: Version,
-    gathered: Result<Seats, Status>,
+    gathered: &mut Result<Seats, Status>,
 ) -> Result<Box<Session>, Status>
-    requires { IfOk gathered (λ seats. All (λ s. Speaks version seats.depth s.query) seats.seats) }
+    requires { IfOk gathered.old (λ seats. All (λ s. Speaks version seats.depth s.query) seats.seats) }
     ensures { MatchResult result
-        (λ session. (seats : Seating) × (gathered ≡ Ok seats)
+        (λ session. (seats : Seating) × (gathered.old ≡ Ok seats)
         × Starts version seats (Ok session.value))
-        (λ status. (gathered ≡ Err status) ⊎ (seats : Seating) × (start : AnyStart)
-        × (gathered ≡ Ok seats) × Starts version seats (Err start)
+        (λ status. (gathered.old ≡ Err status) ⊎ (seats : Seating) × (start : AnyStart)
+        × (gathered.old ≡ Ok seats) × Starts version seats (Err start)
         × (status ≡ status_of_start start)) }
 {
-    match gathered {
+    match mem::replace(gathered, Err(Status::SeedSpent)) {
         Ok(seats) => match begin(alloc, version, seats) {
             Ok(session) => Ok(session),
             Err(start) => Err(status_of_start(start)),
@@ -185,7 +187,10 @@ fn steps<A: Source, B: Source, L: Link, K: Sink, C: Sink>(
     let levels = task.depth.get();
     prove!(levels >= 1 && levels <= Depth::MOST);
     let version = task.version();
-    let mut session = open(alloc, version, gather(task, first, second, peer, keep))?;
+    // Nothing is gathered yet. What is stays here until the session has it.
+    let mut gathered = Err(Status::SeedSpent);
+    gather_into(task, first, second, peer, keep, &mut gathered);
+    let mut session = open(alloc, version, &mut gathered)?;
     check_all(&mut *session, &task.queries, peer, report, keep)?;
     on_link(say_bye(version, peer))
 }
@@ -229,6 +234,3 @@ pub fn check_stream<A: Source, B: Source, L: Link, K: Sink, C: Sink>(
         Err(status) => status,
     }
 }
-
-#[cfg(test)]
-mod tests;

@@ -216,6 +216,3 @@ impl Feed {
         encode(&Message::EndStream, self.version, link)
     }
 }
-
-#[cfg(test)]
-mod tests;

@@ -11,7 +11,7 @@ ghost use Rattle.sip_stream.specs.declared.fault.StreamFault.{StreamFault as Any
 ghost use Rattle.sip_verifier.specs.inside.Drawing.{AreOf, Draws, HasDrawn};
 ghost use Rattle.sip_verifier.specs.inside.Ending.{status_of_stream};
 ghost use Rattle.sip_verifier.specs.Feeding.{due_with, waiting_with};
-ghost use Rattle.sip_verifier.specs.inside.Passing.{seated, taken_with};
+ghost use Rattle.sip_verifier.specs.inside.Passing.{left, seated, taken_with};
 ghost use Rattle.sip_verifier.specs.QuerySeats.{HaveRoom};
 ghost use Rattle.sip_verifier.specs.Seats.{AreSeats};
 ghost use Rattle.std.specs.Result.{is_err};
@@ -21,9 +21,6 @@ ghost use Rattle.sip_verifier.specs.Keeping.{KeepsHead};
 ghost use Rattle.sip_verifier.specs.Moments.{counts};
 ghost use Rattle.sip_verifier.specs.Statuses.{Stops, stops_following, stops_gathering};
 ghost use Rattle.sip_verifier.specs.Tasks.{CanBeDone};
-
-#[cfg(test)]
-mod tests;
 
 use crate::ending::{on_keep, on_link};
 use crate::{Feed, Port, Seats, Status, Task};
@@ -45,16 +42,23 @@ fn on_stream(read: Result<Option<Update>, StreamFault>) -> Result<Option<Update>
     }
 }
 
-/// Reads 32 bytes of a seed, and draws the challenges of a task from them.
+/// Reads 32 bytes of a seed, draws the challenges of a task from them, and leaves the seats in
+/// `drawn`.
 #[inline(never)]
-fn draw<B: Source>(task: &Task, second: &mut B) -> Result<Seats, Status>
+fn draw<B: Source>(
+    task: &Task,
+    second: &mut B,
+    drawn: &mut Result<Seats, Status>,
+) -> Result<(), Status>
     requires { CanBeDone task.now }
-    ensures draws { (seed : List ℕ) → B.left second.old ≡ Some seed → Draws task.now seed result }
-    ensures seats { IfOk result (AreOf task.now []) }
+    ensures draws { (seed : List ℕ) → B.left second.old ≡ Some seed
+        → Draws task.now seed (left drawn.new result) }
+    ensures seats { IfOk (left drawn.new result) (AreOf task.now []) }
     ensures fault { (first firsts peer peers report reports keep keeps : ℕ)
         → Stops stops_gathering (counts first (B.faults second.old) peer report keep)
-        (counts firsts (B.faults second.new) peers reports keeps) result }
-    ensures memory { result ≡ Err Status.OutOfMemory
+        (counts firsts (B.faults second.new) peers reports keeps)
+        (left drawn.new result) }
+    ensures memory { left drawn.new result ≡ Err Status.OutOfMemory
         → Rose (B.wants second.old) (B.wants second.new) }
     ensures told { IsSome (B.left second.old) → IsSome (B.left second.new) }
     ensures seed { TakesAtMost 32 (B.left second.old) (B.left second.new) }
@@ -70,7 +74,10 @@ fn draw<B: Source>(task: &Task, second: &mut B) -> Result<Seats, Status>
         return Err(Status::BadSeed);
     }
     match Seats::draw(&seed, task.depth, &task.queries) {
-        Ok(seats) => Ok(seats),
+        Ok(seats) => {
+            *drawn = Ok(seats);
+            Ok(())
+        }
         Err(_) => Err(Status::SeedSpent),
     }
 }
@@ -154,6 +161,93 @@ fn follow<A: Source, L: Link>(
     Ok(())
 }
 
+/// All steps of `gather`. The seats are left in `gathered`, as they are where the steps stop.
+fn lead<A: Source, B: Source, L: Link, C: Sink>(
+    task: &Task,
+    first: &mut A,
+    second: &mut B,
+    peer: &mut L,
+    keep: &mut C,
+    gathered: &mut Result<Seats, Status>,
+) -> Result<(), Status>
+    requires { CanBeDone task.now }
+    ensures gathers { (bytes seed : List ℕ) → A.left first.old ≡ Some bytes
+        → B.left second.old ≡ Some seed
+        → Gathers task.now bytes seed (A.left first.new) (L.talk peer.old)
+        (L.talk peer.new) (left gathered.new result) }
+    ensures kept { (seed : List ℕ) → B.left second.old ≡ Some seed
+        → KeepsHead task.now seed (C.talk keep.old) (C.talk keep.new) (left gathered.new result) }
+    ensures fault { (report reports : ℕ) → Stops stops_gathering
+        (counts (A.faults first.old) (B.faults second.old) (L.faults peer.old) report
+        (C.faults keep.old))
+        (counts (A.faults first.new) (B.faults second.new) (L.faults peer.new) reports
+        (C.faults keep.new)) (left gathered.new result) }
+    ensures memory { (left gathered.new result) ≡ Err Status.OutOfMemory
+        → Rose (A.wants first.old) (A.wants first.new)
+        ⊎ Rose (B.wants second.old) (B.wants second.new)
+        ⊎ Rose (L.wants peer.old) (L.wants peer.new)
+        ⊎ Rose (C.wants keep.old) (C.wants keep.new) }
+    ensures seated { IfOk (left gathered.new result) (λ seats. (seats.depth ≡ task.now.depth)
+        × (map (λ s. s.query) seats.seats ≡ task.now.queries.items)) }
+    ensures told { IsSome (A.left first.old) → IsSome (A.left first.new) }
+    ensures also_told { IsSome (B.left second.old) → IsSome (B.left second.new) }
+    ensures seed { TakesAtMost 32 (B.left second.old) (B.left second.new) }
+    ensures first { Lasts A.faults A.wants A.is_sure first.old first.new }
+    ensures second { Lasts B.faults B.wants B.is_sure second.old second.new }
+    ensures peer { Lasts L.faults L.wants L.is_sure peer.old peer.new }
+    ensures keep { Lasts C.faults C.wants C.is_sure keep.old keep.new }
+{
+    draw(task, second, gathered)?;
+    if let Ok(seats) = gathered {
+        on_keep(seats.put_transcript_head(keep))?;
+        follow(task, seats, first, peer)?;
+    }
+    Ok(())
+}
+
+/// [`gather`], but what that answers is left in `gathered`, whatever stood there. So the seats stay
+/// where they were drawn: they are too large to be moved about.
+#[inline(never)]
+pub(crate) fn gather_into<A: Source, B: Source, L: Link, C: Sink>(
+    task: &Task,
+    first: &mut A,
+    second: &mut B,
+    peer: &mut L,
+    keep: &mut C,
+    gathered: &mut Result<Seats, Status>,
+)
+    requires { CanBeDone task.now }
+    ensures gathers { (bytes seed : List ℕ) → A.left first.old ≡ Some bytes
+        → B.left second.old ≡ Some seed
+        → Gathers task.now bytes seed (A.left first.new) (L.talk peer.old)
+        (L.talk peer.new) gathered.new }
+    ensures kept { (seed : List ℕ) → B.left second.old ≡ Some seed
+        → KeepsHead task.now seed (C.talk keep.old) (C.talk keep.new) gathered.new }
+    ensures fault { (report reports : ℕ) → Stops stops_gathering
+        (counts (A.faults first.old) (B.faults second.old) (L.faults peer.old) report
+        (C.faults keep.old))
+        (counts (A.faults first.new) (B.faults second.new) (L.faults peer.new) reports
+        (C.faults keep.new)) gathered.new }
+    ensures memory { gathered.new ≡ Err Status.OutOfMemory
+        → Rose (A.wants first.old) (A.wants first.new)
+        ⊎ Rose (B.wants second.old) (B.wants second.new)
+        ⊎ Rose (L.wants peer.old) (L.wants peer.new)
+        ⊎ Rose (C.wants keep.old) (C.wants keep.new) }
+    ensures seated { IfOk gathered.new (λ seats. (seats.depth ≡ task.now.depth)
+        × (map (λ s. s.query) seats.seats ≡ task.now.queries.items)) }
+    ensures told { IsSome (A.left first.old) → IsSome (A.left first.new) }
+    ensures also_told { IsSome (B.left second.old) → IsSome (B.left second.new) }
+    ensures seed { TakesAtMost 32 (B.left second.old) (B.left second.new) }
+    ensures first { Lasts A.faults A.wants A.is_sure first.old first.new }
+    ensures second { Lasts B.faults B.wants B.is_sure second.old second.new }
+    ensures peer { Lasts L.faults L.wants L.is_sure peer.old peer.new }
+    ensures keep { Lasts C.faults C.wants C.is_sure keep.old keep.new }
+{
+    if let Err(status) = lead(task, first, second, peer, keep, gathered) {
+        *gathered = Err(status);
+    }
+}
+
 /// Draws the challenges from 32 bytes of `second`, writes the head of the run's transcript to `keep`, opens the talk, reads the
 /// stream of `first` to its end, sends it on over `peer` and keeps the seats that stand for it.
 ///
@@ -201,11 +295,8 @@ pub fn gather<A: Source, B: Source, L: Link, C: Sink>(
     ensures peer { Lasts L.faults L.wants L.is_sure peer.old peer.new }
     ensures keep { Lasts C.faults C.wants C.is_sure keep.old keep.new }
 {
-    // The seats stay where they were drawn: they are too large to be moved about.
-    let mut drawn = draw(task, second);
-    if let Ok(seats) = &mut drawn {
-        on_keep(seats.put_transcript_head(keep))?;
-        follow(task, seats, first, peer)?;
-    }
-    drawn
+    // Nothing is drawn yet.
+    let mut gathered = Err(Status::SeedSpent);
+    gather_into(task, first, second, peer, keep, &mut gathered);
+    gathered
 }

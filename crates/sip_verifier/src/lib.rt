@@ -49,6 +49,7 @@ mod task;
 pub use checking::check_stream;
 pub use feed::Feed;
 pub use gathering::gather;
+pub use report::query_word;
 pub use seats::Seats;
 pub use session::{Session, SessionFault, SessionStart, Verdict};
 pub use status::{Port, Status};

@@ -55,8 +55,8 @@ fn put_side(gathered: &mut ArrayVec<u8, ROOM>, side: Side)
     }
 }
 
-// The query's word.
-fn begin(query: &Query) -> ArrayVec<u8, ROOM>
+/// The word that asks a query, as the line of its answer begins with it.
+pub fn query_word(query: &Query) -> ArrayVec<u8, ROOM>
     ensures items { result.items ≡ query_word query.now }
     ensures len { array_vec_len result ≤ 60 }
 {
@@ -122,7 +122,7 @@ pub(crate) fn write_number<K: Sink>(sink: &mut K, query: &Query, value: i64) -> 
     ensures cause { HasCause K.faults K.wants K.is_sure sink.old sink.new result }
 {
     let mut digits = Buffer::new();
-    let mut gathered = begin(query);
+    let mut gathered = query_word(query);
     put(&mut gathered, b" ");
     put(&mut gathered, digits.format(value).as_bytes());
     put(&mut gathered, b"\n");
@@ -144,7 +144,7 @@ pub(crate) fn write_pairs<K: Sink>(
         (K.talk sink.new) result (line query.now (pairs entries.now)) }
     ensures cause { HasCause K.faults K.wants K.is_sure sink.old sink.new result }
 {
-    let mut gathered = begin(query);
+    let mut gathered = query_word(query);
     if entries.is_empty() {
         put(&mut gathered, b" none");
     }
@@ -217,150 +217,4 @@ pub(crate) fn write_rejection<K: Sink>(
     ensures cause { HasCause K.faults K.wants K.is_sure sink.old sink.new result }
 {
     write_whole(sink, rejection_line(query, round, reason).as_slice())
-}
-
-#[cfg(test)]
-mod tests {
-    use super::{write_number, write_pairs, write_rejection};
-    use sip_ports::{MemorySink, PortStop};
-    use sip_vector::{Entry, Query, Side};
-    use sip_wire::Reason;
-    use std::test::Fail;
-
-    #[test]
-    fn writes_pairs_or_none(rt: HostRuntime) -> Result<(), Fail> {
-        let alloc = rt.alloc();
-        let mut sink = MemorySink::new(alloc, 4096, Vec::new(alloc));
-        let entries = [
-            Entry {
-                index: 0,
-                value: -2,
-            },
-            Entry { index: 1, value: 5 },
-        ];
-        let one = [Entry { index: 2, value: 5 }];
-        let heavy = Query::Heavy {
-            side: Side::First,
-            at_least: 9,
-        };
-        assert_eq!(rt;
-            write_pairs(&mut sink, &Query::Sub { lo: 1, hi: 2 }, &one),
-            Ok(())
-        );
-        assert_eq!(rt;
-            write_pairs(&mut sink, &Query::Sub { lo: 0, hi: 3 }, &[]),
-            Ok(())
-        );
-        assert_eq!(rt;
-            write_pairs(&mut sink, &Query::Sub { lo: 0, hi: 1 }, &entries),
-            Ok(())
-        );
-        assert_eq!(rt; write_pairs(&mut sink, &heavy, &[]), Ok(()));
-        let want = b"sub:1:2 2:5\nsub:0:3 none\nsub:0:1 0:-2 1:5\nheavy:0:9 none\n";
-        assert_eq!(rt; sink.bytes(), want.as_slice());
-        Ok(())
-    }
-
-    // A row for each word, with numbers up to the ends of 64 bits.
-    #[test]
-    fn writes_numbers(rt: HostRuntime) -> Result<(), Fail> {
-        let sub = Query::Sub {
-            lo: 0,
-            hi: u64::MAX,
-        };
-        let range = Query::Range {
-            side: Side::Second,
-            lo: 7,
-            hi: 10,
-        };
-        let heavy = Query::Heavy {
-            side: Side::Second,
-            at_least: 9_223_372_036_854_775_807,
-        };
-        let f2 = Query::F2 { side: Side::First };
-        let other_f2 = Query::F2 { side: Side::Second };
-        let rows: [(Query, i64, &[u8]); 6] = [
-            (sub, 1, b"sub:0:18446744073709551615 1\n"),
-            (range, -12, b"range:1:7:10 -12\n"),
-            (f2, i64::MAX, b"f2:0 9223372036854775807\n"),
-            (other_f2, 0, b"f2:1 0\n"),
-            (Query::Inner, i64::MIN, b"inner -9223372036854775808\n"),
-            (heavy, 5, b"heavy:1:9223372036854775807 5\n"),
-        ];
-        let alloc = rt.alloc();
-        for (query, value, want) in &rows {
-            let mut sink = MemorySink::new(alloc, 4096, Vec::new(alloc));
-            assert_eq!(rt; write_number(&mut sink, query, *value), Ok(()));
-            assert_eq!(rt; sink.bytes(), *want);
-        }
-        Ok(())
-    }
-
-    // One byte a call, and the seventh call fails.
-    #[test]
-    fn a_failing_write_leaves_a_front_of_the_line(rt: HostRuntime) -> Result<(), Fail> {
-        let alloc = rt.alloc();
-        let mut sink = MemorySink::new(alloc, 1, vec![in alloc; 7]?);
-        let query = Query::Sub { lo: 1, hi: 2 };
-        let ended = write_pairs(&mut sink, &query, &[Entry { index: 2, value: 5 }]);
-        assert_eq!(rt; ended, Err(PortStop::Failed));
-        assert_eq!(rt; sink.bytes(), b"sub:1:".as_slice());
-        Ok(())
-    }
-
-    // Each reason by its name, in the rounds 0 to 14 of query 16; a refusal with its code.
-    #[test]
-    fn writes_rejections(rt: HostRuntime) -> Result<(), Fail> {
-        let rows: [(Reason, &[u8]); 15] = [
-            (Reason::Closed, b"rejected query 16 round 0 Closed\n"),
-            (Reason::BadKind, b"rejected query 16 round 1 BadKind\n"),
-            (Reason::BadLength, b"rejected query 16 round 2 BadLength\n"),
-            (Reason::BadCount, b"rejected query 16 round 3 BadCount\n"),
-            (Reason::BadNumber, b"rejected query 16 round 4 BadNumber\n"),
-            (
-                Reason::Refused(4),
-                b"rejected query 16 round 5 Refused(4)\n",
-            ),
-            (Reason::BadOrder, b"rejected query 16 round 6 BadOrder\n"),
-            (Reason::TooMany, b"rejected query 16 round 7 TooMany\n"),
-            (Reason::BadFlags, b"rejected query 16 round 8 BadFlags\n"),
-            (
-                Reason::HeavySibling,
-                b"rejected query 16 round 9 HeavySibling\n",
-            ),
-            (Reason::Pairs, b"rejected query 16 round 10 Pairs\n"),
-            (
-                Reason::LightParent,
-                b"rejected query 16 round 11 LightParent\n",
-            ),
-            (Reason::Sum, b"rejected query 16 round 12 Sum\n"),
-            (Reason::Total, b"rejected query 16 round 13 Total\n"),
-            (Reason::Root, b"rejected query 16 round 14 Root\n"),
-        ];
-        let alloc = rt.alloc();
-        let mut round = 0;
-        for (reason, want) in &rows {
-            let mut sink = MemorySink::new(alloc, 4096, Vec::new(alloc));
-            assert_eq!(rt; write_rejection(&mut sink, 16, round, *reason), Ok(()));
-            assert_eq!(rt; sink.bytes(), *want);
-            round = round.saturating_add(1);
-        }
-        Ok(())
-    }
-
-    // A line that is longer than what is gathered: 12 bytes, 300 pairs of 10 bytes, a line feed.
-    #[test]
-    fn a_long_line_is_written_in_parts(rt: HostRuntime) -> Result<(), Fail> {
-        let alloc = rt.alloc();
-        let mut sink = MemorySink::new(alloc, 4096, Vec::new(alloc));
-        let entries = [Entry {
-            index: 123,
-            value: -4567,
-        }; 300];
-        let query = Query::Sub { lo: 100, hi: 1000 };
-        assert_eq!(rt; write_pairs(&mut sink, &query, &entries), Ok(()));
-        assert_eq!(rt; sink.bytes().len(), 12 + 300 * 10 + 1);
-        assert_eq!(rt; sink.bytes().ends_with(b" 123:-4567 123:-4567\n"), true);
-        Ok(())
-    }
 }

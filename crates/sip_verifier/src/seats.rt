@@ -21,7 +21,7 @@ use crate::seat::QuerySeat;
 use arrayvec::ArrayVec;
 use sip_field::{M61, Seat, SeedSpent, draw_challenges};
 use sip_ports::{PortStop, Sink};
-use sip_vector::{CAP, Depth, Query, Side, Update};
+use sip_vector::{CAP, Depth, Query, Side, Update, take_side};
 use sip_wire::{MOST_QUERIES, MOST_ROWS, Version, put_ask, put_head};
 use std::marker::Model;
 
@@ -47,21 +47,6 @@ impl Model for Seats {
     ghost Value = { Seating };
 
     ghost view = { λ s. record { depth = s.depth; seats = s.seats.items } };
-}
-
-/// Writes the updates of one side to the front of `taken`, in order, and says how many they are.
-fn take_side(updates: &[Update], side: Side, taken: &mut [Update; MOST_ROWS]) -> usize
-    requires { length updates.now ≤ most_rows }
-    ensures most { result ≤ most_rows }
-    ensures taken { take result taken.new ≡ of_side updates.now side }
-{
-    // Each is written, and one of the other side is written over: a branch would be guessed wrongly for every other record.
-    let mut count = 0;
-    for update in updates {
-        taken[count] = *update;
-        count += usize::from(update.side == side);
-    }
-    count
 }
 
 impl Seats {
@@ -215,6 +200,3 @@ impl Seats {
         Ok(())
     }
 }
-
-#[cfg(test)]
-mod tests;

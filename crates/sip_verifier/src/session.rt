@@ -283,6 +283,3 @@ impl Session {
         self.judge(link, keep)
     }
 }
-
-#[cfg(test)]
-mod tests;

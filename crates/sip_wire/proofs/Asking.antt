@@ -16,7 +16,7 @@ use Rattle.sip_wire.specs.declared.version.Version.{Version}
 use Rattle.sip_wire.specs.declared.version.Version.TheVariants.{One, Two}
 use Rattle.sip_wire.specs.Versions.{Speaks, deepest, index_width, is_share, needed}
 use Rattle.sip_wire.specs.Table.{query_shape, query_fields, size}
-use Rattle.sip_wire.specs.Spelling.{fits, has_room, all_hold, spelling, query_code, query_numbers}
+use Rattle.sip_wire.specs.Spelling.{fits, fits_shape, has_room, all_hold, spelling, query_code, query_numbers}
 use Rattle.sip_wire.proofs.Shapes.{body_length}
 use Rattle.sip_wire.proofs.ReadingLaws.{length-spelling}
 
@@ -47,6 +47,11 @@ query-fits Two depth (queries.Heavy sides.First at_least) can fit = grind (arith
 query-fits Two depth (queries.Heavy sides.Second at_least) can fit = grind (arith, nat_tests)
 query-fits Two depth (queries.Share sides.First num den) can fit = grind (arith, nat_tests)
 query-fits Two depth (queries.Share sides.Second num den) can fit = grind (arith, nat_tests)
+
+-- a query that has a spelling fits the shape of one
+pub query-shape-fits : (version : Version) (query : Query) → IsTrue (fits version (messages.Query query)) → IsTrue (fits_shape (query_shape version) (query_code query) (query_numbers query))
+unfolding fits
+query-shape-fits version query fit = fit
 
 -- the body of a query has 18 bytes at most
 of_length : (version : Version) (query : Query) → 1 + size (query_fields version (query_code query)) ≤ 18

@@ -11,6 +11,7 @@ pub mod Same
 pub mod ReadingLaws
 pub mod Answering
 pub mod Asking
+pub mod Challenges
 pub mod Made
 pub mod ReadsBack
 pub mod Lengths

@@ -1,14 +1,19 @@
 -- What a frame shows, and what receiving more of it does.
-use Rattle.std.specs.Prelude.{◌≡◌, ℕ, ◌<◌, List, ◌++◌, length, take, Option, Result, MatchResult}
+use Rattle.std.specs.Prelude.{◌≡◌, ℕ, ◌<◌, List, ◌++◌, if◌then◌else◌, length, take, Option, Result, MatchResult}
 use Rattle.sip_ports.specs.declared.port.TalkEvent.{TalkEvent}
 use Rattle.sip_ports.specs.Ports.{GoesOn, ins}
 use Rattle.sip_wire.specs.declared.frame.Frame.{Frame}
+use Rattle.sip_wire.specs.declared.message.Message.{Message}
 use Rattle.sip_wire.specs.declared.message.WireFault.{WireFault}
 use Rattle.sip_wire.specs.Faults.{IsOfLink, ended_by}
 
 -- what was received of it
 abbrev pub frame_bytes : Frame → List ℕ
 frame_bytes f = take f.taken f.buffer.items
+
+-- the message that was read last
+abbrev pub frame_message : Frame → Message
+frame_message f = if f.has_rows then f.rows.value else f.other.value
 
 -- More bytes came behind those before: all that were asked for, or fewer where the link ended or
 -- stopped.

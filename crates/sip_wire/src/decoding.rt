@@ -2,7 +2,7 @@
 
 ghost use Rattle.std.specs.Prelude.{◌≡◌, ◌≤◌, Err, ◌-◌, IsTrue, drop, length};
 ghost use Rattle.sip_ports.specs.Ports.{Lasts, Rose};
-ghost use Rattle.sip_wire.specs.Frames.{frame_bytes};
+ghost use Rattle.sip_wire.specs.Frames.{frame_bytes, frame_message};
 ghost use Rattle.sip_wire.specs.Spelling.{ReadsBody};
 ghost use Rattle.sip_wire.specs.Table.{shape};
 ghost use Rattle.sip_wire.specs.Filling.{filled};
@@ -55,20 +55,24 @@ pub(crate) fn read_message(
     read_body(version, kind, &bytes[HEAD..], message)
 }
 
-/// Receives exactly one frame of a version into `frame`, and reads its message into `message`.
+/// Receives exactly one frame of a version into `frame`, and reads its message, which `frame` has
+/// after an `Ok` ([`Frame::message`]).
 ///
-/// It is [`decode`] for one frame after the other: what it would answer is in `message` after an
-/// `Ok`, and where the frame has rows of the same kind as `message` they are read in place of
-/// those, so that nothing is moved. After an `Err` the message is any.
-pub fn decode_into<L: Link>(
+/// It receives three bytes, and then a body of the stated length if the place allows the kind and
+/// the kind has the length. The faults of the bytes are tested in the order of [`WireFault`], the
+/// count before the numbers. `Closed` comes exactly where the link ended inside the frame,
+/// `PeerFault` only where the count of its faults rose, and `OutOfMemory` only where the count of
+/// its wants did; at these two the frame was not received whole. Whatever the answer, `frame` shows
+/// what was received, and what follows is still on the link. No memory is taken. After an `Err` the
+/// message of `frame` is any.
+pub fn decode_within<L: Link>(
     link: &mut L,
     place: Place,
     version: Version,
     frame: &mut Frame,
-    message: &mut Message,
 ) -> Result<(), WireFault>
     ensures did { Decodes version place (L.talk link.old) (L.talk link.new) (L.faults link.old)
-        (L.faults link.new) (frame_bytes frame.new) (filled message.new result) }
+        (L.faults link.new) (frame_bytes frame.new) (filled (frame_message frame.new) result) }
     ensures memory { result ≡ Err WireFault.OutOfMemory
         → Rose (L.wants link.old) (L.wants link.new) }
     ensures lasts { Lasts L.faults L.wants L.is_sure link.old link.new }
@@ -77,17 +81,11 @@ pub fn decode_into<L: Link>(
     frame.receive(link, HEAD)?;
     let (kind, len) = head_of(version, place, frame.bytes())?;
     frame.receive(link, HEAD + len)?;
-    read_message(version, kind, frame.bytes(), message)
+    frame.read(version, kind)
 }
 
-/// Receives exactly one frame of a version into `frame`, and answers its message.
-///
-/// It receives three bytes, and then a body of the stated length if the place allows the kind and
-/// the kind has the length. The faults of the bytes are tested in the order of [`WireFault`], the
-/// count before the numbers. `Closed` comes exactly where the link ended inside the frame,
-/// `PeerFault` only where the count of its faults rose, and `OutOfMemory` only where the count of
-/// its wants did; at these two the frame was not received whole. Whatever the answer, `frame` shows
-/// what was received, and what follows is still on the link. No memory is taken.
+/// Receives exactly one frame of a version into `frame`, as [`decode_within`], and answers its
+/// message, which is moved.
 pub fn decode<L: Link>(
     link: &mut L,
     place: Place,
@@ -100,9 +98,8 @@ pub fn decode<L: Link>(
         → Rose (L.wants link.old) (L.wants link.new) }
     ensures lasts { Lasts L.faults L.wants L.is_sure link.old link.new }
 {
-    let mut message = Message::Bye;
-    match decode_into(link, place, version, frame, &mut message) {
-        Ok(()) => Ok(message),
+    match decode_within(link, place, version, frame) {
+        Ok(()) => Ok(frame.take_message()),
         Err(fault) => Err(fault),
     }
 }

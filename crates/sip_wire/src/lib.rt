@@ -3,10 +3,12 @@
 //! A frame is the kind (1 byte), the length of the body (2 bytes) and the body, numbers with the
 //! high byte first. [`encode`] writes the one spelling of a message in one piece, and [`decode`]
 //! receives exactly one frame into a [`Frame`] and answers its message or its first fault.
-//! [`decode_into`] reads it into a message of the caller's, and [`encode_updates`] writes updates
-//! where they lie: with these a stream of updates is received and sent without a message being
-//! moved. [`read`] answers the message of a frame that is at hand. [`put_head`] and [`put_ask`]
-//! write the two parts of a transcript's head. Only [`Frame::new`] takes memory.
+//! [`decode_within`] leaves the message in the frame ([`Frame::message`]), and [`encode_updates`]
+//! writes updates where they lie: with these a stream of updates is received and sent without a
+//! message being moved. A message is as large as the longest frame's rows, so [`encode_query`] and
+//! [`encode_reveal`] write what is asked without one. [`read`] answers the message of a frame that
+//! is at hand. [`put_head`] and [`put_ask`] write the two parts of a transcript's head. Only
+//! [`Frame::new`] takes memory.
 //!
 //! # What is proved
 //!
@@ -16,8 +18,9 @@
 //!   receives no byte that the answer does not need.
 //! - `read` answers the message whose spelling the bytes are, or the fault that `read_frame` gives
 //!   for them, `Closed` exactly where the frame has more bytes than these.
-//! - `decode_into` and `encode_updates` have the same clauses, over the message as it was left
-//!   (`filled`) and over a slice.
+//! - `decode_within` has the same clauses as `decode`, over the message that the frame then has
+//!   (`frame_message`), and `encode_updates`, `encode_query` and `encode_reveal` those of `encode`,
+//!   over a slice, a query and a challenge.
 //! - No spelling begins another, a spelling is read as its message whatever follows, and what is
 //!   read is spelled in front of the bytes ([`laws`]).
 //! - The frames of a whole talk by hand are the spellings of their messages ([`examples`]).
@@ -56,8 +59,8 @@ mod version;
 mod writing;
 
 pub use at_hand::{frame_length, read};
-pub use decoding::{decode, decode_into};
-pub use encoding::{encode, encode_updates};
+pub use decoding::{decode, decode_within};
+pub use encoding::{encode, encode_query, encode_reveal, encode_updates};
 pub use frame::{Frame, LONGEST_FRAME};
 pub use kind::Place;
 pub use message::{Leaf, MOST_NODES, MOST_QUERIES, MOST_ROWS, Message, Node, Reason, WireFault};

@@ -4,7 +4,7 @@
 ghost use Rattle.std.specs.Prelude.{◌≡◌, ◌≤◌, ◌<◌, ◌^◌, ◌+◌, ◌++◌, length, drop};
 ghost use Rattle.byteorder.specs.Endian.{big_number};
 ghost use Rattle.arrayvec.specs.ArrayVec.{array_vec_len};
-ghost use Rattle.sip_wire.specs.Table.{longest_frame, is_element as element, is_small as small};
+ghost use Rattle.sip_wire.specs.Table.{is_element as element, is_small as small};
 ghost use Rattle.sip_wire.specs.Spelling.{in_bytes};
 ghost use Rattle.sip_wire.specs.Versions.{index_width};
 
@@ -13,9 +13,17 @@ use crate::frame::LONGEST_FRAME;
 use arrayvec::ArrayVec;
 use byteorder::{BigEndian, ByteOrder};
 use sip_field::{Field, M61};
+use sip_vector::CAP;
 
-/// The bytes of a frame that is being written.
+/// The bytes of any frame that is being written.
 pub type Bytes = ArrayVec<u8, LONGEST_FRAME>;
+
+/// How many bytes a query and its challenges have at most: the frame of one about a range has 21
+/// with wide items, and each challenge has 8.
+pub const LONGEST_ASK: usize = 21 + 8 * CAP;
+
+/// The bytes of a query that is being written, and of its challenges.
+pub type AskBytes = ArrayVec<u8, LONGEST_ASK>;
 
 /// Whether a number is an element of the field.
 pub fn is_element(number: u64) -> bool
@@ -83,8 +91,8 @@ pub fn take_index(version: Version, bytes: &[u8]) -> (u64, &[u8])
 }
 
 /// Appends bytes that there is room for.
-fn put_all(out: &mut Bytes, bytes: &[u8])
-    requires { array_vec_len out.old + length bytes.now ≤ longest_frame }
+fn put_all<const ROOM: usize>(out: &mut ArrayVec<u8, ROOM>, bytes: &[u8])
+    requires { array_vec_len out.old + length bytes.now ≤ ROOM }
     ensures bytes { out.new.items ≡ out.old.items ++ bytes.now }
     ensures len { array_vec_len out.new ≡ array_vec_len out.old + length bytes.now }
 {
@@ -92,8 +100,8 @@ fn put_all(out: &mut Bytes, bytes: &[u8])
 }
 
 /// Appends a byte.
-pub fn put_u8(out: &mut Bytes, n: u8)
-    requires { array_vec_len out.old + 1 ≤ longest_frame }
+pub fn put_u8<const ROOM: usize>(out: &mut ArrayVec<u8, ROOM>, n: u8)
+    requires { array_vec_len out.old + 1 ≤ ROOM }
     ensures bytes { out.new.items ≡ out.old.items ++ in_bytes 1 n }
     ensures len { array_vec_len out.new ≡ array_vec_len out.old + 1 }
 {
@@ -101,8 +109,8 @@ pub fn put_u8(out: &mut Bytes, n: u8)
 }
 
 /// Appends a number of two bytes.
-pub fn put_u16(out: &mut Bytes, n: u16)
-    requires { array_vec_len out.old + 2 ≤ longest_frame }
+pub fn put_u16<const ROOM: usize>(out: &mut ArrayVec<u8, ROOM>, n: u16)
+    requires { array_vec_len out.old + 2 ≤ ROOM }
     ensures bytes { out.new.items ≡ out.old.items ++ in_bytes 2 n }
     ensures len { array_vec_len out.new ≡ array_vec_len out.old + 2 }
 {
@@ -110,8 +118,8 @@ pub fn put_u16(out: &mut Bytes, n: u16)
 }
 
 /// Appends a number of four bytes.
-pub fn put_u32(out: &mut Bytes, n: u32)
-    requires { array_vec_len out.old + 4 ≤ longest_frame }
+pub fn put_u32<const ROOM: usize>(out: &mut ArrayVec<u8, ROOM>, n: u32)
+    requires { array_vec_len out.old + 4 ≤ ROOM }
     ensures bytes { out.new.items ≡ out.old.items ++ in_bytes 4 n }
     ensures len { array_vec_len out.new ≡ array_vec_len out.old + 4 }
 {
@@ -119,8 +127,8 @@ pub fn put_u32(out: &mut Bytes, n: u32)
 }
 
 /// Appends a number of eight bytes.
-pub fn put_u64(out: &mut Bytes, n: u64)
-    requires { array_vec_len out.old + 8 ≤ longest_frame }
+pub fn put_u64<const ROOM: usize>(out: &mut ArrayVec<u8, ROOM>, n: u64)
+    requires { array_vec_len out.old + 8 ≤ ROOM }
     ensures bytes { out.new.items ≡ out.old.items ++ in_bytes 8 n }
     ensures len { array_vec_len out.new ≡ array_vec_len out.old + 8 }
 {
@@ -128,9 +136,9 @@ pub fn put_u64(out: &mut Bytes, n: u64)
 }
 
 /// Appends an index.
-pub fn put_index(version: Version, out: &mut Bytes, index: u64)
+pub fn put_index<const ROOM: usize>(version: Version, out: &mut ArrayVec<u8, ROOM>, index: u64)
     requires fits { index < 256 ^ index_width version }
-    requires room { array_vec_len out.old + index_width version ≤ longest_frame }
+    requires room { array_vec_len out.old + index_width version ≤ ROOM }
     ensures bytes { out.new.items ≡ out.old.items ++ in_bytes (index_width version) index }
     ensures len { array_vec_len out.new ≡ array_vec_len out.old + index_width version }
 {

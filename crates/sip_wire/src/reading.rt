@@ -1,8 +1,9 @@
 //! From the body of a frame to its message, which is written where a message of the caller's lies.
 #![tactic(auto, unfolding(crate::specs::Spelling::body_fault, crate::specs::Spelling::numbers_in, crate::specs::Spelling::all_hold))]
 
-ghost use Rattle.std.specs.Prelude.{◌≡◌, ◌≤◌, ◌+◌, ◌*◌, IsTrue, length};
+ghost use Rattle.std.specs.Prelude.{◌≡◌, ◌≤◌, ◌+◌, ◌*◌, [], IsTrue, length};
 ghost use Rattle.sip_wire.specs.declared.kind.Kind.TheVariants as kinds;
+ghost use Rattle.sip_wire.specs.declared.message.Message.TheVariants as messages;
 ghost use Rattle.sip_wire.specs.Table.{query_shape, shape};
 ghost use Rattle.sip_wire.specs.Versions.{index_width};
 ghost use Rattle.sip_wire.specs.Filling.{filled};
@@ -17,6 +18,62 @@ use crate::row::side_of;
 use crate::rows::fill_counted;
 use arrayvec::ArrayVec;
 use sip_vector::Query;
+
+// A message is as large as the longest frame's rows, and making one zeroes all of it. What comes
+// once a round is written in place where the message is of its kind.
+
+#[inline(never)]
+fn set_reveal(message: &mut Message, number: u64)
+    ensures { message.new ≡ messages.Reveal number }
+{
+    if let Message::Reveal { challenge } = message {
+        *challenge = number;
+        return;
+    }
+    *message = Message::Reveal { challenge: number };
+}
+
+#[inline(never)]
+fn set_poly(message: &mut Message, a: u64, b: u64, c: u64)
+    ensures { message.new ≡ messages.Poly a b c }
+{
+    if let Message::Poly { c0, c1, c2 } = message {
+        *c0 = a;
+        *c1 = b;
+        *c2 = c;
+        return;
+    }
+    *message = Message::Poly {
+        c0: a,
+        c1: b,
+        c2: c,
+    };
+}
+
+#[inline(never)]
+fn set_siblings(message: &mut Message, below: Option<u64>, above: Option<u64>)
+    ensures { message.new ≡ messages.Siblings below above }
+{
+    if let Message::Siblings { left, right } = message {
+        *left = below;
+        *right = above;
+        return;
+    }
+    *message = Message::Siblings {
+        left: below,
+        right: above,
+    };
+}
+
+#[inline(never)]
+fn set_level_end(message: &mut Message)
+    ensures { message.new ≡ messages.LevelEnd }
+{
+    if let Message::LevelEnd = message {
+        return;
+    }
+    *message = Message::LevelEnd;
+}
 
 fn read_open(version: Version, body: &[u8], message: &mut Message) -> Result<(), WireFault>
     requires { length body.now ≡ 2 }
@@ -42,7 +99,7 @@ fn read_reveal(version: Version, body: &[u8], message: &mut Message) -> Result<(
     if !is_element(challenge) {
         return Err(WireFault::BadNumber);
     }
-    *message = Message::Reveal { challenge };
+    set_reveal(message, challenge);
     Ok(())
 }
 
@@ -70,7 +127,7 @@ fn read_poly(version: Version, body: &[u8], message: &mut Message) -> Result<(),
     if !is_element(c0) || !is_element(c1) || !is_element(c2) {
         return Err(WireFault::BadNumber);
     }
-    *message = Message::Poly { c0, c1, c2 };
+    set_poly(message, c0, c1, c2);
     Ok(())
 }
 
@@ -93,10 +150,7 @@ fn read_siblings(version: Version, body: &[u8], message: &mut Message) -> Result
     let (flags, rest) = take_u8(body);
     match (flags, body.len()) {
         (0, 1) => {
-            *message = Message::Siblings {
-                left: None,
-                right: None,
-            };
+            set_siblings(message, None, None);
             Ok(())
         }
         (1, 9) => {
@@ -104,10 +158,7 @@ fn read_siblings(version: Version, body: &[u8], message: &mut Message) -> Result
             if !is_element(left) {
                 return Err(WireFault::BadNumber);
             }
-            *message = Message::Siblings {
-                left: Some(left),
-                right: None,
-            };
+            set_siblings(message, Some(left), None);
             Ok(())
         }
         (2, 9) => {
@@ -115,10 +166,7 @@ fn read_siblings(version: Version, body: &[u8], message: &mut Message) -> Result
             if !is_element(right) {
                 return Err(WireFault::BadNumber);
             }
-            *message = Message::Siblings {
-                left: None,
-                right: Some(right),
-            };
+            set_siblings(message, None, Some(right));
             Ok(())
         }
         (3, 17) => {
@@ -127,10 +175,7 @@ fn read_siblings(version: Version, body: &[u8], message: &mut Message) -> Result
             if !is_element(left) || !is_element(right) {
                 return Err(WireFault::BadNumber);
             }
-            *message = Message::Siblings {
-                left: Some(left),
-                right: Some(right),
-            };
+            set_siblings(message, Some(left), Some(right));
             Ok(())
         }
         _ => Err(WireFault::BadCount),
@@ -261,7 +306,14 @@ fn read_query(version: Version, body: &[u8], message: &mut Message) -> Result<()
 }
 
 // Rows are read into those of the message where it is of their kind, so that a frame like the last
-// one moves nothing.
+// one moves nothing. Where it is of another kind it is made anew, in a call of its own.
+
+#[inline(never)]
+fn begin_updates(message: &mut Message)
+    ensures { message.new ≡ messages.Updates (record { items = [] }) }
+{
+    *message = Message::Updates(ArrayVec::new());
+}
 
 fn read_updates(version: Version, body: &[u8], message: &mut Message) -> Result<(), WireFault>
     requires { 2 ≤ length body.now }
@@ -270,10 +322,18 @@ fn read_updates(version: Version, body: &[u8], message: &mut Message) -> Result<
     if let Message::Updates(rows) = message {
         return fill_counted(version, body, rows);
     }
-    let mut rows = ArrayVec::new();
-    fill_counted(version, body, &mut rows)?;
-    *message = Message::Updates(rows);
-    Ok(())
+    begin_updates(message);
+    match message {
+        Message::Updates(rows) => fill_counted(version, body, rows),
+        _ => unreachable!(),
+    }
+}
+
+#[inline(never)]
+fn begin_entries(message: &mut Message)
+    ensures { message.new ≡ messages.Entries (record { items = [] }) }
+{
+    *message = Message::Entries(ArrayVec::new());
 }
 
 fn read_entries(version: Version, body: &[u8], message: &mut Message) -> Result<(), WireFault>
@@ -283,10 +343,18 @@ fn read_entries(version: Version, body: &[u8], message: &mut Message) -> Result<
     if let Message::Entries(rows) = message {
         return fill_counted(version, body, rows);
     }
-    let mut rows = ArrayVec::new();
-    fill_counted(version, body, &mut rows)?;
-    *message = Message::Entries(rows);
-    Ok(())
+    begin_entries(message);
+    match message {
+        Message::Entries(rows) => fill_counted(version, body, rows),
+        _ => unreachable!(),
+    }
+}
+
+#[inline(never)]
+fn begin_leaves(message: &mut Message)
+    ensures { message.new ≡ messages.Leaves (record { items = [] }) }
+{
+    *message = Message::Leaves(ArrayVec::new());
 }
 
 fn read_leaves(version: Version, body: &[u8], message: &mut Message) -> Result<(), WireFault>
@@ -296,10 +364,18 @@ fn read_leaves(version: Version, body: &[u8], message: &mut Message) -> Result<(
     if let Message::Leaves(rows) = message {
         return fill_counted(version, body, rows);
     }
-    let mut rows = ArrayVec::new();
-    fill_counted(version, body, &mut rows)?;
-    *message = Message::Leaves(rows);
-    Ok(())
+    begin_leaves(message);
+    match message {
+        Message::Leaves(rows) => fill_counted(version, body, rows),
+        _ => unreachable!(),
+    }
+}
+
+#[inline(never)]
+fn begin_nodes(message: &mut Message)
+    ensures { message.new ≡ messages.Nodes (record { items = [] }) }
+{
+    *message = Message::Nodes(ArrayVec::new());
 }
 
 fn read_nodes(version: Version, body: &[u8], message: &mut Message) -> Result<(), WireFault>
@@ -309,10 +385,11 @@ fn read_nodes(version: Version, body: &[u8], message: &mut Message) -> Result<()
     if let Message::Nodes(rows) = message {
         return fill_counted(version, body, rows);
     }
-    let mut rows = ArrayVec::new();
-    fill_counted(version, body, &mut rows)?;
-    *message = Message::Nodes(rows);
-    Ok(())
+    begin_nodes(message);
+    match message {
+        Message::Nodes(rows) => fill_counted(version, body, rows),
+        _ => unreachable!(),
+    }
 }
 
 /// Reads the message of a body that is as long as its kind has it. After a fault `message` is any.
@@ -345,7 +422,7 @@ pub fn read_body(
         Kind::Leaves => read_leaves(version, body, message),
         Kind::Nodes => read_nodes(version, body, message),
         Kind::LevelEnd => {
-            *message = Message::LevelEnd;
+            set_level_end(message);
             Ok(())
         }
         Kind::Refuse => read_refuse(version, body, message),

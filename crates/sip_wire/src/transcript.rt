@@ -8,9 +8,8 @@ ghost use Rattle.sip_wire.specs.Versions.{Speaks, deepest};
 ghost use Rattle.sip_wire.specs.Transcript.{head_bytes, ask_bytes};
 
 use crate::Version;
-use crate::encoding::put_frame;
-use crate::message::Message;
-use crate::numbers::put_u64;
+use crate::encoding::put_query_frame;
+use crate::numbers::{AskBytes, put_u64};
 use arrayvec::ArrayVec;
 use sip_field::{Field, M61, Seat};
 use sip_ports::{PortStop, Sink, write_whole};
@@ -58,8 +57,8 @@ pub fn put_ask<K: Sink>(
     ensures cause { HasCause K.faults K.wants K.is_sure sink.old sink.new result }
 {
     let depth = seat.depth();
-    let mut out = ArrayVec::new();
-    put_frame(version, &Message::Query(*query), &mut out);
+    let mut out: AskBytes = ArrayVec::new();
+    put_query_frame(version, *query, &mut out);
     for level in 0..depth {
         put_u64(&mut out, seat.at(level + 1).number());
     }

@@ -13,10 +13,11 @@ use crate::message::{Leaf, Message, Node};
 use crate::numbers::{Bytes, put_index, put_u8, put_u32, put_u64};
 use crate::row::{Row, number_of};
 use crate::rows::put_counted;
+use arrayvec::ArrayVec;
 use sip_vector::{Entry, Query, Update};
 
 /// How many bytes the body of a query has.
-fn query_len(version: Version, query: Query) -> usize
+pub fn query_len(version: Version, query: Query) -> usize
     ensures { result ≡ 1 + size (query_fields version (query_code query)) }
 {
     match query {
@@ -64,10 +65,10 @@ pub fn body_len(version: Version, message: &Message) -> usize
 }
 
 /// Appends the body of a query.
-fn put_query(version: Version, query: Query, out: &mut Bytes)
+pub fn put_query<const ROOM: usize>(version: Version, query: Query, out: &mut ArrayVec<u8, ROOM>)
     requires fits { IsTrue (fits_shape (query_shape version) (query_code query)
         (query_numbers query)) }
-    requires room { array_vec_len out.old + 18 ≤ longest_frame }
+    requires room { array_vec_len out.old + 18 ≤ ROOM }
     ensures { out.new.items ≡ out.old.items ++ body_in (query_shape version) (query_code query)
         (query_numbers query) }
 {

@@ -28,6 +28,12 @@ abbrev pub Fitted : Verb → List (List ℕ) → Type 0
 Fitted verb words =
     (word words 0 ≡ verb_word verb) × HaveShapes (shapes verb) words (length (shapes verb))
 
+-- behind the verb stands a name alone
+pub record TakesName (verb : Verb) : Type 0 where
+  pub shaped : shapes verb ≡ Name ∷ []
+  pub least : least_asked verb ≡ 0
+  pub most : most_asked verb ≡ 0
+
 -- behind the verb stand a stream and a depth, and no queries
 pub record TakesStream (verb : Verb) : Type 0 where
   pub shaped : shapes verb ≡ Stream ∷ Depth ∷ []

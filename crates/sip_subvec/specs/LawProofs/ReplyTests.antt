@@ -11,18 +11,10 @@ use Rattle.sip_wire.specs.declared.message.Reason.{Reason}
 use Rattle.sip_wire.specs.declared.message.Reason.TheVariants as reasons
 use Rattle.sip_replies.specs.declared.check.More.{More}
 use Rattle.sip_replies.specs.declared.check.More.TheVariants as mores
+use Rattle.sip_replies.specs.LawProofs.Refusals.{same_err, wrong_kind}
 use Rattle.sip_subvec.specs.AcceptsSub.{Siblings, Stated, gives_root}
 use Rattle.sip_subvec.specs.Protocol.{SubAsked, at_level, entries_step, sub_protocol}
 use Rattle.sip_subvec.specs.Replies.{with_entries, are_asked, most_entries}
-
--- two refusals that are the same have the same reason
-pub same_err : {X : Type 0} (a b : Reason) → ◌≡◌ {A = Result X Reason} (Err a) (Err b) → a ≡ b
-same_err a b e = cc
-
--- a frame of a wrong kind
-wrong_kind : {X : Type 0} (reason : Reason) → ◌≡◌ {A = Result X Reason} (Err reasons.BadKind)
-    (Err reason) → reason ≢ reasons.Closed
-wrong_kind reason e c = let f = same_err reasons.BadKind reason e in cc
 
 -- ---- the tests of a frame
 

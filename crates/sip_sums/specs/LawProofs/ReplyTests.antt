@@ -9,17 +9,9 @@ use Rattle.sip_wire.specs.declared.message.Reason.{Reason}
 use Rattle.sip_wire.specs.declared.message.Reason.TheVariants as reasons
 use Rattle.sip_replies.specs.declared.check.More.{More}
 use Rattle.sip_replies.specs.declared.check.More.TheVariants as mores
+use Rattle.sip_replies.specs.LawProofs.Refusals.{same_err, wrong_kind}
 use Rattle.sip_sums.specs.AcceptsSum.{Coefficients, sum_of_ends}
 use Rattle.sip_sums.specs.Protocol.{SumAsked, SumState, claim_step, claimed, poly_step, sum_protocol}
-
--- two refusals that are the same have the same reason
-same_err : {X : Type 0} (a b : Reason) → ◌≡◌ {A = Result X Reason} (Err a) (Err b) → a ≡ b
-same_err a b e = cc
-
--- a frame of a wrong kind
-wrong_kind : {X : Type 0} (reason : Reason) → ◌≡◌ {A = Result X Reason} (Err reasons.BadKind)
-    (Err reason) → reason ≢ reasons.Closed
-wrong_kind reason e c = let f = same_err reasons.BadKind reason e in cc
 
 -- ---- the tests of a frame
 

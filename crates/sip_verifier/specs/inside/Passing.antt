@@ -1,5 +1,5 @@
--- What the seats take of one more record, and what a call that keeps them answers. (For the proof of
--- `gather` alone.)
+-- What the seats take of one more record, and what a call that keeps them answers. (For the proofs of
+-- `gather` and its parts alone.)
 use Rattle.std.specs.Prelude.{List, [], ◌∷◌, ◌++◌, Result, Ok, Err, if◌then◌else◌}
 use Rattle.sip_vector.specs.declared.update.Update.{Update}
 use Rattle.sip_verifier.specs.declared.status.Status.{Status}
@@ -14,3 +14,8 @@ taken_with waiting u = if fills waiting then waiting ++ u ∷ [] else []
 abbrev pub seated : Seating → Result Unit Status → Result Seating Status
 seated seats (Ok _) = Ok seats
 seated seats (Err status) = Err status
+
+-- what a call answers that gathers at a place: what it left there, or why it stopped since
+abbrev pub left : Result Seating Status → Result Unit Status → Result Seating Status
+left gathered (Ok _) = gathered
+left gathered (Err status) = Err status

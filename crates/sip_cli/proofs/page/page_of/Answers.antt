@@ -1,10 +1,11 @@
-use Rattle.std.proofs.Common.{ap, refl, ◌∙◌, [], ◌∷◌}
-use Rattle.sip_cli.specs.Pages.{help_word, version_word}
-use Rattle.sip_cli.proofs.Alone.{refused_alone}
+use Rattle.sip_cli.proofs.Alone.{refused_text, part_is_text}
 use Rattle.sip_cli.proofs.page.page_of.Goals as goal
 
-pub returns-in-text-clause-refused : goal.returns-in-text-clause-refused
-returns-in-text-clause-refused c = λ _. refused_alone c.args.words.now help_word (c.in_ok-only.ensures ∙ ap (λ w. w ∷ []) c.in-text.is) refl
+pub returns-in-Some-clause-alone : goal.returns-in-Some-clause-alone
+returns-in-Some-clause-alone c = λ w some is. refused_text c.args.words.now c.in-Some.word.now c.in-Some.ensures (c.text_alone.ensures.only some)
 
-pub returns-in-text-2-clause-refused : goal.returns-in-text-2-clause-refused
-returns-in-text-2-clause-refused c = λ _. refused_alone c.args.words.now version_word (c.in_ok-only.ensures ∙ ap (λ w. w ∷ []) c.in-text-2.is) refl
+pub returns-in-Some-clause-refused : goal.returns-in-Some-clause-refused
+returns-in-Some-clause-refused c = λ some. (0, refused_text c.args.words.now c.in-Some.word.now c.in-Some.ensures (c.text_alone.ensures.only some))
+
+pub returns-in-None-clause-only : goal.returns-in-None-clause-only
+returns-in-None-clause-only c = λ some. part_is_text c.args.words.now c.part_asked.result c.part_asked.ensures.only some

@@ -2,7 +2,7 @@
 use Rattle.std.proofs.Common.{[]}
 use Rattle.sip_ports.proofs.TalkLemmas.{GoesOn-refl}
 use Rattle.sip_verifier.proofs.RunTalks.{tells}
-use Rattle.sip_cli.proofs.RunLemmas.{verify_keeps, play_keeps, help_keeps, copy_keeps}
+use Rattle.sip_cli.proofs.RunLemmas.{verify_keeps, play_keeps, help_keeps, copy_keeps, transcript_keeps}
 use Rattle.sip_cli.proofs.top.obey.Goals as goal
 
 pub returns-in-Verify-clause-keeps : goal.returns-in-Verify-clause-keeps
@@ -14,6 +14,18 @@ returns-in-Play-clause-keeps g c = play_keeps _ _ c.in-Play.is c.check_stream-in
 pub returns-in-Help-clause-keeps : goal.returns-in-Help-clause-keeps
 returns-in-Help-clause-keeps g c =
     help_keeps c.in-Help.is c.help.ensures.help (λ is. let said = c.help.ensures.said in tells _ _ is (λ some. some) said.0 said.1 [] (GoesOn-refl _) [] (GoesOn-refl _)) (c.help.ensures.fault _ _ _ _ _ _ _ _) c.help.ensures.listed
+
+pub returns-in-Show-clause-keeps : goal.returns-in-Show-clause-keeps
+returns-in-Show-clause-keeps g c =
+    transcript_keeps _ c.in-Show.is c.show.ensures.writes
+    (λ is. let wrote = c.show.ensures.wrote is.second in tells _ _ is (λ some. some) [] (GoesOn-refl _) wrote.0 wrote.1 [] (GoesOn-refl _))
+    (c.show.ensures.fault _ _ _ _ _ _) c.show.ensures.listed
+
+pub returns-in-Convert-clause-keeps : goal.returns-in-Convert-clause-keeps
+returns-in-Convert-clause-keeps g c =
+    transcript_keeps _ c.in-Convert.is c.convert.ensures.writes
+    (λ is. let wrote = c.convert.ensures.wrote is.second in tells _ _ is (λ some. some) [] (GoesOn-refl _) wrote.0 wrote.1 [] (GoesOn-refl _))
+    (c.convert.ensures.fault _ _ _ _ _ _) c.convert.ensures.listed
 
 pub returns-in-Gen-clause-keeps : goal.returns-in-Gen-clause-keeps
 returns-in-Gen-clause-keeps g c =

@@ -1,5 +1,6 @@
-use Rattle.std.proofs.Common.{◌≡◌, Ok, refl, subst, ◌∙◌}
+use Rattle.std.proofs.Common.{◌≡◌, Ok, refl, sym, subst, ◌∙◌}
 use Rattle.sip_ports.proofs.FaultLemmas.{Lasts-refl, Lasts-trans}
+use Rattle.sip_wire.specs.declared.message.Message.{Message}
 use Rattle.sip_replies.specs.Protocols.{after}
 use Rattle.sip_replies.specs.Checks.{Steps}
 use Rattle.sip_replies.specs.Replies.{read_one, read_reply}
@@ -35,10 +36,11 @@ returns-in_err-take-clause-took g c asked s same stands =
     let entered = c.loop-check.invariant.entered asked s same stands in
     let reason = c.in_err-take.field-0.0 in
     let came = c.in_ok-receive.ensures.took in
+    let shows = subst (λ (m : Message). Shows c.args.version m came.0) (sym c.message.ensures) came.2 in
     let step = c.in_err-take.ensures.took asked entered.state entered.stands in
-    let fails = stepped_err (R.step entered.state c.receive.new.message) (λ t. g.C.Check.stands asked t c.take.new.self c.take.new.places) reason step in
-    Takes-refused R s _ _ _ _ _ _ _ entered c.args.version same c.place.result (c.place.ensures asked entered.state c.loop-check.places entered.stands) c.receive.new.message came.0 came.1 came.2
-    (λ _ t. g.C.Check.stands asked t c.take.new.self c.take.new.places) c.from_residual-in_err-take.result reason fails (g.met.C.Check.tests asked entered.state c.receive.new.message reason fails) c.from_residual-in_err-take.ensures.1
+    let fails = stepped_err (R.step entered.state c.message.result.now) (λ t. g.C.Check.stands asked t c.take.new.self c.take.new.places) reason step in
+    Takes-refused R s _ _ _ _ _ _ _ entered c.args.version same c.place.result (c.place.ensures asked entered.state c.loop-check.places entered.stands) c.message.result.now came.0 came.1 shows
+    (λ _ t. g.C.Check.stands asked t c.take.new.self c.take.new.places) c.from_residual-in_err-take.result reason fails (g.met.C.Check.tests asked entered.state c.message.result.now reason fails) c.from_residual-in_err-take.ensures.1
 
 pub loop-check-preserved : goal.loop-check-preserved
 loop-check-preserved g c = record {
@@ -46,14 +48,15 @@ loop-check-preserved g c = record {
       let R = (g.C.Check.protocol asked).rules in
       let entered = c.loop-check.invariant.entered asked s same stands in
       let came = c.in_ok-receive.ensures.took in
+      let shows = subst (λ (m : Message). Shows c.args.version m came.0) (sym c.message.ensures) came.2 in
       let step = c.in_ok-take.ensures.took asked entered.state entered.stands in
-      let due = subst (λ (m : More). Steps (R.step entered.state c.receive.new.message) (λ t. g.C.Check.stands asked t c.take.new.self c.take.new.places) (Ok m)) c.in-Due.is step in
-      let more = stepped_due (R.step entered.state c.receive.new.message) (λ t. g.C.Check.stands asked t c.take.new.self c.take.new.places) mores.Due due in
-      Entered-due R s _ _ _ _ _ _ _ entered c.args.version same c.place.result (c.place.ensures asked entered.state c.loop-check.places entered.stands) c.receive.new.message came.0 came.1 came.2
+      let due = subst (λ (m : More). Steps (R.step entered.state c.message.result.now) (λ t. g.C.Check.stands asked t c.take.new.self c.take.new.places) (Ok m)) c.in-Due.is step in
+      let more = stepped_due (R.step entered.state c.message.result.now) (λ t. g.C.Check.stands asked t c.take.new.self c.take.new.places) mores.Due due in
+      Entered-due R s _ _ _ _ _ _ _ entered c.args.version same c.place.result (c.place.ensures asked entered.state c.loop-check.places entered.stands) c.message.result.now came.0 came.1 shows
       (λ t. g.C.Check.stands asked t c.take.new.self c.take.new.places) more.0 more.1 more.2;
   stood = λ asked s stands.
       let before = c.loop-check.invariant.stood asked s stands in
-      stepped ((g.C.Check.protocol asked).rules.step before.0 c.receive.new.message) (λ t. g.C.Check.stands asked t c.take.new.self c.take.new.places) _ (c.in_ok-take.ensures.took asked before.0 before.1);
+      stepped ((g.C.Check.protocol asked).rules.step before.0 c.message.result.now) (λ t. g.C.Check.stands asked t c.take.new.self c.take.new.places) _ (c.in_ok-take.ensures.took asked before.0 before.1);
   phase = subst (λ (m : More). g.C.Check.phase c.take.new.self ≡ after m (g.C.Check.phase c.loop-check.check)) c.in-Due.is c.in_ok-take.ensures.phase ∙ c.loop-check.invariant.phase;
   lent = c.take.ensures.lent ∙ c.loop-check.invariant.lent;
   places = c.take.ensures.places ∙ c.loop-check.invariant.places;
@@ -66,19 +69,24 @@ returns-in-Complete-clause-took g c asked s same stands =
     let R = (g.C.Check.protocol asked).rules in
     let entered = c.loop-check.invariant.entered asked s same stands in
     let came = c.in_ok-receive.ensures.took in
+    let shows = subst (λ (m : Message). Shows c.args.version m came.0) (sym c.message.ensures) came.2 in
     let step = c.in_ok-take.ensures.took asked entered.state entered.stands in
-    let complete = subst (λ (m : More). Steps (R.step entered.state c.receive.new.message) (λ t. g.C.Check.stands asked t c.take.new.self c.take.new.places) (Ok m)) c.in-Complete.is step in
-    let more = stepped_due (R.step entered.state c.receive.new.message) (λ t. g.C.Check.stands asked t c.take.new.self c.take.new.places) mores.Complete complete in (
+    let complete = subst (λ (m : More). Steps (R.step entered.state c.message.result.now) (λ t. g.C.Check.stands asked t c.take.new.self c.take.new.places) (Ok m)) c.in-Complete.is step in
+    let more = stepped_due (R.step entered.state c.message.result.now) (λ t. g.C.Check.stands asked t c.take.new.self c.take.new.places) mores.Complete complete in (
       more.0,
-      Came-complete R s _ _ _ _ _ _ _ entered c.args.version same c.place.result (c.place.ensures asked entered.state c.loop-check.places entered.stands) c.receive.new.message came.0 came.1 came.2 more.0 more.1,
+      Came-complete R s _ _ _ _ _ _ _ entered c.args.version same c.place.result (c.place.ensures asked entered.state c.loop-check.places entered.stands) c.message.result.now came.0 came.1 shows more.0 more.1,
       more.2,
     )
 
 pub take-requires-clause-fits : goal.take-requires-clause-fits
-take-requires-clause-fits g c = (c.args.version, c.in_ok-receive.ensures.took.2.has_spelling)
+take-requires-clause-fits g c =
+    let came = c.in_ok-receive.ensures.took in
+    (c.args.version, (subst (λ (m : Message). Shows c.args.version m came.0) (sym c.message.ensures) came.2).has_spelling)
 
 pub take-requires-clause-range : goal.take-requires-clause-range
-take-requires-clause-range g c = c.in_ok-receive.ensures.took.2.in_range
+take-requires-clause-range g c =
+    let came = c.in_ok-receive.ensures.took in
+    (subst (λ (m : Message). Shows c.args.version m came.0) (sym c.message.ensures) came.2).in_range
 
 pub take-requires-clause-stood : goal.take-requires-clause-stood
 take-requires-clause-stood g c =
@@ -89,4 +97,4 @@ take-requires-clause-stood g c =
 pub returns-in-Complete-clause-stands : goal.returns-in-Complete-clause-stands
 returns-in-Complete-clause-stands g c asked s stands =
     let before = c.loop-check.invariant.stood asked s stands in
-    stepped ((g.C.Check.protocol asked).rules.step before.0 c.receive.new.message) (λ t. g.C.Check.stands asked t c.take.new.self c.take.new.places) _ (c.in_ok-take.ensures.took asked before.0 before.1)
+    stepped ((g.C.Check.protocol asked).rules.step before.0 c.message.result.now) (λ t. g.C.Check.stands asked t c.take.new.self c.take.new.places) _ (c.in_ok-take.ensures.took asked before.0 before.1)

@@ -27,6 +27,12 @@ returns-clause-lines c = λ form depth spells. c.run.ensures.keeps.lines form de
 pub returns-clause-wide : goal.returns-clause-wide
 returns-clause-wide c = λ form depth spells. c.run.ensures.keeps.wide form depth spells _ refl
 
+pub returns-clause-shown : goal.returns-clause-shown
+returns-clause-shown c = λ spells. c.run.ensures.keeps.show spells _ refl
+
+pub returns-clause-converted : goal.returns-clause-converted
+returns-clause-converted c = λ spells. c.run.ensures.keeps.convert spells _ refl
+
 pub returns-clause-help : goal.returns-clause-help
 returns-clause-help c = c.run.ensures.keeps.help
 

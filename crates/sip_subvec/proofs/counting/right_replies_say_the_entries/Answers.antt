@@ -1,6 +1,6 @@
 use Rattle.sip_vector.specs.Vectors.{nonzero_within}
 use Rattle.sip_subvec.specs.Counting.{said}
-use Rattle.sip_subvec.proofs.FewFooled.{same_entries}
+use Rattle.sip_replies.proofs.SameEntries.{same_entries}
 use Rattle.sip_subvec.proofs.counting.right_replies_say_the_entries.Goals as goal
 
 pub returns : goal.returns

@@ -1,4 +1,4 @@
-use Rattle.std.proofs.Common.{rules, ◌≡◌, ℕ, [], pos, FitsSigned, w64, to_z, of_z, ◌*◌, ◌%◌, ◌<◌, length, get_or, ◌∙◌, ap, sym, arith}
+use Rattle.std.proofs.Common.{rules, ◌≡◌, ℕ, [], pos, FitsSigned, w64, to_z, of_z, ◌*◌, ◌%◌, ◌<◌, get_or, ◌∙◌, ap, sym, arith}
 use Rattle.std.proofs.Math.Nat.{mod-eq_of_lt}
 use Rattle.std.proofs.lemmas.Int.{to_z-of_z}
 use Rattle.std.proofs.lemmas.List.{take_all}

@@ -21,9 +21,9 @@ loop-group-preserved g c =
     let within : k < length tables =
     omega (arith, c.loop-group.invariant.long, c.loop-group-test.true, c.depth.ensures.exact, c.requires) in
     record {
-      long = length-set tables k c.steps.result ∙ c.loop-group.invariant.long;
-      below = each_set [] (λ _ t. All (IsBelow p) t) tables k c.steps.result within c.steps.ensures.below c.loop-group.invariant.below;
-      steps = each_set [] (λ j t. HasSteps p (take 7 (drop (7 * j) c.args.seat.now)) t) tables k c.steps.result within
+      long = length-set tables k c.steps.new.table ∙ c.loop-group.invariant.long;
+      below = each_set [] (λ _ t. All (IsBelow p) t) tables k c.steps.new.table within c.steps.ensures.below c.loop-group.invariant.below;
+      steps = each_set [] (λ j t. HasSteps p (take 7 (drop (7 * j) c.args.seat.now)) t) tables k c.steps.new.table within
           c.steps.ensures.steps c.loop-group.invariant.steps;
     }
 

@@ -1,4 +1,4 @@
-use Rattle.std.proofs.Common.{◌≡◌, ◌-◌, ◌≤◌, length, refl, sym, ap, ◌∙◌, subst, arith, IsTrue, rules, to_z, of_z, w64}
+use Rattle.std.proofs.Common.{◌≡◌, length, refl, sym, ap, ◌∙◌, subst, IsTrue, rules, to_z, of_z, w64}
 use Rattle.sip_vector.specs.declared.query.Query.{Query}
 use Rattle.sip_wire.specs.declared.message.Message.TheVariants as messages
 use Rattle.sip_wire.specs.Spelling.{fits}

@@ -13,13 +13,13 @@ begun : (g : given.Over) (c : goal.Joined-is_empty g) → (c.if-is_empty.gathere
 begun g c = elim c.if-is_empty.branch [
   | then-is_empty w ↦
       let none = none_is c.args.entries.now true (sym w.if-is_empty.true ∙ c.is_empty.ensures) in (
-        rw w.gathered-is (w.put.ensures.items ∙ ap (λ front. front ++ codes " none") c.begin-gathered.ensures.items ∙ ap (λ text. query_word c.args.query.now ++ text) none),
-        rw w.gathered-is (omega (arith, w.put.ensures.len, c.begin-gathered.ensures.len)),
+        rw w.gathered-is (w.put.ensures.items ∙ ap (λ front. front ++ codes " none") c.query_word-gathered.ensures.items ∙ ap (λ text. query_word c.args.query.now ++ text) none),
+        rw w.gathered-is (omega (arith, w.put.ensures.len, c.query_word-gathered.ensures.len)),
       )
   | else-is_empty w ↦
       let none = none_is c.args.entries.now false (sym w.if-is_empty.false ∙ c.is_empty.ensures) in (
-        rw w.gathered-is (c.begin-gathered.ensures.items ∙ sym (append-nil (query_word c.args.query.now)) ∙ ap (λ text. query_word c.args.query.now ++ text) none),
-        rw w.gathered-is (omega (arith, c.begin-gathered.ensures.len)),
+        rw w.gathered-is (c.query_word-gathered.ensures.items ∙ sym (append-nil (query_word c.args.query.now)) ∙ ap (λ text. query_word c.args.query.now ++ text) none),
+        rw w.gathered-is (omega (arith, c.query_word-gathered.ensures.len)),
       )
 ]
 

@@ -1,6 +1,5 @@
 -- Nothing is too much exactly where there is room.
-use Rattle.std.proofs.Common.{◌≡◌, ◌+◌, ◌≤◌, nat_abs, rules}
-use Rattle.sip_vector.specs.Streams.{most_weight}
+use Rattle.std.proofs.Common.{◌≡◌, nat_abs, rules}
 use Rattle.sip_stream.proofs.Excess.{AreWeights, none_too_much, of_first, of_second, room_there}
 use Rattle.sip_stream.proofs.reader.Reader.has_room.Goals as goal
 use Rattle.sip_stream.proofs.reader.Reader.has_room.Goals.{in-First, in-Second}

@@ -1,8 +1,9 @@
 -- One challenge more is kept, and the level is the one above.
 use Rattle.std.proofs.Common.{◌≡◌, ℕ, ◌-◌, ◌/◌, ◌^◌, ◌++◌, [], ◌∷◌, if◌then◌else◌, length, sym, ap, ◌∙◌, arith, length-append}
 use Rattle.std.specs.Result.{is_ok}
+use Rattle.sip_tree.proofs.Heights.{has_level}
 use Rattle.sip_subvec.specs.Honest.{Proving, learnt}
-use Rattle.sip_subvec.proofs.Provers.{level_size, has_level, is_learnt, level_learnt, half_of}
+use Rattle.sip_subvec.proofs.Provers.{level_size, is_learnt, level_learnt, half_of}
 use Rattle.sip_subvec.proofs.prover.SubProver.learn.Goals as goal
 
 pub unwrap-requires : goal.unwrap-requires

@@ -1,6 +1,7 @@
 use Rattle.std.proofs.Common.{length, ap, sym, ◌∙◌}
+use Rattle.sip_tree.proofs.Heights.{has_level, has_pair}
 use Rattle.sip_subvec.specs.Honest.{Proving}
-use Rattle.sip_subvec.proofs.Provers.{level_size, has_level, has_pair}
+use Rattle.sip_subvec.proofs.Provers.{level_size}
 use Rattle.sip_subvec.proofs.prover.SubProver.levels_left.Goals as goal
 
 pub returns-clause-exact : goal.returns-clause-exact

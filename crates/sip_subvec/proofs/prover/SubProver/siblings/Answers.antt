@@ -5,10 +5,11 @@ use Rattle.std.proofs.lemmas.List.{length-map, length-take-le}
 use Rattle.sip_field.specs.Products.{zero_factor, AreTables}
 use Rattle.sip_field.specs.declared.factors.Factors.TheVariants.{Tree}
 use Rattle.sip_vector.specs.declared.update.Entry.{Entry}
+use Rattle.sip_tree.proofs.Heights.{has_level}
 use Rattle.sip_subvec.specs.Checking.{entries_sum}
 use Rattle.sip_subvec.specs.Honest.{Proving, its_siblings}
 use Rattle.sip_subvec.specs.Summing.{Rises, level_over, entries_below}
-use Rattle.sip_subvec.proofs.Provers.{level_size, has_level, levels_fit, left_within, right_within, node_at, is_there, not_there}
+use Rattle.sip_subvec.proofs.Provers.{level_size, levels_fit, left_within, right_within, node_at, is_there, not_there}
 use Rattle.sip_subvec.proofs.prover.SubProver.siblings.Given as given
 use Rattle.sip_subvec.proofs.prover.SubProver.siblings.Goals as goal
 use Rattle.sip_subvec.proofs.prover.SubProver.siblings.Goals.{then-self-eq1, else-self-eq1, then-self-eq0, else-self-eq0}

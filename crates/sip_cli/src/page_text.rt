@@ -1,0 +1,281 @@
+//! The text of the page, of which some parts are printed alone too. Each is written once.
+
+// The parts about verify, play, help, show, convert, gen, lines and widen, for a part's name or for `page`.
+macro_rules! text_of {
+    ($which:ident) => {
+        chosen!(
+            $which
+            "  sip verify STREAM SEED FROM TO RECORD DEPTH QUERY..
+
+      Sends the stream to a helper, asks 1 to 16 queries, checks the replies and prints a line for each answer.
+
+      STREAM  a file of records, or wide:PATH, which is a file of wide records, or text:PATH, which is a file of lines as
+              sip lines prints them, or made:NUMBER:COUNT, which is COUNT records made from NUMBER
+      SEED    a file that begins with 32 random bytes, of which each run needs new ones
+      FROM    the file or FIFO that brings the helper's bytes
+      TO      the file or FIFO that takes ours
+      RECORD  the file that gets the transcript of the run: its queries, their challenges and the helper's replies; or -
+              for none
+      DEPTH   from 1 to 48; items are the numbers below 2^DEPTH
+      QUERY   sub:LO:HI           the entries of side 0 from LO to HI that are not 0
+              range:SIDE:LO:HI    the sum of the entries of a side from LO to HI
+              f2:SIDE             the sum of the squares of the entries of a side
+              inner               the sum of the products of the entries of both sides
+              heavy:SIDE:T        the entries of a side that are T or more
+              share:SIDE:NUM:DEN  the entries of a side that are NUM/DEN of its total or more
+              with LO up to HI, HI below 2^DEPTH, SIDE 0 or 1, T from 1 to 2^63 - 1, and NUM from 1 to DEN, which is up
+              to 1000000. The last two are answered where no entry of the side is below 0.
+
+      sip verify log.stream today.seed from.fifo to.fifo - 20 sub:100:199 range:0:0:1048575 f2:0 inner
+"
+            "  sip play STREAM SEED HELPER RECORD DEPTH QUERY..
+
+      Does what sip verify does with a helper of its own, and needs no other program: to see what is asked and answered.
+
+      HELPER  honest, which answers as it should; skewed, which counts item 0 of side 0 once more, so that its answers
+              about that side are rejected; mute, which says nothing, so that the first query is rejected
+              The other words are those of sip verify.
+
+      sip play made:7:100000 today.seed honest - 20 sub:0:99 range:0:0:1048575 f2:0 inner
+"
+            "  sip help FROM TO
+
+      Is the helper: keeps the stream that a verifying sip sends, and answers its queries.
+
+      FROM    the file or FIFO that brings the verifier's bytes, which is its TO
+      TO      the file or FIFO that takes ours, which is its FROM
+
+      sip help to.fifo from.fifo
+"
+            "  sip show TRANSCRIPT
+
+      Lists a transcript: its depth, each query with its challenges, and each frame of the helper.
+
+      TRANSCRIPT  the file that sip verify or sip play kept as its RECORD
+
+      sip show today.record
+"
+            "  sip convert TRANSCRIPT
+
+      Writes a transcript with the same content in version 2, in whose frames items have eight bytes.
+
+      TRANSCRIPT  as for sip show
+
+      sip convert today.record > wide.record
+"
+            "  sip gen NUMBER COUNT DEPTH
+
+      Writes a stream of COUNT records that are made from NUMBER: wide records where DEPTH is above 32.
+
+      NUMBER  below 2^64
+      COUNT   up to 10000000
+      DEPTH   from 1 to 48
+
+      sip gen 7 100000 20 > log.stream
+"
+            "  sip lines STREAM DEPTH
+
+      Prints a stream as lines of text: a side, an item and what is added to its entry, with one space between them.
+
+      STREAM  as for sip verify
+      DEPTH   from 1 to 48
+
+      sip lines log.stream 20
+"
+            "  sip widen STREAM DEPTH
+
+      Writes a stream as wide records.
+
+      STREAM  as for sip verify
+      DEPTH   from 1 to 48
+
+      sip widen log.stream 20 > wide.stream
+"
+        )
+    };
+}
+
+macro_rules! chosen {
+    (verify $v:literal $p:literal $h:literal $s:literal $c:literal $g:literal $l:literal $w:literal) => {
+        $v
+    };
+    (play $v:literal $p:literal $h:literal $s:literal $c:literal $g:literal $l:literal $w:literal) => {
+        $p
+    };
+    (help $v:literal $p:literal $h:literal $s:literal $c:literal $g:literal $l:literal $w:literal) => {
+        $h
+    };
+    (show $v:literal $p:literal $h:literal $s:literal $c:literal $g:literal $l:literal $w:literal) => {
+        $s
+    };
+    (convert $v:literal $p:literal $h:literal $s:literal $c:literal $g:literal $l:literal $w:literal) => {
+        $c
+    };
+    (gen $v:literal $p:literal $h:literal $s:literal $c:literal $g:literal $l:literal $w:literal) => {
+        $g
+    };
+    (lines $v:literal $p:literal $h:literal $s:literal $c:literal $g:literal $l:literal $w:literal) => {
+        $l
+    };
+    (widen $v:literal $p:literal $h:literal $s:literal $c:literal $g:literal $l:literal $w:literal) => {
+        $w
+    };
+    (page $v:literal $p:literal $h:literal $s:literal $c:literal $g:literal $l:literal $w:literal) => {
+        concat!(
+            "\
+sip checks answers about a stream that someone else keeps for you. You keep a seed and read the stream once, a helper
+keeps all of it, and sip accepts a helper's answer only where a check with challenges from the seed holds.
+
+USAGE
+
+",
+            $v,
+            "\n",
+            $p,
+            "\n",
+            $h,
+            "\n",
+            $s,
+            "\n",
+            $c,
+            "\n",
+            $g,
+            "\n",
+            $l,
+            "\n",
+            $w,
+            "
+  sip --help                 prints this page, and so does sip -h
+  sip --version              prints the version, and so does sip -V
+  sip --progress COMMAND ..  does the command, and says on standard error how far it is: before STREAM or FROM is read,
+                             after each 64 MiB of it, and before an end of the link is opened, which may wait
+
+Behind the name of a command --help and -h print its part of this page, as sip verify --help does; behind show and
+convert they name a file.
+
+A record has 13 bytes: a side (one byte, 0 or 1), an item (four bytes) and what is added to its entry (eight bytes,
+signed), the first byte of a number being the greatest. A wide record has 17, eight of them for the item. Numbers
+among the words have no sign and no leading zero. A file named - is called ./-, and one whose name begins with made:,
+text: or wide: is called ./made:.. and so on.
+
+FILES
+
+TO and RECORD are made where there is nothing of that name, and emptied where there is a file. No other file is changed.
+Where TO or RECORD is the same file as STREAM, SEED, FROM or the other of the two, under whatever name, it is not
+opened: it keeps what it has, and the command fails there. A FIFO, or a device as /dev/null, may stand at several words.
+
+KEEPING THE SEED
+
+Keep it where the helper cannot read it, make a new one for each run (head -c 32 /dev/urandom > today.seed), and throw it
+away after the run: a helper that knows the challenges can make a wrong answer pass. A run tells its helper nearly all
+of them, reply by reply, so that a seed is good for one run alone. RECORD has them too, from the run's
+beginning on: keep it like the seed until the run has ended.
+
+LIMITS
+
+  weight   What is added to a side, each number without its sign, comes to 2^30 - 1 = 1073741823 at most. A sum of
+           bytes is soon above it: count KiB or packets, or begin a new stream, as for each hour or each day.
+  items    An item is below 2^DEPTH, and DEPTH is 48 at most. A record of 13 bytes has items below 2^32: for greater
+           ones write wide records or lines.
+  queries  A run has 1 to 16, which stand among its words: they are known before the stream is read.
+  answers  The entries from LO to HI that are not 0 are 65536 at most, and so is the side's total divided by T, which
+           for a share is that part of the total.
+
+MESSAGES
+
+A run that does not end well says so in one line on standard error. A second line, which begins with sip: hint:, may
+say what can be done. Words and records are counted from 0: word 0 is the command, and record N of a text is line N + 1.
+A reply that is rejected has its line among the answers: rejected query K round J REASON, with K counted from 1.
+
+  sip: usage at word N
+      Word N cannot stand there or is missing. The words before it are the beginning of a command. A --progress before
+      them is not counted.
+
+  sip: bad stream at record N: WHY
+      Record N of STREAM is not as it has to be.
+
+      Truncated    the stream ends inside it
+      BadLine      it is not a side, an item and a number with one space between them, and a line feed alone at the end
+      BadSide      its side is above 1
+      BadItem      its item is not below 2^DEPTH: take a greater DEPTH
+      ZeroDelta    it adds 0: leave it out
+      TooHeavy(S)  with it side S comes to more than LIMITS say
+
+  sip: seed too short
+      SEED has fewer than 32 bytes.
+
+  sip: seed spent
+      No challenges can be made from SEED: take a new one.
+
+  sip: bad transcript at offset N
+      From byte N on TRANSCRIPT is none: the field of its head or the frame that begins there is not as it has to be, or
+      the file ends in it. All that stands before that was written, if the head is whole. The RECORD of a run that was
+      rejected may end so.
+
+  sip: query K too wide
+      The answer to query K, counted from 1, may be wider than LIMITS say: ask for a greater T or share.
+
+  sip: bad frame at offset N
+      What FROM brings to sip help is from byte N on nothing that a verifier sends there. FROM and TO are those of sip
+      verify, the other way round.
+
+  sip: read fault on FILE, sip: write fault on FILE
+      The file could not be opened, read or written: first is STREAM, second is SEED or TRANSCRIPT, record is RECORD, and
+      report is standard output.
+
+  sip: peer fault
+      FROM or TO could not be opened, read or written, or the other side had left.
+
+  sip: peer closed
+      The verifier left sip help before its farewell, and says why itself.
+
+  sip: progress: N MiB of FILE read, sip: progress: waiting for the other side at FILE
+      With --progress alone, and in front of all other lines.
+
+  sip: out of memory
+      Memory ran out. sip help keeps each item that is not 0, and sip verify an answer while it is told.
+
+STATUS
+
+  0  every answer was accepted and printed, a talk was served to its end, or a stream or a transcript was
+     written to its end
+  1  a reply of the helper was rejected
+  2  the words are no command
+  3  the stream, the seed, the transcript or a frame of the verifier is not as it has to be, or more than 65536 entries
+     could be T or more
+  4  a file, the link or the output failed, or the verifier left before its farewell
+  5  memory ran out
+"
+        )
+    };
+}
+
+/// The page that `sip --help` prints.
+pub const HELP: &str = text_of!(page);
+
+/// What `sip verify --help` prints: the part of the page that is about `verify`.
+pub const VERIFY_PART: &str = text_of!(verify);
+
+/// What `sip play --help` prints: the part of the page that is about `play`.
+pub const PLAY_PART: &str = text_of!(play);
+
+/// What `sip help --help` prints: the part of the page that is about `help`.
+pub const HELP_PART: &str = text_of!(help);
+
+/// The part of the page that is about `show`.
+pub const SHOW_PART: &str = text_of!(show);
+
+/// The part of the page that is about `convert`.
+pub const CONVERT_PART: &str = text_of!(convert);
+
+/// What `sip gen --help` prints: the part of the page that is about `gen`.
+pub const GEN_PART: &str = text_of!(gen);
+
+/// What `sip lines --help` prints: the part of the page that is about `lines`.
+pub const LINES_PART: &str = text_of!(lines);
+
+/// What `sip widen --help` prints: the part of the page that is about `widen`.
+pub const WIDEN_PART: &str = text_of!(widen);
+
+/// The line that `sip --version` prints.
+pub const VERSION: &str = "sip 0.1.0\n";

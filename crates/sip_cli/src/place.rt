@@ -1,0 +1,127 @@
+//! What stands at each word of a command.
+
+ghost use Rattle.std.specs.Prelude.{◌≡◌};
+ghost use Rattle.sip_cli.specs.Hints.{behind_queries, place_at, place_hint, places};
+
+use crate::hint_text as text;
+use crate::verb::Verb;
+use sip_wire::MOST_QUERIES;
+
+/// What stands at a word of a command.
+#[derive(Clone, Copy, Debug, PartialEq, Eq)]
+pub(crate) enum Place {
+    /// The verb.
+    Verb,
+    Stream,
+    Seed,
+    From,
+    To,
+    Record,
+    Helper,
+    Transcript,
+    Number,
+    Count,
+    Depth,
+    Query,
+    /// No word, since the command is whole before it.
+    End,
+}
+
+/// The verb.
+impl Default for Place {
+    fn default() -> Place {
+        Place::Verb
+    }
+}
+
+const VERIFY: [Place; 7] = [
+    Place::Verb,
+    Place::Stream,
+    Place::Seed,
+    Place::From,
+    Place::To,
+    Place::Record,
+    Place::Depth,
+];
+
+const HELP: [Place; 3] = [Place::Verb, Place::From, Place::To];
+
+const SHOW: [Place; 2] = [Place::Verb, Place::Transcript];
+
+const CONVERT: [Place; 2] = [Place::Verb, Place::Transcript];
+
+const GEN: [Place; 4] = [Place::Verb, Place::Number, Place::Count, Place::Depth];
+
+const LINES: [Place; 3] = [Place::Verb, Place::Stream, Place::Depth];
+
+const WIDEN: [Place; 3] = [Place::Verb, Place::Stream, Place::Depth];
+
+const PLAY: [Place; 6] = [
+    Place::Verb,
+    Place::Stream,
+    Place::Seed,
+    Place::Helper,
+    Place::Record,
+    Place::Depth,
+];
+
+// The places of a verb's words, the verb among them, and before the queries.
+fn places_of(verb: Verb) -> &'static [Place]
+    ensures { result.now ≡ places verb }
+{
+    match verb {
+        Verb::Verify => &VERIFY,
+        Verb::Help => &HELP,
+        Verb::Show => &SHOW,
+        Verb::Convert => &CONVERT,
+        Verb::Gen => &GEN,
+        Verb::Lines => &LINES,
+        Verb::Widen => &WIDEN,
+        Verb::Play => &PLAY,
+    }
+}
+
+// The number of the word behind the last query that a verb may have.
+fn behind_queries(verb: Verb) -> usize
+    ensures { result ≡ behind_queries verb }
+{
+    let queries = match verb {
+        Verb::Verify | Verb::Play => MOST_QUERIES,
+        Verb::Help | Verb::Show | Verb::Convert | Verb::Gen | Verb::Lines | Verb::Widen => 0,
+    };
+    places_of(verb).len() + queries
+}
+
+impl Place {
+    /// The place of a verb's word of this number.
+    pub(crate) fn at(verb: Verb, word: usize) -> Place
+        ensures { result ≡ place_at verb word }
+    {
+        match places_of(verb).get(word) {
+            Some(place) => *place,
+            None if word < behind_queries(verb) => Place::Query,
+            None => Place::End,
+        }
+    }
+
+    /// What may stand there.
+    pub(crate) fn hint(self) -> &'static str
+        ensures { result.now ≡ place_hint self }
+    {
+        match self {
+            Place::Verb => text::VERB,
+            Place::Stream => text::STREAM,
+            Place::Seed => text::SEED,
+            Place::From => text::FROM,
+            Place::To => text::TO,
+            Place::Record => text::RECORD,
+            Place::Helper => text::HELPER,
+            Place::Transcript => text::TRANSCRIPT,
+            Place::Number => text::NUMBER,
+            Place::Count => text::COUNT,
+            Place::Depth => text::DEPTH,
+            Place::Query => text::QUERY,
+            Place::End => text::END,
+        }
+    }
+}

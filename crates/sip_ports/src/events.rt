@@ -1,0 +1,31 @@
+//! Bytes as the events of a talk.
+
+ghost use Rattle.std.specs.Prelude.{◌≡◌, IfOk};
+ghost use Rattle.sip_ports.specs.Ports.{outs, ins};
+
+use crate::TalkEvent;
+use std::alloc::{AllocError, Global};
+
+/// The events of sending these bytes. O(n), with one allocation, which is not tried again where it
+/// is refused.
+pub fn sent_events(alloc: Global, bytes: &[u8]) -> Result<Vec<TalkEvent>, AllocError>
+    ensures { IfOk result (λ events. events.items ≡ outs bytes.now) }
+{
+    let mut events = Vec::with_capacity(alloc, bytes.len())?;
+    for byte in bytes {
+        events.push(TalkEvent::Out(*byte))?;
+    }
+    Ok(events)
+}
+
+/// The events of receiving these bytes. O(n), with one allocation, which is not tried again where
+/// it is refused.
+pub fn received_events(alloc: Global, bytes: &[u8]) -> Result<Vec<TalkEvent>, AllocError>
+    ensures { IfOk result (λ events. events.items ≡ ins bytes.now) }
+{
+    let mut events = Vec::with_capacity(alloc, bytes.len())?;
+    for byte in bytes {
+        events.push(TalkEvent::In(*byte))?;
+    }
+    Ok(events)
+}

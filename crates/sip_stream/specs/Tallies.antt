@@ -1,0 +1,33 @@
+-- Records that are tested together, and what shows of them then.
+use Rattle.std.specs.Prelude.{ℕ, ◌-◌, ◌*◌, ◌^◌, ◌<◌, ◌≤◌, List, [], ◌∷◌, ◌++◌}
+use Rattle.sip_vector.specs.declared.update.Update.{Update}
+use Rattle.sip_vector.specs.Streams.{most_weight}
+use Rattle.sip_stream.specs.declared.tally.Tally.{Tally}
+use Rattle.sip_stream.specs.Reading.{Reading, HasRoom, IsAfter}
+
+-- no bit is one that no legal record has
+pub record IsClean (depth : ℕ) (t : Tally) : Type 0 where
+  pub sides : t.sides ≤ 1
+  pub items : t.items < 2 ^ depth
+  pub sizes : t.sizes ≤ most_weight
+
+-- the weights and the count are those of legal records
+pub record IsLight (t : Tally) : Type 0 where
+  pub total : t.total ≤ 2 * most_weight
+  pub second : t.second ≤ t.total
+  pub first_few : t.total - t.second ≤ most_weight
+  pub second_few : t.second ≤ most_weight
+  pub count : t.count ≤ t.total
+
+-- the reader that has read what was counted
+abbrev pub reader_of : Reading → Tally → Reading
+reader_of r t = record r { count = t.count; first = t.total - t.second; second = t.second }
+
+-- the update that was counted last is legal after those before it
+pub record TakesOne (r : Reading) (old new : Tally) (number : ℕ) (u : Update) : Type 0 where
+  pub side : number ≤ 1
+  pub light : IsLight new
+  pub room : HasRoom (reader_of r old) u
+  pub heavier : old.total < new.total
+  pub after : (before : List Update) → IsAfter (reader_of r old) before
+      → IsAfter (reader_of r new) (before ++ u ∷ [])

@@ -1,0 +1,54 @@
+//! Records that are tested all at once.
+
+ghost use Rattle.std.specs.Prelude.{◌≡◌, ◌≤◌, ◌+◌, ℕ, IsTrue};
+ghost use Rattle.sip_stream.specs.Reading.{Reading};
+ghost use Rattle.sip_stream.specs.Tallies.{IsClean, IsLight, TakesOne};
+
+use crate::reader::MOST_WEIGHT;
+use sip_vector::{Depth, Side, Update};
+
+/// What records come to together, so that one test at the end is a test of each. Where a record is not legal it shows that one is not,
+/// though not which; its weights are of no use then.
+#[derive(Clone, Copy)]
+pub(crate) struct Tally {
+    /// How many records came.
+    pub(crate) count: u64,
+    /// The weight of both sides, and that of the second one, modulo 2^64.
+    pub(crate) total: u64,
+    pub(crate) second: u64,
+    /// All bits of the numbers of the sides.
+    pub(crate) sides: u8,
+    /// All bits of the items.
+    pub(crate) items: u64,
+    /// All bits of what is 1 less than a delta's size, and of the weights of both sides.
+    pub(crate) sizes: u64,
+}
+
+impl Tally {
+    /// Counts an update, and the number of its side in its record.
+    pub(crate) fn note(&mut self, number: u8, update: &Update)
+        ensures clean { (depth : ℕ) → IsClean depth self.new → IsClean depth self.old }
+        ensures one { (r : Reading) → IsClean r.depth self.new → IsLight self.old
+            → TakesOne r self.old self.new number update.now }
+    {
+        let size = update.delta.unsigned_abs();
+        let second = match update.side {
+            Side::First => 0,
+            Side::Second => size,
+        };
+        let total = self.total.wrapping_add(size);
+        self.count = self.count.wrapping_add(1);
+        self.total = total;
+        self.second = self.second.wrapping_add(second);
+        self.sides |= number;
+        self.items |= update.item;
+        self.sizes |= size.wrapping_sub(1) | total;
+    }
+
+    /// Whether each record is legal after those before it, by a test that asks both sides together to be light as one.
+    pub(crate) fn is_clean(&self, depth: Depth) -> bool
+        ensures { IsTrue result → IsClean depth self.now }
+    {
+        self.sides <= 1 && self.items < 1 << depth.get() && self.sizes <= MOST_WEIGHT
+    }
+}

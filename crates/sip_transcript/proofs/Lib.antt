@@ -1,0 +1,12 @@
+pub mod Passing
+pub mod Taking
+pub mod Bytes
+pub mod Framing
+pub mod Growing
+pub mod There
+pub mod Failing
+pub mod Tests
+pub mod Telling
+pub mod Onward
+pub mod Digits
+pub mod Asks

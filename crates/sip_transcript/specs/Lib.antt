@@ -1,0 +1,12 @@
+pub mod Fields
+pub mod Heads
+pub mod Parts
+pub mod Causes
+pub mod Frames
+pub mod Tales
+pub mod Listings
+pub mod Conversions
+pub mod Renderings
+pub mod Writing
+pub mod Underway
+pub mod Examples

@@ -1,0 +1,63 @@
+//! What the fields of a head are like, and how the definitions are tied to each other.
+
+ghost use Rattle.std.specs.Prelude.{◌≡◌, ◌↔◌, ◌++◌, ◌∷◌, [], ℕ, All, List, Some, None, IsTrue, codes, take};
+ghost use Rattle.std.specs.List.{flat_map};
+ghost use Rattle.sip_vector.specs.Answers.{Fits};
+ghost use Rattle.sip_vector.specs.declared.query.Query.{Query as AnyQuery};
+ghost use Rattle.sip_wire.specs.Spelling.{spelling};
+ghost use Rattle.sip_wire.specs.Transcript.{transcript};
+ghost use Rattle.sip_wire.specs.declared.message.Message.{Message as AnyMessage};
+ghost use Rattle.sip_wire.specs.declared.version.Version.{Version as AnyVersion};
+ghost use Rattle.sip_transcript.specs.Examples.{head_by_hand, lines_by_hand, replies_by_hand};
+ghost use Rattle.sip_transcript.specs.Fields.{fits_at, head_fault};
+ghost use Rattle.sip_transcript.specs.Heads.{Ask, IsRun};
+ghost use Rattle.sip_transcript.specs.Listings.{listing};
+ghost use Rattle.sip_transcript.specs.Tales.{IsReply, tale_of, text_of, transcript_fault};
+
+/// The transcript of a run has no fault in its head, whatever the replies are. So a head that is
+/// there is read, and none that is there is refused.
+pub fn runs_have_no_fault()
+    ensures { (version : AnyVersion) (depth : ℕ) (asks : List Ask) (replies : List ℕ)
+        → IsRun version depth asks
+        → head_fault (transcript version depth asks replies) ≡ None }
+{}
+
+/// The transcript of a run whose replies are these messages tells that run, and has no fault. So it
+/// is listed whole, and in version 2 it is written as it is.
+pub fn runs_are_told()
+    ensures told { (version : AnyVersion) (depth : ℕ) (asks : List Ask) (replies : List AnyMessage)
+        → IsRun version depth asks → All (IsReply version) replies
+        → tale_of (transcript version depth asks (flat_map (spelling version) replies))
+        ≡ record { version = version; depth = depth; asks = asks; replies = replies; rest = [] } }
+    ensures whole { (version : AnyVersion) (depth : ℕ) (asks : List Ask)
+        (replies : List AnyMessage)
+        → IsRun version depth asks → All (IsReply version) replies
+        → transcript_fault (transcript version depth asks (flat_map (spelling version) replies))
+        ≡ None }
+{}
+
+/// The test of a query at a depth is whether it can be asked there.
+pub fn queries_that_fit()
+    ensures { (depth : ℕ) (query : AnyQuery) → IsTrue (fits_at depth query) ↔ Fits depth query }
+{}
+
+/// A head by hand has no fault. Without its last byte it has one where the second challenge begins,
+/// as a part of its query's frame has where the frame begins, and a part of the text SIPT at 0.
+pub fn a_head_by_hand()
+    ensures whole { head_fault head_by_hand ≡ None }
+    ensures cut { head_fault (take 34 head_by_hand) ≡ Some 27 }
+    ensures query { head_fault (take 18 head_by_hand) ≡ Some 7 }
+    ensures text { head_fault (take 3 head_by_hand) ≡ Some 0 }
+{}
+
+/// A transcript by hand is listed whole. Without its last byte it has a fault where its last frame
+/// begins, and with a byte more at its old end; its listing is then that of all before.
+pub fn a_transcript_by_hand()
+    ensures whole { transcript_fault (head_by_hand ++ replies_by_hand) ≡ None }
+    ensures lines { text_of listing (head_by_hand ++ replies_by_hand)
+        ≡ lines_by_hand ++ codes "frame Siblings 00" ++ 10 ∷ [] }
+    ensures cut { transcript_fault (take 75 (head_by_hand ++ replies_by_hand)) ≡ Some 72 }
+    ensures fewer { text_of listing (take 75 (head_by_hand ++ replies_by_hand)) ≡ lines_by_hand }
+    ensures longer { transcript_fault (head_by_hand ++ replies_by_hand ++ 0 ∷ []) ≡ Some 76 }
+    ensures no_head { text_of listing (take 34 head_by_hand) ≡ [] }
+{}

@@ -1,0 +1,47 @@
+//! Transcripts of runs, read back.
+//!
+//! A transcript is its head, and the bytes that a run's helper sent (`transcript` of `sip_wire`).
+//! The head is a list of fields: the text SIPT, the version of the frames, the depth, the number of
+//! queries, and each query with a challenge for each level. [`TranscriptReader::head`] reads it off
+//! any source, field by field, and takes no byte that is not of the head. [`show`] lists a whole
+//! transcript, and [`convert`] writes it in version 2: both read the head first, and then a frame
+//! at a time, so that the memory is that of one frame. [`show_line`] writes the line of one frame.
+//!
+//! # What is proved
+//!
+//! - A head is read exactly where the source begins with one: it is that of a run, each of its
+//!   queries fits the depth and has a code in the version, and exactly its bytes were taken. `Bad`
+//!   has the place where the first field begins that has none of its values, or in which the source
+//!   ends; of that field no more was taken than a field has.
+//! - `show` and `convert` answer `Wrote` exactly where the bytes are a transcript to their end, and
+//!   `BadTranscript` exactly where they stop being one, with the place where the field of the head
+//!   or the frame begins. What is written is the listing, or the transcript in version 2, of all
+//!   that stands before that place, and nothing where it is in the head; where a port stopped, or
+//!   memory ran out, a front of this. No other status comes but a fault of the transcript's source
+//!   or of the report, where its count rose, and `OutOfMemory`.
+//! - The transcript of each run has no fault in its head, whatever the replies are, and it tells
+//!   that run ([`laws`]). A transcript by hand has the listing that is expected.
+//!
+//! # The definitions to read
+//!
+//! `specs/Fields.antt` has the fields of a head and `head_fault`, the place of the first that is
+//! not there; `specs/Heads.antt` the runs that a transcript can tell of, and what reading a head
+//! answers. `specs/Tales.antt` has what bytes tell, `tale_of`, and `transcript_fault`, the place
+//! where they stop being a transcript; `specs/Listings.antt` the lines, `specs/Conversions.antt`
+//! the form in version 2, and `specs/Writing.antt` what `show` and `convert` promise.
+#![tactic(auto)]
+
+mod fault;
+mod fields;
+mod frames;
+mod head;
+pub mod laws;
+mod listing;
+mod rendering;
+mod showing;
+mod stopping;
+
+pub use fault::HeadFault;
+pub use head::{Head, MOST_CHALLENGES, TranscriptReader};
+pub use listing::show_line;
+pub use showing::{convert, show};
