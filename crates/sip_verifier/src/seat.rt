@@ -201,6 +201,13 @@ impl QuerySeat {
         }
     }
 
+    /// Whether updates of a side change the running numbers.
+    pub(crate) fn takes(&self, side: Side) -> bool
+        ensures { result ≡ concerns self.now.query side }
+    {
+        concerns(&self.query, side)
+    }
+
     /// Adds updates of one side to the running numbers, in order.
     pub(crate) fn update_all(&mut self, side: Side, updates: &[Update])
         requires shallow { length self.old.block ≤ most_depth }
@@ -217,7 +224,7 @@ impl QuerySeat {
             → StandsFor depth (stream ++ updates.now) self.new }
         ensures others { concerns self.old.query side ≡ false → self.new ≡ self.old }
     {
-        if concerns(&self.query, side) {
+        if self.takes(side) {
             self.running.update_all(side, updates);
         }
     }
