@@ -224,7 +224,7 @@ impl QuerySeat {
             → StandsFor depth (stream ++ updates.now) self.new }
         ensures others { concerns self.old.query side ≡ false → self.new ≡ self.old }
     {
-        if self.takes(side) {
+        if concerns(&self.query, side) {
             self.running.update_all(side, updates);
         }
     }
