@@ -1,6 +1,6 @@
 //! A source that says on the way how much of the stream was read.
 
-ghost use Rattle.std.specs.Prelude.{◌≡◌, ◌⊎◌, ◌↔◌, ℕ, ◌≤◌, IsTrue, IsNone, IfSome, None, Some, OnOk, MatchOption, length, take};
+ghost use Rattle.std.specs.Prelude.{◌≡◌, ◌⊎◌, ℕ, ◌≤◌, nat_le, IfSome, None, OnOk, length, take};
 ghost use Rattle.std.specs.Io.{ReadsAtMost, StartsWith};
 ghost use Rattle.std.specs.Io.KnownBytes.{Consumes, ReadConsumes};
 ghost use Rattle.sip_ports.specs.Ports.{HasCause, StandsStill};
@@ -15,18 +15,26 @@ use crate::{Command, Words, read_words};
 use sip_ports::{PortStop, Sink, Source};
 use sip_stream::Form;
 
+// The form of a command's stream.
+fn form_of(command: &Command) -> Form
+    ensures { result ≡ stream_form command.now }
+{
+    match command {
+        Command::Verify(task) | Command::Play(task, _) => task.form,
+        Command::Gen { depth } => Form::made(*depth),
+        Command::Lines { form, .. } | Command::Widen { form, .. } => *form,
+        Command::Help | Command::Show | Command::Convert => Form::Binary,
+    }
+}
+
 // The form of the stream that words of a command name.
-fn form_of(words: &Words) -> Form
+fn form_in(words: &Words) -> Form
     ensures { ((command : AnyCommand) × Spells words.now command × (result ≡ stream_form command))
         ⊎ ((word : ℕ) × IsRefusedAt words.now word) }
 {
     match read_words(words) {
-        Ok(Command::Verify(task)) => task.form,
-        Ok(Command::Play(task, _)) => task.form,
-        Ok(Command::Gen { depth }) => Form::made(depth),
-        Ok(Command::Lines { form, .. }) => form,
-        Ok(Command::Widen { form, .. }) => form,
-        Ok(Command::Help | Command::Show | Command::Convert) | Err(_) => Form::Binary,
+        Ok(command) => form_of(&command),
+        Err(_) => Form::Binary,
     }
 }
 
@@ -55,7 +63,7 @@ struct Reading {
 impl Reading {
     // Whether a line is due.
     fn is_due(&self) -> bool
-        ensures { IsTrue result ↔ (self.now.next ≤ self.now.bytes) }
+        ensures { result ≡ nat_le self.now.next self.now.bytes }
     {
         self.next <= self.bytes
     }
@@ -137,7 +145,7 @@ impl<S: Source + Drop, W: Sink + Drop> ToldSource<S, W> {
             Some(lines) => Some(StreamTeller {
                 lines,
                 reading: Reading {
-                    form: form_of(words),
+                    form: form_in(words),
                     bytes: 0,
                     feeds: 0,
                     next: 0,

@@ -227,12 +227,7 @@ fn check_lines(
     Ok(())
 }
 
-fn check_cuts(
-    rt: &impl Abort,
-    alloc: Global,
-    given: &Given,
-    lines: Lines,
-) -> Result<(), Fail> {
+fn check_cuts(rt: &impl Abort, alloc: Global, given: &Given, lines: Lines) -> Result<(), Fail> {
     check_lines(rt, alloc, given, 1, &[], lines)?;
     check_lines(rt, alloc, given, 10_000, &[], lines)
 }
