@@ -49,7 +49,7 @@ read_more bytes r = record {
   next = r.next;
 }
 
--- the line before a read, if one is due
+-- the line before a read or a skip, if one is due
 abbrev pub line_before : Reading → List ℕ
 line_before r =
     if nat_le r.next r.bytes then stream_line r.bytes (records_in r.form r.bytes r.feeds) else []
@@ -80,7 +80,8 @@ pub record TellsRead {E W : Type 0} (talk : W → Option (List TalkEvent)) (faul
       (λ n. new.reading ≡ read_more (take n buf) (line_said old.reading))
       (λ _. new.reading ≡ line_said old.reading)
 
--- What was skipped was counted, and nothing was written.
-pub record TellsSkip {W : Type 0} (bytes : List ℕ) (old new : StreamTeller W) : Type 0 where
-  pub said : new.lines ≡ old.lines
-  pub counted : new.reading ≡ read_more bytes old.reading
+-- The line that was due was written before the skip, and then the bytes were counted.
+pub record TellsSkip {W : Type 0} (talk : W → Option (List TalkEvent)) (faults wants : W → ℕ)
+    (is_sure : W → Type 0) (bytes : List ℕ) (old new : StreamTeller W) : Type 0 where
+  pub said : Says talk faults wants is_sure old.lines new.lines (line_before old.reading)
+  pub counted : new.reading ≡ read_more bytes (line_said old.reading)

@@ -106,8 +106,8 @@ struct StreamTeller<W: Sink + Drop> {
 }
 
 impl<W: Sink + Drop> StreamTeller<W> {
-    // Writes the line before a read, if one is due.
-    fn before_read(&mut self)
+    // Writes the line before bytes are moved, if one is due.
+    fn before_move(&mut self)
         ensures said { Says W.talk W.faults W.wants W.is_sure self.old.lines self.new.lines
             (line_before self.old.reading) }
         ensures next { self.new.reading ≡ line_said self.old.reading }
@@ -120,9 +120,9 @@ impl<W: Sink + Drop> StreamTeller<W> {
     }
 }
 
-/// A source that says on the way how much was read of the stream that it brings: before a read,
-/// where 64 MiB or more passed since the last line, and before the first one. It gives what its own
-/// source gives, and with nothing to say the lines on it counts nothing.
+/// A source that says on the way how much was read of the stream that it brings: before the first
+/// call that moves bytes, and before one where 64 MiB or more were moved since the last line. It gives
+/// what its own source gives, and with nothing to say the lines on it counts nothing.
 #[derive(Drop)]
 pub struct ToldSource<S: Source + Drop, W: Sink + Drop> {
     source: S,
@@ -168,22 +168,23 @@ impl<S: Source + Drop, W: Sink + Drop> ToldSource<S, W> {
         Some(&self.teller.as_ref()?.lines)
     }
 
-    // Writes the line before a read, if one is due.
-    fn before_read(&mut self)
+    // Writes the line before bytes are moved, if one is due.
+    fn before_move(&mut self)
         ensures source { self.new.source ≡ self.old.source }
         ensures told { IfTold self.old.teller self.new.teller (λ old new.
             Says W.talk W.faults W.wants W.is_sure old.lines new.lines (line_before old.reading)
             × (new.reading ≡ line_said old.reading)) }
     {
         if let Some(teller) = &mut self.teller {
-            teller.before_read();
+            teller.before_move();
         }
     }
 
     // Counts bytes that were read.
     fn passed(&mut self, bytes: &[u8])
         ensures source { self.new.source ≡ self.old.source }
-        ensures told { IfTold self.old.teller self.new.teller (TellsSkip bytes.now) }
+        ensures told { IfTold self.old.teller self.new.teller (λ old new. (new.lines ≡ old.lines)
+            × (new.reading ≡ read_more bytes.now old.reading)) }
     {
         if let Some(teller) = &mut self.teller {
             teller.reading.add(bytes);
@@ -222,7 +223,7 @@ impl<S: Source + Drop, W: Sink + Drop> Source for ToldSource<S, W> {
         ensures told { IfTold (stream_teller self.old) (stream_teller self.new)
             (TellsRead W.talk W.faults W.wants W.is_sure result buf.new) }
     {
-        self.before_read();
+        self.before_move();
         let count = self.source.read(buf)?;
         self.passed(&buf[..count]);
         Ok(count)
@@ -244,8 +245,10 @@ impl<S: Source + Drop, W: Sink + Drop> Source for ToldSource<S, W> {
             (told_source self.old) (told_source self.new) }
         ensures sure { S.is_sure (told_source self.old) → S.is_sure (told_source self.new) }
         ensures told { IfTold (stream_teller self.old) (stream_teller self.new)
-            (TellsSkip (take count (S.ahead (told_source self.old)))) }
+            (TellsSkip W.talk W.faults W.wants W.is_sure
+            (take count (S.ahead (told_source self.old)))) }
     {
+        self.before_move();
         if let Some(teller) = &mut self.teller {
             teller.reading.add(&self.source.held()[..count]);
         }

@@ -99,16 +99,14 @@ impl Source for Endless {
     fn skip(&mut self, _count: usize) {}
 }
 
-// Moves as much as that: reads it, or reads nothing and skips what is held.
+// Moves as much as that: reads it, or skips what is held.
 fn move_all<S: Source>(source: &mut S, mebibytes: usize, buffer: &mut [u8], skips: bool) -> bool {
     for _ in 0..mebibytes {
-        let room = if skips { 0 } else { buffer.len() };
-        if source.read(&mut buffer[..room]).is_err() {
-            return false;
-        }
         if skips {
             let held = source.held().len();
             source.skip(held);
+        } else if source.read(buffer).is_err() {
+            return false;
         }
     }
     true

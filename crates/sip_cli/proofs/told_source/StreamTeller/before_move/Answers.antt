@@ -1,7 +1,7 @@
 use Rattle.std.proofs.Common.{false, sym, ◌∙◌, refl}
 use Rattle.sip_cli.specs.ToldStream.{line_before}
 use Rattle.sip_cli.proofs.Telling.{says_nothing}
-use Rattle.sip_cli.proofs.told_source.StreamTeller.before_read.Goals as goal
+use Rattle.sip_cli.proofs.told_source.StreamTeller.before_move.Goals as goal
 
 pub returns-else-is_due-clause-said : goal.returns-else-is_due-clause-said
 returns-else-is_due-clause-said g c =
