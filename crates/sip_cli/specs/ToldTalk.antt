@@ -78,7 +78,7 @@ with_rest rest t = record {
   next = t.next;
 }
 
--- So many bytes of the buffer were sent: of the frame under way, or of one that is all of the buffer.
+-- So many bytes of the buffer were sent: of the frame under way, or of one that is all of it.
 pub record SendsOn (script : Script) (buf : List ℕ) (count : ℕ) (old new : Turn) : Type 0 where
   pub begun : old.rest ≡ 0
       → (begun : Turn) × BeginsFrame script buf old begun

@@ -1,7 +1,6 @@
 //! A link that says on the way which reply it waits for.
 
-ghost use Rattle.std.specs.Prelude.{◌≡◌, ◌⊎◌, ℕ, ◌≤◌, ◌<◌, min, [], ◌+◌, ◌^◌, ◌-◌, IsTrue, IfOk, IfSome, None, OnOk, MatchOption, length};
-ghost use Rattle.arrayvec.specs.ArrayVec.{array_vec_len};
+ghost use Rattle.std.specs.Prelude.{◌≡◌, ◌⊎◌, ℕ, ◌≤◌, ◌<◌, IfOk, IfSome, None, OnOk, MatchOption, length};
 ghost use Rattle.std.specs.Io.{ReadsAtMost, WritesAtMost};
 ghost use Rattle.sip_ports.specs.Ports.{HasCause, Hears, Sends, StandsStill};
 ghost use Rattle.sip_vector.specs.declared.query.Query.{Query as AnyQuery};
@@ -10,7 +9,6 @@ ghost use Rattle.sip_cli.specs.declared.command.Command.{Command as AnyCommand};
 ghost use Rattle.sip_cli.specs.Telling.{IfTold, Says};
 ghost use Rattle.sip_cli.specs.ToldTalk.{BeginsFrame, IsAsk, IsFrameOf, IsNumber, IsScript, SendsOn, TellsReceive, TellsWrite, awaits, heard_more, hears_on, line_before, line_said, talk_teller, told_link, unsaid};
 ghost use Rattle.sip_cli.specs.Words.{Spells, IsRefusedAt};
-ghost use Rattle.std.proofs.Common.{rules};
 
 use crate::progress::{STEP, from_line, reply_line, say};
 use crate::{Command, Words, read_words};
@@ -28,8 +26,8 @@ const CHALLENGE: u8 = 0x05;
 /// The least length of a frame.
 const SHORTEST: usize = 3;
 
-// The query whose frame these bytes are. A message is as large as the longest frame's rows, so it is
-// made in a call of its own.
+// The query whose frame these bytes are. A message is as large as the longest frame's rows, so it
+// is made in a call of its own.
 #[inline(never)]
 fn query_of(version: Version, frame: &[u8]) -> Option<Query>
     ensures { MatchOption result
@@ -205,9 +203,9 @@ impl<W: Sink + Drop> TalkTeller<W> {
     }
 }
 
-/// A link that says before the first receive of each reply which one it waits for: the number of the
-/// query, and the round, as the line of a rejection has them. A side that asks nothing says how much
-/// it heard, before its first receive and where 64 MiB or more came since its last line.
+/// A link that says before the first receive of each reply which one it waits for: the number of
+/// the query, and the round, as the line of a rejection has them. A side that asks nothing says how
+/// much it heard, before its first receive and where 64 MiB or more came since its last line.
 ///
 /// It passes on what its own link gives. It takes what is written first, and whatever is written
 /// where a frame ended, for the bytes of one frame; they may be sent in any pieces.

@@ -8,7 +8,6 @@ ghost use Rattle.sip_cli.specs.declared.command.Command.{Command as AnyCommand};
 ghost use Rattle.sip_cli.specs.Telling.{IfTold, Says};
 ghost use Rattle.sip_cli.specs.ToldStream.{TellsRead, TellsSkip, feeds_in, line_before, line_said, read_more, records_in, stream_form, stream_teller, told_source, unread};
 ghost use Rattle.sip_cli.specs.Words.{Spells, IsRefusedAt};
-ghost use Rattle.std.proofs.Common.{rules};
 
 use crate::progress::{STEP, say, stream_line};
 use crate::{Command, Words, read_words};
@@ -121,8 +120,8 @@ impl<W: Sink + Drop> StreamTeller<W> {
 }
 
 /// A source that says on the way how much was read of the stream that it brings: before the first
-/// call that moves bytes, and before one where 64 MiB or more were moved since the last line. It gives
-/// what its own source gives, and with nothing to say the lines on it counts nothing.
+/// call that moves bytes, and before one where 64 MiB or more were moved since the last line. It
+/// gives what its own source gives, and with nothing to say the lines on it counts nothing.
 #[derive(Drop)]
 pub struct ToldSource<S: Source + Drop, W: Sink + Drop> {
     source: S,
