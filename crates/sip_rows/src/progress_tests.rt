@@ -5,7 +5,7 @@ use crate::case::Case;
 use crate::duel::{duel, heard, sent};
 use crate::frames::*;
 use crate::page_tests::words_between;
-use crate::row::{At, FIRST_GIVEN, Given, link, source, words_of};
+use crate::row::{At, FIRST_GIVEN, Failing, Given, Shown, link, source, words_of};
 use sip_cli::{ToldLink, ToldSource, exit_code, run};
 use sip_ports::{MemoryLink, MemorySink, MemorySource, PortStop, Source};
 use sip_verifier::Status;
@@ -160,14 +160,20 @@ struct Told {
     keep: MemorySink,
 }
 
-// Runs it over ports that move at most a chunk in a call, and tell; the calls of these numbers fail
-// for the lines.
-fn run_told(given: &Given, alloc: Global, chunk: usize, fails: &[u64]) -> Result<Told, Fail>
+// Runs it over ports that move at most a chunk in a call, and tell. One call of a port fails, and
+// the calls of these numbers for the lines.
+fn run_told(
+    given: &Given,
+    alloc: Global,
+    chunk: usize,
+    failing: Option<Failing>,
+    fails: &[u64],
+) -> Result<Told, Fail>
     requires { 1 ≤ chunk }
 {
     let words = words_of(alloc, given.words)?;
-    let first = source(alloc, given.stream, chunk, None, At::First)?;
-    let peer = link(alloc, given.replies, chunk, None)?;
+    let first = source(alloc, given.stream, chunk, failing, At::First)?;
+    let peer = link(alloc, given.replies, chunk, failing)?;
     let mut first = ToldSource::new(&words, first, taker(alloc, fails.to_vec(alloc)?));
     let mut peer = ToldLink::new(&words, peer, taker(alloc, fails.to_vec(alloc)?));
     let mut second = source(alloc, given.seed, chunk, None, At::Second)?;
@@ -198,7 +204,16 @@ struct Lines<'a> {
     talk: &'a str,
 }
 
-// Runs it with ports that tell and with ports that don't: nothing differs but the lines.
+// Nothing differs between a run over ports that tell and one over ports that don't.
+fn check_same(rt: &impl Abort, case: Case, told: &Told, plain: &Shown) {
+    case.ends(rt, told.status, plain.status);
+    case.holds(rt, exit_code(&told.status) == exit_code(&plain.status));
+    case.writes(rt, told.report.bytes(), plain.report.bytes());
+    case.writes(rt, told.keep.bytes(), plain.keep.bytes());
+    case.says(rt, told.peer.link().talk(), plain.peer.talk());
+}
+
+// Runs it over both: nothing differs, and these are the lines.
 fn check_lines(
     rt: &impl Abort,
     alloc: Global,
@@ -210,16 +225,12 @@ fn check_lines(
     requires { 1 ≤ chunk }
 {
     let plain = given.run(alloc, chunk, None)?;
-    let told = run_told(given, alloc, chunk, fails)?;
+    let told = run_told(given, alloc, chunk, None, fails)?;
     let case = Case {
         name: given.words,
         number: chunk as u64,
     };
-    case.ends(rt, told.status, plain.status);
-    case.holds(rt, exit_code(&told.status) == exit_code(&plain.status));
-    case.writes(rt, told.report.bytes(), plain.report.bytes());
-    case.writes(rt, told.keep.bytes(), plain.keep.bytes());
-    case.says(rt, told.peer.link().talk(), plain.peer.talk());
+    check_same(rt, case, &told, &plain);
     case.writes(rt, said(told.first.lines()), lines.stream.as_bytes());
     case.writes(rt, said(told.peer.lines()), lines.talk.as_bytes());
     Ok(())
@@ -346,6 +357,28 @@ fn a_run_that_tells_its_progress_is_the_same(rt: HostRuntime) -> Result<(), Fail
         check_cuts(&rt, alloc, given, *lines)?;
     }
     Ok(())
+}
+
+// Each of the first calls of a port fails once, in single bytes: nothing differs either.
+fn check_failing(rt: &impl Abort, alloc: Global, given: &Given, at: At) -> Result<(), Fail> {
+    for number in 1..60 {
+        let failing = Some(Failing { at, number });
+        let plain = given.run(alloc, 1, failing)?;
+        let told = run_told(given, alloc, 1, failing, &[])?;
+        let case = Case {
+            name: given.words,
+            number,
+        };
+        check_same(rt, case, &told, &plain);
+    }
+    Ok(())
+}
+
+#[test]
+fn ports_that_tell_fail_where_those_inside_do(rt: HostRuntime) -> Result<(), Fail> {
+    let alloc = rt.alloc();
+    check_failing(&rt, alloc, &FIRST_GIVEN, At::First)?;
+    check_failing(&rt, alloc, &FIRST_GIVEN, At::Peer)
 }
 
 // Words with a bar between them, those behind `--progress`, and whether it is there.
