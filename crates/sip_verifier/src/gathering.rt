@@ -8,7 +8,7 @@ ghost use Rattle.sip_vector.specs.declared.query.Query.{Query as AnyQuery};
 ghost use Rattle.sip_vector.specs.declared.update.Side.{Side as AnySide};
 ghost use Rattle.sip_vector.specs.declared.update.Update.{Update as AnyUpdate};
 ghost use Rattle.sip_stream.specs.declared.fault.StreamFault.{StreamFault as AnyStreamFault};
-ghost use Rattle.sip_verifier.specs.inside.Drawing.{AreOf, Draws, HasDrawn};
+ghost use Rattle.sip_verifier.specs.inside.Drawing.{Draws};
 ghost use Rattle.sip_verifier.specs.inside.Ending.{status_of_stream};
 ghost use Rattle.sip_verifier.specs.Feeding.{due_with, waiting_with};
 ghost use Rattle.sip_verifier.specs.inside.Passing.{left, seated, taken_with};
@@ -16,7 +16,7 @@ ghost use Rattle.sip_verifier.specs.QuerySeats.{HaveRoom};
 ghost use Rattle.sip_verifier.specs.Seats.{AreSeats};
 ghost use Rattle.std.specs.Result.{is_err};
 ghost use Rattle.sip_verifier.specs.Exchanges.{TakesAtMost};
-ghost use Rattle.sip_verifier.specs.Gathering.{Gathers};
+ghost use Rattle.sip_verifier.specs.Gathering.{AreOf, Gathers, PassesOn};
 ghost use Rattle.sip_verifier.specs.Keeping.{KeepsHead};
 ghost use Rattle.sip_verifier.specs.Moments.{counts};
 ghost use Rattle.sip_verifier.specs.Statuses.{Stops, stops_following, stops_gathering};
@@ -131,9 +131,9 @@ fn follow<A: Source, L: Link>(
     peer: &mut L,
 ) -> Result<(), Status>
     requires { AreOf task.now [] seats.old }
-    ensures gathers { (bytes seed : List ℕ) → A.left first.old ≡ Some bytes
-        → HasDrawn task.now seed seats.old
-        → Gathers task.now bytes seed (A.left first.new) (L.talk peer.old)
+    ensures passes_on { (bytes : List ℕ) (at_blocks : List (List ℕ)) → A.left first.old ≡ Some bytes
+        → AreSeats task.now.depth task.now.queries.items at_blocks [] seats.old
+        → PassesOn task.now bytes at_blocks (A.left first.new) (L.talk peer.old)
         (L.talk peer.new) (seated seats.new result) }
     ensures seats { IfOk result (λ _. (stream : List AnyUpdate) × AreOf task.now stream seats.new) }
     ensures fault { (second seconds report reports keep keeps : ℕ) → Stops stops_following

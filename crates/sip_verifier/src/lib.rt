@@ -46,7 +46,7 @@ mod session;
 mod status;
 mod task;
 
-pub use checking::check_stream;
+pub use checking::{check_stream, conclude};
 pub use feed::Feed;
 pub use gathering::gather;
 pub use report::query_word;

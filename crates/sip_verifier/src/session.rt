@@ -173,6 +173,13 @@ impl Session {
         })
     }
 
+    /// The version of its talk.
+    pub(crate) fn version(&self) -> Version
+        ensures { result ≡ self.now.version }
+    {
+        self.version
+    }
+
     /// How many queries were not asked yet.
     pub fn left(&self) -> usize
         ensures { result ≡ length self.now.left }

@@ -11,11 +11,11 @@ use Rattle.sip_wire.specs.declared.version.Version.{Version}
 use Rattle.sip_verifier.specs.declared.status.Port.TheVariants as ports
 use Rattle.sip_verifier.specs.declared.status.Status.{Status}
 use Rattle.sip_verifier.specs.declared.status.Status.TheVariants as statuses
-use Rattle.sip_verifier.specs.declared.task.Task.{Task}
 use Rattle.sip_verifier.specs.Asking.{IsAnswered, IsRejected, IsInterrupted, IsUnrecorded}
 use Rattle.sip_verifier.specs.CauseClause.{CauseClause}
 use Rattle.sip_replies.specs.Talks.{IsPrefix}
 use Rattle.sip_verifier.specs.Exchanges.{Exchange}
+use Rattle.sip_verifier.specs.Inquiries.{Inquiry}
 use Rattle.sip_verifier.specs.Keeping.{AllIsKept, FrontIsKept}
 use Rattle.sip_verifier.specs.Moments.{Counts}
 use Rattle.sip_verifier.specs.Reports.{line, rejection}
@@ -136,10 +136,10 @@ ChecksAll version depth stream queries blocks old new blank full (Err status) =
 -- ---- the run
 
 -- the first three promises, from which the other two follow
-pub record Ended (task : Task) (x : Exchange) (before now : Counts) (status : Status) : Type 0 where
-  pub verdict : VerdictClause task x status
-  pub talk : TalkClause task x status
-  pub cause : CauseClause task x before now status
+pub record Ended (i : Inquiry) (x : Exchange) (before now : Counts) (status : Status) : Type 0 where
+  pub verdict : VerdictClause i x status
+  pub talk : TalkClause i x status
+  pub cause : CauseClause i x before now status
 
 -- how the steps ended
 abbrev pub status_of : Result (Unit {0}) Status → Status
