@@ -2,12 +2,11 @@
 #![tactic(auto)]
 
 use sip_cli::{
-    FileId, LinkOrder, OPENING_FROM, OPENING_TO, Opening, PlanFiles, PortPlan, Reading, ToldReader,
-    Words, finish, page_of, play_words, ports, run, status_without_words, write_page,
+    FileId, LinkOrder, OPENING_FROM, OPENING_TO, Opening, PlanFiles, PortPlan, ToldLink,
+    ToldSource, Words, finish, page_of, play_words, ports, run, status_without_words, write_page,
 };
 use sip_ports::{
-    FileSink, FileSource, NullSink, ReaderSource, Sink, Source, StderrSink, StdoutSink, TwoWayLink,
-    write_whole,
+    FileLink, FileSink, FileSource, NullSink, Sink, Source, StderrSink, StdoutSink, write_whole,
 };
 use sip_stream::MadeSource;
 use sip_verifier::Status;
@@ -68,13 +67,16 @@ fn emptied(rt: &HostRuntime, words: &Words, opening: Opening) -> Option<File> {
     File::create(rt, opening.name(words)?).ok()
 }
 
-/// A file that is read, and says on the way how far it was.
-type ToldFile = ToldReader<File, Stderr>;
+/// Where the lines of `--progress` go.
+type Lines = StderrSink<Stderr>;
 
-/// That file, which says nothing unless it is to.
-fn told(rt: &HostRuntime, file: Option<File>, what: Reading, tells: bool) -> Option<ToldFile> {
-    let lines = if tells { Some(rt.stderr()) } else { None };
-    Some(ToldReader::new(file?, what, lines))
+/// Standard error for the lines on the way, if they are to be written.
+fn lines(rt: &HostRuntime, tells: bool) -> Option<Lines> {
+    if tells {
+        Some(StderrSink::new(rt.stderr()))
+    } else {
+        None
+    }
 }
 
 /// Says that an end of the link is opened, which may wait, if it is to. That this could not be written changes nothing.
@@ -93,9 +95,20 @@ fn stream(
     words: &Words,
     opening: Opening,
     tells: bool,
-) -> Option<Box<ReaderSource<ToldFile>>> {
-    let file = told(rt, opened(rt, words, opening), Reading::Stream, tells);
-    Box::new(rt.alloc(), ReaderSource::new(file)).ok()
+) -> Option<Box<ToldSource<FileSource, Lines>>> {
+    let file = FileSource::new(opened(rt, words, opening));
+    Box::new(rt.alloc(), ToldSource::new(words, file, lines(rt, tells))).ok()
+}
+
+/// A source over a made stream; `None` where memory is refused.
+#[inline(never)]
+fn made(
+    rt: &HostRuntime,
+    words: &Words,
+    made: MadeSource,
+    tells: bool,
+) -> Option<Box<ToldSource<MadeSource, Lines>>> {
+    Box::new(rt.alloc(), ToldSource::new(words, made, lines(rt, tells))).ok()
 }
 
 /// A source over a file to read; `None` where memory is refused.
@@ -108,13 +121,13 @@ fn source(rt: &HostRuntime, words: &Words, opening: Opening) -> Option<Box<FileS
     Box::new(rt.alloc(), FileSource::new(file)).ok()
 }
 
-/// The link, whose end that brings bytes says how far it was read.
-type ToldLink = TwoWayLink<ToldFile, File>;
+/// The link, which says what it waits for.
+type Peer = ToldLink<FileLink, Lines>;
 
 /// Opens the two ends of the link, in the order of the plan: so two FIFOs can stand between the two sides. `None` where
 /// memory is refused.
 #[inline(never)]
-fn link(rt: &HostRuntime, words: &Words, plan: &PortPlan, tells: bool) -> Option<Box<ToldLink>> {
+fn link(rt: &HostRuntime, words: &Words, plan: &PortPlan, tells: bool) -> Option<Box<Peer>> {
     let (from, to) = match plan.link_order() {
         LinkOrder::ToFirst => {
             say(rt, plan.to, OPENING_TO, tells);
@@ -129,8 +142,8 @@ fn link(rt: &HostRuntime, words: &Words, plan: &PortPlan, tells: bool) -> Option
             (from, emptied(rt, words, plan.to))
         }
     };
-    let from = told(rt, from, Reading::From, tells);
-    Box::new(rt.alloc(), ToldLink::new(from, to)).ok()
+    let link = FileLink::new(from, to);
+    Box::new(rt.alloc(), ToldLink::new(words, link, lines(rt, tells))).ok()
 }
 
 /// The file that keeps the transcript, which is made or emptied; `None` where memory is refused.
@@ -144,7 +157,7 @@ fn record(rt: &HostRuntime, words: &Words, opening: Opening) -> Option<Box<FileS
 #[derive(Drop)]
 struct RunPorts {
     second: Box<FileSource>,
-    peer: Box<ToldLink>,
+    peer: Box<Peer>,
 }
 
 /// Does what the words say over these ports. Words of `play` have no use for the link.
@@ -210,8 +223,9 @@ fn obey(rt: &HostRuntime, words: &Words, tells: bool) -> Option<Status> {
             count,
             depth,
         } => {
-            let mut first = MadeSource::new(*number, *count, *depth);
-            obey_over(rt, words, &plan, &mut first, tells)
+            let source = MadeSource::new(*number, *count, *depth);
+            let mut first = made(rt, words, source, tells)?;
+            obey_over(rt, words, &plan, &mut *first, tells)
         }
         Opening::Nothing | Opening::Spared | Opening::Path { .. } => {
             let mut first = stream(rt, words, asked.first, tells)?;

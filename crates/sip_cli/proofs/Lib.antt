@@ -11,3 +11,4 @@ pub mod PlayLemmas
 pub mod Alone
 pub mod Behind
 pub mod NamedPorts
+pub mod Telling

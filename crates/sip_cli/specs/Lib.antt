@@ -6,6 +6,8 @@ pub mod Sparing
 pub mod Pages
 pub mod Hints
 pub mod Telling
+pub mod ToldStream
+pub mod ToldTalk
 pub mod Behind
 pub mod Exit
 pub mod StatusLine

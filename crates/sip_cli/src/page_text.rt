@@ -147,8 +147,8 @@ USAGE
             "
   sip --help                 prints this page, and so does sip -h
   sip --version              prints the version, and so does sip -V
-  sip --progress COMMAND ..  does the command, and says on standard error how far it is: before STREAM or FROM is read,
-                             after each 64 MiB of it, and before an end of the link is opened, which may wait
+  sip --progress COMMAND ..  does the command, and says on standard error how far it is: how much of STREAM was read,
+                             before it is read and after each 64 MiB of it, and before each wait for the other side
 
 Behind the name of a command --help and -h print its part of this page, as sip verify --help does; behind show and
 convert they name a file.
@@ -229,8 +229,12 @@ A reply that is rejected has its line among the answers: rejected query K round 
   sip: peer closed
       The verifier left sip help before its farewell, and says why itself.
 
-  sip: progress: N MiB of FILE read, sip: progress: waiting for the other side at FILE
-      With --progress alone, and in front of all other lines.
+  sip: progress: N MiB of STREAM read, M records
+  sip: progress: waiting for the other side at FILE
+  sip: progress: waiting for the reply of query K round J
+  sip: progress: waiting for the other side, N MiB of FROM read
+      With --progress alone, and in front of all other lines. FILE is FROM or TO. K and J are those of a rejected reply.
+      The last line is that of sip help, before it hears anything and after each 64 MiB.
 
   sip: out of memory
       Memory ran out. sip help keeps each item that is not 0, and sip verify an answer while it is told.

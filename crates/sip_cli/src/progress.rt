@@ -1,123 +1,82 @@
-//! What a run says on the way: how far a file was read, at most once in 64 MiB, and where it waits.
+//! What a run says on the way: the lines, and how one is written.
 
-ghost use Rattle.std.specs.Prelude.{◌≡◌, ◌+◌, ◌-◌, ◌^◌, ◌<◌, ◌≤◌, min};
-ghost use Rattle.sip_cli.specs.Telling.{progress_line, progress_rest, told_reader};
-ghost use Rattle.std.proofs.Common.{rules};
+ghost use Rattle.std.specs.Prelude.{◌≡◌, ◌+◌, ◌≤◌, ◌++◌, ◌∷◌, [], length, decimal};
+ghost use Rattle.sip_cli.specs.Telling.{Says, from_line, reply_line, stream_line};
 
 use crate::status_text::{ROOM, numbered};
 use arrayvec::ArrayVec;
-use std::io;
-use std::io::{Read, Write};
+use sip_ports::{Sink, write_whole};
+use sip_stream::text::{put, put_number};
 
-/// So many bytes are read between two lines, at least.
-const STEP: u64 = 1 << 26;
+/// So many bytes pass between two lines, at least.
+pub(crate) const STEP: u64 = 1 << 26;
 
 const MEBIBYTE: u64 = 1 << 20;
-
-/// Which word names the file that is read.
-#[derive(Clone, Copy, Debug, PartialEq, Eq)]
-pub enum Reading {
-    /// STREAM.
-    Stream,
-    /// FROM.
-    From,
-}
-
-// What stands behind the number of a line.
-fn rest_of(what: Reading) -> &'static [u8]
-    ensures { result.now ≡ progress_rest what }
-{
-    match what {
-        Reading::Stream => b" MiB of STREAM read",
-        Reading::From => b" MiB of FROM read",
-    }
-}
-
-// The line where so many bytes were read.
-fn line_of(what: Reading, bytes: u64) -> ArrayVec<u8, ROOM>
-    ensures { result.items ≡ progress_line what bytes }
-{
-    numbered(b"sip: progress: ", bytes / MEBIBYTE, rest_of(what))
-}
-
-// How much was read, and the least number of bytes at which the next line is due.
-#[derive(Drop)]
-struct Progress<W: Write + Drop> {
-    lines: Option<W>,
-    what: Reading,
-    read: u64,
-    next: u64,
-}
-
-impl<W: Write + Drop> Progress<W> {
-    // Writes the line, if one is due. That it could not be written changes nothing.
-    fn tell(&mut self)
-        ensures quiet { self.old.read < self.old.next → self.new ≡ self.old }
-        ensures next { self.old.next ≤ self.old.read
-            → self.new.next ≡ min (self.old.read + 2 ^ 26) (2 ^ 64 - 1) }
-        ensures read { self.new.read ≡ self.old.read }
-    {
-        if self.read < self.next {
-            return;
-        }
-        if let Some(lines) = &mut self.lines {
-            let _ = lines.write_all(line_of(self.what, self.read).as_slice());
-        }
-        self.next = self.read.saturating_add(STEP);
-    }
-
-    // So many bytes more were read.
-    fn passed(&mut self, count: usize)
-        ensures read { self.new.read ≡ min (self.old.read + count) (2 ^ 64 - 1) }
-        ensures next { self.new.next ≡ self.old.next }
-    {
-        self.read = self.read.saturating_add(count as u64);
-    }
-}
-
-/// A reader that says on the way how far it was read: before it is read, where 64 MiB or more were
-/// read since the last line, and before it is read first. It gives what its own reader gives.
-#[derive(Drop)]
-pub struct ToldReader<R: Read + Drop, W: Write + Drop> {
-    reader: R,
-    progress: Progress<W>,
-}
-
-impl<R: Read + Drop, W: Write + Drop> ToldReader<R, W> {
-    ghost use Rattle.sip_cli.specs.Telling.{told_reader};
-
-    /// A reader over this one, which says how far it was read where there is a writer to say it on.
-    pub fn new(reader: R, what: Reading, lines: Option<W>) -> Self
-        ensures { told_reader result ≡ reader }
-    {
-        ToldReader {
-            reader,
-            progress: Progress {
-                lines,
-                what,
-                read: 0,
-                next: 0,
-            },
-        }
-    }
-}
-
-/// What its reader tells it tells.
-impl<R: Read + Drop, W: Write + Drop> Read for ToldReader<R, W> {
-    ghost use Rattle.sip_cli.specs.Telling.{told_reader};
-
-    ghost remaining = { λ told. R.remaining (told_reader told) };
-
-    fn read(&mut self, buf: &mut [u8]) -> io::Result<usize> {
-        self.progress.tell();
-        let count = self.reader.read(buf)?;
-        self.progress.passed(count);
-        Ok(count)
-    }
-}
 
 /// The line before TO is opened, which waits where it is a FIFO.
 pub const OPENING_TO: &str = "sip: progress: waiting for the other side at TO\n";
 
 /// The line before FROM is opened.
 pub const OPENING_FROM: &str = "sip: progress: waiting for the other side at FROM\n";
+
+// A line of two numbers, with a text before, between and behind them.
+fn with_two(text: &[u8], number: u64, between: &[u8], other: u64, rest: &[u8]) -> ArrayVec<u8, ROOM>
+    requires first { length text.now ≤ 60 }
+    requires middle { length between.now ≤ 60 }
+    requires last { length rest.now ≤ 60 }
+    ensures { result.items ≡ text.now ++ decimal number ++ between.now ++ decimal other
+        ++ rest.now ++ 10 ∷ [] }
+{
+    let mut gathered = ArrayVec::new();
+    put(&mut gathered, text);
+    put_number(&mut gathered, number);
+    put(&mut gathered, between);
+    put_number(&mut gathered, other);
+    put(&mut gathered, rest);
+    put(&mut gathered, b"\n");
+    gathered
+}
+
+/// The line where so many bytes and records of the stream were read.
+pub(crate) fn stream_line(bytes: u64, records: u64) -> ArrayVec<u8, ROOM>
+    ensures { result.items ≡ stream_line bytes records }
+{
+    with_two(
+        b"sip: progress: ",
+        bytes / MEBIBYTE,
+        b" MiB of STREAM read, ",
+        records,
+        b" records",
+    )
+}
+
+/// The line before the first bytes of a reply come.
+pub(crate) fn reply_line(query: u8, round: u8) -> ArrayVec<u8, ROOM>
+    ensures { result.items ≡ reply_line query round }
+{
+    with_two(
+        b"sip: progress: waiting for the reply of query ",
+        query as u64,
+        b" round ",
+        round as u64,
+        b"",
+    )
+}
+
+/// The line of a side that answers, where so many bytes of the other side were heard.
+pub(crate) fn from_line(bytes: u64) -> ArrayVec<u8, ROOM>
+    ensures { result.items ≡ from_line bytes }
+{
+    numbered(
+        b"sip: progress: waiting for the other side, ",
+        bytes / MEBIBYTE,
+        b" MiB of FROM read",
+    )
+}
+
+/// Writes a line. That it could not be written changes nothing.
+pub(crate) fn say<W: Sink>(lines: &mut W, line: &[u8])
+    ensures { Says W.talk W.faults W.wants W.is_sure lines.old lines.new line.now }
+{
+    let _ = write_whole(lines, line);
+}

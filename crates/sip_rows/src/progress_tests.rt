@@ -1,50 +1,349 @@
-// What a reader says of how far it was read.
+// What a run says on the way.
+ghost use Rattle.std.specs.Prelude.{◌≤◌};
 
 use crate::case::Case;
+use crate::duel::{duel, heard, sent};
+use crate::frames::*;
 use crate::page_tests::words_between;
-use sip_cli::{Reading, ToldReader};
+use crate::row::{At, FIRST_GIVEN, Given, link, source, words_of};
+use sip_cli::{ToldLink, ToldSource, exit_code, run};
+use sip_ports::{MemoryLink, MemorySink, MemorySource, PortStop, Source};
+use sip_verifier::Status;
 use std::alloc::Global;
-use std::io;
-use std::io::Read;
 use std::process::Abort;
 use std::test::Fail;
 
 const MEBIBYTE: usize = 1 << 20;
 
-// How many reads of a MiB are made, and what is said.
-type Told<'a> = (usize, &'a str);
+// Words, the byte that a stream is full of, how many MiB of it are moved, and what is said.
+type Moved<'a> = (&'a str, u8, usize, &'a str);
 
-const TOLD: &[Told<'static>] = &[
-    (0, ""),
-    (1, "sip: progress: 0 MiB of STREAM read\n"),
-    (64, "sip: progress: 0 MiB of STREAM read\n"),
+const MOVED: &[Moved<'static>] = &[
+    ("lines s 9", 7, 0, ""),
     (
-        65,
-        "sip: progress: 0 MiB of STREAM read\nsip: progress: 64 MiB of STREAM read\n",
+        "lines s 9",
+        7,
+        1,
+        "sip: progress: 0 MiB of STREAM read, 0 records\n",
     ),
     (
+        "gen 7 1 9",
+        7,
+        64,
+        "sip: progress: 0 MiB of STREAM read, 0 records\n",
+    ),
+    (
+        "gen 7 1 9",
+        7,
+        65,
+        "sip: progress: 0 MiB of STREAM read, 0 records\n\
+        sip: progress: 64 MiB of STREAM read, 5162220 records\n",
+    ),
+    (
+        "widen wide:s 9",
+        7,
         129,
-        "sip: progress: 0 MiB of STREAM read\nsip: progress: 64 MiB of STREAM read\n\
-        sip: progress: 128 MiB of STREAM read\n",
+        "sip: progress: 0 MiB of STREAM read, 0 records\n\
+        sip: progress: 64 MiB of STREAM read, 3947580 records\n\
+        sip: progress: 128 MiB of STREAM read, 7895160 records\n",
+    ),
+    (
+        "play text:s seed mute - 9 inner",
+        10,
+        65,
+        "sip: progress: 0 MiB of STREAM read, 0 records\n\
+        sip: progress: 64 MiB of STREAM read, 67108864 records\n",
+    ),
+    (
+        "verify text:s seed a b - 9 inner",
+        7,
+        2,
+        "sip: progress: 0 MiB of STREAM read, 0 records\n",
     ),
 ];
 
-fn check_told(rt: &impl Abort, alloc: Global, rows: &[Told]) -> Result<(), Fail> {
-    let mut buffer = vec![in alloc; 0u8; MEBIBYTE]?;
-    for &(reads, want) in rows {
-        let mut lines = Vec::new(alloc);
-        let mut told = ToldReader::new(io::repeat(7), Reading::Stream, Some(&mut lines));
-        let mut whole = true;
-        for _ in 0..reads {
-            whole = whole && told.read(&mut buffer).ok() == Some(MEBIBYTE);
+// A source that brings a MiB in each call, which it holds too, without an end.
+#[derive(Drop)]
+struct Endless {
+    bytes: Vec<u8>,
+}
+
+impl Source for Endless {
+    ghost use Rattle.std.specs.Prelude.{None, refl};
+    ghost use Rattle.std.proofs.Common.{rules};
+
+    ghost left = { λ _. None };
+
+    ghost ahead = { λ source. source.bytes.items };
+
+    ghost faults = { λ _. 0 };
+
+    ghost wants = { λ _. 0 };
+
+    ghost is_sure = { λ _. Unit {0} };
+
+    ghost faults_fit = { λ _. Prim.search rules };
+
+    ghost wants_fit = { λ _. Prim.search rules };
+
+    ghost sure_counts = { λ _ _. refl };
+
+    fn read(&mut self, buf: &mut [u8]) -> Result<usize, PortStop> {
+        Ok(buf.len())
+    }
+
+    fn held(&self) -> &[u8] {
+        &self.bytes
+    }
+
+    fn skip(&mut self, _count: usize) {}
+}
+
+// Moves as much as that: reads it, or skips what is held.
+fn move_all<S: Source>(source: &mut S, mebibytes: usize, buffer: &mut [u8], skips: bool) -> bool {
+    for _ in 0..mebibytes {
+        if skips {
+            let held = source.held().len();
+            source.skip(held);
+        } else if source.read(buffer).is_err() {
+            return false;
         }
-        let number = reads as u64;
-        let case = Case {
-            name: "reads of a MiB",
-            number,
+    }
+    true
+}
+
+// The bytes of the lines that were said.
+fn said(lines: Option<&MemorySink>) -> &[u8] {
+    match lines {
+        Some(sink) => sink.bytes(),
+        None => b"",
+    }
+}
+
+// What takes lines: the calls of these numbers fail.
+fn taker(alloc: Global, fails: Vec<u64>) -> Option<MemorySink> {
+    Some(MemorySink::new(alloc, 10_000, fails))
+}
+
+fn check_moved(rt: &impl Abort, alloc: Global, rows: &[Moved], skips: bool) -> Result<(), Fail> {
+    for &(name, byte, mebibytes, want) in rows {
+        let words = words_of(alloc, name)?;
+        let mut buffer = vec![in alloc; byte; MEBIBYTE]?;
+        let endless = Endless {
+            bytes: buffer.clone()?,
         };
-        case.holds(rt, whole);
-        case.writes(rt, &lines, want.as_bytes());
+        let mut told = ToldSource::new(&words, endless, taker(alloc, Vec::new(alloc)));
+        let case = Case {
+            name,
+            number: mebibytes as u64,
+        };
+        case.holds(rt, move_all(&mut told, mebibytes, &mut buffer, skips));
+        case.writes(rt, said(told.lines()), want.as_bytes());
+    }
+    Ok(())
+}
+
+#[test]
+fn a_line_comes_once_in_64_mebibytes(rt: HostRuntime) -> Result<(), Fail> {
+    let alloc = rt.alloc();
+    check_moved(&rt, alloc, MOVED, false)?;
+    check_moved(&rt, alloc, MOVED, true)
+}
+
+// What a run showed over ports that tell.
+#[derive(Drop)]
+struct Told {
+    status: Status,
+    first: ToldSource<MemorySource, MemorySink>,
+    peer: ToldLink<MemoryLink, MemorySink>,
+    report: MemorySink,
+    keep: MemorySink,
+}
+
+// Runs it over ports that move at most a chunk in a call, and tell; the calls of these numbers fail
+// for the lines.
+fn run_told(given: &Given, alloc: Global, chunk: usize, fails: &[u64]) -> Result<Told, Fail>
+    requires { 1 ≤ chunk }
+{
+    let words = words_of(alloc, given.words)?;
+    let first = source(alloc, given.stream, chunk, None, At::First)?;
+    let peer = link(alloc, given.replies, chunk, None)?;
+    let mut first = ToldSource::new(&words, first, taker(alloc, fails.to_vec(alloc)?));
+    let mut peer = ToldLink::new(&words, peer, taker(alloc, fails.to_vec(alloc)?));
+    let mut second = source(alloc, given.seed, chunk, None, At::Second)?;
+    let mut report = MemorySink::new(alloc, chunk, Vec::new(alloc));
+    let mut keep = MemorySink::new(alloc, chunk, Vec::new(alloc));
+    let status = run(
+        alloc,
+        &words,
+        &mut first,
+        &mut second,
+        &mut peer,
+        &mut report,
+        &mut keep,
+    );
+    Ok(Told {
+        status,
+        first,
+        peer,
+        report,
+        keep,
+    })
+}
+
+// The lines of a run: those about its stream, and those about its talk.
+#[derive(Clone, Copy)]
+struct Lines<'a> {
+    stream: &'a str,
+    talk: &'a str,
+}
+
+// Runs it with ports that tell and with ports that don't: nothing differs but the lines.
+fn check_lines(
+    rt: &impl Abort,
+    alloc: Global,
+    given: &Given,
+    chunk: usize,
+    fails: &[u64],
+    lines: Lines,
+) -> Result<(), Fail>
+    requires { 1 ≤ chunk }
+{
+    let plain = given.run(alloc, chunk, None)?;
+    let told = run_told(given, alloc, chunk, fails)?;
+    let case = Case {
+        name: given.words,
+        number: chunk as u64,
+    };
+    case.ends(rt, told.status, plain.status);
+    case.holds(rt, exit_code(&told.status) == exit_code(&plain.status));
+    case.writes(rt, told.report.bytes(), plain.report.bytes());
+    case.writes(rt, told.keep.bytes(), plain.keep.bytes());
+    case.says(rt, told.peer.link().talk(), plain.peer.talk());
+    case.writes(rt, said(told.first.lines()), lines.stream.as_bytes());
+    case.writes(rt, said(told.peer.lines()), lines.talk.as_bytes());
+    Ok(())
+}
+
+fn check_cuts(rt: &impl Abort, alloc: Global, given: &Given, lines: Lines) -> Result<(), Fail> {
+    check_lines(rt, alloc, given, 1, &[], lines)?;
+    check_lines(rt, alloc, given, 10_000, &[], lines)
+}
+
+const FIRST: &str = "sip: progress: 0 MiB of STREAM read, 0 records\n";
+
+// Words of `verify` at depth 2 over the three lines, and the lines about the talk. A query whose
+// answer is known without a reply has none, and is counted: 9, the total, is below its threshold.
+const TALKS: &[(&str, &str)] = &[
+    (
+        "verify text:s seed a b - 2 sub:1:2 range:0:0:3",
+        "sip: progress: waiting for the reply of query 1 round 0\n\
+        sip: progress: waiting for the reply of query 1 round 1\n\
+        sip: progress: waiting for the reply of query 2 round 0\n\
+        sip: progress: waiting for the reply of query 2 round 1\n",
+    ),
+    (
+        "verify text:s seed a b - 2 heavy:0:10 f2:0 f2:0 heavy:0:10 heavy:0:9",
+        "sip: progress: waiting for the reply of query 2 round 0\n\
+        sip: progress: waiting for the reply of query 2 round 1\n\
+        sip: progress: waiting for the reply of query 3 round 0\n\
+        sip: progress: waiting for the reply of query 3 round 1\n\
+        sip: progress: waiting for the reply of query 5 round 0\n\
+        sip: progress: waiting for the reply of query 5 round 1\n",
+    ),
+    (
+        "verify text:s seed a b - 2 share:1:1:2 share:0:1:2 inner",
+        "sip: progress: waiting for the reply of query 2 round 0\n\
+        sip: progress: waiting for the reply of query 2 round 1\n\
+        sip: progress: waiting for the reply of query 3 round 0\n\
+        sip: progress: waiting for the reply of query 3 round 1\n",
+    ),
+];
+
+// A run that is rejected in its last round waits for no more; one whose seed is too short reads no
+// stream; a copy has no talk.
+const OTHERS: &[(Given<'static>, Lines<'static>)] = &[
+    (
+        Given {
+            replies: &[&ENTRY_2, &SIBLINGS_3_1, &PART_OF_NO_SIBLINGS],
+            ..FIRST_GIVEN
+        },
+        Lines {
+            stream: FIRST,
+            talk: "sip: progress: waiting for the reply of query 1 round 0\n\
+                sip: progress: waiting for the reply of query 1 round 1\n",
+        },
+    ),
+    (
+        Given {
+            seed: &SHORT_SEED,
+            ..FIRST_GIVEN
+        },
+        Lines {
+            stream: "",
+            talk: "",
+        },
+    ),
+    (
+        Given {
+            words: "widen text:s 2",
+            stream: &THREE_LINES,
+            seed: &[],
+            replies: &[],
+        },
+        Lines {
+            stream: FIRST,
+            talk: "",
+        },
+    ),
+];
+
+const HEARING: Lines<'static> = Lines {
+    stream: "",
+    talk: "sip: progress: waiting for the other side, 0 MiB of FROM read\n",
+};
+
+// Both sides of a talk that they held: that of the verifier, whose first line about it is lost too,
+// and that of the helper.
+fn check_talk(rt: &impl Abort, alloc: Global, words: &str, talk: &str) -> Result<(), Fail> {
+    let whole = duel(alloc, words, &THREE_LINES)?;
+    let (replies, asked) = (
+        heard(alloc, whole.peer.talk())?,
+        sent(alloc, whole.peer.talk())?,
+    );
+    let asking = Given {
+        words,
+        stream: &THREE_LINES,
+        seed: &ZERO_SEED,
+        replies: &[&replies],
+    };
+    let lines = Lines {
+        stream: FIRST,
+        talk,
+    };
+    check_cuts(rt, alloc, &asking, lines)?;
+    let lost = Lines {
+        stream: "",
+        talk: talk.split_once('\n').unwrap_or(("", "")).1,
+    };
+    check_lines(rt, alloc, &asking, 10_000, &[1], lost)?;
+    let helping = Given {
+        words: "help from to",
+        stream: &[],
+        seed: &[],
+        replies: &[&asked],
+    };
+    check_cuts(rt, alloc, &helping, HEARING)
+}
+
+#[test]
+fn a_run_that_tells_its_progress_is_the_same(rt: HostRuntime) -> Result<(), Fail> {
+    let alloc = rt.alloc();
+    for &(words, talk) in TALKS {
+        check_talk(&rt, alloc, words, talk)?;
+    }
+    for (given, lines) in OTHERS {
+        check_cuts(&rt, alloc, given, *lines)?;
     }
     Ok(())
 }
@@ -61,21 +360,16 @@ const LED: &[Led<'static>] = &[
     ("", "", false),
 ];
 
-fn check_led(rt: &impl Abort, alloc: Global, rows: &[Led]) -> Result<(), Fail> {
-    for &(name, want, leads) in rows {
+#[test]
+fn progress_stands_before_the_words(rt: HostRuntime) -> Result<(), Fail> {
+    let alloc = rt.alloc();
+    for &(name, want, leads) in LED {
         let (words, told) = words_between(alloc, name, '|')?.behind_progress();
         let mut same = told == leads;
         for (index, word) in want.split('|').enumerate() {
             same = same && words.get(index).unwrap_or("") == word;
         }
-        Case { name, number: 0 }.holds(rt, same);
+        Case { name, number: 0 }.holds(&rt, same);
     }
     Ok(())
-}
-
-#[test]
-fn a_line_comes_once_in_64_mebibytes(rt: HostRuntime) -> Result<(), Fail> {
-    let alloc = rt.alloc();
-    check_told(&rt, alloc, TOLD)?;
-    check_led(&rt, alloc, LED)
 }

@@ -115,7 +115,8 @@ fn fails(alloc: Global, failing: Option<Failing>, at: At) -> Result<Vec<u64>, Fa
     Ok(numbers)
 }
 
-fn source(
+// A source of these bytes, which moves at most a chunk in a call.
+pub fn source(
     alloc: Global,
     bytes: &[u8],
     chunk: usize,
@@ -128,7 +129,8 @@ fn source(
     Ok(MemorySource::new(bytes.to_vec(alloc)?, chunk, fails))
 }
 
-fn link(
+// A link that brings these replies, and moves at most a chunk in a call.
+pub fn link(
     alloc: Global,
     replies: &[&[u8]],
     chunk: usize,

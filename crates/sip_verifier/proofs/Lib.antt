@@ -40,3 +40,12 @@ pub mod CompleteRuns
 mod RoomForAnswers
 mod RunPromises
 mod AnswersCounted
+mod FrameSizes
+mod TakenReplies
+mod ReplySizes
+mod PlaceSizes
+mod EntrySizes
+mod SumSizes
+mod NodeSizes
+mod ShortTalks
+mod SeatLevels

@@ -14,7 +14,7 @@ use Rattle.sip_vector.specs.Streams.{of_side, vector}
 use Rattle.sip_verifier.specs.QuerySeats.{HasRoom, HaveRoom, RunningNumbers, Seated, StandsFor, aug_root_is, can_be_asked, concerns, is_heavy_of, is_seat, keeps}
 use Rattle.sip_verifier.specs.Seats.{AreSeats, Seating}
 use Rattle.sip_verifier.specs.inside.Raising.{AreLeft}
-use Rattle.sip_verifier.proofs.Seating.{of_own, same_runs, seat_from, seat_parts}
+use Rattle.sip_verifier.proofs.Seating.{of_own, runs_on, same_runs, seat_from, seat_parts}
 
 -- what they make of a seat
 pub record IsRaised (side : Side) (updates : List Update) (old new : Seated) : Type 0 where
@@ -168,3 +168,12 @@ same_seats depth queries blocks one other s same are = record {
   at_blocks = are.at_blocks;
   stand = λ k d lt. let seat = get_or s.seats k d in same_runs depth one other seat.block seat.query seat.running same (are.stand k d lt);
 }
+
+-- seats that updates of a side do not concern stand for the longer stream as they are
+pub over-stand : (side : Side) (updates : List Update) (seats : List Seated) (depth : ℕ) (stream : List Update) → All (λ (s : Seated). concerns s.query side ≡ false) seats → All (λ (u : Update). u.side ≡ side) updates
+    → All (StandsFor depth stream) seats → All (StandsFor depth (stream ++ updates)) seats
+over-stand side updates [] depth stream others own all = All-nil (StandsFor depth (stream ++ updates))
+over-stand side updates (s ∷ seats) depth stream others own all =
+    let Other : Seated → Type 0 = λ (x : Seated). concerns x.query side ≡ false in
+    let here = runs_on depth stream updates s.block side s.query s.running own (All-head Other s seats others) (All-head (StandsFor depth stream) s seats all) in
+    All-cons (StandsFor depth (stream ++ updates)) s seats here (over-stand side updates seats depth stream (All-tail Other s seats others) own (All-tail (StandsFor depth stream) s seats all))

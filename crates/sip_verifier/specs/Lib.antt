@@ -28,4 +28,5 @@ pub mod CompletenessClause
 pub mod Promises
 pub mod RunClause
 pub mod NextSeat
+pub mod ReplyBound
 pub mod inside

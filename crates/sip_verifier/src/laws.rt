@@ -1,7 +1,7 @@
 //! Worked examples of the definitions: each holds by computation.
 #![tactic(auto, unfolding(sip_wire::specs::Spelling::spelling, sip_wire::specs::Spelling::in_bytes, sip_wire::specs::Spelling::spelled, sip_wire::specs::Transcript::ask_bytes))]
 
-ghost use Rattle.std.specs.Prelude.{◌≡◌, ◌++◌, [], ◌∷◌, codes, negsuc, pos, length, replicate};
+ghost use Rattle.std.specs.Prelude.{◌≡◌, ◌+◌, ◌*◌, ◌++◌, [], ◌∷◌, codes, negsuc, pos, length, replicate};
 ghost use Rattle.sip_subvec.specs.Examples.{reply_0, reply_1};
 ghost use Rattle.sip_vector.specs.declared.query.Query.TheVariants as queries;
 ghost use Rattle.sip_vector.specs.declared.update.Side.TheVariants as sides;
@@ -12,7 +12,8 @@ ghost use Rattle.sip_verifier.specs.Examples.{whole_talk, one_query, one_share, 
 ghost use Rattle.sip_verifier.specs.Transcripts.{transcript_of};
 ghost use Rattle.sip_ports.specs.Ports.{heard};
 ghost use Rattle.sip_wire.specs.declared.message.Reason.TheVariants as reasons;
-ghost use Rattle.sip_wire.specs.declared.version.Version.TheVariants.{One};
+ghost use Rattle.sip_wire.specs.declared.version.Version.TheVariants.{One, Two};
+ghost use Rattle.sip_verifier.specs.ReplyBound.{most_bytes};
 ghost use Rattle.sip_verifier.specs.Reports.{line, rejection};
 ghost use Rattle.sip_replies.specs.Talks.{asked};
 ghost use Rattle.sip_verifier.specs.Talks.{stream_sent, update_frames, whole_frames, bye_sent};
@@ -61,6 +62,20 @@ pub fn lines_of_rejections()
         ≡ codes "rejected query 4 round 0 Refused(3)" ++ 10 ∷ [] }
     ensures closed { rejection 16 31 reasons.Closed ≡ codes "rejected query 16 round 31 Closed"
         ++ 10 ∷ [] }
+{}
+
+/// How many bytes a question about (3, 0, 5, 1) takes at most: for the entries 1 to 2, for a sum,
+/// and for the entries of at least 4; none where the total, 9, is below the threshold. In version 2
+/// a row has four bytes more.
+pub fn bounds_by_hand()
+    ensures entries { most_bytes One 2 stream (queries.Sub 1 2) ≡ 17 * 2 + 6_149 + 20 * 2 }
+    ensures wide_entries { most_bytes Two 2 stream (queries.Sub 1 2) ≡ 21 * 2 + 8_197 + 20 * 2 }
+    ensures sum { most_bytes One 2 stream (queries.F2 sides.First) ≡ 11 + 27 * 2 }
+    ensures nodes { most_bytes One 2 stream (queries.Heavy sides.First 4)
+        ≡ 2 * (25 * 4 + 3) + 6_149 }
+    ensures wide_nodes { most_bytes Two 2 stream (queries.Heavy sides.First 4)
+        ≡ 2 * (29 * 4 + 3) + 8_197 }
+    ensures none { most_bytes One 2 stream (queries.Heavy sides.First 10) ≡ 0 }
 {}
 
 /// Each query has its own block of challenges.

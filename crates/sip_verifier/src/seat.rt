@@ -201,6 +201,13 @@ impl QuerySeat {
         }
     }
 
+    /// Whether updates of a side change the running numbers.
+    pub(crate) fn takes(&self, side: Side) -> bool
+        ensures { result ≡ concerns self.now.query side }
+    {
+        concerns(&self.query, side)
+    }
+
     /// Adds updates of one side to the running numbers, in order.
     pub(crate) fn update_all(&mut self, side: Side, updates: &[Update])
         requires shallow { length self.old.block ≤ most_depth }

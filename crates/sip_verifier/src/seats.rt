@@ -1,6 +1,6 @@
 //! What a verifier keeps of a stream: for each query its challenges and one running number or two.
 
-ghost use Rattle.std.specs.Prelude.{◌≡◌, ℕ, ◌*◌, ◌<◌, ◌≤◌, ◌^◌, IsTrue, List, [], ◌∷◌, ◌++◌, length, map, take, All};
+ghost use Rattle.std.specs.Prelude.{◌≡◌, ℕ, ◌*◌, ◌<◌, ◌≤◌, ◌^◌, IsTrue, false, List, [], ◌∷◌, ◌++◌, length, map, take, All};
 ghost use Rattle.std.specs.List.{list_all, zip};
 ghost use Rattle.arrayvec.specs.ArrayVec.{array_vec_len};
 ghost use Rattle.sip_field.specs.Elements.{m61_number};
@@ -13,7 +13,7 @@ ghost use Rattle.sip_vector.specs.Pieces.{cut};
 ghost use Rattle.sip_vector.specs.Streams.{of_side};
 ghost use Rattle.sip_wire.specs.Table.{most_queries, most_rows};
 ghost use Rattle.sip_wire.specs.Versions.{needed};
-ghost use Rattle.sip_verifier.specs.QuerySeats.{HaveRoom, is_seat};
+ghost use Rattle.sip_verifier.specs.QuerySeats.{HaveRoom, concerns, is_seat};
 ghost use Rattle.sip_verifier.specs.inside.Raising.{AreLeft};
 ghost use Rattle.sip_verifier.specs.Tasks.{CanBeAsked};
 
@@ -143,6 +143,19 @@ impl Seats {
         self.raise_side(Side::Second, updates, &mut taken);
     }
 
+    // Whether updates of a side change no running number. Where none is changed they need not be
+    // gathered.
+    fn pass_over(&self, side: Side) -> bool
+        ensures { IsTrue result → All (λ s. concerns s.query side ≡ false) self.now.seats }
+    {
+        for seat in self.seats.iter() {
+            if seat.takes(side) {
+                return false;
+            }
+        }
+        true
+    }
+
     // Adds the updates of one side to each running number, those that concern it. They are gathered in
     // `taken`.
     fn raise_side(&mut self, side: Side, updates: &[Update], taken: &mut [Update; MOST_ROWS])
@@ -156,6 +169,9 @@ impl Seats {
             → AreSeats depth queries blocks (stream ++ of_side updates.now side) self.new }
         ensures others { AreLeft side self.old.seats self.new.seats }
     {
+        if self.pass_over(side) {
+            return;
+        }
         let count = take_side(updates, side, taken);
         self.raise(side, &taken[..count]);
     }

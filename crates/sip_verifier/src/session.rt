@@ -13,6 +13,7 @@ ghost use Rattle.sip_verifier.specs.Keeping.{KeepsReplies};
 ghost use Rattle.sip_verifier.specs.inside.Judging.{are_enough, lends_enough, most_nodes, most_places};
 ghost use Rattle.sip_verifier.specs.NextSeat.{IsNext};
 ghost use Rattle.sip_verifier.specs.QuerySeats.{Seated, is_seat};
+ghost use Rattle.sip_verifier.specs.ReplyBound.{ReplyBound};
 ghost use Rattle.sip_verifier.specs.Widths.{first_wide_seat};
 ghost use Rattle.sip_wire.specs.Table.{most_queries};
 ghost use Rattle.sip_verifier.specs.Sittings.{Starts, is_over};
@@ -245,7 +246,8 @@ impl Session {
     /// Asks the next query, takes the replies and judges them.
     ///
     /// A challenge leaves only after the reply before it was taken and passed its tests, and the last challenge never leaves. No
-    /// byte is received behind the one that shows the verdict. Takes no memory; the time is linear in the replies.
+    /// byte is received behind the one that shows the verdict. Takes no memory; the time is linear in the replies. These have no
+    /// more bytes than `ReplyBound` says, whatever the other end sends and however it is cut.
     ///
     /// `keep` gets each frame's bytes as soon as they came, before they are judged; of a frame that the link's failure cut, it gets none.
     ///
@@ -270,6 +272,10 @@ impl Session {
             → IsLegal self.old.depth stream
             → AnswersCount self.old.version self.old.depth stream query seat.block (L.talk link.old)
             (L.talk link.new) self.new.entries result }
+        ensures bound { (stream : List AnyUpdate) (query : AnyQuery) (seat : Seated)
+            → IsNext self.old.depth stream self.old.left query seat
+            → ReplyBound self.old.version self.old.depth stream query (L.talk link.old)
+            (L.talk link.new) }
         ensures next { self.new.left ≡ drop 1 self.old.left }
         ensures version { self.new.version ≡ self.old.version }
         ensures depth { self.new.depth ≡ self.old.depth }

@@ -6,6 +6,7 @@ use Rattle.sip_vector.specs.Streams.{same_side, of_side}
 use Rattle.sip_verifier.specs.QuerySeats.{HasRoom, Seated, is_heavy_of}
 use Rattle.sip_verifier.specs.Seats.{AreSeats}
 use Rattle.sip_verifier.proofs.Seating.{all_own, of_own}
+use Rattle.sip_verifier.proofs.SeatsRaised.{none-left, over-stand}
 use Rattle.sip_verifier.proofs.seats.Seats.raise_side.Goals as goal
 
 pub raise-requires-clause-items : goal.raise-requires-clause-items
@@ -29,3 +30,14 @@ raise-requires-clause-room c =
     let side = c.args.side in
     let own = ap (λ (l : List Update). of_side l side) c.take_side-count.ensures.taken ∙ of_own (of_side c.args.updates.now side) side (all_own c.args.updates.now side) in
     subst (λ (l : List Update). All (λ (s : Seated). IsTrue (is_heavy_of s.query side) → HasRoom s.running l) c.args.self.now.seats) (sym own) c.requires.room
+
+pub returns-then-pass_over-clause-stands : goal.returns-then-pass_over-clause-stands
+returns-then-pass_over-clause-stands c = λ depth queries blocks stream are. record {
+  levels = are.levels;
+  asked = are.asked;
+  at_blocks = are.at_blocks;
+  stand = over-stand c.args.side (of_side c.args.updates.now c.args.side) c.args.self.now.seats depth stream (c.pass_over.ensures c.if-pass_over.true) (all_own c.args.updates.now c.args.side) are.stand;
+}
+
+pub returns-then-pass_over-clause-others : goal.returns-then-pass_over-clause-others
+returns-then-pass_over-clause-others c = none-left c.args.side c.args.self.now.seats

@@ -1,0 +1,87 @@
+-- What is told of a stream that is read.
+use Rattle.std.specs.Prelude.{◌≡◌, ℕ, ◌+◌, ◌-◌, ◌/◌, ◌^◌, ◌==◌, min, nat_le, if◌then◌else◌, List, [], length, take, Result, MatchResult}
+use Rattle.std.specs.declared.option.Option.{Option}
+use Rattle.std.specs.List.{count_by}
+use Rattle.sip_ports.specs.declared.port.TalkEvent.{TalkEvent}
+use Rattle.sip_stream.specs.declared.form.Form.{Form}
+use Rattle.sip_stream.specs.declared.form.Form.TheVariants.{Binary, Text, Wide}
+use Rattle.sip_stream.specs.Layouts.{made_form}
+use Rattle.sip_cli.specs.declared.command.Command.{Command}
+use Rattle.sip_cli.specs.declared.command.Command.TheVariants as command
+use Rattle.sip_cli.specs.declared.told_source.Reading.{Reading}
+use Rattle.sip_cli.specs.declared.told_source.StreamTeller.{StreamTeller}
+use Rattle.sip_cli.specs.declared.told_source.ToldSource.{ToldSource}
+use Rattle.sip_cli.specs.Telling.{Says, stream_line}
+
+-- the form of a command's stream; one that has none reads none
+abbrev pub stream_form : Command → Form
+stream_form (command.Verify task) = task.form
+stream_form (command.Play task name) = task.form
+stream_form (command.Gen depth) = made_form depth
+stream_form (command.Lines form depth) = form
+stream_form (command.Widen form depth) = form
+stream_form command.Help = Binary
+stream_form command.Show = Binary
+stream_form command.Convert = Binary
+
+-- nothing was read, and a line is due
+abbrev pub unread : Form → Reading
+unread form = record { form = form; bytes = 0; feeds = 0; next = 0 }
+
+-- how many records so many bytes have, with so many line feeds among them
+abbrev pub records_in : Form → ℕ → ℕ → ℕ
+records_in Binary bytes feeds = bytes / 13
+records_in Text bytes feeds = feeds
+records_in Wide bytes feeds = bytes / 17
+
+-- the line feeds that count
+abbrev pub feeds_in : Form → List ℕ → ℕ
+feeds_in Binary bytes = 0
+feeds_in Text bytes = count_by (λ b. b == 10) bytes
+feeds_in Wide bytes = 0
+
+-- these bytes more were read; numbers end at 2^64 - 1
+abbrev pub read_more : List ℕ → Reading → Reading
+read_more bytes r = record {
+  form = r.form;
+  bytes = min (r.bytes + length bytes) (2 ^ 64 - 1);
+  feeds = min (r.feeds + feeds_in r.form bytes) (2 ^ 64 - 1);
+  next = r.next;
+}
+
+-- the line before a read or a skip, if one is due
+abbrev pub line_before : Reading → List ℕ
+line_before r =
+    if nat_le r.next r.bytes then stream_line r.bytes (records_in r.form r.bytes r.feeds) else []
+
+-- the next one is due 64 MiB behind it
+abbrev pub line_said : Reading → Reading
+line_said r = record {
+  form = r.form;
+  bytes = r.bytes;
+  feeds = r.feeds;
+  next = if nat_le r.next r.bytes then min (r.bytes + 2 ^ 26) (2 ^ 64 - 1) else r.next;
+}
+
+-- the source that is read
+abbrev pub told_source : {S W : Type 0} → ToldSource S W → S
+told_source told = told.source
+
+-- what says the lines
+abbrev pub stream_teller : {S W : Type 0} → ToldSource S W → Option (StreamTeller W)
+stream_teller told = told.teller
+
+-- The line that was due was written before the read, and then what came was counted.
+pub record TellsRead {E W : Type 0} (talk : W → Option (List TalkEvent)) (faults wants : W → ℕ)
+    (is_sure : W → Type 0) (result : Result ℕ E) (buf : List ℕ) (old new : StreamTeller W)
+    : Type 0 where
+  pub said : Says talk faults wants is_sure old.lines new.lines (line_before old.reading)
+  pub counted : MatchResult result
+      (λ n. new.reading ≡ read_more (take n buf) (line_said old.reading))
+      (λ _. new.reading ≡ line_said old.reading)
+
+-- The line that was due was written before the skip, and then the bytes were counted.
+pub record TellsSkip {W : Type 0} (talk : W → Option (List TalkEvent)) (faults wants : W → ℕ)
+    (is_sure : W → Type 0) (bytes : List ℕ) (old new : StreamTeller W) : Type 0 where
+  pub said : Says talk faults wants is_sure old.lines new.lines (line_before old.reading)
+  pub counted : new.reading ≡ read_more bytes (line_said old.reading)

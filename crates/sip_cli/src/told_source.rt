@@ -1,0 +1,256 @@
+//! A source that says on the way how much of the stream was read.
+
+ghost use Rattle.std.specs.Prelude.{◌≡◌, ◌⊎◌, ℕ, ◌≤◌, nat_le, IfSome, None, OnOk, length, take};
+ghost use Rattle.std.specs.Io.{ReadsAtMost, StartsWith};
+ghost use Rattle.std.specs.Io.KnownBytes.{Consumes, ReadConsumes};
+ghost use Rattle.sip_ports.specs.Ports.{HasCause, StandsStill};
+ghost use Rattle.sip_cli.specs.declared.command.Command.{Command as AnyCommand};
+ghost use Rattle.sip_cli.specs.Telling.{IfTold, Says};
+ghost use Rattle.sip_cli.specs.ToldStream.{TellsRead, TellsSkip, feeds_in, line_before, line_said, read_more, records_in, stream_form, stream_teller, told_source, unread};
+ghost use Rattle.sip_cli.specs.Words.{Spells, IsRefusedAt};
+
+use crate::progress::{STEP, say, stream_line};
+use crate::{Command, Words, read_words};
+use sip_ports::{PortStop, Sink, Source};
+use sip_stream::Form;
+
+// The form of a command's stream.
+fn form_of(command: &Command) -> Form
+    ensures { result ≡ stream_form command.now }
+{
+    match command {
+        Command::Verify(task) | Command::Play(task, _) => task.form,
+        Command::Gen { depth } => Form::made(*depth),
+        Command::Lines { form, .. } | Command::Widen { form, .. } => *form,
+        Command::Help | Command::Show | Command::Convert => Form::Binary,
+    }
+}
+
+// The form of the stream that words of a command name.
+fn form_in(words: &Words) -> Form
+    ensures { ((command : AnyCommand) × Spells words.now command × (result ≡ stream_form command))
+        ⊎ ((word : ℕ) × IsRefusedAt words.now word) }
+{
+    match read_words(words) {
+        Ok(command) => form_of(&command),
+        Err(_) => Form::Binary,
+    }
+}
+
+// How many line feeds there are among the bytes.
+fn line_feeds(bytes: &[u8]) -> u64
+    ensures { result ≡ feeds_in Form.Text bytes.now }
+{
+    let mut count = 0;
+    for byte in bytes {
+        if *byte == b'\n' {
+            count += 1;
+        }
+    }
+    count
+}
+
+/// How much of a stream in a form was read, and at how many bytes the next line is due.
+#[derive(Clone, Copy, Debug, PartialEq, Eq)]
+struct Reading {
+    form: Form,
+    bytes: u64,
+    feeds: u64,
+    next: u64,
+}
+
+impl Reading {
+    // Whether a line is due.
+    fn is_due(&self) -> bool
+        ensures { result ≡ nat_le self.now.next self.now.bytes }
+    {
+        self.next <= self.bytes
+    }
+
+    // How many whole records were read.
+    fn records(&self) -> u64
+        ensures { result ≡ records_in self.now.form self.now.bytes self.now.feeds }
+    {
+        match self.form {
+            Form::Binary => self.bytes / 13,
+            Form::Text => self.feeds,
+            Form::Wide => self.bytes / 17,
+        }
+    }
+
+    // How many of these bytes end a record of a text.
+    fn feeds_among(&self, bytes: &[u8]) -> u64
+        ensures { result ≡ feeds_in self.now.form bytes.now }
+    {
+        match self.form {
+            Form::Text => line_feeds(bytes),
+            Form::Binary | Form::Wide => 0,
+        }
+    }
+
+    // These bytes more were read.
+    fn add(&mut self, bytes: &[u8])
+        ensures { self.new ≡ read_more bytes.now self.old }
+    {
+        self.feeds = self.feeds.saturating_add(self.feeds_among(bytes));
+        self.bytes = self.bytes.saturating_add(bytes.len() as u64);
+    }
+}
+
+/// What says the lines about a stream.
+#[derive(Drop)]
+struct StreamTeller<W: Sink + Drop> {
+    lines: W,
+    reading: Reading,
+}
+
+impl<W: Sink + Drop> StreamTeller<W> {
+    // Writes the line before bytes are moved, if one is due.
+    fn before_move(&mut self)
+        ensures said { Says W.talk W.faults W.wants W.is_sure self.old.lines self.new.lines
+            (line_before self.old.reading) }
+        ensures next { self.new.reading ≡ line_said self.old.reading }
+    {
+        if self.reading.is_due() {
+            let line = stream_line(self.reading.bytes, self.reading.records());
+            say(&mut self.lines, line.as_slice());
+            self.reading.next = self.reading.bytes.saturating_add(STEP);
+        }
+    }
+}
+
+/// A source that says on the way how much was read of the stream that it brings: before the first
+/// call that moves bytes, and before one where 64 MiB or more were moved since the last line. It
+/// gives what its own source gives, and with nothing to say the lines on it counts nothing.
+#[derive(Drop)]
+pub struct ToldSource<S: Source + Drop, W: Sink + Drop> {
+    source: S,
+    teller: Option<StreamTeller<W>>,
+}
+
+impl<S: Source + Drop, W: Sink + Drop> ToldSource<S, W> {
+    /// A source over the one that brings the stream of the words, and what takes the lines.
+    pub fn new(words: &Words, source: S, lines: Option<W>) -> Self
+        ensures source { told_source result ≡ source }
+        ensures silent { lines ≡ None → stream_teller result ≡ None }
+        ensures teller { IfSome lines (λ sink. IfSome (stream_teller result) (λ teller.
+            (teller.lines ≡ sink) × (teller.reading ≡ unread teller.reading.form))) }
+        ensures form { IfSome (stream_teller result) (λ teller.
+            ((command : AnyCommand) × Spells words.now command
+            × (teller.reading.form ≡ stream_form command))
+            ⊎ ((word : ℕ) × IsRefusedAt words.now word)) }
+    {
+        let teller = match lines {
+            Some(lines) => Some(StreamTeller {
+                lines,
+                reading: Reading {
+                    form: form_in(words),
+                    bytes: 0,
+                    feeds: 0,
+                    next: 0,
+                },
+            }),
+            None => None,
+        };
+        ToldSource { source, teller }
+    }
+
+    /// The source that it reads.
+    pub fn source(&self) -> &S
+        ensures { result.now ≡ told_source self.now }
+    {
+        &self.source
+    }
+
+    /// What took the lines.
+    pub fn lines(&self) -> Option<&W> {
+        Some(&self.teller.as_ref()?.lines)
+    }
+
+    // Writes the line before bytes are moved, if one is due.
+    fn before_move(&mut self)
+        ensures source { self.new.source ≡ self.old.source }
+        ensures told { IfTold self.old.teller self.new.teller (λ old new.
+            Says W.talk W.faults W.wants W.is_sure old.lines new.lines (line_before old.reading)
+            × (new.reading ≡ line_said old.reading)) }
+    {
+        if let Some(teller) = &mut self.teller {
+            teller.before_move();
+        }
+    }
+
+    // Counts bytes that were read.
+    fn passed(&mut self, bytes: &[u8])
+        ensures source { self.new.source ≡ self.old.source }
+        ensures told { IfTold self.old.teller self.new.teller (λ old new. (new.lines ≡ old.lines)
+            × (new.reading ≡ read_more bytes.now old.reading)) }
+    {
+        if let Some(teller) = &mut self.teller {
+            teller.reading.add(bytes);
+        }
+    }
+}
+
+/// What its own source tells it tells.
+impl<S: Source + Drop, W: Sink + Drop> Source for ToldSource<S, W> {
+    ghost use Rattle.sip_cli.specs.ToldStream.{told_source};
+
+    ghost left = { λ told. S.left (told_source told) };
+
+    ghost ahead = { λ told. S.ahead (told_source told) };
+
+    ghost faults = { λ told. S.faults (told_source told) };
+
+    ghost wants = { λ told. S.wants (told_source told) };
+
+    ghost is_sure = { λ told. S.is_sure (told_source told) };
+
+    ghost faults_fit = { λ told. S.faults_fit (told_source told) };
+
+    ghost wants_fit = { λ told. S.wants_fit (told_source told) };
+
+    ghost sure_counts = { λ told sure. S.sure_counts (told_source told) sure };
+
+    fn read(&mut self, buf: &mut [u8]) -> Result<usize, PortStop>
+        ensures bound { ReadsAtMost result buf.new }
+        ensures bytes { ReadConsumes (S.left (told_source self.old))
+            (S.left (told_source self.new)) result buf.new }
+        ensures empty { length buf.old ≡ 0 → OnOk result (StandsStill S.faults S.wants
+            (told_source self.old) (told_source self.new)) }
+        ensures cause { HasCause S.faults S.wants S.is_sure
+            (told_source self.old) (told_source self.new) result }
+        ensures told { IfTold (stream_teller self.old) (stream_teller self.new)
+            (TellsRead W.talk W.faults W.wants W.is_sure result buf.new) }
+    {
+        self.before_move();
+        let count = self.source.read(buf)?;
+        self.passed(&buf[..count]);
+        Ok(count)
+    }
+
+    fn held(&self) -> &[u8]
+        ensures bytes { result.now ≡ S.ahead (told_source self.now) }
+        ensures front { IfSome (S.left (told_source self.now))
+            (λ bytes. StartsWith bytes result.now) }
+    {
+        self.source.held()
+    }
+
+    fn skip(&mut self, count: usize)
+        requires held { count ≤ length (S.ahead (told_source self.old)) }
+        ensures bytes { Consumes (S.left (told_source self.old)) (S.left (told_source self.new))
+            (take count (S.ahead (told_source self.old))) }
+        ensures counts { StandsStill S.faults S.wants
+            (told_source self.old) (told_source self.new) }
+        ensures sure { S.is_sure (told_source self.old) → S.is_sure (told_source self.new) }
+        ensures told { IfTold (stream_teller self.old) (stream_teller self.new)
+            (TellsSkip W.talk W.faults W.wants W.is_sure
+            (take count (S.ahead (told_source self.old)))) }
+    {
+        self.before_move();
+        if let Some(teller) = &mut self.teller {
+            teller.reading.add(&self.source.held()[..count]);
+        }
+        self.source.skip(count);
+    }
+}
