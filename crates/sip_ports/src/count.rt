@@ -6,11 +6,13 @@ use crate::PortStop;
 /// How often a port has stopped for one cause. The count stands still at its type's end.
 #[derive(Drop)]
 pub struct Count {
+    /// The number of those calls, from 0 to 2^64 - 1.
     pub count: u64,
     pub ghost fits: { count < 2 ^ 64 },
 }
 
 impl Count {
+    /// It has not stopped yet.
     pub fn none() -> Self
         ensures { result.count ≡ 0 }
     {

@@ -9,6 +9,7 @@ use crate::{PortStop, Sink};
 pub struct NullSink;
 
 impl NullSink {
+    /// A sink that keeps nothing.
     pub fn new() -> Self {
         NullSink
     }

@@ -1,5 +1,5 @@
 // What bytes come from and go to: a source, a sink, and a link, which is a sink that can be heard.
-ghost use Rattle.std.specs.Prelude.{◌≡◌, ◌≤◌, ◌<◌, ◌^◌, ◌-◌, List, ℕ, length, take, IfOk, IfSome, OnOk};
+ghost use Rattle.std.specs.Prelude.{◌≡◌, ◌≤◌, ◌<◌, ◌^◌, ◌-◌, List, ℕ, length, take, IfOk, IfSome, OnOk, OnErr};
 ghost use Rattle.std.specs.declared.option.Option.{Option};
 ghost use Rattle.std.specs.Io.{ReadsAtMost, WritesAtMost, StartsWith};
 ghost use Rattle.std.specs.Io.KnownBytes.{Consumes, ReadConsumes};
@@ -12,7 +12,8 @@ pub enum PortStop {
     /// The port failed. It is answered only where the port's count of faults rose in this call.
     Failed,
     /// Memory was refused to a port that keeps what passes through it. It is answered only where
-    /// the port's count of such refusals rose in this call. No fault is counted.
+    /// the port's count of such refusals rose in this call. The ports over memory count no fault
+    /// then.
     OutOfMemory,
 }
 
@@ -47,10 +48,11 @@ pub trait Source {
 
     /// Moves some of the bytes to come to the front of the buffer, and answers how many. It answers
     /// 0 at the end, or where the buffer is empty. A call that stops moves nothing, where the bytes
-    /// are told.
+    /// are told, and what it holds it still holds.
     fn read(&mut self, buf: &mut [u8]) -> Result<usize, PortStop>
         ensures bound { ReadsAtMost result buf.new }
         ensures bytes { ReadConsumes (left self.old) (left self.new) result buf.new }
+        ensures kept { OnErr result (ahead self.new ≡ ahead self.old) }
         ensures empty { length buf.old ≡ 0
             → OnOk result (StandsStill faults wants self.old self.new) }
         ensures cause { HasCause faults wants is_sure self.old self.new result };

@@ -32,6 +32,7 @@ impl Model for ReadAhead {
 }
 
 impl ReadAhead {
+    /// Nothing was read yet.
     pub fn new() -> Self
         ensures { result ≡ [] }
     {

@@ -24,6 +24,7 @@ pub struct ReaderSource<R: Read + Drop> {
 impl<R: Read + Drop> ReaderSource<R> {
     ghost use Rattle.sip_ports.specs.Edge.{source_reader, source_faults, source_ahead};
 
+    /// A source over this reader, of which nothing was read and no call was made.
     pub fn new(reader: Option<R>) -> Self
         ensures faults { source_faults result ≡ 0 }
         ensures ahead { source_ahead result ≡ [] }

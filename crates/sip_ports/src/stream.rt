@@ -25,6 +25,7 @@ pub type StderrSink<W> = StreamSink<W>;
 impl<W: Write + Drop> StreamSink<W> {
     ghost use Rattle.sip_ports.specs.Edge.{sink_writer, sink_faults, stream_sink};
 
+    /// A sink over this writer, of which no call was made.
     pub fn new(writer: W) -> Self
         ensures faults { sink_faults (stream_sink result) ≡ 0 }
         ensures writer { sink_writer (stream_sink result) ≡ Some writer }

@@ -24,6 +24,7 @@ impl<R: Read + Drop, W: Write + Drop> TwoWayLink<R, W> {
     ghost use Rattle.sip_ports.specs.Edge.{source_reader, source_ahead, sink_writer};
     ghost use Rattle.sip_ports.specs.Edge.{link_from, link_to, link_faults};
 
+    /// A link that hears `from` and sends to `to`. Nothing was read, and no call was made.
     pub fn new(from: Option<R>, to: Option<W>) -> Self
         ensures faults { link_faults result ≡ 0 }
         ensures ahead { source_ahead (link_from result) ≡ [] }

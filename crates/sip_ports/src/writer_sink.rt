@@ -20,6 +20,7 @@ pub struct WriterSink<W: Write + Drop> {
 impl<W: Write + Drop> WriterSink<W> {
     ghost use Rattle.sip_ports.specs.Edge.{sink_writer, sink_faults};
 
+    /// A sink over this writer, of which no call was made.
     pub fn new(writer: Option<W>) -> Self
         ensures faults { sink_faults result ≡ 0 }
         ensures writer { sink_writer result ≡ writer }
