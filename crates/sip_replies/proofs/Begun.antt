@@ -9,12 +9,14 @@ use Rattle.sip_ports.specs.Ports.{GoesOn, ins, outs}
 use Rattle.sip_ports.proofs.TalkLemmas.{GoesOn-refl, GoesOn-trans}
 use Rattle.sip_wire.specs.declared.message.Reason.{Reason}
 use Rattle.sip_wire.specs.declared.message.Reason.TheVariants as reasons
+use Rattle.sip_wire.specs.declared.version.Version.{Version}
 use Rattle.sip_replies.specs.declared.taking.ReplyStop.{ReplyStop}
 use Rattle.sip_replies.specs.declared.taking.ReplyStop.TheVariants as stops
 use Rattle.sip_replies.specs.Talks.{ending}
 use Rattle.sip_replies.specs.Replies.{MayEnd}
-use Rattle.sip_replies.specs.Asking.{KeepsPart, HasFault, IsPart, IsUnkept, Takes}
+use Rattle.sip_replies.specs.Asking.{AreFrames, KeepsFrames, KeepsPart, HasFault, IsPart, IsUnkept, Takes}
 use Rattle.sip_replies.proofs.Ends.{last_of, snoc_same, no_snoc}
+use Rattle.sip_replies.proofs.Framed.{AreFrames-append}
 
 -- these bytes of a reply came and were kept; the rest is read by `rest`, and no byte less ends the
 -- reply or shows a fault
@@ -34,6 +36,11 @@ Begun-none read old before = record {
   reads = λ more. refl;
   shortest = λ front byte e. absurd (no_snoc front byte e);
 }
+
+-- which is no frame
+pub frames-none : {X : Type 0} (version : Version) (read : List ℕ → Result X Reason) (old before : Option (List TalkEvent)) → AreFrames version (Begun-none read old before).bytes
+unfolding Begun-none
+frames-none version read old before = ([], refl)
 
 module _ {X : Type 0} (read : List ℕ → Result X Reason) (old mid new before during now : Option (List TalkEvent)) (rest : List ℕ → Result X Reason) (begun : Begun read old mid before during rest) (got : List ℕ) where
   -- what was heard of the reply, with the bytes that came now
@@ -68,9 +75,9 @@ shortest_more read old mid before during rest begun (c ∷ cs) shortest front by
     ap read (sym same.0) ∙ begun.reads last.0 ∙ shortest last.0 last.1 last.2
 
 -- a frame of which `one` says what it is; where it has a fault, so has the rest of the reply
-module _ {X Y : Type 0} (read : List ℕ → Result X Reason) (old mid new before during now : Option (List TalkEvent)) (rest : List ℕ → Result X Reason) (begun : Begun read old mid before during rest)
-    (one : List ℕ → Result Y Reason) (faults : (bytes : List ℕ) (reason : Reason) → one bytes ≡ Err reason → rest bytes ≡ Err reason) where
-  pub HasFault-more : (reason : Reason) → HasFault one mid new during now reason → HasFault read old new before now reason
+module _ {X Y : Type 0} (version : Version) (read : List ℕ → Result X Reason) (old mid new before during now : Option (List TalkEvent)) (rest : List ℕ → Result X Reason) (begun : Begun read old mid before during rest)
+    (one : List ℕ → Result Y Reason) (faults : (bytes : List ℕ) (reason : Reason) → one bytes ≡ Err reason → rest bytes ≡ Err reason) (whole : AreFrames version begun.bytes) where
+  pub HasFault-more : (reason : Reason) → HasFault version one mid new during now reason → HasFault version read old new before now reason
   HasFault-more reason h = record {
     bytes = begun.bytes ++ h.bytes;
     heard = heard_more read old mid new before during now rest begun h.bytes (ending reason) h.heard;
@@ -79,11 +86,21 @@ module _ {X Y : Type 0} (read : List ℕ → Result X Reason) (old mid new befor
     shortest = λ front byte e other. shortest_more read old mid before during rest begun h.bytes (λ f b same. faults f reasons.Closed (h.shortest f b same other)) front byte e;
   }
 
-  pub IsPart-more : IsPart one mid new during now → IsPart read old new before now
+  frames_kept : (bytes : List ℕ) → KeepsFrames version during now bytes → KeepsFrames version before now (begun.bytes ++ bytes)
+  frames_kept bytes k = record {
+    whole = begun.bytes ++ k.whole;
+    part = k.part;
+    split = ap (λ (l : List ℕ). begun.bytes ++ l) k.split ∙ sym (append_assoc begun.bytes k.whole k.part);
+    frames = AreFrames-append version begun.bytes k.whole whole k.frames;
+    cut = k.cut;
+    kept = subst (GoesOn before now) (sym (map-append Out begun.bytes k.whole)) (GoesOn-trans before during now (outs begun.bytes) (outs k.whole) begun.kept k.kept);
+  }
+
+  pub IsPart-more : IsPart version one mid new during now → IsPart version read old new before now
   IsPart-more p = record {
     bytes = begun.bytes ++ p.bytes;
     heard = heard_all read old mid new before during now rest begun p.bytes p.heard;
-    kept = kept_part read old mid new before during now rest begun p.bytes p.kept;
+    kept = frames_kept p.bytes p.kept;
     says = begun.reads p.bytes ∙ faults p.bytes reasons.Closed p.says;
   }
 
@@ -91,7 +108,7 @@ module _ {X Y : Type 0} (read : List ℕ → Result X Reason) (old mid new befor
   may_end bytes ended (inl none) = inl none
   may_end bytes ended (inr (found, part)) = inr (found, begun.reads bytes ∙ faults bytes reasons.Closed part)
 
-  pub IsUnkept-more : IsUnkept one mid new during now → IsUnkept read old new before now
+  pub IsUnkept-more : IsUnkept version one mid new during now → IsUnkept version read old new before now
   IsUnkept-more u = record {
     bytes = begun.bytes ++ u.bytes;
     ended = u.ended;
@@ -102,7 +119,7 @@ module _ {X Y : Type 0} (read : List ℕ → Result X Reason) (old mid new befor
   }
 
   -- the frame was not taken, and so is the reply
-  Takes-more : {T V : Type 0} (Stood : T → Y → Type 0) (Stands : V → X → Type 0) (stop : ReplyStop) → Takes one mid new during now Stood (Err stop) → Takes read old new before now Stands (Err stop)
+  Takes-more : {T V : Type 0} (Stood : T → Y → Type 0) (Stands : V → X → Type 0) (stop : ReplyStop) → Takes version one mid new during now Stood (Err stop) → Takes version read old new before now Stands (Err stop)
   Takes-more Stood Stands (stops.Faulty reason) took = HasFault-more reason took
   Takes-more Stood Stands stops.PeerFault took = IsPart-more took
   Takes-more Stood Stands stops.KeepFault took = IsUnkept-more took
@@ -110,7 +127,7 @@ module _ {X Y : Type 0} (read : List ℕ → Result X Reason) (old mid new befor
   Takes-more Stood Stands stops.KeepOutOfMemory took = IsUnkept-more took
 
   -- so where the frame was not taken
-  pub Takes-stopped : {T V : Type 0} (Stood : T → Y → Type 0) (Stands : V → X → Type 0) (stop : ReplyStop) → Takes one mid new during now Stood (Err stop)
-      → (result : Result V ReplyStop) → IsErrAnd result (λ other. other ≡ stop) → Takes read old new before now Stands result
+  pub Takes-stopped : {T V : Type 0} (Stood : T → Y → Type 0) (Stands : V → X → Type 0) (stop : ReplyStop) → Takes version one mid new during now Stood (Err stop)
+      → (result : Result V ReplyStop) → IsErrAnd result (λ other. other ≡ stop) → Takes version read old new before now Stands result
   Takes-stopped Stood Stands stop took (Ok x) is = absurd is
   Takes-stopped Stood Stands stop took (Err other) is = rw is (Takes-more Stood Stands stop took)

@@ -7,12 +7,13 @@ use Rattle.sip_ports.specs.declared.port.PortStop.{PortStop}
 use Rattle.sip_ports.specs.declared.port.PortStop.TheVariants as ports
 use Rattle.sip_ports.specs.declared.port.TalkEvent.{TalkEvent}
 use Rattle.sip_ports.specs.declared.port.TalkEvent.TheVariants.{Out}
-use Rattle.sip_ports.specs.Ports.{GoesOn, heard, outs}
-use Rattle.sip_ports.proofs.TalkLemmas.{GoesOn-refl, GoesOn-trans}
+use Rattle.sip_ports.specs.Ports.{GoesOn, outs}
+use Rattle.sip_ports.proofs.TalkLemmas.{GoesOn-refl, GoesOn-trans, heard-outs}
 use Rattle.sip_vector.specs.declared.query.Query.{Query}
 use Rattle.sip_vector.specs.declared.update.Entry.{Entry}
 use Rattle.sip_vector.specs.Answers.{Answer}
 use Rattle.sip_vector.specs.Steps.{◌>>=◌}
+use Rattle.sip_wire.specs.declared.kind.Place.TheVariants as places
 use Rattle.sip_wire.specs.declared.message.Message.TheVariants as messages
 use Rattle.sip_wire.specs.declared.message.Reason.{Reason}
 use Rattle.sip_wire.specs.declared.message.Reason.TheVariants as reasons
@@ -24,7 +25,7 @@ use Rattle.sip_replies.specs.Replies.{Fault, in_round, joined, run, verdict}
 use Rattle.sip_replies.specs.Checks.{answered, answer_of}
 use Rattle.sip_replies.specs.Talks.{ending, sent, asked}
 use Rattle.sip_replies.specs.Asking.{stop_of_port, IsAnswered, IsRejected, IsInterrupted, Answers}
-use Rattle.sip_replies.proofs.Reading.{read_reply-nil}
+use Rattle.sip_replies.proofs.Reading.{no_frame, read_reply-nil}
 use Rattle.sip_replies.proofs.Running.{run-none, run-fault}
 use Rattle.sip_replies.proofs.Hearing.{before_sent, heard-asked}
 use Rattle.sip_replies.proofs.Saying.{sent-one, asked-snoc}
@@ -49,7 +50,7 @@ module _ {S : Type 0} (P : Protocol S) (due : P.unasked ≡ None) (query : Query
               ∙ ap outs (sym (take-append-drop n m))
               ∙ map-append Out (take n m) (drop n m),
         );
-        kept = ([], (heard (outs (take n m)), refl), GoesOn-refl before);
+        kept = record { whole = []; part = []; split = heard-outs (take n m); frames = ([], refl); cut = (places.Entries, no_frame P.rules.version places.Entries); kept = GoesOn-refl before };
         unfinished = record { few = omega arith; passes = λ fault e. absurd (let is = run-none P.rules block in cc) };
         missing = inl some;
       }
@@ -76,7 +77,7 @@ module _ {S : Type 0} (P : Protocol S) (due : P.unasked ≡ None) (query : Query
               ∙ ap (λ (l : List TalkEvent). so_far ++ l) (sent-one version (messages.Reveal (slice_index block (count - 1))) ∙ whole)
               ∙ sym (append_assoc so_far (outs (take n m)) (outs (drop n m))),
         );
-        kept = (joined going.replies, ([], before_sent so_far (take n m) ∙ heard-asked version query block going.replies (omega (arith, going.counted, going.within)) ∙ sym (append-nil (joined going.replies))), going.kept);
+        kept = record { whole = joined going.replies; part = []; split = before_sent so_far (take n m) ∙ heard-asked version query block going.replies (omega (arith, going.counted, going.within)) ∙ sym (append-nil (joined going.replies)); frames = going.frames; cut = (places.Entries, no_frame version places.Entries); kept = going.kept };
         unfinished = closed_next P block going.replies state going.passed (omega (arith, going.counted)) [] none;
         missing = inr (record { round = length going.replies; reason = reasons.Closed }, run-fault P.rules block going.replies state going.passed [] reasons.Closed none);
       }

@@ -19,9 +19,10 @@ use Rattle.sip_replies.specs.Protocols.{Rules}
 use Rattle.sip_replies.specs.Replies.{reason_of, reasoned, read_one, frame_says, read_reply}
 use Rattle.sip_replies.specs.Checks.{Steps}
 use Rattle.sip_replies.specs.Talks.{ending}
-use Rattle.sip_replies.specs.Asking.{Shows, Came, HasFault, Takes}
+use Rattle.sip_replies.specs.Asking.{AreFrames, Shows, Came, HasFault, Takes}
+use Rattle.sip_replies.proofs.Framed.{AreFrames-append}
 use Rattle.sip_replies.proofs.Reading.{read_reply-frame, read_reply-step}
-use Rattle.sip_replies.proofs.Begun.{Begun, Begun-none, heard_all, kept_all, shortest_more}
+use Rattle.sip_replies.proofs.Begun.{Begun, Begun-none, frames-none, heard_all, kept_all, shortest_more}
 
 -- ---- one frame
 
@@ -73,14 +74,15 @@ stepped r Stands more steps = let due = stepped_due r Stands more steps in (due.
 pub record Entered {S : Type 0} (R : Rules S) (from : S) (old mid before during : Option (List TalkEvent)) (Stands : S → Type 0) : Type 0 where
   pub state : S
   pub begun : Begun (read_reply R from) old mid before during (read_reply R state)
+  pub frames : AreFrames R.version begun.bytes
   pub stands : Stands state
 
 pub Entered-none : {S : Type 0} (R : Rules S) (from : S) (old before : Option (List TalkEvent)) (Stands : S → Type 0) → Stands from → Entered R from old old before before Stands
-Entered-none R from old before Stands stands = record { state = from; begun = Begun-none (read_reply R from) old before; stands = stands }
+Entered-none R from old before Stands stands = record { state = from; begun = Begun-none (read_reply R from) old before; frames = frames-none R.version (read_reply R from) old before; stands = stands }
 
 module _ {S : Type 0} (R : Rules S) (from : S) (old mid new before during now : Option (List TalkEvent)) (Stood : S → Type 0) (entered : Entered R from old mid before during Stood)
     (version : Version) (same : R.version ≡ version) (place : Place) (at : place ≡ R.place entered.state) (m : Message) (said : Message × List ℕ)
-    (came : Came (read_one version place) mid new during now said) (shows : Shows version m said) where
+    (came : Came version (read_one version place) mid new during now said) (shows : Shows version m said) where
   whole : (more : List ℕ) → read_frame R.version (R.place entered.state) (came.bytes ++ more) ≡ Ok (m, more)
   whole more = message_says R entered.state version place same at came.bytes more m said shows.is came.says
 
@@ -97,8 +99,11 @@ module _ {S : Type 0} (R : Rules S) (from : S) (old mid new before during now : 
   heard : GoesOn old new (ins (entered.begun.bytes ++ came.bytes))
   heard = heard_all (read_reply R from) old mid new before during now (read_reply R entered.state) entered.begun came.bytes came.heard
 
+  frames : AreFrames R.version (entered.begun.bytes ++ came.bytes)
+  frames = AreFrames-append R.version entered.begun.bytes came.bytes entered.frames (subst (λ (v : Version). AreFrames v came.bytes) (sym same) came.frames)
+
   -- the check refused it
-  HasFault-refused : (reason : Reason) → R.step entered.state m ≡ Err reason → reason ≢ reasons.Closed → HasFault (read_reply R from) old new before now reason
+  HasFault-refused : (reason : Reason) → R.step entered.state m ≡ Err reason → reason ≢ reasons.Closed → HasFault R.version (read_reply R from) old new before now reason
   HasFault-refused reason is other = record {
     bytes = entered.begun.bytes ++ came.bytes;
     heard = subst (GoesOn old new) (sym (append-nil (ins (entered.begun.bytes ++ came.bytes))) ∙ ap (λ (es : List TalkEvent). ins (entered.begun.bytes ++ came.bytes) ++ es) (sym (ending_none reason other))) heard;
@@ -108,16 +113,17 @@ module _ {S : Type 0} (R : Rules S) (from : S) (old mid new before during now : 
   }
 
   pub Takes-refused : {T : Type 0} (Stands : T → S → Type 0) (result : Result T ReplyStop) (reason : Reason) → R.step entered.state m ≡ Err reason → reason ≢ reasons.Closed
-      → IsErrAnd result (λ stop. stop ≡ stops.Faulty reason) → Takes (read_reply R from) old new before now Stands result
+      → IsErrAnd result (λ stop. stop ≡ stops.Faulty reason) → Takes R.version (read_reply R from) old new before now Stands result
   Takes-refused Stands (Ok x) reason is other stop = absurd stop
   Takes-refused Stands (Err y) reason is other stop = rw stop (HasFault-refused reason is other)
 
   -- it ends the reply
-  pub Came-complete : (t : S) → R.step entered.state m ≡ Ok (mores.Complete, t) → Came (read_reply R from) old new before now t
+  pub Came-complete : (t : S) → R.step entered.state m ≡ Ok (mores.Complete, t) → Came R.version (read_reply R from) old new before now t
   Came-complete t is = record {
     bytes = entered.begun.bytes ++ came.bytes;
     heard = heard;
     kept = kept;
+    frames = frames;
     says = entered.begun.reads came.bytes ∙ read_reply-step R entered.state came.bytes [] m (Ok (mores.Complete, t)) read is;
     shortest = shortest;
   }
@@ -136,5 +142,6 @@ module _ {S : Type 0} (R : Rules S) (from : S) (old mid new before during now : 
           ∙ read_reply-step R entered.state (came.bytes ++ more) more m (Ok (mores.Due, t)) (whole more) is;
       shortest = shortest;
     };
+    frames = frames;
     stands = stands;
   }

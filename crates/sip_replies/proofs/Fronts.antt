@@ -33,7 +33,8 @@ pub grows_end : {X : Type 0} (x : X) (rest : List ℕ) (byte : ℕ) (more : List
 grows_end x [] byte more = record { stays = λ reason e no. absurd cc; full = λ y e. refl }
 grows_end x (b ∷ rest) byte more = record { stays = λ reason e no. e; full = λ y e. absurd cc }
 
-closed_or_not : (reason : Reason) → (reason ≡ reasons.Closed) ⊎ (reason ≢ reasons.Closed)
+-- a reason is the end of the link, or another one
+pub closed_or_not : (reason : Reason) → (reason ≡ reasons.Closed) ⊎ (reason ≢ reasons.Closed)
 closed_or_not reasons.Closed = inl refl
 closed_or_not _ = inr (λ e. cc)
 

@@ -1,5 +1,6 @@
 pub mod Ends
 pub mod Reading
+pub mod Framed
 pub mod Fronts
 pub mod Agreeing
 pub mod Begun

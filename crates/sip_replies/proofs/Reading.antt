@@ -14,7 +14,8 @@ use Rattle.sip_replies.specs.Protocols.{Rules}
 use Rattle.sip_replies.specs.Replies.{reason_of, goes_on, step_says, frame_says, read_from, read_reply}
 use Rattle.sip_wire.proofs.ReadingLaws.{asked-least, read_frame-closed, read_frame-shrinks}
 
-no_frame : (version : Version) (place : Place) → read_frame version place [] ≡ Err faults.Closed
+-- no bytes are no frame
+pub no_frame : (version : Version) (place : Place) → read_frame version place [] ≡ Err faults.Closed
 no_frame version place = read_frame-closed version place [] (omega (arith, asked-least version place []))
 
 one_frame : {S : Type 0} (R : Rules S) (n : ℕ) (s : S) (bytes : List ℕ) → read_from R (suc n) s bytes ≡ frame_says R (read_from R n) s (read_frame R.version (R.place s) bytes)

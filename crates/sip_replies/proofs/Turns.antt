@@ -21,8 +21,9 @@ use Rattle.sip_replies.specs.declared.taking.ReplyStop.TheVariants as reply_stop
 use Rattle.sip_replies.specs.Protocols.{Protocol}
 use Rattle.sip_replies.specs.Replies.{Fault, MayEnd, in_round, joined, learnt, read_reply, run, verdict, IsUnfinished}
 use Rattle.sip_replies.specs.Talks.{ending, sent, asked}
-use Rattle.sip_replies.specs.Asking.{KeepsPart, stop_in_round, Came, HasFault, IsPart, IsUnkept, Takes, IsRejected, IsInterrupted, IsUnrecorded, Answers}
+use Rattle.sip_replies.specs.Asking.{AreFrames, KeepsFrames, KeepsPart, stop_in_round, Came, HasFault, IsPart, IsUnkept, Takes, IsRejected, IsInterrupted, IsUnrecorded, Answers}
 use Rattle.sip_replies.proofs.Ends.{snoc_same}
+use Rattle.sip_replies.proofs.Framed.{AreFrames-append}
 use Rattle.sip_replies.proofs.Running.{run-none, run-fault, run-whole}
 use Rattle.sip_replies.proofs.Hearing.{heard-asked}
 use Rattle.sip_replies.proofs.Saying.{joined-snoc, sent-one, asked-snoc}
@@ -36,6 +37,7 @@ pub record Ready {S : Type 0} (P : Protocol S) (query : Query) (block : List ℕ
   pub said : List TalkEvent
   pub talk : GoesOn old mid said
   pub kept : GoesOn before during (outs (joined replies))
+  pub frames : AreFrames P.rules.version (joined replies)
   pub order : (bytes : List ℕ) → asked P.rules.version query block (replies ++ bytes ∷ []) ≡ said ++ ins bytes
   pub passed : run P.rules block replies ≡ Ok state
   pub few : length replies < length block
@@ -51,6 +53,7 @@ pub record Going {S : Type 0} (P : Protocol S) (query : Query) (block : List ℕ
   pub shortest : IsShort P block replies
   pub talk : GoesOn old mid (asked P.rules.version query block replies)
   pub kept : GoesOn before during (outs (joined replies))
+  pub frames : AreFrames P.rules.version (joined replies)
   pub stands : Stands state
 
 pub Ready-first : {S : Type 0} (P : Protocol S) (query : Query) (block : List ℕ) (old mid before : Option (List TalkEvent)) → GoesOn old mid (outs (spelling P.rules.version (messages.Query query))) → 0 < length block → Ready P query block old mid before before [] P.rules.start
@@ -58,6 +61,7 @@ Ready-first P query block old mid before talk some = record {
   said = sent P.rules.version (messages.Query query ∷ []);
   talk = subst (GoesOn old mid) (sym (sent-one P.rules.version (messages.Query query))) talk;
   kept = GoesOn-refl before;
+  frames = ([], refl);
   order = λ bytes. refl;
   passed = run-none P.rules block;
   few = some;
@@ -69,6 +73,7 @@ Ready-later P query block old mid new before during count Stands going talk lt =
   said = asked P.rules.version query block going.replies ++ sent P.rules.version (messages.Reveal (slice_index block (count - 1)) ∷ []);
   talk = GoesOn-trans old mid new _ _ going.talk (subst (GoesOn mid new) (sym (sent-one P.rules.version (messages.Reveal (slice_index block (count - 1))))) talk);
   kept = going.kept;
+  frames = going.frames;
   order = λ bytes. asked-snoc P.rules.version query going.replies block (count - 1) bytes (omega (arith, going.counted, going.some)) (omega (arith, going.some));
   passed = going.passed;
   few = omega (arith, going.counted);
@@ -113,13 +118,23 @@ module _ {S : Type 0} (P : Protocol S) (due : P.unasked ≡ None) (query : Query
     subst (GoesOn before now) (sym (map-append Out (joined replies) part)) (GoesOn-trans before during now (outs (joined replies)) (outs part) ready.kept kept),
   )
 
+  frames_kept : (bytes : List ℕ) → KeepsFrames P.rules.version during now bytes → KeepsFrames P.rules.version before now (joined (replies ++ bytes ∷ []))
+  frames_kept bytes k = record {
+    whole = joined replies ++ k.whole;
+    part = k.part;
+    split = joined-snoc replies bytes ∙ ap (λ (l : List ℕ). joined replies ++ l) k.split ∙ sym (append_assoc (joined replies) k.whole k.part);
+    frames = AreFrames-append P.rules.version (joined replies) k.whole ready.frames k.frames;
+    cut = k.cut;
+    kept = subst (GoesOn before now) (sym (map-append Out (joined replies) k.whole)) (GoesOn-trans before during now (outs (joined replies)) (outs k.whole) ready.kept k.kept);
+  }
+
   shortest_next : (bytes : List ℕ) → ((front : List ℕ) (byte : ℕ) → bytes ≡ front ++ byte ∷ [] → read_reply P.rules s front ≡ Err reasons.Closed) → IsShort P block (replies ++ bytes ∷ [])
   shortest_next bytes short earlier front byte e =
       let same = snoc_same replies earlier bytes (front ++ byte ∷ []) e in
       subst (λ (l : List (List ℕ)). run P.rules block (l ++ front ∷ []) ≡ Err (record { round = length l; reason = reasons.Closed })) same.0 (run-fault P.rules block replies s ready.passed front reasons.Closed (short front byte same.1))
 
   -- the reply has a fault
-  IsRejected-reply : (reason : Reason) → HasFault (read_reply P.rules s) mid new during now reason → IsRejected P query block old new before now (length replies) reason
+  IsRejected-reply : (reason : Reason) → HasFault P.rules.version (read_reply P.rules s) mid new during now reason → IsRejected P query block old new before now (length replies) reason
   IsRejected-reply reason h = record {
     replies = replies ++ h.bytes ∷ [];
     talk = came_talk h.bytes (ending reason) h.heard;
@@ -133,14 +148,14 @@ module _ {S : Type 0} (P : Protocol S) (due : P.unasked ≡ None) (query : Query
   }
 
   -- the reply is a part
-  IsInterrupted-reply : IsPart (read_reply P.rules s) mid new during now → IsInterrupted P query block old new before now
+  IsInterrupted-reply : IsPart P.rules.version (read_reply P.rules s) mid new during now → IsInterrupted P query block old new before now
   IsInterrupted-reply p = record {
     due = due;
     replies = replies ++ p.bytes ∷ [];
     said = asked P.rules.version query block (replies ++ p.bytes ∷ []);
     talk = came_whole p.bytes p.heard;
     order = ([], sym (append-nil (asked P.rules.version query block (replies ++ p.bytes ∷ []))));
-    kept = subst (KeepsPart before now) (sym (heard-asked P.rules.version query block (replies ++ p.bytes ∷ []) (omega (arith, length-append replies (p.bytes ∷ []), ready.few)))) (kept_part p.bytes p.kept);
+    kept = subst (KeepsFrames P.rules.version before now) (sym (heard-asked P.rules.version query block (replies ++ p.bytes ∷ []) (omega (arith, length-append replies (p.bytes ∷ []), ready.few)))) (frames_kept p.bytes p.kept);
     unfinished = closed_next P block replies s ready.passed ready.few p.bytes p.says;
     missing = inr (record { round = length replies; reason = reasons.Closed }, run-fault P.rules block replies s ready.passed p.bytes reasons.Closed p.says);
   }
@@ -151,7 +166,7 @@ module _ {S : Type 0} (P : Protocol S) (due : P.unasked ≡ None) (query : Query
   may_end bytes ended (inr (found, part)) = inr (found, run-fault P.rules block replies s ready.passed bytes reasons.Closed part)
 
   -- what came of the reply was not kept
-  IsUnrecorded-reply : IsUnkept (read_reply P.rules s) mid new during now → IsUnrecorded P query block old new before now
+  IsUnrecorded-reply : IsUnkept P.rules.version (read_reply P.rules s) mid new during now → IsUnrecorded P query block old new before now
   IsUnrecorded-reply u = record {
     replies = replies ++ u.bytes ∷ [];
     ended = u.ended;
@@ -171,7 +186,7 @@ module _ {S : Type 0} (P : Protocol S) (due : P.unasked ≡ None) (query : Query
 
   -- the call that took the reply had no answer
   pub Answers-reply : (round : ℕ) {T : Type 0} (Stands : T → S → Type 0) (taken : Result T ReplyStop) (places : List Entry) (result : Result Said AskStop) (stop : AskStop) → round ≡ length replies → IsErrAnd result (λ other. other ≡ stop)
-      → (of_reply : ReplyStop) × (taken ≡ Err of_reply) × (stop ≡ stop_in_round round of_reply) → Takes (read_reply P.rules s) mid new during now Stands taken → Answers P query block old new before now places result
+      → (of_reply : ReplyStop) × (taken ≡ Err of_reply) × (stop ≡ stop_in_round round of_reply) → Takes P.rules.version (read_reply P.rules s) mid new during now Stands taken → Answers P query block old new before now places result
   Answers-reply round Stands taken places (Ok x) stop count is of_reply took = absurd is
   Answers-reply round Stands taken places (Err other) stop count is (reply_stops.Faulty reason, e, so) took = rw (is, so, count) (IsRejected-reply reason (rw e at took))
   Answers-reply round Stands taken places (Err other) stop count is (reply_stops.PeerFault, e, so) took = rw (is, so) (IsInterrupted-reply (rw e at took))
@@ -180,7 +195,7 @@ module _ {S : Type 0} (P : Protocol S) (due : P.unasked ≡ None) (query : Query
   Answers-reply round Stands taken places (Err other) stop count is (reply_stops.KeepOutOfMemory, e, so) took = rw (is, so) (IsUnrecorded-reply (rw e at took))
 
   -- one reply more
-  pub Going-next : (count : ℕ) (Stands : S → Type 0) (t : S) → length replies + 1 ≡ count → Came (read_reply P.rules s) mid new during now t → Stands t → Going P query block old new before now count Stands
+  pub Going-next : (count : ℕ) (Stands : S → Type 0) (t : S) → length replies + 1 ≡ count → Came P.rules.version (read_reply P.rules s) mid new during now t → Stands t → Going P query block old new before now count Stands
   Going-next count Stands t counted came stands = record {
     replies = replies ++ came.bytes ∷ [];
     state = t;
@@ -196,5 +211,6 @@ module _ {S : Type 0} (P : Protocol S) (due : P.unasked ≡ None) (query : Query
     shortest = shortest_next came.bytes came.shortest;
     talk = came_whole came.bytes came.heard;
     kept = kept_whole came.bytes came.kept;
+    frames = subst (AreFrames P.rules.version) (sym (joined-snoc replies came.bytes)) (AreFrames-append P.rules.version (joined replies) came.bytes ready.frames came.frames);
     stands = stands;
   }

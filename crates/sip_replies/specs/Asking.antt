@@ -1,6 +1,6 @@
 -- What the calls did that ask: what was said on the link, and what was written to the keeper of
 -- what is received.
-use Rattle.std.specs.Prelude.{◌≡◌, ◌≢◌, ℕ, List, [], ◌∷◌, ◌++◌, Option, None, Result, Ok, Err, IsTrue}
+use Rattle.std.specs.Prelude.{◌≡◌, ◌≢◌, ℕ, List, [], ◌∷◌, ◌++◌, flat_map, Option, None, Result, Ok, Err, IsTrue}
 use Rattle.sip_ports.specs.declared.port.PortStop.{PortStop}
 use Rattle.sip_ports.specs.declared.port.PortStop.TheVariants as ports
 use Rattle.sip_ports.specs.declared.port.TalkEvent.{TalkEvent}
@@ -12,10 +12,12 @@ use Rattle.sip_wire.specs.declared.message.Reason.{Reason}
 use Rattle.sip_wire.specs.declared.message.Reason.TheVariants as reasons
 use Rattle.sip_wire.specs.declared.message.WireFault.{WireFault}
 use Rattle.sip_wire.specs.declared.message.WireFault.TheVariants as faults
+use Rattle.sip_wire.specs.declared.kind.Place.{Place}
 use Rattle.sip_wire.specs.declared.message.Message.{Message}
 use Rattle.sip_wire.specs.declared.version.Version.{Version}
 use Rattle.sip_wire.specs.Values.{InRange}
-use Rattle.sip_wire.specs.Spelling.{fits}
+use Rattle.sip_wire.specs.Reading.{read_frame}
+use Rattle.sip_wire.specs.Spelling.{fits, spelling}
 use Rattle.sip_replies.specs.declared.check.Said.{Said}
 use Rattle.sip_replies.specs.declared.asking.AskStop.{AskStop}
 use Rattle.sip_replies.specs.declared.asking.AskStop.TheVariants as stops
@@ -61,15 +63,31 @@ filled x (Err stop) = Err stop
 abbrev pub KeepsPart : Option (List TalkEvent) → Option (List TalkEvent) → List ℕ → Type 0
 KeepsPart before now bytes = (part : List ℕ) × IsPrefix part bytes × GoesOn before now (outs part)
 
+-- whole frames, one behind another
+abbrev pub AreFrames : Version → List ℕ → Type 0
+AreFrames version bytes = (ms : List Message) × (bytes ≡ flat_map (spelling version) ms)
+
+-- These bytes came: whole frames, which were kept, and behind them less than a frame, of which
+-- nothing was kept.
+pub record KeepsFrames (version : Version) (before now : Option (List TalkEvent))
+    (bytes : List ℕ) : Type 0 where
+  pub whole : List ℕ
+  pub part : List ℕ
+  pub split : bytes ≡ whole ++ part
+  pub frames : AreFrames version whole
+  pub cut : (place : Place) × (read_frame version place part ≡ Err faults.Closed)
+  pub kept : GoesOn before now (outs whole)
+
 -- ---- one reply, or one frame of it, of which `read` is what its bytes say
 
-module _ {X : Type 0} (read : List ℕ → Result X Reason)
+module _ {X : Type 0} (version : Version) (read : List ℕ → Result X Reason)
     (old new before now : Option (List TalkEvent)) where
   -- a whole reply came, no byte too many was taken, all were kept, and it says this
   pub record Came (said : X) : Type 0 where
     pub bytes : List ℕ
     pub heard : GoesOn old new (ins bytes)
     pub kept : GoesOn before now (outs bytes)
+    pub frames : AreFrames version bytes
     pub says : read bytes ≡ Ok said
     pub shortest : (front : List ℕ) (byte : ℕ) → bytes ≡ front ++ byte ∷ []
         → read front ≡ Err reasons.Closed
@@ -84,11 +102,12 @@ module _ {X : Type 0} (read : List ℕ → Result X Reason)
         → reason ≢ reasons.Closed
         → read front ≡ Err reasons.Closed
 
-  -- the link stopped, and what came has no fault but that it is not whole
+  -- the link stopped, and what came has no fault but that it is not whole; its whole frames were
+  -- kept
   pub record IsPart : Type 0 where
     pub bytes : List ℕ
     pub heard : GoesOn old new (ins bytes)
-    pub kept : KeepsPart before now bytes
+    pub kept : KeepsFrames version before now bytes
     pub says : read bytes ≡ Err reasons.Closed
 
   -- what came could not be kept, and no byte less ends the reply or shows a fault
@@ -134,14 +153,15 @@ module _ {S : Type 0} (P : Protocol S) (query : Query) (block : List ℕ)
     pub kept : GoesOn before now (outs (joined replies))
     pub faulty : IsFaulty P block replies (record { round = round; reason = reason })
 
-  -- the talk stopped, a reply is missing or not whole, and none has a fault so far
+  -- the talk stopped, a reply is missing or not whole, and none has a fault so far; the frames that
+  -- came whole were kept
   pub record IsInterrupted : Type 0 where
     pub due : P.unasked ≡ None
     pub replies : List (List ℕ)
     pub said : List TalkEvent
     pub talk : GoesOn old new said
     pub order : IsPrefix said (asked P.rules.version query block replies)
-    pub kept : KeepsPart before now (heard said)
+    pub kept : KeepsFrames P.rules.version before now (heard said)
     pub unfinished : IsUnfinished P.rules block replies
     pub missing : IsMissing P.rules block replies
 

@@ -90,8 +90,8 @@ fn send_reveal<L: Link>(challenge: u64, version: Version, link: &mut L) -> Resul
 /// A challenge leaves only after the reply before it was taken and passed its tests, and the last
 /// challenge never leaves. No byte is received behind the one that shows the verdict. Where the
 /// check knows the answer without a reply, nothing is said. The bytes of each frame are written to
-/// `keep` before they are judged. Takes no memory; the time is that of the check's calls, one for
-/// each frame.
+/// `keep` before they are judged; of a frame that a failure of the link cut, none are. Takes no
+/// memory; the time is that of the check's calls, one for each frame.
 ///
 /// # Errors
 ///

@@ -81,7 +81,7 @@ pub(crate) fn receive<L: Link, K: Sink>(
     link: &mut L,
     keep: &mut K,
 ) -> Result<(), ReplyStop>
-    ensures took { Takes (read_one version place) (L.talk link.old) (L.talk link.new)
+    ensures took { Takes version (read_one version place) (L.talk link.old) (L.talk link.new)
         (K.talk keep.old) (K.talk keep.new) (Shows version)
         (filled (frame_message frame.new) result) }
     ensures link { Lasts L.faults L.wants L.is_sure link.old link.new }
@@ -118,8 +118,9 @@ pub(crate) fn take_reply<C: Check, L: Link, K: Sink>(
     requires stood { (asked : C.Asked) × (s : C.State) × C.stands asked s check.old places.old }
     ensures took { (asked : C.Asked) (s : C.State) → (C.protocol asked).rules.version ≡ version
         → C.stands asked s check.old places.old
-        → Takes (read_reply (C.protocol asked).rules s) (L.talk link.old) (L.talk link.new)
-        (K.talk keep.old) (K.talk keep.new) (λ _ t. C.stands asked t check.new places.new) result }
+        → Takes (C.protocol asked).rules.version (read_reply (C.protocol asked).rules s)
+        (L.talk link.old) (L.talk link.new) (K.talk keep.old) (K.talk keep.new)
+        (λ _ t. C.stands asked t check.new places.new) result }
     ensures stands { (asked : C.Asked) (s : C.State) → C.stands asked s check.old places.old
         → IfOk result (λ _. (t : C.State) × C.stands asked t check.new places.new) }
     ensures phase { IfOk result (λ _. C.phase check.new ≡ after Complete (C.phase check.old)) }

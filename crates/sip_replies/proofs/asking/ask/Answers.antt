@@ -56,7 +56,7 @@ loop-round-init g c =
     record {
       going = λ asked same stands.
           let P = g.C.Check.protocol asked in
-          let took = subst (λ r. Takes (read_reply P.rules P.rules.start) (g.L.Sink.talk c.send_query.new.link) (g.L.Sink.talk c.take_reply.new.link) (g.K.Sink.talk c.args.keep.now) (g.K.Sink.talk c.take_reply.new.keep)
+          let took = subst (λ r. Takes P.rules.version (read_reply P.rules P.rules.start) (g.L.Sink.talk c.send_query.new.link) (g.L.Sink.talk c.take_reply.new.link) (g.K.Sink.talk c.args.keep.now) (g.K.Sink.talk c.take_reply.new.keep)
           (λ _ t. g.C.Check.stands asked t c.take_reply.new.check c.take_reply.new.places) r) c.in_ok-in_round.ensures.same (c.take_reply.ensures.took asked P.rules.start same stands) in
           Going-next P (due g at.In_default asked stands) c.args.query (g.C.Check.phase c.args.check.now).block _ _ _ _ _ _ [] P.rules.start (first_ready g at.In_ok-send_query asked same) 1
           (λ t. g.C.Check.stands asked t c.take_reply.new.check c.take_reply.new.places) took.0 (omega arith) took.1 took.2;
@@ -139,13 +139,13 @@ later_ready g c asked same going =
 
 -- the reply was taken
 later_took : (g : given.Over) (c : After-take_reply-in-loop-round g) (asked : g.C.Check.Asked) (s : g.C.Check.State) → (g.C.Check.protocol asked).rules.version ≡ c.args.version → g.C.Check.stands asked s c.loop-round.check c.loop-round.places
-    → Takes (read_reply (g.C.Check.protocol asked).rules ((g.C.Check.protocol asked).rules.learn s (slice_index (g.C.Check.phase c.args.check.now).block (c.loop-round.round - 1))))
+    → Takes (g.C.Check.protocol asked).rules.version (read_reply (g.C.Check.protocol asked).rules ((g.C.Check.protocol asked).rules.learn s (slice_index (g.C.Check.phase c.args.check.now).block (c.loop-round.round - 1))))
     (g.L.Sink.talk c.send_reveal.new.link) (g.L.Sink.talk c.take_reply-in-loop-round.new.link) (g.K.Sink.talk c.loop-round.keep) (g.K.Sink.talk c.take_reply-in-loop-round.new.keep)
     (λ _ t. g.C.Check.stands asked t c.take_reply-in-loop-round.new.check c.take_reply-in-loop-round.new.places) c.take_reply-in-loop-round.result
 later_took g c asked s same stands =
     let R = (g.C.Check.protocol asked).rules in
     let r = challenge_is g (goal.at.After-take_reply-in-loop-round g c).After-reveal-challenge in
-    subst (λ (k : ℕ). Takes (read_reply R (R.learn s k)) (g.L.Sink.talk c.send_reveal.new.link) (g.L.Sink.talk c.take_reply-in-loop-round.new.link) (g.K.Sink.talk c.loop-round.keep) (g.K.Sink.talk c.take_reply-in-loop-round.new.keep)
+    subst (λ (k : ℕ). Takes R.version (read_reply R (R.learn s k)) (g.L.Sink.talk c.send_reveal.new.link) (g.L.Sink.talk c.take_reply-in-loop-round.new.link) (g.K.Sink.talk c.loop-round.keep) (g.K.Sink.talk c.take_reply-in-loop-round.new.keep)
     (λ _ t. g.C.Check.stands asked t c.take_reply-in-loop-round.new.check c.take_reply-in-loop-round.new.places) c.take_reply-in-loop-round.result) r
     (c.take_reply-in-loop-round.ensures.took asked (R.learn s c.reveal-challenge.result) same (c.reveal-challenge.ensures.learns asked s c.loop-round.places stands))
 
@@ -171,7 +171,7 @@ loop-round-preserved g c =
       going = λ asked same stands.
           let P = g.C.Check.protocol asked in
           let going = c.loop-round.invariant.going asked same stands in
-          let took = subst (λ r. Takes (read_reply P.rules (P.rules.learn going.state (slice_index (g.C.Check.phase c.args.check.now).block (c.loop-round.round - 1))))
+          let took = subst (λ r. Takes P.rules.version (read_reply P.rules (P.rules.learn going.state (slice_index (g.C.Check.phase c.args.check.now).block (c.loop-round.round - 1))))
           (g.L.Sink.talk c.send_reveal.new.link) (g.L.Sink.talk c.take_reply-in-loop-round.new.link) (g.K.Sink.talk c.loop-round.keep) (g.K.Sink.talk c.take_reply-in-loop-round.new.keep)
           (λ _ t. g.C.Check.stands asked t c.take_reply-in-loop-round.new.check c.take_reply-in-loop-round.new.places) r) c.in_ok-in_round-2.ensures.same
           (later_took g at.After-take_reply-in-loop-round asked going.state same going.stands) in

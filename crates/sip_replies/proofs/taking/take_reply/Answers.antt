@@ -1,10 +1,11 @@
-use Rattle.std.proofs.Common.{◌≡◌, Ok, refl, sym, subst, ◌∙◌}
+use Rattle.std.proofs.Common.{◌≡◌, Ok, Err, refl, sym, subst, ◌∙◌}
 use Rattle.sip_ports.proofs.FaultLemmas.{Lasts-refl, Lasts-trans}
 use Rattle.sip_wire.specs.declared.message.Message.{Message}
+use Rattle.sip_wire.specs.declared.version.Version.{Version}
 use Rattle.sip_replies.specs.Protocols.{after}
 use Rattle.sip_replies.specs.Checks.{Steps}
 use Rattle.sip_replies.specs.Replies.{read_one, read_reply}
-use Rattle.sip_replies.specs.Asking.{Shows}
+use Rattle.sip_replies.specs.Asking.{Shows, Takes}
 use Rattle.sip_replies.specs.declared.check.More.{More}
 use Rattle.sip_replies.specs.declared.check.More.TheVariants as mores
 use Rattle.sip_replies.proofs.Begun.{Takes-stopped}
@@ -27,8 +28,10 @@ returns-in_err-receive-clause-took g c asked s same stands =
     let R = (g.C.Check.protocol asked).rules in
     let entered = c.loop-check.invariant.entered asked s same stands in
     let faults = frame_faults R entered.state c.args.version c.place.result same (c.place.ensures asked entered.state c.loop-check.places entered.stands) in
-    Takes-stopped (read_reply R s) _ _ _ _ _ _ (read_reply R entered.state) entered.begun (read_one c.args.version c.place.result) faults
-    (Shows c.args.version) (λ _ t. g.C.Check.stands asked t c.loop-check.check c.loop-check.places) c.in_err-receive.field-0.0 c.in_err-receive.ensures.took c.from_residual.result c.from_residual.ensures.1
+    Takes-stopped R.version (read_reply R s) _ _ _ _ _ _ (read_reply R entered.state) entered.begun (read_one c.args.version c.place.result) faults entered.frames
+    (Shows c.args.version) (λ _ t. g.C.Check.stands asked t c.loop-check.check c.loop-check.places) c.in_err-receive.field-0.0
+    (subst (λ (v : Version). Takes v (read_one c.args.version c.place.result) (g.L.Sink.talk c.loop-check.link) (g.L.Sink.talk c.receive.new.link) (g.K.Sink.talk c.loop-check.keep) (g.K.Sink.talk c.receive.new.keep) (Shows c.args.version)
+    (Err c.in_err-receive.field-0.0)) (sym same) c.in_err-receive.ensures.took) c.from_residual.result c.from_residual.ensures.1
 
 pub returns-in_err-take-clause-took : goal.returns-in_err-take-clause-took
 returns-in_err-take-clause-took g c asked s same stands =
