@@ -20,7 +20,9 @@ use std::marker::Model;
 /// A place in a list of field values.
 #[derive(Clone, Copy, Debug, PartialEq, Eq)]
 pub struct Spot<F> {
+    /// Its place in the list, from 0.
     pub index: u64,
+    /// The residue that stands there.
     pub value: F,
 }
 
