@@ -2,7 +2,8 @@
 use Rattle.std.proofs.Common.{◌≡◌, ℕ, zero, suc, ◌^◌, ◌<◌, Bool, true, false, eqb, eqb-true, List, [], ◌∷◌, ◌++◌, ℤ, pos, negsuc, None, Some, Option, refl, sym, ap, ◌∙◌, arith}
 use Rattle.std.specs.Prelude.{Result, Ok, Err, decimal, nat_lt, option_and_then, if◌then◌else◌}
 use Rattle.std.specs.Fmt.{signed_decimal}
-use Rattle.std.proofs.lemmas.Bool.{lt-ltb, ltb-true}
+use Rattle.std.proofs.lemmas.Bool.{lt-ltb, ltb-true, true≢false}
+use Rattle.std.proofs.lemmas.Option.{same_Some}
 use Rattle.sip_vector.specs.declared.update.Update.{Update}
 use Rattle.sip_stream.specs.declared.form.Form.{Form}
 use Rattle.sip_stream.specs.declared.numbers.Numbers.{Numbers}
@@ -18,10 +19,6 @@ use Rattle.sip_stream.proofs.Parts.{first_step}
 use Rattle.sip_stream.proofs.PassedRecords.{all_spelled-one, side_spelled}
 use Rattle.sip_stream.proofs.SpelledLines.{line-text, text_of}
 
--- what is there is the same
-some_same : {X : Type 0} (x y : X) → Some x ≡ Some y → x ≡ y
-some_same x y e = cc
-
 -- the two parts of a text and the mark between them are the text
 parts_whole : (mark : ℕ) (text : List ℕ) (parts : List ℕ × List ℕ) → parts_at mark text ≡ Some parts → text ≡ parts.0 ++ mark ∷ parts.1
 parts_whole mark [] parts e = cc
@@ -29,11 +26,11 @@ parts_whole mark (b ∷ bs) parts e = by (eqb b mark) (parts_at mark bs) (λ p. 
   where
     by : (is : Bool) (rest : Option (List ℕ × List ℕ)) → ((p : List ℕ × List ℕ) → parts_at mark bs ≡ Some p → bs ≡ p.0 ++ mark ∷ p.1) → eqb b mark ≡ is → parts_at mark bs ≡ rest → first_step b bs is rest ≡ Some parts → b ∷ bs ≡ parts.0 ++ mark ∷ parts.1
     by true rest more found later e =
-        let same = some_same ([], bs) parts e in
+        let same = same_Some ([], bs) parts e in
         ap (λ x. x ∷ bs) (eqb-true b mark found) ∙ ap (λ (p : List ℕ × List ℕ). p.0 ++ mark ∷ p.1) same
     by false None more found later e = cc
     by false (Some p) more found later e =
-        let same = some_same (b ∷ p.0, p.1) parts e in
+        let same = same_Some (b ∷ p.0, p.1) parts e in
         ap (λ l. b ∷ l) (more p later) ∙ ap (λ (q : List ℕ × List ℕ). q.0 ++ mark ∷ q.1) same
 
 -- what a step on what is there answers
@@ -47,7 +44,7 @@ three_parts None i d n e = cc
 three_parts (Some s) None d n e = cc
 three_parts (Some s) (Some i) None n e = cc
 three_parts (Some s) (Some i) (Some d) n e =
-    let same = some_same (record { side = s; item = i; delta = d }) n e in
+    let same = same_Some (record { side = s; item = i; delta = d }) n e in
     (ap (λ (m : Numbers). Some m.side) same, ap (λ (m : Numbers). Some m.item) same, ap (λ (m : Numbers). Some m.delta) same)
 
 -- a number that is no delta below zero, or its spelling
@@ -56,14 +53,14 @@ below_spelled zero z e = cc
 below_spelled (suc n) z e = by (nat_lt n (2 ^ 63)) refl e
   where
     by : (is : Bool) → nat_lt n (2 ^ 63) ≡ is → (if is then Some (negsuc n) else None) ≡ Some z → (suc n < 2 ^ 64) × (signed_decimal z ≡ 45 ∷ decimal (suc n))
-    by true small e = let least = ltb-true n (2 ^ 63) small in (omega (arith, least), sym (ap signed_decimal (some_same (negsuc n) z e)))
+    by true small e = let least = ltb-true n (2 ^ 63) small in (omega (arith, least), sym (ap signed_decimal (same_Some (negsuc n) z e)))
     by false great e = cc
 
 above_spelled : (m : ℕ) (z : ℤ) → above_zero m ≡ Some z → (m < 2 ^ 64) × (signed_decimal z ≡ decimal m)
 above_spelled m z e = by (nat_lt m (2 ^ 63)) refl e
   where
     by : (is : Bool) → nat_lt m (2 ^ 63) ≡ is → (if is then Some (pos m) else None) ≡ Some z → (m < 2 ^ 64) × (signed_decimal z ≡ decimal m)
-    by true small e = let least = ltb-true m (2 ^ 63) small in (omega (arith, least), sym (ap signed_decimal (some_same (pos m) z e)))
+    by true small e = let least = ltb-true m (2 ^ 63) small in (omega (arith, least), sym (ap signed_decimal (same_Some (pos m) z e)))
     by false great e = cc
 
 -- what is read as a delta is its spelling
@@ -135,10 +132,7 @@ numbers_said text u e = by (numbers_at text) refl e
 small_side : (b : ℕ) → nat_lt 1 b ≡ false → b < 2 ^ 64
 small_side zero e = omega arith
 small_side (suc zero) e = omega arith
-small_side (suc (suc b)) e = absurd (true_false (sym (lt-ltb 1 (suc (suc b)) (omega arith)) ∙ e))
-  where
-    true_false : true ≡ false → ⊥
-    true_false e = cc
+small_side (suc (suc b)) e = absurd (true≢false (sym (lt-ltb 1 (suc (suc b)) (omega arith)) ∙ e))
 
 -- a line is the spelling of the update that it says
 pub line_spelled : (line : List ℕ) (u : Update) → Ok u ≡ line_said line → line_bytes u ≡ line ++ 10 ∷ []

@@ -4,7 +4,7 @@ use Rattle.std.specs.Prelude.{Ok, Err, nat_lt, slice_index, ◌==◌}
 use Rattle.std.specs.Int.{byte_at, bytes_high_first, cast_signed, cast_unsigned}
 use Rattle.std.proofs.Math.Nat.{add-mul, mul_assoc, add_assoc, pow-succ'}
 use Rattle.std.proofs.lemmas.Nat.{div-mul-add, mod-mul-add}
-use Rattle.std.proofs.lemmas.Bool.{lt-ltb}
+use Rattle.std.proofs.lemmas.Bool.{lt-ltb, true≢false}
 use Rattle.std.proofs.lemmas.Int.{of_z-to_z}
 use Rattle.std.proofs.lemmas.List.{take_all}
 use Rattle.byteorder.specs.Endian.{big_bytes, big_from, big_number}
@@ -72,10 +72,7 @@ part_bytes from n bytes are = front_bytes n (drop from bytes) (left_bytes from b
 pub side_spelled : (b : ℕ) (is : Bool) → nat_lt 1 b ≡ is → is ≡ false → side_number (cond (b == 0) First Second) ≡ b
 side_spelled zero is e none = refl
 side_spelled (suc zero) is e none = refl
-side_spelled (suc (suc b)) is e none = absurd (true_false (sym (lt-ltb 1 (suc (suc b)) (omega arith)) ∙ e ∙ none))
-  where
-    true_false : true ≡ false → ⊥
-    true_false e = cc
+side_spelled (suc (suc b)) is e none = absurd (true≢false (sym (lt-ltb 1 (suc (suc b)) (omega arith)) ∙ e ∙ none))
 
 -- the update that a whole record says
 said_ok : (width : ℕ) (bytes : List ℕ) (u : Update) (is : Bool) → Ok u ≡ cond is (Err BadSide) (Ok (record_at width bytes)) → (is ≡ false) × (u ≡ record_at width bytes)

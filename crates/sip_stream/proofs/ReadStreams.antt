@@ -1,7 +1,8 @@
 -- The spellings of a legal stream are read as that stream.
 use Rattle.std.proofs.Common.{◌≡◌, ◌≢◌, ℕ, ◌^◌, ◌<◌, ◌≤◌, false, true, subst, drop, drop_at, length, List, [], ◌∷◌, ◌++◌, append_assoc, append-nil, All, pos, nat_abs, None, refl, sym, ap, ◌∙◌, arith, w64}
-use Rattle.std.specs.Prelude.{nat_le, nat_lt}
+use Rattle.std.specs.Prelude.{nat_le}
 use Rattle.std.specs.List.{flat_map}
+use Rattle.std.proofs.lemmas.Bool.{le-ltb}
 use Rattle.std.proofs.lemmas.Bool.Decides.{nat_tests}
 use Rattle.std.proofs.lemmas.Int.{fits_signed_from_abs}
 use Rattle.std.proofs.lemmas.List.Elements.{All-head, All-same, All-drop}
@@ -59,15 +60,12 @@ legal_at depth before u more legal =
 not_le : (a b : ℕ) → b < a → nat_le a b ≡ false
 not_le a b below = grind (arith, nat_tests)
 
-not_lt : (a b : ℕ) → b ≤ a → nat_lt a b ≡ false
-not_lt a b most = grind (arith, nat_tests)
-
 -- nothing stands against it
 no_fault : (depth : ℕ) (before : List Update) (u : Update) → IsLegalAt depth before u → update_fault depth before u ≡ None
 no_fault depth before u legal =
     let item = not_le (2 ^ depth) u.item legal.item in
     let delta = is_zero-false u.delta legal.delta in
-    let light = not_lt most_weight (weight (before ++ u ∷ []) u.side) legal.weight in
+    let light = le-ltb most_weight (weight (before ++ u ∷ []) u.side) legal.weight in
     rw (item, delta, light) refl
 
 -- and nothing against an update that a reader has room for

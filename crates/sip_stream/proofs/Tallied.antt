@@ -1,7 +1,7 @@
 -- One more record in a tally.
 use Rattle.std.proofs.Common.{◌≡◌, ◌≢◌, ℕ, ◌+◌, ◌-◌, ◌%◌, ◌^◌, ◌<◌, ◌≤◌, pos, nat_abs, bit_or, List, [], ◌∷◌, ◌++◌, false, true, refl, sym, ap, ◌∙◌, arith, subst}
-use Rattle.std.specs.Prelude.{Ok, nat_lt, slice_index}
-use Rattle.std.proofs.lemmas.Bool.Decides.{nat_tests}
+use Rattle.std.specs.Prelude.{Ok, slice_index}
+use Rattle.std.proofs.lemmas.Bool.{le-ltb}
 use Rattle.std.proofs.lemmas.List.{length-append}
 use Rattle.std.proofs.lemmas.List.Elements.{All-append, All-cons, All-nil}
 use Rattle.std.proofs.lemmas.Nat.{le_or_l, le_or_r}
@@ -44,11 +44,8 @@ after_more old new u before room is depth spent count weights first second = rec
 }
 
 -- a record whose side is none or one says its update
-not_lt : (a b : ℕ) → b ≤ a → nat_lt a b ≡ false
-not_lt a b most = grind (arith, nat_tests)
-
 pub said_fair : (width : ℕ) (piece : List ℕ) (u : Update) → slice_index piece 0 ≤ 1 → u ≡ record_at width piece → Ok u ≡ record_said width piece
-said_fair width piece u side is = rw (not_lt 1 (slice_index piece 0) side) (ap Ok is)
+said_fair width piece u side is = rw (le-ltb 1 (slice_index piece 0) side) (ap Ok is)
 
 -- the bits of a tally with one more record
 abbrev pub bits_with : ℕ → ℕ → ℕ → ℕ

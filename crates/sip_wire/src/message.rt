@@ -19,15 +19,20 @@ pub const MOST_REFUSAL: u8 = 4;
 /// An item, below 2^48, and its count, below 2^61 - 1.
 #[derive(Clone, Copy, Debug, PartialEq, Eq, Default)]
 pub struct Leaf {
+    /// The number of the entry that it stands for, from 0, below 2^48; in version 1 below 2^32.
     pub item: u64,
+    /// The value of that entry, below 2^61 - 1.
     pub count: u64,
 }
 
 /// A node of a level, by its index, below 2^48, its hash and its count, both below 2^61 - 1.
 #[derive(Clone, Copy, Debug, PartialEq, Eq, Default)]
 pub struct Node {
+    /// Its place in its level, from 0, below 2^48; in version 1 below 2^32.
     pub index: u64,
+    /// The residue that stands for what is below it, below 2^61 - 1.
     pub hash: u64,
+    /// The sum of the leaves below it, below 2^61 - 1.
     pub count: u64,
 }
 
