@@ -23,7 +23,7 @@ use Rattle.sip_subvec.specs.Asking.{most_answer}
 -- ---- how many entries there is room for
 
 -- rising indices within an interval are no more than its items
-rise-few : (lo hi : ℕ) (es : List Entry) → rise_within lo hi es ≡ true → length es ≤ hi + 1 - lo
+pub rise-few : (lo hi : ℕ) (es : List Entry) → rise_within lo hi es ≡ true → length es ≤ hi + 1 - lo
 rise-few lo hi [] h = omega arith
 rise-few lo hi (e ∷ es) h =
     let parts = rise-parts lo hi e es h in
@@ -31,7 +31,7 @@ rise-few lo hi (e ∷ es) h =
     omega (arith, parts.0, parts.1, few)
 
 -- entries that passed are no more than an answer may have
-taken-few : (lo hi : ℕ) (before es more : List Entry) → length before ≤ most_entries → with_entries lo hi before es ≡ Ok more → length more ≤ most_entries
+pub taken-few : (lo hi : ℕ) (before es more : List Entry) → length before ≤ most_entries → with_entries lo hi before es ≡ Ok more → length more ≤ most_entries
 taken-few lo hi before [] more few is = let same : before ≡ more = cc in subst (λ (l : List Entry). length l ≤ most_entries) same few
 taken-few lo hi before (e ∷ es) more few is =
     let a = test_passed (is_within lo hi e.index && list_all (λ (b : Entry). nat_lt b.index e.index) before) reasons.BadOrder (λ _. needs (nat_lt (length before) most_entries) reasons.TooMany >>= λ _. with_entries lo hi (before ++ e ∷ []) es) more is in

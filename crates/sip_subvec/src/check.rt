@@ -257,8 +257,21 @@ impl<F: Field, const CAP: usize> SubCheck<F, CAP> {
     /// Ends the check: `Reason::Root` where what was given does not fold to the root.
     ///
     /// No `times`: one comparison.
-    pub fn finish(&self) -> Result<(), Reason>
-        requires unspent { self.now.spent ≡ false }
+    pub fn finish(&mut self) -> Result<(), Reason>
+        requires unspent { self.old.spent ≡ false }
+        requires whole { self.old.level ≡ length self.old.challenges }
+        ensures answers { (root lo hi : ℕ) (challenges : List ℕ) (s : Stated)
+            → HasTaken F.MODULUS root lo hi challenges s self.old
+            → result ≡ needs (gives_root F.MODULUS root lo hi challenges s) Reason.Root }
+        ensures spent { self.new ≡ record self.old { spent = is_err result } }
+    {
+        let tested = self.test_root();
+        self.spent = tested.is_err();
+        tested
+    }
+
+    // Whether what was given folds to the root.
+    fn test_root(&self) -> Result<(), Reason>
         requires whole { self.now.level ≡ length self.now.challenges }
         ensures { (root lo hi : ℕ) (challenges : List ℕ) (s : Stated)
             → HasTaken F.MODULUS root lo hi challenges s self.now

@@ -14,7 +14,9 @@ use std::marker::Model;
 /// The nodes beside an interval of a level, where they are present.
 #[derive(Clone, Copy, Debug, PartialEq, Eq)]
 pub struct SiblingPair<F> {
+    /// The node before the interval, present where the interval's low end is odd.
     pub left: Option<F>,
+    /// The node behind it, present where its high end is even.
     pub right: Option<F>,
 }
 

@@ -6,7 +6,7 @@ use Rattle.sip_wire.specs.declared.message.Reason.TheVariants as reasons
 use Rattle.sip_subvec.specs.AcceptsSub.{gives_root}
 use Rattle.sip_subvec.specs.Checking.{Kept, HasTaken}
 use Rattle.sip_subvec.proofs.TakingSteps.{root_says}
-use Rattle.sip_subvec.proofs.check.SubCheck.finish.Goals as goal
+use Rattle.sip_subvec.proofs.check.SubCheck.test_root.Goals as goal
 
 pub returns-then-number-self : goal.returns-then-number-self
 returns-then-number-self g c root lo hi challenges s taken =
