@@ -2,6 +2,7 @@
 use Rattle.std.proofs.Common.{◌≡◌, ℕ, ◌+◌, ◌*◌, ◌≤◌, cond, List, [], ◌∷◌, length, map, filter, ℤ, pos, ◌+ℤ◌, ◌*ℤ◌, nat_abs, Some, refl, ap, ◌∙◌, inl, inr, arith}
 use Rattle.std.specs.List.{enumerate_from, range_with_len}
 use Rattle.std.proofs.lemmas.Bool.{cases_Bool}
+use Rattle.std.proofs.lemmas.Option.{same_Some}
 use Rattle.std.proofs.lemmas.Int.{ints}
 use Rattle.sip_vector.specs.Answers.{answer, number, is_within}
 use Rattle.sip_vector.specs.Streams.{int_sum, vector, IsLegal}
@@ -40,16 +41,13 @@ range-is lo hi i (x ∷ xs) = elim (cases_Bool (is_within lo hi i)) [
   | inr t ↦ rw t (range-is lo hi (i + 1) xs ∙ times_zero x (total xs (ones_from lo hi (i + 1) (length xs))))
 ]
 
-some_same : {X : Type 0} (x y : X) → Some x ≡ Some y → x ≡ y
-some_same x y e = cc
-
 pub answer-is : (depth : ℕ) (stream : List Update) (query : Query) (l : Lists) → lists_of depth stream query ≡ Some l → answer depth stream query ≡ number (total l.first l.second)
 answer-is depth stream (F2 side) l e =
-    ap number (squares-are (vector depth stream side)) ∙ ap (λ (m : Lists). number (total m.first m.second)) (some_same _ l e)
-answer-is depth stream Inner l e = ap (λ (m : Lists). number (total m.first m.second)) (some_same _ l e)
+    ap number (squares-are (vector depth stream side)) ∙ ap (λ (m : Lists). number (total m.first m.second)) (same_Some _ l e)
+answer-is depth stream Inner l e = ap (λ (m : Lists). number (total m.first m.second)) (same_Some _ l e)
 answer-is depth stream (Range side lo hi) l e =
     ap number (range-is lo hi 0 (vector depth stream side) ∙ ap (λ n. total (vector depth stream side) (ones_from lo hi 0 n)) (length-vector depth stream side))
-    ∙ ap (λ (m : Lists). number (total m.first m.second)) (some_same _ l e)
+    ∙ ap (λ (m : Lists). number (total m.first m.second)) (same_Some _ l e)
 answer-is depth stream (Sub lo hi) l e = cc
 answer-is depth stream (Heavy side at_least) l e = cc
 answer-is depth stream (Share side num den) l e = cc

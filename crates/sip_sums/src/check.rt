@@ -131,8 +131,21 @@ impl<F: Field, const CAP: usize> SumCheck<F, CAP> {
     /// not `product`, which is to be the product of the two extensions at the challenges.
     ///
     /// 2 `times`.
-    pub fn finish(&self, product: F) -> Result<(), Reason>
-        requires unspent { self.now.spent ≡ false }
+    pub fn finish(&mut self, product: F) -> Result<(), Reason>
+        requires unspent { self.old.spent ≡ false }
+        requires whole { self.old.given ≡ length self.old.challenges }
+        requires left { self.old.given ≡ self.old.revealed + 1 }
+        ensures answer { result ≡ needs (value_at F.MODULUS self.old.last
+            (slice_index self.old.challenges self.old.revealed) == F.number product) Reason.Root }
+        ensures spent { self.new ≡ record self.old { spent = is_err result } }
+    {
+        let tested = self.test_value(product);
+        self.spent = tested.is_err();
+        tested
+    }
+
+    // Whether the product is the last polynomial's value at the last challenge.
+    fn test_value(&self, product: F) -> Result<(), Reason>
         requires whole { self.now.given ≡ length self.now.challenges }
         requires left { self.now.given ≡ self.now.revealed + 1 }
         ensures { result ≡ needs (value_at F.MODULUS self.now.last

@@ -9,8 +9,11 @@ use sip_field::Field;
 /// A round polynomial, `c0 + c1·x + c2·x²`.
 #[derive(Clone, Copy, Debug, PartialEq, Eq)]
 pub struct Poly<F> {
+    /// Its value at 0.
     pub c0: F,
+    /// The coefficient of `x`.
     pub c1: F,
+    /// The coefficient of `x²`.
     pub c2: F,
 }
 
