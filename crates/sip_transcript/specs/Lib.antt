@@ -10,3 +10,5 @@ pub mod Renderings
 pub mod Writing
 pub mod Underway
 pub mod Examples
+pub mod Replaying
+pub mod Links
