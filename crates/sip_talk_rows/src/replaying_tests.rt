@@ -3,9 +3,8 @@
 ghost use Rattle.std.specs.Prelude.{◌≡◌, ◌≤◌, ℕ, List, Some};
 ghost use Rattle.sip_ports.specs.Ports.{ReadsWhole};
 
-use crate::events::events;
 use crate::facts::expect;
-use sip_ports::{Link, MemorySource, PortStop, Sink, Source, TalkEvent, recv_whole};
+use sip_ports::{Link, MemorySource, PortStop, Sink, Source, recv_whole};
 use sip_transcript::laws::a_whole_receive_is_a_whole_read;
 use sip_transcript::{Loan, Origin, TranscriptLink};
 use std::alloc::Global;
@@ -27,11 +26,7 @@ fn replies(alloc: Global, chunk: usize) -> Result<MemorySource, Fail>
 }
 
 // A call that knows nothing of the link receives what the source gives, and the source comes back.
-fn receive_over<T: Loan, O: Origin>(
-    alloc: Global,
-    source: T,
-    buf: &mut [u8],
-) -> (Result<usize, PortStop>, T)
+fn receive_over<T: Loan, O: Origin>(source: T, buf: &mut [u8]) -> (Result<usize, PortStop>, T)
     requires first { T.left source ≡ O.first }
     requires lent { T.loan source ≡ O.lent }
     ensures same { T.loan result.1 ≡ T.loan source }
@@ -39,17 +34,17 @@ fn receive_over<T: Loan, O: Origin>(
         → ReadsWhole (Some bytes) (T.left result.1) result.0 buf.new }
 {
     a_whole_receive_is_a_whole_read();
-    let mut link: TranscriptLink<T, O> = TranscriptLink::new(alloc, source);
+    let mut link: TranscriptLink<T, O> = TranscriptLink::new(source);
     let came = recv_whole(&mut link, buf);
     (came, link.into_source())
 }
 
 // The same of a source, which is lent for the call.
-fn receive<S: Source>(alloc: Global, source: &mut S, buf: &mut [u8]) -> Result<usize, PortStop>
+fn receive<S: Source>(source: &mut S, buf: &mut [u8]) -> Result<usize, PortStop>
     ensures { (bytes : List ℕ) → S.left source.old ≡ Some bytes
         → ReadsWhole (Some bytes) (S.left source.new) result buf.new }
 {
-    let (came, _lent) = receive_over::<&mut S, Brand>(alloc, source, buf);
+    let (came, _lent) = receive_over::<&mut S, Brand>(source, buf);
     came
 }
 
@@ -59,9 +54,9 @@ fn is_replayed(alloc: Global, chunk: usize) -> Result<[bool; 6], Fail>
 {
     let mut source = replies(alloc, chunk)?;
     let mut buf = [0; 4];
-    let first = receive(alloc, &mut source, &mut buf[..1]);
-    let fails = receive(alloc, &mut source, &mut buf);
-    let second = receive(alloc, &mut source, &mut buf[1..]);
+    let first = receive(&mut source, &mut buf[..1]);
+    let fails = receive(&mut source, &mut buf);
+    let second = receive(&mut source, &mut buf[1..]);
     let heard = buf;
     let rest = source.read(&mut buf);
     Ok([
@@ -81,44 +76,37 @@ fn a_lent_source_keeps_what_was_not_received(rt: HostRuntime) -> Result<(), Fail
     Ok(())
 }
 
-// Two bytes are sent, and then four times at most four are received: whether the answers are these,
-// and the talk then.
-fn talk_over<T: Loan + Drop, O: Origin>(
-    alloc: Global,
+// Two bytes are sent, and then four times at most four are received: whether the answers are these.
+fn answers_over<T: Loan + Drop, O: Origin>(
     source: T,
     answers: &[Result<usize, PortStop>; 4],
-) -> Result<(bool, Vec<TalkEvent>), Fail>
+) -> Result<bool, Fail>
     requires first { T.left source ≡ O.first }
     requires lent { T.loan source ≡ O.lent }
 {
-    let mut link: TranscriptLink<T, O> = TranscriptLink::new(alloc, source);
+    let mut link: TranscriptLink<T, O> = TranscriptLink::new(source);
     let mut buf = [0; 4];
     let mut same = link.write(&[3, 0])? == 2 && link.recv(&mut [])? == 0;
     for answer in answers {
         same = same && link.recv(&mut buf) == *answer;
     }
-    Ok((same, link.talk().to_vec(alloc)?))
+    Ok(same)
 }
 
-fn talk<S: Source>(
-    alloc: Global,
+fn answers<S: Source>(
     source: &mut S,
     answers: &[Result<usize, PortStop>; 4],
-) -> Result<(bool, Vec<TalkEvent>), Fail> {
-    talk_over::<&mut S, Brand>(alloc, source, answers)
+) -> Result<bool, Fail> {
+    answers_over::<&mut S, Brand>(source, answers)
 }
 
-// A call that fails tells nothing, and the end is told where nothing is left.
+// What is sent goes nowhere. A call that fails is answered, and the end where nothing is left.
 #[test]
-fn a_link_over_a_source_tells_its_talk(rt: HostRuntime) -> Result<(), Fail> {
+fn a_link_answers_as_its_source_reads(rt: HostRuntime) -> Result<(), Fail> {
     let alloc = rt.alloc();
     let failed = Err(PortStop::Failed);
-    let few = talk(alloc, &mut replies(alloc, 1)?, &[Ok(1), failed, Ok(1), Ok(1)])?;
-    let all = talk(alloc, &mut replies(alloc, 10_000)?, &[Ok(4), failed, Ok(1), Ok(0)])?;
-    let told = events(alloc, &[(true, &[3, 0]), (false, &REPLIES[..3])])?;
-    let mut ended = events(alloc, &[(true, &[3, 0]), (false, &REPLIES)])?;
-    ended.push(TalkEvent::Ended)?;
-    expect(&rt, 0, &[few.0, few.1 == told]);
-    expect(&rt, 1, &[all.0, all.1 == ended]);
+    let few = answers(&mut replies(alloc, 1)?, &[Ok(1), failed, Ok(1), Ok(1)])?;
+    let all = answers(&mut replies(alloc, 10_000)?, &[Ok(4), failed, Ok(1), Ok(0)])?;
+    expect(&rt, 0, &[few, all]);
     Ok(())
 }

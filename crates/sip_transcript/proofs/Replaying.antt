@@ -1,8 +1,8 @@
 -- What a link over a source has heard, call by call.
-use Rattle.std.proofs.Common.{◌≡◌, ℕ, zero, suc, ◌<◌, ◌≤◌, List, [], ◌∷◌, ◌++◌, length, take, None, Some, Result, Ok, Err, refl, sym, ap, subst, ◌∙◌, arith, append_assoc, append-nil, ⊎_elim, inl, inr}
+use Rattle.std.proofs.Common.{◌≡◌, ℕ, zero, suc, ◌<◌, List, [], ◌∷◌, ◌++◌, length, take, None, Some, Result, Ok, Err, refl, sym, ap, subst, ◌∙◌, arith, append_assoc, append-nil, ⊎_elim, inl, inr}
 use Rattle.std.specs.Prelude.{map, ◌⊎◌}
 use Rattle.std.specs.declared.option.Option.{Option}
-use Rattle.std.specs.Io.KnownBytes.{Consumes, IsAtEnd, Keeps, ReadConsumes}
+use Rattle.std.specs.Io.KnownBytes.{Consumes, IsAtEnd, Keeps}
 use Rattle.sip_ports.specs.declared.port.TalkEvent.{TalkEvent}
 use Rattle.sip_ports.specs.declared.port.TalkEvent.TheVariants.{Out, In, Ended}
 use Rattle.sip_ports.specs.Ports.{heard, ins, outs, received, ended_if, HearsWhole, ReadsWhole}
@@ -106,16 +106,14 @@ replays_received first left now talk zero [] room k p = absurd (omega (arith, ro
 replays_received first left now talk zero (b ∷ buf) room k p = replays_ended first left now talk k.0 (k.1 refl room) p
 replays_received first left now talk (suc n) buf room k p = replays_heard first left now talk (take (suc n) buf) k.0 p
 
--- ---- what the calls tell, behind the room that was made for it
+-- ---- the same of a talk that is told
 
-pub told_sent : (first left : Option (List ℕ)) (talk roomy after : List TalkEvent) (bytes : List ℕ) → roomy ≡ talk → after ≡ roomy ++ outs bytes → Replays first talk left → Replays first after left
-told_sent first left talk roomy after bytes same told p =
-    subst (λ t. Replays first t left) (sym (told ∙ ap (λ t. t ++ outs bytes) same)) (replays_sent first left talk bytes p)
+pub told_sent : (first left : Option (List ℕ)) (talk after : List TalkEvent) (bytes : List ℕ) → after ≡ talk ++ outs bytes → Replays first talk left → Replays first after left
+told_sent first left talk after bytes told p = subst (λ t. Replays first t left) (sym told) (replays_sent first left talk bytes p)
 
-pub told_received : (first left now : Option (List ℕ)) (talk roomy after : List TalkEvent) (n : ℕ) (buf : List ℕ) → roomy ≡ talk → after ≡ roomy ++ received n buf → 0 < length buf
+pub told_received : (first left now : Option (List ℕ)) (talk after : List TalkEvent) (n : ℕ) (buf : List ℕ) → after ≡ talk ++ received n buf → 0 < length buf
     → Consumes left now (take n buf) × (n ≡ 0 → 0 < length buf → IsAtEnd now) → Replays first talk left → Replays first after now
-told_received first left now talk roomy after n buf same told room k p =
-    subst (λ t. Replays first t now) (sym (told ∙ ap (λ t. t ++ received n buf) same)) (replays_received first left now talk n buf room k p)
+told_received first left now talk after n buf told room k p = subst (λ t. Replays first t now) (sym told) (replays_received first left now talk n buf room k p)
 
 -- ---- a whole receive over such a link is a whole read of its source
 

@@ -12,3 +12,4 @@ pub mod Underway
 pub mod Examples
 pub mod Replaying
 pub mod Links
+pub mod Pasts

@@ -1,6 +1,7 @@
 -- What is seen of a link over a source.
-use Rattle.std.specs.Prelude.{ℕ, ◌+◌, ◌-◌, ◌^◌, min, List, Option}
+use Rattle.std.specs.Prelude.{ℕ, List, Option}
 use Rattle.sip_ports.specs.declared.port.TalkEvent.{TalkEvent}
+use Rattle.sip_transcript.specs.Pasts.{events}
 use Rattle.sip_transcript.specs.declared.link.TranscriptLink.{TranscriptLink}
 use Rattle.sip_transcript.specs.declared.loan.Loan.{Ghosts}
 use Rattle.sip_transcript.specs.declared.loan.Origin.{Ghosts as Origins}
@@ -8,7 +9,7 @@ use Rattle.sip_transcript.specs.declared.loan.Origin.{Ghosts as Origins}
 -- all that has happened on it
 abbrev pub link_talk : {T O : Type 0} {t : Ghosts T} {o : Origins O}
     → TranscriptLink T O t o → List TalkEvent
-link_talk link = link.talk.items
+link_talk link = events link.past
 
 -- the loan of the source that its replies come out of
 abbrev pub link_source : {T O : Type 0} {t : Ghosts T} {o : Origins O}
@@ -25,10 +26,10 @@ abbrev pub link_faults : {T O : Type 0} {t : Ghosts T} {o : Origins O}
     → TranscriptLink T O t o → ℕ
 link_faults {t = t} link = t.faults link.source
 
--- how often memory was refused to the source, or to the talk; it stands still at its type's end
+-- how often memory was refused to the source
 abbrev pub link_wants : {T O : Type 0} {t : Ghosts T} {o : Origins O}
     → TranscriptLink T O t o → ℕ
-link_wants {t = t} link = min (t.wants link.source + link.refused) (2 ^ 64 - 1)
+link_wants {t = t} link = t.wants link.source
 
 -- the source never fails
 abbrev pub link_is_sure : {T O : Type 0} {t : Ghosts T} {o : Origins O}

@@ -7,7 +7,7 @@
 //! transcript, and [`convert`] writes it in version 2: both read the head first, and then a frame
 //! at a time, so that the memory is that of one frame. [`show_line`] writes the line of one frame.
 //! [`TranscriptLink`] is a link whose replies come out of a source, so that a stored run can be
-//! judged again.
+//! judged again; it takes no memory.
 //!
 //! # What is proved
 //!
@@ -46,6 +46,7 @@ pub mod laws;
 mod link;
 mod listing;
 mod loan;
+mod past;
 mod rendering;
 mod showing;
 mod stopping;

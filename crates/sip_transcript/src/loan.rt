@@ -34,6 +34,8 @@ pub trait Loan {
 
     ghost faults_fit: { (source : Self) → faults source < 2 ^ 64 };
 
+    ghost wants_fit: { (source : Self) → wants source < 2 ^ 64 };
+
     ghost sure_counts: { (source : Self) → is_sure source → faults source ≡ 0 };
 }
 
@@ -49,6 +51,8 @@ impl<S: Source> Loan for &mut S {
     ghost is_sure = { λ source. S.is_sure source.now };
 
     ghost faults_fit = { λ source. S.faults_fit source.now };
+
+    ghost wants_fit = { λ source. S.wants_fit source.now };
 
     ghost sure_counts = { λ source sure. S.sure_counts source.now sure };
 
