@@ -10,3 +10,4 @@ pub mod Telling
 pub mod Onward
 pub mod Digits
 pub mod Asks
+pub mod Replaying

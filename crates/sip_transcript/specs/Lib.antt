@@ -10,3 +10,6 @@ pub mod Renderings
 pub mod Writing
 pub mod Underway
 pub mod Examples
+pub mod Replaying
+pub mod Links
+pub mod Pasts

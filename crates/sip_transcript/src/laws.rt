@@ -1,7 +1,10 @@
 //! What the fields of a head are like, and how the definitions are tied to each other.
 
-ghost use Rattle.std.specs.Prelude.{◌≡◌, ◌↔◌, ◌++◌, ◌∷◌, [], ℕ, All, List, Some, None, IsTrue, codes, take};
+ghost use Rattle.std.specs.Prelude.{◌≡◌, ◌↔◌, ◌++◌, ◌∷◌, [], ℕ, All, List, Some, None, Option, Result, IsTrue, codes, take};
 ghost use Rattle.std.specs.List.{flat_map};
+ghost use Rattle.sip_ports.specs.Ports.{HearsWhole, ReadsWhole};
+ghost use Rattle.sip_ports.specs.declared.port.PortStop.{PortStop as AnyStop};
+ghost use Rattle.sip_ports.specs.declared.port.TalkEvent.{TalkEvent as AnyEvent};
 ghost use Rattle.sip_vector.specs.Answers.{Fits};
 ghost use Rattle.sip_vector.specs.declared.query.Query.{Query as AnyQuery};
 ghost use Rattle.sip_wire.specs.Spelling.{spelling};
@@ -12,6 +15,7 @@ ghost use Rattle.sip_transcript.specs.Examples.{head_by_hand, lines_by_hand, rep
 ghost use Rattle.sip_transcript.specs.Fields.{fits_at, head_fault};
 ghost use Rattle.sip_transcript.specs.Heads.{Ask, IsRun};
 ghost use Rattle.sip_transcript.specs.Listings.{listing};
+ghost use Rattle.sip_transcript.specs.Replaying.{Replays};
 ghost use Rattle.sip_transcript.specs.Tales.{IsReply, tale_of, text_of, transcript_fault};
 
 /// The transcript of a run has no fault in its head, whatever the replies are. So a head that is
@@ -60,4 +64,14 @@ pub fn a_transcript_by_hand()
     ensures fewer { text_of listing (take 75 (head_by_hand ++ replies_by_hand)) ≡ lines_by_hand }
     ensures longer { transcript_fault (head_by_hand ++ replies_by_hand ++ 0 ∷ []) ≡ Some 76 }
     ensures no_head { text_of listing (take 34 head_by_hand) ≡ [] }
+{}
+
+/// On a new link whose replies come out of a source that tells its bytes, a whole receive is a whole
+/// read of the source.
+#[tactic(auto, using(crate::proofs::Replaying::whole_receive))]
+pub fn a_whole_receive_is_a_whole_read()
+    ensures { (bytes : List ℕ) (left : Option (List ℕ)) (talk : List AnyEvent)
+        (answer : Result ℕ AnyStop) (buf : List ℕ)
+        → HearsWhole (Some []) (Some talk) answer buf → Replays (Some bytes) talk left
+        → ReadsWhole (Some bytes) left answer buf }
 {}

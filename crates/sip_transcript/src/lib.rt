@@ -6,6 +6,8 @@
 //! any source, field by field, and takes no byte that is not of the head. [`show`] lists a whole
 //! transcript, and [`convert`] writes it in version 2: both read the head first, and then a frame
 //! at a time, so that the memory is that of one frame. [`show_line`] writes the line of one frame.
+//! [`TranscriptLink`] is a link whose replies come out of a source, so that a stored run can be
+//! judged again; it takes no memory.
 //!
 //! # What is proved
 //!
@@ -19,6 +21,10 @@
 //!   that stands before that place, and nothing where it is in the head; where a port stopped, or
 //!   memory ran out, a front of this. No other status comes but a fault of the transcript's source
 //!   or of the report, where its count rose, and `OutOfMemory`.
+//! - At each time what was heard on a `TranscriptLink`, and then what is left in its source, are
+//!   what the source had when the link was made; the end is told only where all of this was heard.
+//!   This holds also behind a call that is generic over links: the link's type carries it, over an
+//!   [`Origin`] that the caller picks, and the source that is given back is the same [`Loan`].
 //! - The transcript of each run has no fault in its head, whatever the replies are, and it tells
 //!   that run ([`laws`]). A transcript by hand has the listing that is expected.
 //!
@@ -29,6 +35,7 @@
 //! answers. `specs/Tales.antt` has what bytes tell, `tale_of`, and `transcript_fault`, the place
 //! where they stop being a transcript; `specs/Listings.antt` the lines, `specs/Conversions.antt`
 //! the form in version 2, and `specs/Writing.antt` what `show` and `convert` promise.
+//! `specs/Replaying.antt` has what is heard on a link over a source.
 #![tactic(auto)]
 
 mod fault;
@@ -36,12 +43,17 @@ mod fields;
 mod frames;
 mod head;
 pub mod laws;
+mod link;
 mod listing;
+mod loan;
+mod past;
 mod rendering;
 mod showing;
 mod stopping;
 
 pub use fault::HeadFault;
 pub use head::{Head, MOST_CHALLENGES, TranscriptReader};
+pub use link::TranscriptLink;
 pub use listing::show_line;
+pub use loan::{Loan, Origin};
 pub use showing::{convert, show};
