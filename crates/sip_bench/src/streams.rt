@@ -5,6 +5,7 @@ ghost use Rattle.sip_stream.specs.Layouts.{deepest_in};
 
 use crate::held::HeldSource;
 use crate::line::{Line, Part, lesser};
+use arrayvec::ArrayVec;
 use sip_ports::MemorySink;
 use sip_stream::{Form, MadeSource, Reader, copy};
 use sip_vector::{Depth, Side, Update};
@@ -13,7 +14,9 @@ use std::io;
 use std::time::{Clock, Duration, Instant};
 
 /// How many records are timed at once, and how often.
-const BLOCK: u64 = 512;
+const ROWS: usize = 512;
+
+const BLOCK: u64 = ROWS as u64;
 
 const BLOCKS: u64 = 200;
 
@@ -58,7 +61,8 @@ pub(crate) fn bytes(alloc: Global, part: Part, depth: Depth, form: Form) -> io::
     })
 }
 
-/// Reads of the records of a made stream, which lies in memory in this form. The least time of a block is taken.
+/// Reads of the records of a made stream, by the block, as the end of a talk reads them. The stream lies in memory in this form. The
+/// least time of a block is taken.
 pub(crate) fn read(
     clock: &impl Clock,
     alloc: Global,
@@ -71,17 +75,20 @@ pub(crate) fn read(
     let sink = made(alloc, depth, form)?;
     let mut source = HeldSource::new(sink.bytes());
     let mut reader = Reader::new(depth, form);
+    let mut block: ArrayVec<Update, ROWS> = ArrayVec::new();
     let mut checksum = 0;
     let mut time = Duration::MAX;
     for _ in 0..BLOCKS {
         let start = Instant::now(clock)?;
-        for _ in 0..BLOCK {
-            match reader.next(&mut source) {
-                Ok(Some(update)) => checksum = checksum_with(checksum, &update),
-                _ => return Err(io::ErrorKind::InvalidData.into()),
-            }
+        block.clear();
+        reader.read_held(&mut source, ROWS, &mut block);
+        for update in block.iter() {
+            checksum = checksum_with(checksum, update);
         }
         time = lesser(time, start.elapsed(clock)?);
+        if !block.is_full() {
+            return Err(io::ErrorKind::InvalidData.into());
+        }
     }
     Ok(Line {
         part,

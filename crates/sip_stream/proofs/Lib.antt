@@ -3,6 +3,7 @@ pub mod MadeSteps
 pub mod MadeStreams
 pub mod SpelledRecords
 pub mod SpelledLines
+pub mod SpelledFronts
 pub mod Cuts
 pub mod ReadBack
 pub mod ReadStreams

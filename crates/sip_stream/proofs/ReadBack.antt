@@ -32,7 +32,7 @@ one_more depth form before piece more u legal says =
 
 -- ---- records
 
-side_is_one : (s : Side) → nat_lt 1 (side_number s) ≡ false
+pub side_is_one : (s : Side) → nat_lt 1 (side_number s) ≡ false
 side_is_one First = refl
 side_is_one Second = refl
 
@@ -55,10 +55,10 @@ module _ (width : ℕ) where
 -- ---- lines
 
 -- the numbers that an update's line says
-abbrev numbers_of : Update → Numbers
+abbrev pub numbers_of : Update → Numbers
 numbers_of u = record { side = side_number u.side; item = u.item; delta = u.delta }
 
-said_back : (u : Update) → said (numbers_of u) ≡ u
+pub said_back : (u : Update) → said (numbers_of u) ≡ u
 said_back u = same_parts _ u.item u.delta u (side_back u.side) refl refl
 
 line_parts : (u : Update) → u.item < 2 ^ 48 → FitsSigned w64 u.delta → parts_at 10 (line_bytes u) ≡ Some (text u, [])

@@ -102,7 +102,7 @@ numbers_at-text s i z side item fits =
     let second = parts_at-mark 32 (decimal i) (signed_decimal z) (lacks-decimal 32 i (omega arith) item) in
     numbers_at-parts (text_of s i z) rest (decimal s) (decimal i) (signed_decimal z) s i z first second (spelling_read s side) (item_at-decimal i item) (delta_at-decimal z fits)
 
-lacks-text : (s i : ℕ) (z : ℤ) → s < 2 ^ 64 → i < 2 ^ 64 → FitsSigned w64 z → Lacks 10 (text_of s i z)
+pub lacks-text : (s i : ℕ) (z : ℤ) → s < 2 ^ 64 → i < 2 ^ 64 → FitsSigned w64 z → Lacks 10 (text_of s i z)
 lacks-text s i z side item fits =
     let P : ℕ → Type 0 = λ b. b ≢ 10 in
     let delta = All-cons P 32 (signed_decimal z) (λ e. omega (arith, e)) (lacks-signed 10 z (omega arith) fits) in

@@ -10,6 +10,7 @@
 //! [`read_decimal`] reads one number, and the calls of [`text`] gather text in a buffer of a fixed size.
 #![tactic(auto)]
 
+mod blocks;
 mod copying;
 mod fault;
 mod form;
@@ -22,6 +23,7 @@ mod numbers;
 mod reader;
 mod record_bytes;
 mod record_reader;
+mod spelled_line;
 mod spelling;
 mod tally;
 pub mod text;

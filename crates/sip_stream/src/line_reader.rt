@@ -8,6 +8,7 @@ ghost use Rattle.sip_stream.specs.Pieces.{HoldsLine, ReadsByte, ReadsPiece, Take
 
 use crate::Why;
 use crate::numbers::{read_numbers, split_at};
+use crate::spelled_line::spelled_in_front;
 use arrayvec::ArrayVec;
 use sip_ports::{PortStop, Source, read_exact_into};
 use sip_vector::{Side, Update};
@@ -112,6 +113,9 @@ pub(crate) fn line_in_front(bytes: &[u8]) -> Option<(Result<Update, Why>, usize)
     ensures some { IfSome result (λ line. 0 < line.1) }
     ensures within { IfSome result (λ line. line.1 ≤ length bytes.now) }
 {
+    if let Some((update, size)) = spelled_in_front(bytes) {
+        return Some((Ok(update), size));
+    }
     let near = &bytes[..bytes.len().min(MOST_LINE)];
     let Some((line, _)) = split_at(near, b'\n') else {
         return None;

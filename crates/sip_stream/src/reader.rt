@@ -1,9 +1,7 @@
 //! A stream, read one record at a time.
 
 ghost use Rattle.std.specs.Prelude.{◌≡◌, ◌≤◌, ◌<◌, ◌+◌, ◌++◌, ◌∷◌, ◌↔◌, [], ℕ, List, None, Some, IsNone, IsSome, IsTrue, IfOk, IfSome, IfNone, OnOk, Result, Err, Ok, false, true, nat_abs, length, take};
-ghost use Rattle.std.specs.Io.KnownBytes.{Consumes};
 ghost use Rattle.std.specs.Result.{is_err};
-ghost use Rattle.arrayvec.specs.ArrayVec.{array_vec_len};
 ghost use Rattle.sip_ports.specs.Ports.{HasCause, Lasts, Rose};
 ghost use Rattle.sip_vector.specs.declared.update.Update.{Update};
 ghost use Rattle.sip_stream.specs.declared.why.Why.{Why};
@@ -130,9 +128,9 @@ impl Reader {
         None
     }
 
-    // Whether the update is legal after those so far. It asks at once what `fault` asks in turn: a branch costs more than the
-    // tests, and where the branches of a loop fall in memory decides by how much.
-    fn has_room(&self, update: &Update) -> bool
+    /// Whether the update is legal after those so far. It asks at once what `fault` asks in turn: a branch costs more than the
+    /// tests, and where the branches of a loop fall in memory decides by how much.
+    pub(crate) fn has_room(&self, update: &Update) -> bool
         ensures { IsTrue result ↔ HasRoom self.now update.now }
     {
         let size = update.delta.unsigned_abs();
@@ -147,8 +145,8 @@ impl Reader {
         excess == 0
     }
 
-    // Counts a legal update.
-    fn add(&mut self, update: &Update)
+    /// Counts a legal update.
+    pub(crate) fn add(&mut self, update: &Update)
         requires { HasRoom self.old update.now }
         ensures after { (before : List Update) → IsAfter self.old before
             → IsAfter self.new (before ++ update.now ∷ []) }
@@ -217,64 +215,6 @@ impl Reader {
             at: self.count,
             why,
         })
-    }
-
-    // Adds the legal records of an item of so many bytes that lie whole at the front of the bytes to those of a block, until it has
-    // `most`, and answers how many bytes they have.
-    fn take_records<const WIDTH: usize, const ROOM: usize>(
-        &mut self,
-        bytes: &[u8],
-        most: usize,
-        block: &mut ArrayVec<Update, ROOM>,
-    ) -> usize
-        requires some { 1 ≤ WIDTH }
-        requires widest { WIDTH ≤ 8 }
-        requires layout { layout_of self.old.form ≡ of_bytes WIDTH }
-        requires room { most ≤ ROOM }
-        requires few { array_vec_len block.old ≤ most }
-        ensures within { result ≤ length bytes.now }
-        ensures took { (us : List Update) × (block.new.items ≡ block.old.items ++ us)
-            × HasRead self.old self.new (take result bytes.now) us }
-        ensures few { array_vec_len block.new ≤ most }
-    {
-        let size = size_of(WIDTH);
-        let mut reader = *self;
-        let mut used = 0;
-        while block.len() < most && bytes.len() - used >= size {
-            let Ok(update) = said_by::<WIDTH>(&bytes[used..used + size]) else {
-                break;
-            };
-            if !reader.has_room(&update) {
-                break;
-            }
-            reader.add(&update);
-            block.push(update);
-            used += size;
-        }
-        *self = reader;
-        used
-    }
-
-    // Adds the legal records that lie whole at the front of the bytes to those of a block, until it has `most`, and answers how many
-    // bytes they have. Lines are left alone.
-    fn take_whole<const ROOM: usize>(
-        &mut self,
-        bytes: &[u8],
-        most: usize,
-        block: &mut ArrayVec<Update, ROOM>,
-    ) -> usize
-        requires room { most ≤ ROOM }
-        requires few { array_vec_len block.old ≤ most }
-        ensures within { result ≤ length bytes.now }
-        ensures took { (us : List Update) × (block.new.items ≡ block.old.items ++ us)
-            × HasRead self.old self.new (take result bytes.now) us }
-        ensures few { array_vec_len block.new ≤ most }
-    {
-        match self.form {
-            Form::Binary => self.take_records::<NARROW, ROOM>(bytes, most, block),
-            Form::Wide => self.take_records::<WIDE, ROOM>(bytes, most, block),
-            Form::Text => 0,
-        }
     }
 
     // Gathers the legal records of an item of so many bytes that lie whole at the front of the bytes, in the spelling of another
@@ -450,27 +390,6 @@ impl Reader {
             (Form::Text, Form::Text) => self.pass_lines(bytes),
             _ => 0,
         }
-    }
-
-    /// Adds legal records that the source holds whole to those of a block, until it has `most`, or the next one is not legal or not
-    /// held whole; lines it leaves alone. It calls for no byte, so that it never stops. What it leaves is for [`next`](Reader::next).
-    pub fn read_held<S: Source, const ROOM: usize>(
-        &mut self,
-        source: &mut S,
-        most: usize,
-        block: &mut ArrayVec<Update, ROOM>,
-    )
-        requires room { most ≤ ROOM }
-        requires few { array_vec_len block.old ≤ most }
-        ensures took { (us : List Update) × (taken : List ℕ)
-            × (block.new.items ≡ block.old.items ++ us) × HasRead self.old self.new taken us
-            × Consumes (S.left source.old) (S.left source.new) taken }
-        ensures few { array_vec_len block.new ≤ most }
-        ensures told { IsSome (S.left source.old) → IsSome (S.left source.new) }
-        ensures source { Lasts S.faults S.wants S.is_sure source.old source.new }
-    {
-        let used = self.take_whole(source.held(), most, block);
-        source.skip(used);
     }
 }
 

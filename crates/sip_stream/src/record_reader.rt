@@ -14,7 +14,7 @@ use sip_ports::{PortStop, Source, read_exact_into};
 use sip_vector::{Side, Update};
 
 /// The side that a number says; each but 0 is read as the second one.
-fn side_of(number: u8) -> Side
+pub(crate) fn side_of(number: u8) -> Side
     ensures { result ≡ if number == 0 then First else Second }
 {
     if number == 0 {

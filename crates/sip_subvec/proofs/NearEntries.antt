@@ -1,18 +1,29 @@
 -- Entries near each other: one product for what their indices have in common.
-use Rattle.std.proofs.Common.{◌≡◌, ℕ, List, [], ◌+◌, ◌*◌, ◌%◌, ◌<◌, length, drop, take, get_or, sym, ap, subst, ◌∙◌, arith}
+use Rattle.std.proofs.Common.{◌≡◌, ℕ, List, [], ◌+◌, ◌-◌, ◌*◌, ◌%◌, ◌<◌, ◌≤◌, length, drop, take, get_or, sym, ap, subst, ◌∙◌, arith}
 use Rattle.std.proofs.Math.Nat.{mod-add-mod, add-mod-mod, mod-eq_of_lt}
-use Rattle.std.proofs.lemmas.List.{drop-drop, length-drop, get_or-drop}
+use Rattle.std.proofs.lemmas.List.{drop-drop, drop-take, take-take, length-drop, length-take-le, get_or-drop, get_or-take}
 use Rattle.std.proofs.lemmas.Nat.{mul-mod_first, mul-mod_second}
 use Rattle.sip_field.specs.Products.{HasProducts, AreTables}
 
--- the tables above the lowest are those of the challenges above the lowest seven
-pub tables_above : (p : ℕ) (zero : ℕ → ℕ) (seat : List ℕ) (tables : List (List ℕ)) → AreTables p zero seat tables → AreTables p zero (drop 7 seat) (drop 1 tables)
-tables_above p zero seat tables are g inside =
-    let here : 1 + g < length tables = omega (arith, inside, length-drop 1 tables) in
-    let place : drop (7 * (1 + g)) seat ≡ drop (7 * g) (drop 7 seat) =
-    ap (λ i. drop i seat) (let same : 7 * (1 + g) ≡ 7 + 7 * g = omega arith in same) ∙ sym (drop-drop (7 * g) 7 seat) in
-    subst (λ cs. HasProducts p zero (take 7 cs) (get_or (drop 1 tables) g [])) place
-    (subst (λ t. HasProducts p zero (take 7 (drop (7 * (1 + g)) seat)) t) (sym (get_or-drop 1 tables g [])) (are (1 + g) here))
+-- the tables behind the first k are those of the challenges behind their groups
+pub tables_above : (p : ℕ) (zero : ℕ → ℕ) (k : ℕ) (seat : List ℕ) (tables : List (List ℕ)) → AreTables p zero seat tables → AreTables p zero (drop (7 * k) seat) (drop k tables)
+tables_above p zero k seat tables are g inside =
+    let here : k + g < length tables = omega (arith, inside, length-drop k tables) in
+    let place : drop (7 * (k + g)) seat ≡ drop (7 * g) (drop (7 * k) seat) =
+    ap (λ i. drop i seat) (let same : 7 * (k + g) ≡ 7 * k + 7 * g = omega arith in same) ∙ sym (drop-drop (7 * g) (7 * k) seat) in
+    subst (λ cs. HasProducts p zero (take 7 cs) (get_or (drop k tables) g [])) place
+    (subst (λ t. HasProducts p zero (take 7 (drop (7 * (k + g)) seat)) t) (sym (get_or-drop k tables g [])) (are (k + g) here))
+
+-- and the first k are those of the challenges of their groups
+pub tables_below : (p : ℕ) (zero : ℕ → ℕ) (k : ℕ) (seat : List ℕ) (tables : List (List ℕ)) → k ≤ length tables → AreTables p zero seat tables → AreTables p zero (take (7 * k) seat) (take k tables)
+tables_below p zero k seat tables few are g inside =
+    let below : g < k = omega (arith, inside, length-take-le k tables few) in
+    let left : ℕ = 7 * k - 7 * g in
+    let whole : 7 * k ≡ 7 * g + left = omega arith in
+    let group : take 7 (drop (7 * g) (take (7 * k) seat)) ≡ take 7 (drop (7 * g) seat) =
+    ap (λ n. take 7 (drop (7 * g) (take n seat))) whole ∙ ap (take 7) (drop-take (7 * g) left seat) ∙ take-take 7 left (drop (7 * g) seat) (omega arith) in
+    subst (λ cs. HasProducts p zero cs (get_or (take k tables) g [])) (sym group)
+    (subst (λ t. HasProducts p zero (take 7 (drop (7 * g) seat)) t) (sym (get_or-take k tables g [] below)) (are g (omega (arith, below, few))))
 
 -- one term more, where a is the product of the low bits and b that of the path
 pub near_more : (p sum near b a r : ℕ) → (sum + ((near + (r * a) % p) % p) * b) % p ≡ ((sum + near * b) % p + (r * ((a * b) % p)) % p) % p

@@ -89,12 +89,29 @@ fn stretch(entries: &[Entry], first: u64, last: u64) -> &[Entry]
     &front[from..]
 }
 
+// How many of the lowest tables are looked up in for each of these entries, of so many: some 32 of
+// them have in common what the tables above say, where they lie evenly below `size` indices.
+fn own_tables(entries: &[Entry], size: u64, count: usize) -> usize
+    ensures most { result ≤ count }
+    ensures few { result ≤ 7 }
+{
+    let most = count.min(7);
+    let mut reach = size / (entries.len() as u64 + 1) / 4;
+    for own in 1..most {
+        if reach == 0 {
+            return own;
+        }
+        reach /= 128;
+    }
+    most
+}
+
 // The sum of these entries, each times the product of the challenges at the bits of its index that
 // are 1. There are as many challenges as `size` has bits 0, and the higher bits of an index count
 // nothing.
 //
-// Entries near each other have all but their lowest seven bits in common, and these bits' product
-// is looked up once for them.
+// Entries near each other have their higher bits in common, and these bits' product is looked up
+// once for them.
 fn weighed<F: Field>(entries: &[Entry], tables: &[[u64; 128]], size: u64) -> F
     requires some { 0 < size }
     requires below { All (All (λ x. x < F.MODULUS)) tables.now }
@@ -103,9 +120,9 @@ fn weighed<F: Field>(entries: &[Entry], tables: &[[u64; 128]], size: u64) -> F
         → length challenges ≤ 7 * length tables.now
         → F.number result ≡ entries_sum F.MODULUS challenges entries.now % F.MODULUS }
 {
-    let Some((low, high)) = tables.split_first() else {
-        return valued(entries);
-    };
+    let own = own_tables(entries, size, tables.len());
+    let (low, high) = tables.split_at(own);
+    let reach = 1u64 << (7 * own);
     let mut sums = Near {
         sum: F::of(0),
         near: F::of(0),
@@ -113,16 +130,15 @@ fn weighed<F: Field>(entries: &[Entry], tables: &[[u64; 128]], size: u64) -> F
     };
     for entry in entries {
         let place = entry.index % size;
-        sums = moved_to(sums, high, place / 128);
-        let product = F::of_number(low[(place % 128) as usize]);
-        let term = F::of_signed(entry.value).times(product);
+        sums = moved_to(sums, high, place / reach);
+        let term = by_tables(F::of_signed(entry.value), low, place % reach);
         sums.near = sums.near.plus(term);
     }
     sums.sum.plus(by_tables(sums.near, high, sums.path))
 }
 
-// A sum, and beside it the sum of the entries that have a path in common above the lowest seven
-// bits of their indices: that one counts as often as the product of the path.
+// A sum, and beside it the sum of the entries that have a path in common, the higher bits of their
+// indices: that one counts as often as the product of the path.
 #[derive(Clone, Copy)]
 struct Near<F: Field> {
     sum: F,
@@ -150,15 +166,4 @@ fn moved_to<F: Field>(sums: Near<F>, high: &[[u64; 128]], path: u64) -> Near<F>
         near: F::of(0),
         path,
     }
-}
-
-// The sum of these entries' values.
-fn valued<F: Field>(entries: &[Entry]) -> F
-    ensures { F.number result ≡ entries_sum F.MODULUS [] entries.now % F.MODULUS }
-{
-    let mut sum = F::of(0);
-    for entry in entries {
-        sum = sum.plus(F::of_signed(entry.value));
-    }
-    sum
 }

@@ -7,11 +7,11 @@ use Rattle.sip_stream.proofs.line_reader.line_in_front.Goals as goal
 pub returns-clause-line : goal.returns-clause-line
 returns-clause-line c =
     let bytes = c.args.bytes.now in
-    let line = c.in-Some.line.now in
+    let line = c.in-Some-split_at.line.now in
     record {
       line = line;
-      order = held_line bytes (take c.min.result bytes) line c.in-Some.field-0-1.now c.min.result refl c.in-Some.ensures.whole;
-      clean = c.in-Some.ensures.clean;
+      order = held_line bytes (take c.min.result bytes) line c.in-Some-split_at.field-0-1.now c.min.result refl c.in-Some-split_at.ensures.whole;
+      clean = c.in-Some-split_at.ensures.clean;
       short = search rules;
       says = c.update_of.ensures;
     }
@@ -19,4 +19,4 @@ returns-clause-line c =
 pub returns-clause-within : goal.returns-clause-within
 returns-clause-within c =
     let bytes = c.args.bytes.now in
-    omega (arith, c.in-Some.ensures.lens, length-take c.min.result bytes)
+    omega (arith, c.in-Some-split_at.ensures.lens, length-take c.min.result bytes)

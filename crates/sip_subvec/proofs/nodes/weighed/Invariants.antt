@@ -10,5 +10,5 @@ invariant-loop-entry g l =
     let p = g.F.Field.MODULUS in
     let number = g.F.Field.number in
     (challenges : List ℕ) → l.fn.size ≡ 2 ^ length challenges → AreTables p (zero_factor p Tree) challenges l.fn.tables → length challenges ≤ 7 * length l.fn.tables →
-    (l.sums.path < 2 ^ length (drop 7 challenges))
-    × ((number l.sums.sum + number l.sums.near * bits_product p (zero_factor p Tree) l.sums.path (drop 7 challenges)) % p ≡ entries_sum p challenges (take l.entry-index l.fn.entries) % p)
+    (l.sums.path < 2 ^ length (drop (7 * l.own) challenges))
+    × ((number l.sums.sum + number l.sums.near * bits_product p (zero_factor p Tree) l.sums.path (drop (7 * l.own) challenges)) % p ≡ entries_sum p challenges (take l.entry-index l.fn.entries) % p)
