@@ -1,16 +1,15 @@
 -- A run over an honest talk is accepted, or memory ran out.
-use Rattle.std.proofs.Common.{◌≡◌, ◌≢◌, ◌⊎◌, ℕ, zero, suc, ◌+◌, ◌-◌, ◌/◌, ◌<◌, ◌≤◌, min, IsTrue, List, [], ◌∷◌, ◌++◌, length, take, drop, map, Option, Some, None, inl, inr, refl, sym, ap, ◌∙◌, subst, append_assoc, append-nil, arith, length-append, length-drop, length-take, take-append-drop, take_all}
+use Rattle.std.proofs.Common.{◌≡◌, ◌≢◌, ◌⊎◌, ℕ, zero, suc, ◌+◌, ◌-◌, ◌/◌, ◌<◌, ◌≤◌, IsTrue, List, [], ◌∷◌, ◌++◌, length, take, drop, map, Some, None, inl, inr, refl, sym, ap, ◌∙◌, subst, append_assoc, append-nil, arith, length-append, length-drop, length-take, take-append-drop, take_all}
 use Rattle.std.specs.Prelude.{All}
 use Rattle.std.specs.List.{flat_map}
-use Rattle.std.proofs.lemmas.List.{length-map, length-take-le, nil_from_length}
-use Rattle.std.proofs.lemmas.List.Elements.{All-append, All-cons, All-nil, All-head, All-tail, All-take}
+use Rattle.std.proofs.lemmas.List.{length-map, nil_from_length}
+use Rattle.std.proofs.lemmas.List.Elements.{All-cons, All-nil, All-head, All-tail, All-take}
+use Rattle.std.proofs.lemmas.Option.{same_Some}
 use Rattle.sip_ports.specs.declared.port.TalkEvent.{TalkEvent}
 use Rattle.sip_ports.specs.declared.port.TalkEvent.TheVariants.{Ended}
 use Rattle.sip_ports.specs.Ports.{outs}
 use Rattle.sip_ports.proofs.TalkLemmas.{outs-append}
 use Rattle.sip_stream.proofs.LegalRecords.{records_legal}
-use Rattle.sip_vector.specs.Answers.{Fits}
-use Rattle.sip_vector.specs.Built.{is_built}
 use Rattle.sip_vector.specs.Limits.{most_depth}
 use Rattle.sip_vector.specs.Pieces.{cut, pieces}
 use Rattle.sip_vector.specs.Streams.{IsLegal}
@@ -28,7 +27,6 @@ use Rattle.sip_wire.proofs.Asking.{needed-speaks}
 use Rattle.sip_replies.specs.Replies.{Fault}
 use Rattle.sip_replies.specs.Talks.{ending}
 use Rattle.sip_helper.specs.KindRows.{want_of_memory}
-use Rattle.sip_helper.specs.Serving.{IsMessage}
 use Rattle.sip_helper.specs.Streams.{vectors_of}
 use Rattle.sip_helper.specs.Turns.{HelperState, fresh}
 use Rattle.sip_verifier.specs.declared.status.Port.TheVariants as ports
@@ -42,7 +40,7 @@ use Rattle.sip_verifier.specs.Exchanges.{Exchange, Tells}
 use Rattle.sip_verifier.specs.Inquiries.{inquiry_of}
 use Rattle.sip_verifier.specs.Moments.{Counts, Moment}
 use Rattle.sip_verifier.specs.RunClause.{RunClause}
-use Rattle.sip_verifier.specs.Questions.{AreQuestions, IsFaulty, Question, Reached, questions_of, said_for, updates}
+use Rattle.sip_verifier.specs.Questions.{AreQuestions, IsFaulty, Question, questions_of, said_for, updates}
 use Rattle.sip_verifier.specs.Reports.{report_of}
 use Rattle.sip_verifier.specs.Statuses.{IsListed}
 use Rattle.sip_verifier.specs.Talks.{bye_sent, stream_sent}
@@ -50,7 +48,7 @@ use Rattle.sip_verifier.specs.Tasks.{CanBeAsked, CanBeDone, version_of}
 use Rattle.sip_verifier.specs.VerdictClause.{AllWritten, OneFaulty, VerdictClause}
 use Rattle.sip_verifier.proofs.Blocks.{IsBlock, are_blocks, none_drawn}
 use Rattle.sip_verifier.proofs.WideQueries.{none_wide}
-use Rattle.sip_duel.specs.Accepting.{DuelAccepts, IsGood, IsRefused}
+use Rattle.sip_duel.specs.Accepting.{DuelAccepts, IsGood}
 use Rattle.sip_duel.specs.Story.{IsHonestTalk}
 use Rattle.sip_duel.proofs.WalkLemmas.{Round, exchange, Walk}
 use Rattle.sip_duel.proofs.TalkLemmas.{holds_of, whole_of}
@@ -294,15 +292,12 @@ module _ (task : Task) (x : Exchange) (some : 1 ≤ task.depth) (most : task.dep
 
 -- ---- a run over a link
 
-some_same : (a b : List TalkEvent) → ◌≡◌ {A = Option (List TalkEvent)} (Some a) (Some b) → a ≡ b
-some_same a b e = cc
-
 -- the run's talk is the one that its link tells, where nothing had happened on it
 pub played : (task : Task) → 1 ≤ task.depth → task.depth ≤ most_depth → length task.queries.items ≤ most_queries → CanBeDone task → (before now : Moment) (status : Status) (old new : List TalkEvent) → RunClause task before now status
     → before.talk ≡ Some old → now.talk ≡ Some new → IsHonestTalk new → old ≡ [] → (x : Exchange) → Tells before now x → DuelAccepts task x before.faults now.faults status
 played task some most room can before now status old new keeps was is honest none x tells =
     let had : List TalkEvent = tells.talk.0 in
-    let empty : had ≡ [] = some_same had old (sym tells.talk.1 ∙ was) ∙ none in
-    let same : new ≡ x.talk = some_same new (had ++ x.talk) (sym is ∙ tells.talk.2) ∙ ap (λ l. l ++ x.talk) empty in
+    let empty : had ≡ [] = same_Some had old (sym tells.talk.1 ∙ was) ∙ none in
+    let same : new ≡ x.talk = same_Some new (had ++ x.talk) (sym is ∙ tells.talk.2) ∙ ap (λ l. l ++ x.talk) empty in
     let promises = keeps.promises x tells in
     duel_accepts task x some most room can (subst IsHonestTalk same honest) before.faults now.faults status promises.verdict promises.cause keeps.listed

@@ -1,5 +1,5 @@
 -- The rounds of a query whose replies have a fault: an honest helper shows none but its refusal for want of memory.
-use Rattle.std.proofs.Common.{◌≡◌, ◌≢◌, ◌⊎◌, ℕ, suc, ◌+◌, ◌<◌, ◌≤◌, min, Bool, true, false, IsTrue, List, [], ◌∷◌, ◌++◌, length, Option, Some, None, Result, Ok, Err, inl, inr, refl, sym, ap, ◌∙◌, subst, append_assoc, append-nil, arith, length-append}
+use Rattle.std.proofs.Common.{◌≡◌, ◌≢◌, ◌⊎◌, ℕ, ◌+◌, ◌<◌, ◌≤◌, List, [], ◌∷◌, ◌++◌, length, None, Result, Ok, Err, inl, inr, refl, sym, ap, ◌∙◌, subst, append-nil, arith, length-append}
 use Rattle.std.specs.Prelude.{All}
 use Rattle.std.proofs.lemmas.List.{nil_from_length}
 use Rattle.sip_vector.specs.Answers.{Answer, answer}
@@ -13,37 +13,21 @@ use Rattle.sip_wire.specs.declared.version.Version.{Version}
 use Rattle.sip_replies.specs.Protocols.{Protocol}
 use Rattle.sip_replies.specs.Replies.{Fault, IsFaulty, in_round, joined, read_reply, run, verdict}
 use Rattle.sip_replies.proofs.Agreeing.{run_fault, run_same}
+use Rattle.sip_replies.proofs.Fronts.{closed_or_not}
 use Rattle.sip_helper.specs.KindRows.{want_of_memory}
 use Rattle.sip_helper.specs.Kinds.{help_row}
 use Rattle.sip_helper.specs.Serving.{IsMessage}
 use Rattle.sip_helper.specs.Streams.{vectors_of}
 use Rattle.sip_helper.specs.Turns.{HelperState, owed}
-use Rattle.sip_duel.proofs.WalkLemmas.{Round, Comes, Walk}
-use Rattle.sip_duel.proofs.RevealLemmas.{AreWholeSoFar, IsDue, Then, fault_so_far, honest, replies_from, reveals, run_whole, so_far, walk_then}
+use Rattle.sip_duel.proofs.WalkLemmas.{Comes, Walk}
+use Rattle.sip_duel.proofs.RevealLemmas.{AreWholeSoFar, Then, fault_so_far, honest, replies_from, reveals, run_whole, so_far, walk_then}
 use Rattle.sip_duel.proofs.RefusalLemmas.{first_fault, front_run, refusal_frame}
 use Rattle.sip_duel.proofs.KindLemmas.{IsAsked}
-use Rattle.sip_duel.proofs.QueryLemmas.{IsAtRest, agree_all, last_same, on_refused, own_front, ran, walk_query, whole_not_refused}
+use Rattle.sip_duel.proofs.QueryLemmas.{IsAtRest, agree_all, on_refused, own_front, ran, walk_query, whole_not_refused}
 
 -- what a last reply comes to: the fault is that refusal, or the end of the link cut a reply short
 abbrev pub FaultLast : Reason → List ℕ → List ℕ → Type 0
 FaultLast reason b o = (reason ≡ reasons.Refused want_of_memory) ⊎ ((reason ≡ reasons.Closed) × (b ≢ o))
-
-pub closed_or_not : (r : Reason) → (r ≡ reasons.Closed) ⊎ (r ≢ reasons.Closed)
-closed_or_not reasons.Closed = inl refl
-closed_or_not reasons.BadKind = inr (λ e. cc)
-closed_or_not reasons.BadLength = inr (λ e. cc)
-closed_or_not reasons.BadCount = inr (λ e. cc)
-closed_or_not reasons.BadNumber = inr (λ e. cc)
-closed_or_not (reasons.Refused code) = inr (λ e. cc)
-closed_or_not reasons.BadOrder = inr (λ e. cc)
-closed_or_not reasons.TooMany = inr (λ e. cc)
-closed_or_not reasons.BadFlags = inr (λ e. cc)
-closed_or_not reasons.HeavySibling = inr (λ e. cc)
-closed_or_not reasons.Pairs = inr (λ e. cc)
-closed_or_not reasons.LightParent = inr (λ e. cc)
-closed_or_not reasons.Sum = inr (λ e. cc)
-closed_or_not reasons.Total = inr (λ e. cc)
-closed_or_not reasons.Root = inr (λ e. cc)
 
 module _ (v : Version) (depth : ℕ) (stream : List Update) (q : Query) (block : List ℕ) {S : Type 0} (P : Protocol S) (hs : List (List ℕ)) (asked : IsAsked v depth stream q block P hs)
     (none : (help_row q).refused_by (vectors_of depth stream) ≡ None) (fit : All (λ c. IsMessage v (messages.Reveal c)) block) (size : length block ≡ depth) (some : 1 ≤ depth)

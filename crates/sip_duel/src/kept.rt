@@ -87,6 +87,7 @@ impl Kept {
         ensures talk { MatchResult result
             (λ _. self.new.talk.items ≡ self.old.talk.items ++ outs bytes.now)
             (λ _. self.new.talk.items ≡ self.old.talk.items) }
+        ensures part { self.new.part ≡ self.old.part }
         ensures out { self.new.out ≡ self.old.out }
         ensures at { self.new.at ≡ self.old.at }
         ensures mood { self.new.mood ≡ self.old.mood }

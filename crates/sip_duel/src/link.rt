@@ -1,16 +1,16 @@
 //! A link to a boxed helper.
 
-ghost use Rattle.std.specs.Prelude.{◌≡◌, ◌≢◌, ◌<◌, Ok, [], length, take, vec_len, vec_capacity, Some, None, Option, IsTrue, IfOk, ⊤};
+ghost use Rattle.std.specs.Prelude.{◌≡◌, ◌≢◌, ◌⊎◌, ◌<◌, Ok, [], length, take, vec_len, vec_capacity, Some, None, Option, IsTrue, IfOk, OnErr, ⊤};
 ghost use Rattle.std.specs.Option.{option_and_then};
 ghost use Rattle.std.specs.Io.{ReadsAtMost, WritesAtMost};
 ghost use Rattle.sip_ports.specs.Memory.{sink_bytes, sink_is_sure};
 ghost use Rattle.sip_ports.specs.Ports.{Hears, Sends, heard};
-ghost use Rattle.sip_duel.specs.Receiving.{Receives, StopsOnlyByWant};
+ghost use Rattle.sip_duel.specs.Receiving.{IsAsItWas, Receives, StopsOnlyByWant, closed};
 ghost use Rattle.sip_wire.specs.Spelling.{fits};
 ghost use Rattle.sip_wire.specs.declared.version.Version.TheVariants.{Two};
 ghost use Rattle.sip_helper.specs.Turns.{fresh};
 ghost use Rattle.sip_duel.specs.Helping.{Hears as Heeds, Replies};
-ghost use Rattle.sip_duel.specs.Story.{Asked, Keeps, KeepsBy};
+ghost use Rattle.sip_duel.specs.Story.{Asked, Keeps, KeepsBy, left};
 ghost use Rattle.sip_duel.specs.declared.kept.Mood.TheVariants as moods;
 
 use crate::kept::{Kept, Mood};
@@ -110,11 +110,13 @@ impl HelperLink {
         &self.kept.talk
     }
 
-    /// Closes the helper and drops it, once. The talk stays.
+    /// Closes the helper and drops it, once. The talk stays, and so does what the helper appended.
     pub fn close_and_drop(&mut self)
         ensures talk { self.new.kept.talk ≡ self.old.kept.talk }
         ensures gone { self.new.helper ≡ None }
-        ensures shut { self.new.kept.mood ≢ moods.Open }
+        ensures mood { self.new.kept.mood ≡ closed self.old.kept.mood }
+        ensures given { (self.new.kept.out ≡ self.old.kept.out)
+            × (self.new.kept.at ≡ self.old.kept.at) }
     {
         if let Mood::Open = self.kept.mood {
             self.kept.mood = Mood::Over;
@@ -146,6 +148,11 @@ impl HelperLink {
         ensures talk { Sends (Some self.old.kept.talk.items) (Some self.new.kept.talk.items)
             result buf.now }
         ensures wants { StopsOnlyByWant self.old.wants.count self.new.wants.count result }
+        ensures given { (self.new.kept.out ≡ self.old.kept.out)
+            × (self.new.kept.at ≡ self.old.kept.at) }
+        ensures well { self.new.kept.mood ≢ moods.Failed }
+        ensures same { OnErr result (IsAsItWas self.old.kept self.new.kept
+            × (self.new.helper ≡ self.old.helper)) }
         ensures keeps { Keeps (option_and_then honest_state self.old.helper) self.old.kept
             → Keeps (option_and_then honest_state self.new.helper) self.new.kept }
     {
@@ -172,6 +179,11 @@ impl HelperLink {
         ensures talk { Sends (Some self.old.kept.talk.items) (Some self.new.kept.talk.items)
             result buf.now }
         ensures wants { StopsOnlyByWant self.old.wants.count self.new.wants.count result }
+        ensures given { (self.new.kept.out ≡ self.old.kept.out)
+            × (self.new.kept.at ≡ self.old.kept.at) }
+        ensures mood { self.new.kept.mood ≡ self.old.kept.mood }
+        ensures helper { self.new.helper ≡ self.old.helper }
+        ensures same { OnErr result (IsAsItWas self.old.kept self.new.kept) }
         ensures keeps { Keeps (option_and_then honest_state self.old.helper) self.old.kept
             → Keeps (option_and_then honest_state self.new.helper) self.new.kept }
     {
@@ -209,6 +221,8 @@ impl HelperLink {
             result buf.new }
         ensures out { self.new.kept.out ≡ self.old.kept.out }
         ensures mood { self.new.kept.mood ≡ self.old.kept.mood }
+        ensures helper { self.new.helper ≡ self.old.helper }
+        ensures same { OnErr result (IsAsItWas self.old.kept self.new.kept) }
         ensures wants { StopsOnlyByWant self.old.wants.count self.new.wants.count result }
         ensures keeps { Keeps (option_and_then honest_state self.old.helper) self.old.kept
             → Keeps (option_and_then honest_state self.new.helper) self.new.kept }
@@ -219,11 +233,45 @@ impl HelperLink {
         }
     }
 
+    /// Sends, as [`Sink::write`] does, and says all that is known of it: the helper hears only where
+    /// the link is open, and a link that has ended or failed stays so.
+    ///
+    /// # Errors
+    ///
+    /// `OutOfMemory` alone, where memory was refused to the link. It is as it was then.
+    pub fn transmit(&mut self, buf: &[u8]) -> Result<usize, PortStop>
+        ensures empty { length buf.now ≡ 0 → (result ≡ Ok 0) × (self.new ≡ self.old) }
+        ensures bound { WritesAtMost result buf.now }
+        ensures takes { 0 < length buf.now → IfOk result (λ n. 0 < n) }
+        ensures talk { Sends (Some self.old.kept.talk.items) (Some self.new.kept.talk.items)
+            result buf.now }
+        ensures given { (self.new.kept.out ≡ self.old.kept.out)
+            × (self.new.kept.at ≡ self.old.kept.at) }
+        ensures lasts { self.old.kept.mood ≢ moods.Open
+            → self.new.kept.mood ≡ self.old.kept.mood }
+        ensures fails { self.new.kept.mood ≡ moods.Failed → self.old.kept.mood ≡ moods.Failed }
+        ensures alone { self.old.kept.mood ≢ moods.Open → self.new.helper ≡ self.old.helper }
+        ensures same { OnErr result (IsAsItWas self.old.kept self.new.kept
+            × (self.new.helper ≡ self.old.helper)) }
+        ensures wants { StopsOnlyByWant self.old.wants.count self.new.wants.count result }
+        ensures keeps { Keeps (option_and_then honest_state self.old.helper) self.old.kept
+            → Keeps (option_and_then honest_state self.new.helper) self.new.kept }
+    {
+        if buf.is_empty() {
+            return Ok(0);
+        }
+        match self.kept.mood {
+            Mood::Open => self.send(buf),
+            _ => self.send_past(buf),
+        }
+    }
+
     /// Receives where the link has ended: what is left, and then the end.
     fn recv_over(&mut self, buf: &mut [u8]) -> Result<usize, PortStop>
         requires over { self.old.kept.mood ≡ moods.Over }
         requires room { 0 < length buf.old }
         ensures receives { Receives self.old.kept self.new.kept result }
+        ensures helper { self.new.helper ≡ self.old.helper }
         ensures bound { ReadsAtMost result buf.new }
         ensures talk { Hears (Some self.old.kept.talk.items) (Some self.new.kept.talk.items)
             result buf.new }
@@ -246,6 +294,7 @@ impl HelperLink {
         requires space { vec_len self.old.kept.talk < vec_capacity self.old.kept.talk }
         requires room { 0 < length buf.old }
         ensures receives { Receives self.old.kept self.new.kept result }
+        ensures alone { left self.old.kept ≢ [] → self.new.helper ≡ self.old.helper }
         ensures bound { ReadsAtMost result buf.new }
         ensures talk { Hears (Some self.old.kept.talk.items) (Some self.new.kept.talk.items)
             result buf.new }
@@ -268,10 +317,18 @@ impl HelperLink {
     }
 
     /// Receives, as [`Link::recv`] does, and says all that is known of it: the helper is asked only
-    /// where all that it appended is given, and the end is found exactly where that is so and the
-    /// link has ended.
+    /// where all that it appended is given and the link is open, and the end is found exactly where
+    /// all is given and the link has ended.
+    ///
+    /// # Errors
+    ///
+    /// `OutOfMemory` alone. Where memory was refused to the helper, each later receive answers that
+    /// too, and the helper is called no more. Where it was refused to the link, the link is as it
+    /// was, or has more from the helper to give: the call may be made again.
     pub fn receive(&mut self, buf: &mut [u8]) -> Result<usize, PortStop>
         ensures receives { 0 < length buf.old → Receives self.old.kept self.new.kept result }
+        ensures alone { (left self.old.kept ≢ []) ⊎ (self.old.kept.mood ≢ moods.Open)
+            → self.new.helper ≡ self.old.helper }
         ensures empty { length buf.old ≡ 0 → (result ≡ Ok 0) × (self.new ≡ self.old) }
         ensures bound { ReadsAtMost result buf.new }
         ensures talk { Hears (Some self.old.kept.talk.items) (Some self.new.kept.talk.items)
@@ -318,13 +375,7 @@ impl Sink for HelperLink {
     ghost sure_counts = { λ _ _. refl };
 
     fn write(&mut self, buf: &[u8]) -> Result<usize, PortStop> {
-        if buf.is_empty() {
-            return Ok(0);
-        }
-        match self.kept.mood {
-            Mood::Open => self.send(buf),
-            _ => self.send_past(buf),
-        }
+        self.transmit(buf)
     }
 }
 

@@ -15,8 +15,11 @@ use std::marker::{Model, PhantomData};
 /// A node of a level, or a leaf: its index, its hash and its count.
 #[derive(Clone, Copy, Debug, PartialEq, Eq)]
 pub struct HeavyNode<F> {
+    /// Its place in its level, from 0.
     pub index: u64,
+    /// The residue that stands for what is below it.
     pub hash: F,
+    /// The sum of the entries below it.
     pub count: u64,
 }
 

@@ -1,17 +1,11 @@
 -- How many bytes the replies to a query for a sub-vector have.
-use Rattle.std.proofs.Common.{◌≡◌, ℕ, suc, ◌+◌, ◌-◌, ◌*◌, ◌<◌, ◌≤◌, true, Result, Ok, Err, List, [], ◌∷◌, ◌++◌, length, refl, ap, subst, ◌∙◌, arith, length-append}
-use Rattle.std.specs.Prelude.{nat_lt, ◌&&◌}
-use Rattle.std.specs.List.{list_all}
-use Rattle.std.proofs.lemmas.Bool.{ltb-true}
+use Rattle.std.proofs.Common.{◌≡◌, ℕ, ◌+◌, ◌-◌, ◌*◌, ◌<◌, ◌≤◌, true, Ok, Err, List, [], ◌∷◌, ◌++◌, length, refl, ap, subst, ◌∙◌, arith, length-append}
 use Rattle.sip_vector.specs.declared.update.Entry.{Entry}
-use Rattle.sip_vector.specs.Answers.{is_within}
-use Rattle.sip_vector.specs.Steps.{◌>>=◌, needs}
 use Rattle.sip_wire.specs.declared.kind.Kind.{Kind}
 use Rattle.sip_wire.specs.declared.kind.Kind.TheVariants as kinds
 use Rattle.sip_wire.specs.declared.kind.Place.TheVariants as places
 use Rattle.sip_wire.specs.declared.message.Message.{Message}
 use Rattle.sip_wire.specs.declared.message.Message.TheVariants as messages
-use Rattle.sip_wire.specs.declared.message.Reason.{Reason}
 use Rattle.sip_wire.specs.declared.message.Reason.TheVariants as reasons
 use Rattle.sip_wire.specs.declared.message.WireFault.{WireFault}
 use Rattle.sip_wire.specs.declared.version.Version.{Version}
@@ -19,10 +13,9 @@ use Rattle.sip_wire.specs.declared.version.Version.TheVariants.{One, Two}
 use Rattle.sip_wire.specs.Reading.{read_frame}
 use Rattle.sip_wire.specs.Spelling.{mark_of}
 use Rattle.sip_wire.specs.Table.{allows, entry_fields, most_rows, size}
-use Rattle.sip_replies.specs.declared.check.More.{More}
 use Rattle.sip_replies.specs.declared.check.More.TheVariants as mores
 use Rattle.sip_replies.specs.Replies.{joined, reason_of}
-use Rattle.sip_replies.proofs.Passing.{step_passed, test_passed}
+use Rattle.sip_replies.proofs.Passing.{step_passed}
 use Rattle.sip_subvec.specs.AcceptsSub.{Siblings, Stated}
 use Rattle.sip_subvec.specs.Asking.{most_answer}
 use Rattle.sip_subvec.specs.Checking.{nothing}
@@ -31,28 +24,15 @@ use Rattle.sip_subvec.specs.LawProofs.ReplyTests.{sub_tests}
 use Rattle.sip_subvec.specs.Protocol.{place_of, sub_asked, sub_rules, sub_step}
 use Rattle.sip_subvec.specs.Replies.{asked_siblings, most_entries, with_entries}
 use Rattle.sip_subvec.proofs.RisingEntries.{entries-taken}
-use Rattle.sip_subvec.proofs.StatedEntries.{rise-nil, rise-parts}
+use Rattle.sip_subvec.proofs.RoomForEntries.{rise-few, taken-few}
+use Rattle.sip_subvec.proofs.StatedEntries.{rise-nil}
 use Rattle.sip_verifier.specs.ReplyBound.{most_entry_bytes, rows_frame}
 use Rattle.sip_verifier.proofs.FrameSizes.{read_frame-size}
 use Rattle.sip_verifier.proofs.PlaceSizes.{at_entries, at_siblings, cut_most, entries_most, siblings_most}
-use Rattle.sip_verifier.proofs.ReplySizes.{Sizes, replies_size}
+use Rattle.sip_verifier.proofs.ReplySizes.{Sizes, replies_size, same_due}
 use Rattle.sip_verifier.proofs.TakenReplies.{AreTaken}
 
--- ---- how many entries pass (the first two are those of sip_subvec's RoomForEntries)
-
-rise-few : (lo hi : ℕ) (es : List Entry) → rise_within lo hi es ≡ true → length es ≤ hi + 1 - lo
-rise-few lo hi [] h = omega arith
-rise-few lo hi (e ∷ es) h =
-    let parts = rise-parts lo hi e es h in
-    let few = rise-few (suc e.index) hi es parts.2 in
-    omega (arith, parts.0, parts.1, few)
-
-taken-few : (lo hi : ℕ) (before es more : List Entry) → length before ≤ most_entries → with_entries lo hi before es ≡ Ok more → length more ≤ most_entries
-taken-few lo hi before [] more few is = let same : before ≡ more = cc in subst (λ (l : List Entry). length l ≤ most_entries) same few
-taken-few lo hi before (e ∷ es) more few is =
-    let a = test_passed (is_within lo hi e.index && list_all (λ (b : Entry). nat_lt b.index e.index) before) reasons.BadOrder (λ _. needs (nat_lt (length before) most_entries) reasons.TooMany >>= λ _. with_entries lo hi (before ++ e ∷ []) es) more is in
-    let b = test_passed (nat_lt (length before) most_entries) reasons.TooMany (λ _. with_entries lo hi (before ++ e ∷ []) es) more a.1 in
-    taken-few lo hi (before ++ e ∷ []) es more (omega (arith, length-append before (e ∷ []), ltb-true (length before) most_entries b.0)) b.1
+-- ---- how many entries pass
 
 -- the entries so far rise within the interval, and are no more than an answer may have
 pub record HasFew (lo hi : ℕ) (s : Stated) : Type 0 where
@@ -66,9 +46,6 @@ left_of version lo hi (x ∷ xs) count = 0
 
 abbrev pub entries_left : Version → ℕ → ℕ → Stated → ℕ
 entries_left version lo hi s = left_of version lo hi s.siblings (length s.entries)
-
-same_due : {S : Type 0} (m n : More) (s t : S) → ◌≡◌ {A = Result (More × S) Reason} (Ok (m, s)) (Ok (n, t)) → (m ≡ n) × (s ≡ t)
-same_due {S} m n s t e = let both : ◌≡◌ {A = More × S} (m, s) (n, t) = cc in (ap (λ (x : More × S). x.0) both, ap (λ (x : More × S). x.1) both)
 
 -- k rows in one frame are no more than k frames of one
 rows_less : (version : Version) (m b k n rest bytes : ℕ) → 1 ≤ k → b + k ≤ m → n ≡ b + k

@@ -80,7 +80,7 @@ refuse_made (n ∷ []) e = record { its_kind = refl; its_mark = refl }
 refuse_made (n ∷ m ∷ ns) e = absurd (omega (arith, e))
 
 -- the flags end at 3
-flags_most : (flags : ℕ) → siblings_shape.is_mark flags ≡ true → flags ≤ 3
+pub flags_most : (flags : ℕ) → siblings_shape.is_mark flags ≡ true → flags ≤ 3
 flags_most flags is = grind (arith, nat_tests)
 
 siblings_made : (flags : ℕ) (ns : List ℕ) → siblings_shape.is_mark flags ≡ true → length ns ≡ length (sibling_fields flags) → HasMark kinds.Siblings flags (message_from kinds.Siblings flags ns)

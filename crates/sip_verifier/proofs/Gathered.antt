@@ -37,7 +37,8 @@ use Rattle.sip_verifier.specs.QuerySeats.{HaveRoom}
 use Rattle.sip_verifier.specs.Seats.{AreSeats, Seating}
 use Rattle.sip_verifier.specs.inside.Sending.{IsSentBut, IsStopped, IsStoppedAtEnd}
 use Rattle.sip_verifier.specs.Talks.{whole_frames, opening_sent, stream_sent}
-use Rattle.sip_verifier.proofs.SeatTotals.{all_front, legal_room}
+use Rattle.sip_sums.proofs.HonestSums.{all_front}
+use Rattle.sip_verifier.proofs.SeatTotals.{legal_room}
 use Rattle.sip_verifier.proofs.StreamSending.{stopped}
 use Rattle.sip_verifier.proofs.StreamSent.{IsPrefix-trans, before_end-short, frames_front, stream_sent-front, whole_frames-waiting}
 

@@ -23,11 +23,11 @@ use Rattle.sip_verifier.specs.Keeping.{AllIsKept, FrontIsKept, KeepsReplies}
 use Rattle.sip_verifier.proofs.HeardTalks.{heard_accepted}
 
 -- no byte is heard where the link ends
-heard-ending : (reason : Reason) → heard (ending reason) ≡ []
+pub heard-ending : (reason : Reason) → heard (ending reason) ≡ []
 heard-ending reasons.Closed = refl
 heard-ending _ = refl
 
-heard-ended : {IsOpen : Type 0} (ended : List TalkEvent) → MayEnd IsOpen ended → heard ended ≡ []
+pub heard-ended : {IsOpen : Type 0} (ended : List TalkEvent) → MayEnd IsOpen ended → heard ended ≡ []
 heard-ended ended (inl none) = ap heard none
 heard-ended ended (inr (found, cut)) = ap heard found
 
@@ -56,7 +56,7 @@ module _ {S : Type 0} (P : Protocol S) (query : Query) (block : List ℕ) (old n
   }
 
   interrupted_kept : IsInterrupted P query block old new before now → FrontIsKept old new before now
-  interrupted_kept i = record { said = i.said; talk = i.talk; wrote = i.kept }
+  interrupted_kept i = record { said = i.said; talk = i.talk; wrote = (i.kept.whole, (i.kept.part, i.kept.split), i.kept.kept) }
 
   unrecorded_kept : IsUnrecorded P query block old new before now → FrontIsKept old new before now
   unrecorded_kept u =

@@ -1,5 +1,5 @@
 -- How many bytes the replies to a query for heavy hitters have.
-use Rattle.std.proofs.Common.{◌≡◌, ℕ, zero, suc, ◌+◌, ◌-◌, ◌*◌, ◌<◌, ◌≤◌, Bool, true, false, not, Result, Ok, Err, List, [], ◌∷◌, ◌++◌, length, refl, sym, ap, subst, ◌∙◌, arith, length-append}
+use Rattle.std.proofs.Common.{◌≡◌, ℕ, zero, suc, ◌+◌, ◌-◌, ◌*◌, ◌<◌, ◌≤◌, Bool, true, false, not, Ok, Err, List, [], ◌∷◌, ◌++◌, length, refl, sym, ap, subst, ◌∙◌, arith, length-append}
 use Rattle.std.specs.Prelude.{◌==◌, ◌||◌, nat_lt, if◌then◌else◌}
 use Rattle.std.proofs.lemmas.Bool.{ltb-true}
 use Rattle.std.proofs.lemmas.List.{length-map}
@@ -12,14 +12,12 @@ use Rattle.sip_wire.specs.declared.message.Leaf.{Leaf}
 use Rattle.sip_wire.specs.declared.message.Message.{Message}
 use Rattle.sip_wire.specs.declared.message.Message.TheVariants as messages
 use Rattle.sip_wire.specs.declared.message.Node.{Node}
-use Rattle.sip_wire.specs.declared.message.Reason.{Reason}
 use Rattle.sip_wire.specs.declared.message.Reason.TheVariants as reasons
 use Rattle.sip_wire.specs.declared.message.WireFault.{WireFault}
 use Rattle.sip_wire.specs.declared.version.Version.{Version}
 use Rattle.sip_wire.specs.declared.version.Version.TheVariants.{One, Two}
 use Rattle.sip_wire.specs.Reading.{read_frame}
 use Rattle.sip_wire.specs.Table.{allows, leaf_fields, most_rows, node_fields, size}
-use Rattle.sip_replies.specs.declared.check.More.{More}
 use Rattle.sip_replies.specs.declared.check.More.TheVariants as mores
 use Rattle.sip_replies.specs.Replies.{joined, reason_of}
 use Rattle.sip_replies.proofs.Passing.{step_passed, test_passed}
@@ -29,7 +27,7 @@ use Rattle.sip_heavy.specs.Protocol.{HeavyState, ended, heavy_rules, heavy_step,
 use Rattle.sip_verifier.specs.ReplyBound.{rows_frame}
 use Rattle.sip_verifier.proofs.FrameSizes.{read_frame-size}
 use Rattle.sip_verifier.proofs.PlaceSizes.{at_leaves, at_nodes, cut_most, leaves_most, nodes_most}
-use Rattle.sip_verifier.proofs.ReplySizes.{Sizes, replies_size}
+use Rattle.sip_verifier.proofs.ReplySizes.{Sizes, replies_size, same_due}
 use Rattle.sip_verifier.proofs.TakenReplies.{AreTaken}
 
 -- the nodes that were received of a level are no more than it may have
@@ -39,9 +37,6 @@ HasFew q s = length s.received ≤ most_nodes q
 -- so many bytes are left for them
 abbrev pub nodes_left : Version → Asked → HeavyState → ℕ
 nodes_left version q s = rows_frame (node_fields version) 1 * (most_nodes q - length s.received)
-
-same_due : {S : Type 0} (m n : More) (s t : S) → ◌≡◌ {A = Result (More × S) Reason} (Ok (m, s)) (Ok (n, t)) → (m ≡ n) × (s ≡ t)
-same_due {S} m n s t e = let both : ◌≡◌ {A = More × S} (m, s) (n, t) = cc in (ap (λ (x : More × S). x.0) both, ap (λ (x : More × S). x.1) both)
 
 -- nodes that passed are those before and these, and no more than a level may have
 nodes-taken : (q : Asked) (level : ℕ) (known before xs all : List Node) → length before ≤ most_nodes q → with_nodes q level known before xs ≡ Ok all

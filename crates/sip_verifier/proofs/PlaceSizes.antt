@@ -2,7 +2,6 @@
 use Rattle.std.proofs.Common.{◌≡◌, inl, inr, ℕ, zero, suc, ◌+◌, ◌*◌, ◌<◌, ◌≤◌, true, Err, List, length, arith}
 use Rattle.std.specs.Prelude.{◌&&◌, nat_le}
 use Rattle.std.proofs.lemmas.Bool.{and_parts, leb-true}
-use Rattle.std.proofs.lemmas.Bool.Decides.{nat_tests}
 use Rattle.sip_wire.specs.declared.kind.Kind.TheVariants as kinds
 use Rattle.sip_wire.specs.declared.kind.Place.{Place}
 use Rattle.sip_wire.specs.declared.kind.Place.TheVariants as places
@@ -16,7 +15,7 @@ use Rattle.sip_wire.specs.Reading.{read_frame}
 use Rattle.sip_wire.specs.Table.{Field, entry_fields, leaf_fields, node_fields, repeat, sibling_fields, siblings_shape, size}
 use Rattle.sip_wire.proofs.Counting.{size_repeat}
 use Rattle.sip_replies.specs.Replies.{reason_of}
-use Rattle.sip_verifier.proofs.FrameSizes.{IsMost, asked-most, cut_or_fault}
+use Rattle.sip_verifier.proofs.FrameSizes.{IsMost, asked-most, cut_or_fault, flags_most}
 
 -- ---- where a frame is not whole
 
@@ -54,9 +53,6 @@ leaves_most Two n is = let r = rows_most 512 n (leaf_fields Two) is in let z = s
 pub nodes_most : (version : Version) (n : ℕ) → (nat_le 1 n && nat_le n 256) ≡ true → (1 ≤ n) × (size (repeat n (node_fields version)) ≡ n * size (node_fields version)) × (size (repeat n (node_fields version)) ≤ 512 * size (leaf_fields version))
 nodes_most One n is = let r = rows_most 256 n (node_fields One) is in let z = size_repeat n (node_fields One) in (r.0, z, omega (arith, z, r.1))
 nodes_most Two n is = let r = rows_most 256 n (node_fields Two) is in let z = size_repeat n (node_fields Two) in (r.0, z, omega (arith, z, r.1))
-
-flags_most : (flags : ℕ) → siblings_shape.is_mark flags ≡ true → flags ≤ 3
-flags_most flags is = grind (arith, nat_tests)
 
 -- siblings have 16 bytes at most
 pub siblings_most : (flags : ℕ) → siblings_shape.is_mark flags ≡ true → size (sibling_fields flags) ≤ 16

@@ -45,6 +45,10 @@ mul-le (suc a) (suc b) c h = omega (arith, mul-le a b c (omega (arith, h)))
 same_state : {S : Type 0} (s t : S) → ◌≡◌ {A = Result S Reason} (Ok s) (Ok t) → s ≡ t
 same_state s t e = cc
 
+-- a step that passed led to one state, behind which the reply goes on or not
+pub same_due : {S : Type 0} (m n : More) (s t : S) → ◌≡◌ {A = Result (More × S) Reason} (Ok (m, s)) (Ok (n, t)) → (m ≡ n) × (s ≡ t)
+same_due {S} m n s t e = let both : ◌≡◌ {A = More × S} (m, s) (n, t) = cc in (ap (λ (x : More × S). x.0) both, ap (λ (x : More × S). x.1) both)
+
 same_reason : {S : Type 0} (a b : Reason) → ◌≡◌ {A = Result S Reason} (Err a) (Err b) → a ≡ b
 same_reason a b e = cc
 

@@ -154,7 +154,8 @@ sum_asks version depth stream s l product at old new before now places result is
 
 -- ---- the product of a seat
 
-same_power : (one other : ℕ) → 2 ^ one ≡ 2 ^ other → one ≡ other
+-- a power of two has one exponent
+pub same_power : (one other : ℕ) → 2 ^ one ≡ 2 ^ other → one ≡ other
 same_power one other e = elim (cases_order one other) [
   | inl same ↦ same
   | inr (inl less) ↦ absurd (let below = pow_below one other less in omega (arith, below, e))

@@ -1,7 +1,5 @@
 -- A seat that stands for a stream has a challenge for each level.
-use Rattle.std.proofs.Common.{◌≡◌, inl, inr, ℕ, ◌^◌, List, length, sym, ◌∙◌, arith}
-use Rattle.std.proofs.lemmas.Bool.{cases_order}
-use Rattle.std.proofs.lemmas.Nat.{pow_below}
+use Rattle.std.proofs.Common.{◌≡◌, ℕ, List, length, sym, ◌∙◌}
 use Rattle.sip_vector.specs.declared.query.Query.{Query}
 use Rattle.sip_vector.specs.declared.query.Query.TheVariants.{Sub, Range, F2, Inner, Heavy, Share}
 use Rattle.sip_vector.specs.declared.update.Side.TheVariants.{First}
@@ -9,13 +7,7 @@ use Rattle.sip_vector.specs.declared.update.Update.{Update}
 use Rattle.sip_vector.proofs.Sides.{length-vector}
 use Rattle.sip_verifier.specs.NextSeat.{IsNext}
 use Rattle.sip_verifier.specs.QuerySeats.{RunningNumbers, RunsOn, Seated, aug_root_is, point_is, points_are, root_is}
-
-same_power : (one other : ℕ) → 2 ^ one ≡ 2 ^ other → one ≡ other
-same_power one other e = elim (cases_order one other) [
-  | inl same ↦ same
-  | inr (inl less) ↦ absurd (let below = pow_below one other less in omega (arith, below, e))
-  | inr (inr more) ↦ absurd (let below = pow_below other one more in omega (arith, below, e))
-]
+use Rattle.sip_verifier.proofs.SeatAsked.{same_power}
 
 runs_levels : (depth : ℕ) (stream : List Update) (query : Query) (block : List ℕ) (running : RunningNumbers) → RunsOn depth stream query block running → length block ≡ depth
 runs_levels depth stream (Sub lo hi) block (root_is v) r = same_power (length block) depth (sym r.whole ∙ length-vector depth stream First)

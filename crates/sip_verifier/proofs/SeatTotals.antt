@@ -5,7 +5,6 @@ use Rattle.std.proofs.Math.Nat.{pow-succ'}
 use Rattle.std.proofs.lemmas.Int.{ints}
 use Rattle.std.proofs.lemmas.List.{length-map}
 use Rattle.std.proofs.lemmas.List.Sums.{sum_by-cons}
-use Rattle.std.proofs.lemmas.List.Elements.{All-nil, All-cons, All-head, All-tail}
 use Rattle.sip_field.specs.Moduli.{m61_modulus}
 use Rattle.sip_tree.specs.Blocks.{total_after}
 use Rattle.sip_tree.specs.StandsFor.{AugRootStandsFor}
@@ -78,12 +77,6 @@ light_sum (u ∷ updates) =
 light_side : (depth : ℕ) (stream : List Update) (side : Side) → IsLegal depth stream → weight stream side ≤ most_weight
 light_side depth stream First legal = legal.first
 light_side depth stream Second legal = legal.second
-
--- the front of a list has what the list has
-pub all_front : {X : Type 0} (P : X → Type 0) (front rest : List X) → All P (front ++ rest) → All P front
-all_front P [] rest all = All-nil P
-all_front P (x ∷ front) rest all =
-    All-cons P x front (All-head P x (front ++ rest) all) (all_front P front rest (All-tail P x (front ++ rest) all))
 
 -- ---- seats
 

@@ -13,11 +13,10 @@ use Rattle.sip_vector.specs.Answers.{Answer, number, pairs}
 use Rattle.sip_vector.specs.Streams.{int_sum, vector}
 use Rattle.sip_vector.specs.Thresholds.{share_of}
 use Rattle.sip_wire.specs.declared.message.Reason.{Reason}
-use Rattle.sip_wire.specs.declared.message.Reason.TheVariants as reasons
 use Rattle.sip_wire.specs.declared.version.Version.{Version}
 use Rattle.sip_replies.specs.Protocols.{Protocol}
 use Rattle.sip_replies.specs.Replies as general
-use Rattle.sip_replies.specs.Replies.{Fault, MayEnd, joined}
+use Rattle.sip_replies.specs.Replies.{Fault, joined}
 use Rattle.sip_replies.specs.Talks.{IsPrefix, asked_unless, ending}
 use Rattle.sip_replies.proofs.Hearing.{heard-asked}
 use Rattle.sip_replies.proofs.Unasked.{accepted_asked}
@@ -33,17 +32,10 @@ use Rattle.sip_verifier.specs.Kinds.{Holds, KindRow, built, kind_row, missing}
 use Rattle.sip_verifier.specs.Questions.{IsDue, said_by_kind}
 use Rattle.sip_verifier.specs.ReplyBound.{HearsAtMost, ReplyBound, most_bytes, most_node_bytes}
 use Rattle.sip_verifier.proofs.EntrySizes.{entries_short}
+use Rattle.sip_verifier.proofs.KeptReplies.{heard-ended, heard-ending}
 use Rattle.sip_verifier.proofs.NodeSizes.{nodes_short}
 use Rattle.sip_verifier.proofs.SumSizes.{sums_short}
 use Rattle.sip_verifier.proofs.TakenReplies.{AreTaken, faulty_taken, stated_taken, unfinished_taken, unjudged_taken}
-
-heard-ending : (reason : Reason) → heard (ending reason) ≡ []
-heard-ending reasons.Closed = refl
-heard-ending _ = refl
-
-heard-ended : {IsOpen : Type 0} (ended : List TalkEvent) → MayEnd IsOpen ended → heard ended ≡ []
-heard-ended ended (inl none) = ap heard none
-heard-ended ended (inr (found, cut)) = ap heard found
 
 module _ {S : Type 0} (P : Protocol S) (query : Query) (block : List ℕ) (old new : Option (List TalkEvent)) (most : ℕ)
     (short : (replies : List (List ℕ)) → P.unasked ≡ None → AreTaken P.rules block replies → length (joined replies) ≤ most) where

@@ -1,5 +1,5 @@
 -- How many bytes the replies to a query for a sum have.
-use Rattle.std.proofs.Common.{◌≡◌, ℕ, ◌+◌, ◌<◌, ◌≤◌, true, ℤ, Option, Some, None, Result, Ok, Err, List, [], ◌∷◌, length, refl, ap, subst, arith}
+use Rattle.std.proofs.Common.{◌≡◌, ℕ, ◌+◌, ◌<◌, ◌≤◌, true, ℤ, Option, Some, None, Ok, Err, List, [], ◌∷◌, length, refl, subst, arith}
 use Rattle.std.specs.Prelude.{◌==◌, is_none, if◌then◌else◌}
 use Rattle.sip_wire.specs.declared.kind.Kind.{Kind}
 use Rattle.sip_wire.specs.declared.kind.Kind.TheVariants as kinds
@@ -7,13 +7,11 @@ use Rattle.sip_wire.specs.declared.kind.Place.{Place}
 use Rattle.sip_wire.specs.declared.kind.Place.TheVariants as places
 use Rattle.sip_wire.specs.declared.message.Message.{Message}
 use Rattle.sip_wire.specs.declared.message.Message.TheVariants as messages
-use Rattle.sip_wire.specs.declared.message.Reason.{Reason}
 use Rattle.sip_wire.specs.declared.message.Reason.TheVariants as reasons
 use Rattle.sip_wire.specs.declared.message.WireFault.{WireFault}
 use Rattle.sip_wire.specs.declared.version.Version.{Version}
 use Rattle.sip_wire.specs.Reading.{read_frame}
 use Rattle.sip_wire.specs.Table.{allows}
-use Rattle.sip_replies.specs.declared.check.More.{More}
 use Rattle.sip_replies.specs.declared.check.More.TheVariants as mores
 use Rattle.sip_replies.specs.Replies.{joined, reason_of}
 use Rattle.sip_replies.proofs.Passing.{test_passed}
@@ -23,7 +21,7 @@ use Rattle.sip_sums.specs.Protocol.{SumState, sum_asked, sum_rules, sum_step}
 use Rattle.sip_verifier.specs.ReplyBound.{most_sum_bytes}
 use Rattle.sip_verifier.proofs.FrameSizes.{read_frame-size}
 use Rattle.sip_verifier.proofs.PlaceSizes.{at_claim, at_poly, cut_most}
-use Rattle.sip_verifier.proofs.ReplySizes.{Sizes, replies_size}
+use Rattle.sip_verifier.proofs.ReplySizes.{Sizes, replies_size, same_due}
 use Rattle.sip_verifier.proofs.TakenReplies.{AreTaken}
 
 -- the bytes of a claim are left until it came
@@ -37,9 +35,6 @@ place_at claim = if is_none claim then places.Claim else places.Poly
 -- nothing is asked of a state
 abbrev pub Any : SumState → Type 0
 Any s = Unit {0}
-
-same_due : {S : Type 0} (m n : More) (s t : S) → ◌≡◌ {A = Result (More × S) Reason} (Ok (m, s)) (Ok (n, t)) → (m ≡ n) × (s ≡ t)
-same_due {S} m n s t e = let both : ◌≡◌ {A = More × S} (m, s) (n, t) = cc in (ap (λ (x : More × S). x.0) both, ap (λ (x : More × S). x.1) both)
 
 heard_claim : (kind : Kind) → allows places.Claim kind ≡ true → allows places.ToVerifier kind ≡ true
 heard_claim kinds.Claim a = refl

@@ -1,6 +1,6 @@
 -- Replies that were taken, whatever became of them: all before the last are whole, and the last one
 -- is whole, or not whole, or no byte less of it shows its fault.
-use Rattle.std.proofs.Common.{◌≡◌, ◌≢◌, ◌⊎◌, inl, inr, ℕ, ◌+◌, ◌<◌, ◌≤◌, Result, Ok, Err, List, [], ◌∷◌, ◌++◌, length, drop, refl, sym, ap, subst, ◌∙◌, arith, length-append}
+use Rattle.std.proofs.Common.{◌≡◌, ◌≢◌, inl, inr, ℕ, ◌+◌, ◌<◌, ◌≤◌, Result, Ok, Err, List, [], ◌∷◌, ◌++◌, length, drop, refl, sym, ap, subst, ◌∙◌, arith, length-append}
 use Rattle.std.specs.Prelude.{IsTrue, is_ok}
 use Rattle.sip_ports.specs.declared.port.TalkEvent.{TalkEvent}
 use Rattle.sip_vector.specs.Answers.{Answer}
@@ -10,16 +10,11 @@ use Rattle.sip_wire.specs.declared.message.Reason.TheVariants as reasons
 use Rattle.sip_replies.specs.Protocols.{Rules, Protocol}
 use Rattle.sip_replies.specs.Replies.{Fault, IsFaulty, IsStated, IsUnfinished, IsUnjudged, in_round, learnt, read_reply, run, run_from}
 use Rattle.sip_replies.proofs.Ends.{last_of, snoc_same}
+use Rattle.sip_replies.proofs.Fronts.{closed_or_not}
 use Rattle.sip_replies.proofs.Passing.{run_none, run_step}
 use Rattle.sip_replies.proofs.Reading.{read_reply-nil}
 use Rattle.sip_replies.proofs.Running.{run-fault, run-whole}
-
-same_fault : {X : Type 0} (a b : Fault) → ◌≡◌ {A = Result X Fault} (Err a) (Err b) → a ≡ b
-same_fault a b e = cc
-
-closed_or_not : (reason : Reason) → (reason ≡ reasons.Closed) ⊎ (reason ≢ reasons.Closed)
-closed_or_not reasons.Closed = inl refl
-closed_or_not _ = inr (λ e. cc)
+use Rattle.sip_replies.proofs.Turns.{same_fault}
 
 -- ---- one reply
 

@@ -1,6 +1,6 @@
 //! The queries of a run, asked one after another.
 
-ghost use Rattle.std.specs.Prelude.{◌≡◌, ◌⊎◌, ◌<◌, ◌≤◌, ◌^◌, All, ℕ, List, [], ◌∷◌, true, false, length, drop, vec_len, IsTrue, MatchResult, Ok, Err};
+ghost use Rattle.std.specs.Prelude.{◌≡◌, ◌≢◌, ◌⊎◌, ◌<◌, ◌≤◌, ◌^◌, All, ℕ, List, [], ◌∷◌, true, false, length, drop, vec_len, IsTrue, MatchResult, Ok, Err};
 ghost use Rattle.std.specs.List.{list_all};
 ghost use Rattle.sip_ports.specs.Ports.{Lasts, Rose};
 ghost use Rattle.sip_vector.specs.declared.query.Query.{Query as AnyQuery};
@@ -209,7 +209,7 @@ impl Session {
         self.seats.all().len() - self.asked
     }
 
-    /// The pairs of the last verdict of pairs, rising.
+    /// The pairs of the last verdict, rising. There are none before the first, and none where it was no verdict of pairs.
     pub fn entries(&self) -> &[Entry]
         ensures { result.now ≡ self.now.entries }
     {
@@ -234,7 +234,7 @@ impl Session {
         ensures version { self.new.version ≡ self.old.version }
         ensures depth { self.new.depth ≡ self.old.depth }
         ensures spent { self.new.spent ≡ is_over result }
-        ensures cleared { is_over result ≡ true → self.new.entries ≡ [] }
+        ensures cleared { result ≢ Ok Verdict.Pairs → self.new.entries ≡ [] }
         ensures cause { result ≡ Err SessionFault.PeerFault
             → Rose (L.faults link.old) (L.faults link.new) }
         ensures memory { result ≡ Err SessionFault.OutOfMemory
@@ -301,7 +301,7 @@ impl Session {
         ensures version { self.new.version ≡ self.old.version }
         ensures depth { self.new.depth ≡ self.old.depth }
         ensures spent { self.new.spent ≡ is_over result }
-        ensures cleared { is_over result ≡ true → self.new.entries ≡ [] }
+        ensures cleared { result ≢ Ok Verdict.Pairs → self.new.entries ≡ [] }
         ensures cause { result ≡ Err SessionFault.PeerFault
             → Rose (L.faults link.old) (L.faults link.new) }
         ensures memory { result ≡ Err SessionFault.OutOfMemory

@@ -14,8 +14,8 @@ use Rattle.sip_verifier.specs.Questions.{Accepts, IsDue, IsFaulty, IsUnjudged, I
 
 -- This is the protocol of the query's kind: what is said and what holds by it is so of the query's
 -- questions.
-pub record IsProtocol (version : Version) (depth : ℕ) (stream : List Update) (query : Query) (block : List ℕ)
-    {S : Type 0} (P : Protocol S) : Type 0 where
+pub record IsProtocol (version : Version) (depth : ℕ) (stream : List Update) (query : Query)
+    (block : List ℕ) {S : Type 0} (P : Protocol S) : Type 0 where
   pub said : (replies : List (List ℕ))
       → asked_unless P.unasked P.rules.version query block replies
       ≡ said_for version depth stream (question_of query block replies)
