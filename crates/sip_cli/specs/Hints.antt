@@ -114,7 +114,8 @@ IsHint words (statuses.BadStream at why) text =
     ⊎ ((LooksLikeText words at why → ⊥) × (text ≡ why_hint why))
 IsHint words status text = status_hint status ≡ Some text
 
--- the line of advice was sent, if there is one: whole, or a shorter front of it where the sink failed
+-- the line of advice was sent, if there is one: whole, or a shorter front of it where the sink
+-- failed
 abbrev pub IsAdvised : {T E : Type 0} → List (List ℕ) → Status → Option (List TalkEvent)
     → Option (List TalkEvent) → Result T E → Type 0
 IsAdvised words status old new sent =

@@ -118,7 +118,8 @@ pub fn hint(words: &Words, status: &Status) -> Option<&'static str>
 ///
 /// Those of the sink, which a front of the line has then reached that is shorter than it.
 fn write_hint<K: Sink>(words: &Words, status: &Status, errors: &mut K) -> Result<(), PortStop>
-    ensures written { IsAdvised words.now status.now (K.talk errors.old) (K.talk errors.new) result }
+    ensures written { IsAdvised words.now status.now (K.talk errors.old) (K.talk errors.new)
+        result }
     ensures nothing { ((text : List ℕ) → IsHint words.now status.now text → ⊥)
         → errors.new ≡ errors.old }
     ensures cause { HasCause K.faults K.wants K.is_sure errors.old errors.new result }

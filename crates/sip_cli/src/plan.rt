@@ -133,10 +133,15 @@ impl Opening {
 /// What the ports of a run are opened on: two sources, the two ends of a link, and what keeps the transcript.
 #[derive(Clone, Copy, Debug, PartialEq, Eq)]
 pub struct PortPlan {
+    /// The stream.
     pub first: Opening,
+    /// The seed, or the transcript that is shown or converted.
     pub second: Opening,
+    /// What the other side of the talk sends.
     pub from: Opening,
+    /// What is sent to the other side.
     pub to: Opening,
+    /// What gets the transcript of the run.
     pub keep: Opening,
 }
 

@@ -8,7 +8,9 @@ use crate::{Opening, PortPlan};
 /// A regular file, which may have several names, as the system tells it from all others.
 #[derive(Clone, Copy, Debug, PartialEq, Eq)]
 pub struct FileId {
+    /// The number of the device that the file is on.
     pub device: u64,
+    /// The file's number on it.
     pub inode: u64,
 }
 
@@ -16,10 +18,15 @@ pub struct FileId {
 /// it is something else, as a FIFO or a device.
 #[derive(Clone, Copy, Debug, PartialEq, Eq)]
 pub struct PlanFiles {
+    /// The file of the stream.
     pub first: Option<FileId>,
+    /// That of the seed or of the transcript.
     pub second: Option<FileId>,
+    /// That which brings what the other side sends.
     pub from: Option<FileId>,
+    /// That which gets what is sent.
     pub to: Option<FileId>,
+    /// That which gets the transcript of the run.
     pub keep: Option<FileId>,
 }
 

@@ -2,6 +2,7 @@
 
 ghost use Rattle.std.specs.Prelude.{◌≡◌, ◌⊎◌, ℕ, ◌≤◌, ◌<◌, IfOk, IfSome, None, OnOk, MatchOption, length};
 ghost use Rattle.std.specs.Io.{ReadsAtMost, WritesAtMost};
+ghost use Rattle.std.specs.Option.{option_copied, option_map};
 ghost use Rattle.sip_ports.specs.Ports.{HasCause, Hears, Sends, StandsStill};
 ghost use Rattle.sip_vector.specs.declared.query.Query.{Query as AnyQuery};
 ghost use Rattle.sip_wire.specs.Table.{most_queries};
@@ -245,7 +246,10 @@ impl<L: Link + Drop, W: Sink + Drop> ToldLink<L, W> {
     }
 
     /// What took the lines.
-    pub fn lines(&self) -> Option<&W> {
+    pub fn lines(&self) -> Option<&W>
+        ensures { option_copied result
+            ≡ option_map (λ teller. teller.lines) (talk_teller self.now) }
+    {
         Some(&self.teller.as_ref()?.lines)
     }
 

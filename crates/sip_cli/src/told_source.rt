@@ -1,7 +1,8 @@
 //! A source that says on the way how much of the stream was read.
 
-ghost use Rattle.std.specs.Prelude.{◌≡◌, ◌⊎◌, ℕ, ◌≤◌, nat_le, IfSome, None, OnOk, length, take};
+ghost use Rattle.std.specs.Prelude.{◌≡◌, ◌⊎◌, ℕ, ◌≤◌, nat_le, IfSome, None, OnOk, OnErr, length, take};
 ghost use Rattle.std.specs.Io.{ReadsAtMost, StartsWith};
+ghost use Rattle.std.specs.Option.{option_copied, option_map};
 ghost use Rattle.std.specs.Io.KnownBytes.{Consumes, ReadConsumes};
 ghost use Rattle.sip_ports.specs.Ports.{HasCause, StandsStill};
 ghost use Rattle.sip_cli.specs.declared.command.Command.{Command as AnyCommand};
@@ -163,7 +164,10 @@ impl<S: Source + Drop, W: Sink + Drop> ToldSource<S, W> {
     }
 
     /// What took the lines.
-    pub fn lines(&self) -> Option<&W> {
+    pub fn lines(&self) -> Option<&W>
+        ensures { option_copied result
+            ≡ option_map (λ teller. teller.lines) (stream_teller self.now) }
+    {
         Some(&self.teller.as_ref()?.lines)
     }
 
@@ -215,6 +219,8 @@ impl<S: Source + Drop, W: Sink + Drop> Source for ToldSource<S, W> {
         ensures bound { ReadsAtMost result buf.new }
         ensures bytes { ReadConsumes (S.left (told_source self.old))
             (S.left (told_source self.new)) result buf.new }
+        ensures kept { OnErr result
+            (S.ahead (told_source self.new) ≡ S.ahead (told_source self.old)) }
         ensures empty { length buf.old ≡ 0 → OnOk result (StandsStill S.faults S.wants
             (told_source self.old) (told_source self.new)) }
         ensures cause { HasCause S.faults S.wants S.is_sure

@@ -96,5 +96,6 @@ impl Words {
 /// Where all words begin a command that is not whole, it is the number of words.
 #[derive(Clone, Copy, Debug, PartialEq, Eq)]
 pub struct Usage {
+    /// The number of the word, from 0.
     pub word: u32,
 }

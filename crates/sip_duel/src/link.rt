@@ -85,6 +85,10 @@ impl HelperLink {
     /// closed and dropped.
     pub fn new(alloc: Global, helper: Box<dyn Helper>) -> Result<HelperLink, OutOfMemory>
         ensures talk { IfOk result (λ link. link.kept.talk.items ≡ []) }
+        ensures opened { IfOk result (λ link. link.kept.mood ≡ moods.Open) }
+        ensures silent { IfOk result (λ link. sink_bytes link.kept.out ≡ []) }
+        ensures wants { IfOk result (λ link. link.wants.count ≡ 0) }
+        ensures helper { IfOk result (λ link. link.helper ≡ Some helper) }
         ensures promise { honest_state helper ≡ Some fresh
             → IfOk result (λ link. Keeps (option_and_then honest_state link.helper) link.kept) }
     {
