@@ -76,11 +76,12 @@ fn a_lent_source_keeps_what_was_not_received(rt: HostRuntime) -> Result<(), Fail
     Ok(())
 }
 
-// Two bytes are sent, and then four times at most four are received: whether the answers are these.
+// Two bytes are sent, and then four times at most four are received: whether the answers are these,
+// and how many bytes the link says were heard.
 fn answers_over<T: Loan + Drop, O: Origin>(
     source: T,
     answers: &[Result<usize, PortStop>; 4],
-) -> Result<bool, Fail>
+) -> Result<(bool, u64), Fail>
     requires first { T.left source ≡ O.first }
     requires lent { T.loan source ≡ O.lent }
 {
@@ -90,23 +91,24 @@ fn answers_over<T: Loan + Drop, O: Origin>(
     for answer in answers {
         same = same && link.recv(&mut buf) == *answer;
     }
-    Ok(same)
+    Ok((same, link.taken()))
 }
 
 fn answers<S: Source>(
     source: &mut S,
     answers: &[Result<usize, PortStop>; 4],
-) -> Result<bool, Fail> {
+) -> Result<(bool, u64), Fail> {
     answers_over::<&mut S, Brand>(source, answers)
 }
 
-// What is sent goes nowhere. A call that fails is answered, and the end where nothing is left.
+// What is sent goes nowhere, and is not counted. A call that fails is answered, and so is the end
+// where nothing is left: neither counts.
 #[test]
-fn a_link_answers_as_its_source_reads(rt: HostRuntime) -> Result<(), Fail> {
+fn a_link_answers_and_counts_as_its_source_reads(rt: HostRuntime) -> Result<(), Fail> {
     let alloc = rt.alloc();
     let failed = Err(PortStop::Failed);
     let few = answers(&mut replies(alloc, 1)?, &[Ok(1), failed, Ok(1), Ok(1)])?;
     let all = answers(&mut replies(alloc, 10_000)?, &[Ok(4), failed, Ok(1), Ok(0)])?;
-    expect(&rt, 0, &[few, all]);
+    expect(&rt, 0, &[few == (true, 3), all == (true, 5)]);
     Ok(())
 }

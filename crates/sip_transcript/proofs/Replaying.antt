@@ -1,6 +1,7 @@
 -- What a link over a source has heard, call by call.
 use Rattle.std.proofs.Common.{◌≡◌, ℕ, zero, suc, ◌<◌, List, [], ◌∷◌, ◌++◌, length, take, None, Some, Result, Ok, Err, refl, sym, ap, subst, ◌∙◌, arith, append_assoc, append-nil, ⊎_elim, inl, inr}
-use Rattle.std.specs.Prelude.{map, ◌⊎◌}
+use Rattle.std.proofs.lemmas.List.{length-append, length-take-le}
+use Rattle.std.specs.Prelude.{map, ◌⊎◌, ◌+◌, ◌-◌, ◌^◌, ◌≤◌, min}
 use Rattle.std.specs.declared.option.Option.{Option}
 use Rattle.std.specs.Io.KnownBytes.{Consumes, IsAtEnd, Keeps}
 use Rattle.sip_ports.specs.declared.port.TalkEvent.{TalkEvent}
@@ -9,7 +10,7 @@ use Rattle.sip_ports.specs.Ports.{heard, ins, outs, received, ended_if, HearsWho
 use Rattle.sip_ports.specs.declared.port.PortStop.{PortStop}
 use Rattle.sip_ports.proofs.TalkLemmas.{heard-append, heard-ins, heard-outs, ended_if_short}
 use Rattle.std.proofs.lemmas.Bool.Decides.{nat_tests}
-use Rattle.sip_transcript.specs.Replaying.{Follows, Replays}
+use Rattle.sip_transcript.specs.Replaying.{Follows, Replays, heard_count}
 
 -- none of these events is the end
 abbrev IsNoEnd : (ℕ → TalkEvent) → Type 0
@@ -114,6 +115,28 @@ told_sent first left talk after bytes told p = subst (λ t. Replays first t left
 pub told_received : (first left now : Option (List ℕ)) (talk after : List TalkEvent) (n : ℕ) (buf : List ℕ) → after ≡ talk ++ received n buf → 0 < length buf
     → Consumes left now (take n buf) × (n ≡ 0 → 0 < length buf → IsAtEnd now) → Replays first talk left → Replays first after now
 told_received first left now talk after n buf told room k p = subst (λ t. Replays first t now) (sym told) (replays_received first left now talk n buf room k p)
+
+-- ---- how much was heard
+
+-- what is sent is not counted
+pub count_sent : (talk after : List TalkEvent) (bytes : List ℕ) → after ≡ talk ++ outs bytes → heard_count after ≡ heard_count talk
+count_sent talk after bytes told =
+    ap heard_count told ∙ ap (λ l. min (length l) (2 ^ 64 - 1)) (heard-append talk (outs bytes) ∙ ap (λ l. heard talk ++ l) (heard-outs bytes) ∙ append-nil (heard talk))
+
+heard_received : (n : ℕ) (buf : List ℕ) → n ≤ length buf → length (heard (received n buf)) ≡ n
+heard_received zero [] fits = refl
+heard_received zero (b ∷ buf) fits = refl
+heard_received (suc n) buf fits =
+    ap length (heard-ins (take (suc n) buf)) ∙ length-take-le (suc n) buf fits
+
+-- a receive is counted by the bytes that it gave
+pub count_received : (talk after : List TalkEvent) (n : ℕ) (buf : List ℕ) → after ≡ talk ++ received n buf → n ≤ length buf
+    → heard_count after ≡ min (heard_count talk + n) (2 ^ 64 - 1)
+count_received talk after n buf told fits =
+    let parts = length-append (heard talk) (heard (received n buf)) in
+    let came = heard_received n buf fits in
+    let all : length (heard after) ≡ length (heard talk) + n = ap (λ t. length (heard t)) told ∙ ap length (heard-append talk (received n buf)) ∙ omega (arith, parts, came) in
+    omega (arith, all)
 
 -- ---- a whole receive over such a link is a whole read of its source
 

@@ -1,5 +1,5 @@
 -- What is heard on a link whose replies come out of a source.
-use Rattle.std.specs.Prelude.{◌≡◌, ℕ, List, ◌∷◌, ◌++◌, ⊤, None, Some}
+use Rattle.std.specs.Prelude.{◌≡◌, ℕ, ◌-◌, ◌^◌, min, List, ◌∷◌, ◌++◌, length, ⊤, None, Some}
 use Rattle.std.specs.Coded.{Coded-set, coded_list, coded_ℕ, Π_prop, Unit-prop}
 use Rattle.std.proofs.Common.{ap, ◌∙◌}
 use Rattle.std.specs.declared.option.Option.{Option}
@@ -19,6 +19,10 @@ abbrev pub Replays : Option (List ℕ) → List TalkEvent → Option (List ℕ) 
 Replays None talk left = ⊤
 Replays (Some first) talk None = ⊥
 Replays (Some first) talk (Some left) = Follows first talk left
+
+-- how many bytes a talk has heard, as a count tells it that ends at 2^64 - 1
+abbrev pub heard_count : List TalkEvent → ℕ
+heard_count talk = min (length (heard talk)) (2 ^ 64 - 1)
 
 -- what the link's ghost field rests on: there is one proof of it at most
 bytes_set : (xs ys : List ℕ) → IsProp (xs ≡ ys)

@@ -7,7 +7,7 @@
 //! transcript, and [`convert`] writes it in version 2: both read the head first, and then a frame
 //! at a time, so that the memory is that of one frame. [`show_line`] writes the line of one frame.
 //! [`TranscriptLink`] is a link whose replies come out of a source, so that a stored run can be
-//! judged again; it takes no memory.
+//! judged again; it takes no memory, and counts the bytes that were heard.
 //!
 //! # What is proved
 //!
@@ -23,7 +23,7 @@
 //!   or of the report, where its count rose, and `OutOfMemory`.
 //! - At each time what was heard on a `TranscriptLink`, and then what is left in its source, are
 //!   what the source had when the link was made; the end is told only where all of this was heard.
-//!   This holds also behind a call that is generic over links: the link's type carries it, over an
+//!   `taken` is how many bytes were heard, below the end of its type. This holds also behind a call that is generic over links: the link's type carries it, over an
 //!   [`Origin`] that the caller picks, and the source that is given back is the same [`Loan`].
 //! - The transcript of each run has no fault in its head, whatever the replies are, and it tells
 //!   that run ([`laws`]). A transcript by hand has the listing that is expected.

@@ -2,7 +2,7 @@
 
 ghost use Rattle.std.specs.Prelude.{◌≡◌, [], length, OnOk};
 ghost use Rattle.sip_transcript.specs.Pasts.{events};
-ghost use Rattle.sip_transcript.specs.Replaying.{Replays, Replays-prop};
+ghost use Rattle.sip_transcript.specs.Replaying.{Replays, Replays-prop, heard_count};
 
 use crate::past::Past;
 use crate::{Loan, Origin};
@@ -10,7 +10,8 @@ use sip_ports::{Link, PortStop, Sink};
 use std::marker::PhantomData;
 
 /// A link whose replies are the bytes of a source, as a stored run has them. All that is sent is
-/// taken, and goes nowhere. It takes no memory: its talk is told in proofs alone.
+/// taken, and goes nowhere. It takes no memory: its talk is told in proofs alone, and of what was
+/// heard it keeps the number of bytes.
 ///
 /// At each time what was heard and what is left in the source are what the source had when the link
 /// was made, and the end was told only where all of this had been heard. It needs no call's word
@@ -19,7 +20,9 @@ use std::marker::PhantomData;
 pub struct TranscriptLink<T: Loan, O: Origin> {
     source: T,
     past: Past,
+    taken: u64,
     origin: PhantomData<O>,
+    ghost counts: { taken ≡ heard_count (events past) },
     ghost same: { T.loan source ≡ O.lent },
     ghost replays: { Replays O.first (events past) (T.left source) } by { Replays-prop _ _ _ },
 }
@@ -37,8 +40,17 @@ impl<T: Loan, O: Origin> TranscriptLink<T, O> {
         TranscriptLink {
             source,
             past: Past::Nothing,
+            taken: 0,
             origin: PhantomData,
         }
+    }
+
+    /// How many bytes were heard so far: a failed receive adds none, nor does the end, nor what was
+    /// sent. At 2^64 - 1 it stays, and there it says that at least so many were heard.
+    pub fn taken(&self) -> u64
+        ensures { result ≡ heard_count (link_talk self.now) }
+    {
+        self.taken
     }
 
     /// The source, given back: the same loan, with what is left in it.
@@ -50,6 +62,7 @@ impl<T: Loan, O: Origin> TranscriptLink<T, O> {
         let TranscriptLink {
             source,
             past: _,
+            taken: _,
             origin: _,
         } = self;
         source
@@ -113,6 +126,7 @@ impl<T: Loan, O: Origin> Link for TranscriptLink<T, O> {
         }
         let came = self.source.read(buf)?;
         self.past.received(came, buf);
+        self.taken = self.taken.saturating_add(came as u64);
         Ok(came)
     }
 }
