@@ -40,6 +40,15 @@ pub fn runs_are_told()
         ≡ None }
 {}
 
+/// A transcript has one head: where bytes begin with the heads of two runs, these are one, and so is
+/// what stands behind them. So an audit replays the run that the transcript tells of, and no other.
+pub fn a_transcript_has_one_head()
+    ensures { (version other : AnyVersion) (depth levels : ℕ) (asks others : List Ask)
+        (behind rest : List ℕ) → IsRun version depth asks → IsRun other levels others
+        → transcript version depth asks behind ≡ transcript other levels others rest
+        → (other ≡ version) × (levels ≡ depth) × (others ≡ asks) × (rest ≡ behind) }
+{}
+
 /// The test of a query at a depth is whether it can be asked there.
 pub fn queries_that_fit()
     ensures { (depth : ℕ) (query : AnyQuery) → IsTrue (fits_at depth query) ↔ Fits depth query }
