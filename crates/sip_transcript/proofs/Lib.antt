@@ -13,3 +13,4 @@ pub mod Asks
 pub mod Replaying
 pub mod Heading
 pub mod Audited
+pub mod Agreed

@@ -33,7 +33,8 @@
 //!   `BadTranscript` comes where a field of the head is not there, or where bytes follow those that
 //!   a verdict took, with that place.
 //! - The transcript of each run has no fault in its head, whatever the replies are, and it tells
-//!   that run ([`laws`]). A transcript by hand has the listing that is expected.
+//!   that run ([`laws`]), and no other. Two accepted runs of one inquiry over one stream that heard
+//!   the same wrote the same lines. A transcript by hand has the listing that is expected.
 //!
 //! # The definitions to read
 //!
