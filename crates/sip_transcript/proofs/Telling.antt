@@ -16,7 +16,7 @@ use Rattle.sip_wire.specs.declared.version.Version.TheVariants.{One, Two}
 use Rattle.sip_wire.specs.Reading.{read_frame}
 use Rattle.sip_wire.specs.Spelling.{in_bytes, spelling}
 use Rattle.sip_wire.specs.Table.{is_element}
-use Rattle.sip_wire.specs.Transcript.{ask_bytes, transcript}
+use Rattle.sip_wire.specs.Transcript.{ask_bytes, head_bytes, transcript}
 use Rattle.sip_wire.proofs.Asking.{query-fits}
 use Rattle.sip_wire.proofs.ReadingLaws.{asked-least, read_frame-closed, read_frame-shrinks, read_frame-spelling}
 use Rattle.sip_transcript.specs.Fields.{asked_at, head_fault}
@@ -95,6 +95,19 @@ pub tale-of_run : (version : Version) (depth : ℕ) (asks : List Ask) (bytes : L
 unfolding tale_of
 tale-of_run One depth asks bytes are = ap (tale_from One depth) (asks-back One depth asks bytes are)
 tale-of_run Two depth asks bytes are = ap (tale_from Two depth) (asks-back Two depth asks bytes are)
+
+-- a transcript has one head, and behind it one list of bytes
+pub one_head : (version other : Version) (depth levels : ℕ) (asks others : List Ask) (behind rest : List ℕ) → All (IsAsk version depth) asks → All (IsAsk other levels) others
+    → transcript version depth asks behind ≡ transcript other levels others rest → (other ≡ version) × (levels ≡ depth) × (others ≡ asks) × (rest ≡ behind)
+one_head version other depth levels asks others behind rest are also e =
+    let same : tale_from other levels (others, rest) ≡ tale_from version depth (asks, behind) = sym (tale-of_run other levels others rest also) ∙ ap tale_of (sym e) ∙ tale-of_run version depth asks behind are in
+    let v : other ≡ version = ap (λ (t : Tale). t.version) same in
+    let d : levels ≡ depth = ap (λ (t : Tale). t.depth) same in
+    let a : others ≡ asks = ap (λ (t : Tale). t.asks) same in
+    let head = head_bytes version depth (length asks) ++ flat_map (λ (ask : Ask). ask_bytes version ask.0 ask.1) asks in
+    let alike : head ++ rest ≡ head ++ behind =
+    sym (ap (λ (o : Version). transcript o levels others rest) v ∙ ap (λ (n : ℕ). transcript version n others rest) d ∙ ap (λ (l : List Ask). transcript version depth l rest) a) ∙ sym e in
+    (v, d, a, sym (drop_at head rest (length head) refl) ∙ ap (drop (length head)) alike ∙ drop_at head behind (length head) refl)
 
 -- ---- the replies
 

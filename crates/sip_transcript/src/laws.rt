@@ -2,7 +2,7 @@
 
 ghost use Rattle.std.specs.Prelude.{◌≡◌, ◌↔◌, ◌++◌, ◌∷◌, [], ℕ, All, List, Some, None, Option, Result, IsTrue, codes, take};
 ghost use Rattle.std.specs.List.{flat_map};
-ghost use Rattle.sip_ports.specs.Ports.{HearsWhole, ReadsWhole};
+ghost use Rattle.sip_ports.specs.Ports.{HearsWhole, ReadsWhole, heard};
 ghost use Rattle.sip_ports.specs.declared.port.PortStop.{PortStop as AnyStop};
 ghost use Rattle.sip_ports.specs.declared.port.TalkEvent.{TalkEvent as AnyEvent};
 ghost use Rattle.sip_vector.specs.Answers.{Fits};
@@ -11,6 +11,9 @@ ghost use Rattle.sip_wire.specs.Spelling.{spelling};
 ghost use Rattle.sip_wire.specs.Transcript.{transcript};
 ghost use Rattle.sip_wire.specs.declared.message.Message.{Message as AnyMessage};
 ghost use Rattle.sip_wire.specs.declared.version.Version.{Version as AnyVersion};
+ghost use Rattle.sip_verifier.specs.Exchanges.{Exchange as AnyExchange};
+ghost use Rattle.sip_verifier.specs.Inquiries.{Inquiry as AnyInquiry};
+ghost use Rattle.sip_verifier.specs.VerdictClause.{AllWritten};
 ghost use Rattle.sip_transcript.specs.Examples.{head_by_hand, lines_by_hand, replies_by_hand};
 ghost use Rattle.sip_transcript.specs.Fields.{fits_at, head_fault};
 ghost use Rattle.sip_transcript.specs.Heads.{Ask, IsRun};
@@ -38,6 +41,24 @@ pub fn runs_are_told()
         → IsRun version depth asks → All (IsReply version) replies
         → transcript_fault (transcript version depth asks (flat_map (spelling version) replies))
         ≡ None }
+{}
+
+/// A transcript has one head: where bytes begin with the heads of two runs, these are one, and so is
+/// what stands behind them. So an audit replays the run that the transcript tells of, and no other.
+pub fn a_transcript_has_one_head()
+    ensures { (version other : AnyVersion) (depth levels : ℕ) (asks others : List Ask)
+        (behind rest : List ℕ) → IsRun version depth asks → IsRun other levels others
+        → transcript version depth asks behind ≡ transcript other levels others rest
+        → (other ≡ version) × (levels ≡ depth) × (others ≡ asks) × (rest ≡ behind) }
+{}
+
+/// What was heard determines the report: two runs of one inquiry over one stream that were accepted,
+/// of which one heard what the other did and maybe more, heard the same and wrote the same lines. So
+/// where an audit accepts the transcript of an accepted run it writes the lines of that run.
+pub fn accepted_runs_agree()
+    ensures { (i : AnyInquiry) (x y : AnyExchange) (more : List ℕ) → y.stream ≡ x.stream
+        → heard x.talk ≡ heard y.talk ++ more → AllWritten i x → AllWritten i y
+        → (more ≡ []) × (y.report ≡ x.report) }
 {}
 
 /// The test of a query at a depth is whether it can be asked there.
