@@ -33,11 +33,12 @@ impl Reader {
         ensures len { length block.new ≡ length block.old }
     {
         let size = size_of(WIDTH);
+        let most = block.len().min(bytes.len() / size);
         let mut reader = *self;
         let mut count = 0;
-        let mut used = 0;
-        while count < block.len() && bytes.len() - used >= size {
-            let Ok(update) = said_by::<WIDTH>(&bytes[used..used + size]) else {
+        while count < most {
+            let at = count * size;
+            let Ok(update) = said_by::<WIDTH>(&bytes[at..at + size]) else {
                 break;
             };
             if !reader.has_room(&update) {
@@ -46,12 +47,11 @@ impl Reader {
             reader.add(&update);
             block[count] = update;
             count += 1;
-            used += size;
         }
         *self = reader;
         Taken {
             records: count,
-            bytes: used,
+            bytes: count * size,
         }
     }
 

@@ -95,7 +95,7 @@ impl Feed {
     pub fn is_full(&self) -> bool
         ensures { result ≡ (length self.now.waiting == most_rows) }
     {
-        self.count == MOST_ROWS
+        self.waiting().len() == MOST_ROWS
     }
 
     /// Takes one more update of the stream, which waits for its frame.
