@@ -1,6 +1,6 @@
-use Rattle.std.proofs.Common.{rules, ◌≡◌, ◌+◌, ◌++◌, ◌∷◌, [], ◌∙◌, arith, ap, subst, sym, length, take, slice_set}
-use Rattle.std.specs.List.{flat_map}
-use Rattle.std.proofs.lemmas.List.{take_all, take_more_set}
+use Rattle.std.proofs.Common.{◌≡◌, ◌+◌, ◌++◌, ◌∷◌, [], ◌∙◌, arith, ap, sym, length, take, drop, slice_set}
+use Rattle.std.specs.List.{flat_map, refill}
+use Rattle.std.proofs.lemmas.List.{length-set, take_all, take_at, take_more_set}
 use Rattle.std.proofs.lemmas.List.Elements.{All-push, All-same}
 use Rattle.sip_wire.proofs.Repeated.{none_from, has_row, goes_on_to, stops, all_said, all_held}
 use Rattle.sip_wire.proofs.rows.fill_rows.Goals as goal
@@ -33,9 +33,15 @@ loop-index-preserved g c =
     let items = c.loop-index.rows.items in
     let index = c.loop-index.index in
     let row = c.in_ok-row.row in
-    let more : take (index + 1) (slice_set items index row) ≡ take index items ++ row ∷ [] = take_more_set items index row (omega (arith, c.loop-index.invariant.len, c.loop-index-test.true)) in
+    let lent = c.as_mut_slice.result.now in
+    let value : lent ≡ items = c.as_mut_slice.ensures.value in
+    let long : length (slice_set lent index row) ≡ length items = length-set lent index row ∙ ap length value in
+    let written : refill (length items) items (slice_set lent index row) ≡ slice_set items index row =
+    take_at (slice_set lent index row) (drop (length (slice_set lent index row)) items) (length items) long ∙ ap (λ l. slice_set l index row) value in
+    let more : take (index + 1) (refill (length items) items (slice_set lent index row)) ≡ take index items ++ row ∷ [] =
+    ap (take (index + 1)) written ∙ take_more_set items index row (omega (arith, c.loop-index.invariant.len, c.loop-index-test.true)) in
     record {
-      so_far = goes_on_to g.T.Row.said (g.T.Row.layout c.args.version) c.args.count c.args.bytes.now index (take index items) c.loop-index.rest.now row c.in_ok-row.after.now (take (index + 1) (slice_set items index row)) c.loop-index.invariant.so_far (omega arith) c.in_ok-row.ensures.said c.in_ok-row.ensures.rest c.in_ok-row.ensures.some more;
-      in_range = All-same g.T.Row.in_range _ _ more (All-push g.T.Row.in_range _ _ c.loop-index.invariant.in_range c.in_ok-row.ensures.in_range);
-      len = search rules;
+      so_far = goes_on_to g.T.Row.said (g.T.Row.layout c.args.version) c.args.count c.args.bytes.now index (take index items) c.loop-index.rest.now row c.in_ok-row.after.now (take (index + 1) (refill (length items) items (slice_set lent index row))) c.loop-index.invariant.so_far (omega arith) c.in_ok-row.ensures.said c.in_ok-row.ensures.rest c.in_ok-row.ensures.some more;
+      in_range = All-same g.T.Row.in_range (take (index + 1) (refill (length items) items (slice_set lent index row))) (take index items ++ row ∷ []) more (All-push g.T.Row.in_range (take index items) row c.loop-index.invariant.in_range c.in_ok-row.ensures.in_range);
+      len = ap length written ∙ length-set items index row ∙ c.loop-index.invariant.len;
     }
