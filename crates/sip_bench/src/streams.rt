@@ -5,7 +5,6 @@ ghost use Rattle.sip_stream.specs.Layouts.{deepest_in};
 
 use crate::held::HeldSource;
 use crate::line::{Line, Part, lesser};
-use arrayvec::ArrayVec;
 use sip_ports::MemorySink;
 use sip_stream::{Form, MadeSource, Reader, copy};
 use sip_vector::{Depth, Side, Update};
@@ -28,11 +27,12 @@ fn side_number(side: Side) -> u64 {
 }
 
 fn checksum_with(checksum: u64, update: &Update) -> u64 {
-    checksum
-        .wrapping_mul(3)
-        .wrapping_add(update.item)
+    // What hangs on the checksum before comes last, so that one record hardly waits for another.
+    let own = update
+        .item
         .wrapping_add(side_number(update.side))
-        .wrapping_add(update.delta.cast_unsigned())
+        .wrapping_add(update.delta.cast_unsigned());
+    checksum.wrapping_mul(3).wrapping_add(own)
 }
 
 /// The bytes of a made stream in this form.
@@ -75,18 +75,17 @@ pub(crate) fn read(
     let sink = made(alloc, depth, form)?;
     let mut source = HeldSource::new(sink.bytes());
     let mut reader = Reader::new(depth, form);
-    let mut block: ArrayVec<Update, ROWS> = ArrayVec::new();
+    let mut block = [Update::default(); ROWS];
     let mut checksum = 0;
     let mut time = Duration::MAX;
     for _ in 0..BLOCKS {
         let start = Instant::now(clock)?;
-        block.clear();
-        reader.read_held(&mut source, ROWS, &mut block);
-        for update in block.iter() {
+        let count = reader.read_held(&mut source, &mut block);
+        for update in &block {
             checksum = checksum_with(checksum, update);
         }
         time = lesser(time, start.elapsed(clock)?);
-        if !block.is_full() {
+        if count < ROWS {
             return Err(io::ErrorKind::InvalidData.into());
         }
     }

@@ -89,18 +89,18 @@ fn a_link_of_two_files(rt: HostRuntime) {
     expect(&rt, 0, &facts);
 }
 
-// 1,000 records of 13 bytes, each full of its number modulo 251, fill the read-ahead more than
+// 3,000 records of 13 bytes, each full of its number modulo 251, fill the read-ahead more than
 // once.
 #[test]
 fn a_long_file_is_read_in_records(rt: HostRuntime) {
     let mut sink = FileSink::new(std::fs::create(&rt, "long").ok());
-    for number in 0..1000u32 {
+    for number in 0..3000u32 {
         let written = write_whole(&mut sink, &[(number % 251) as u8; 13]);
         expect(&rt, number as usize, &[written == Ok(())]);
     }
     let mut source = FileSource::new(std::fs::open(&rt, "long").ok());
     let mut record = [0; 13];
-    for number in 0..1000u32 {
+    for number in 0..3000u32 {
         let facts = [
             read_exact_into(&mut source, &mut record) == Ok(13),
             record == [(number % 251) as u8; 13],
@@ -109,7 +109,7 @@ fn a_long_file_is_read_in_records(rt: HostRuntime) {
     }
     expect(
         &rt,
-        1000,
+        3000,
         &[read_exact_into(&mut source, &mut record) == Ok(0)],
     );
 }

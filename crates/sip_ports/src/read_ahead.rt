@@ -10,9 +10,9 @@ use std::io;
 use std::io::Read;
 use std::marker::Model;
 
-/// 630 records of 13 bytes fit, and each frame of version 1; the longest of version 2, 8,709 bytes,
-/// is read in two pieces.
-const CAPACITY: usize = 8192;
+/// 1,260 records of 13 bytes fit, and each frame. A FIFO holds four times as many: an end that waits
+/// to write is woken less often, the more is read at once.
+const CAPACITY: usize = 16_384;
 
 /// The bytes that were read and not yet given, in order. It is of a fixed size, and takes no
 /// memory.
@@ -28,7 +28,7 @@ impl Model for ReadAhead {
 
     ghost view = { λ ahead. drop ahead.start (take ahead.end ahead.bytes) };
 
-    ghost invariant = { λ ahead. (ahead.start ≤ ahead.end) × (ahead.end ≤ 8192) };
+    ghost invariant = { λ ahead. (ahead.start ≤ ahead.end) × (ahead.end ≤ 16384) };
 }
 
 impl ReadAhead {

@@ -1,7 +1,8 @@
 -- Records of bytes: what a whole one says, and what a part of one is.
-use Rattle.std.proofs.Common.{◌≡◌, ℕ, ◌-◌, ◌<◌, ◌≤◌, Bool, true, false, cond, List, [], ◌∷◌, ◌++◌, length, length-drop, take, drop, refl, sym, ap, ◌∙◌, subst, arith, append-nil, take_all}
+use Rattle.std.proofs.Common.{◌≡◌, ℕ, ◌+◌, ◌-◌, ◌*◌, ◌/◌, ◌<◌, ◌≤◌, Bool, true, false, cond, List, [], ◌∷◌, ◌++◌, length, length-drop, take, drop, refl, sym, ap, ◌∙◌, subst, arith, append-nil, take_all}
 use Rattle.std.specs.Prelude.{Option, Some, None, Result, Ok, Err, nat_lt, slice_index}
 use Rattle.std.specs.Io.KnownBytes.{Consumes, IsAtEnd}
+use Rattle.std.proofs.Math.Nat.{mod-add-div}
 use Rattle.std.proofs.lemmas.Bool.Decides.{nat_tests}
 use Rattle.std.proofs.lemmas.List.{length-take-le}
 use Rattle.sip_vector.specs.declared.update.Update.{Update}
@@ -18,6 +19,14 @@ use Rattle.sip_stream.proofs.Cuts.{cut-nil, cut-cons, cut-one}
 -- what is left of bytes from a place on, as a range is
 pub rest_at : (n : ℕ) (bytes : List ℕ) → take (length bytes - n) (drop n bytes) ≡ drop n bytes
 rest_at n bytes = take_all (length bytes - n) (drop n bytes) (omega (arith, length-drop n bytes))
+
+-- a record behind k others fits, where so many more than k do
+pub whole_fits : (n size k : ℕ) → k < n / size → k * size + size ≤ n
+whole_fits n size k below =
+    let q : ℕ = n / size in
+    let rest : q ≡ k + 1 + (q - k - 1) = omega arith in
+    let parts : size * q ≡ k * size + size + size * (q - k - 1) = ap (λ m. size * m) rest ∙ omega arith in
+    omega (arith, mod-add-div n size, parts)
 
 -- what was consumed stands in front
 pub came_front : (old new : Option (List ℕ)) (bytes piece : List ℕ) → old ≡ Some bytes → Consumes old new piece → (rest : List ℕ) × (new ≡ Some rest) × (bytes ≡ piece ++ rest)

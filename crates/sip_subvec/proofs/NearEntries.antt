@@ -25,15 +25,15 @@ tables_below p zero k seat tables few are g inside =
     subst (λ cs. HasProducts p zero cs (get_or (take k tables) g [])) (sym group)
     (subst (λ t. HasProducts p zero (take 7 (drop (7 * g) seat)) t) (sym (get_or-take k tables g [] below)) (are g (omega (arith, below, few))))
 
--- one term more, where a is the product of the low bits and b that of the path
-pub near_more : (p sum near b a r : ℕ) → (sum + ((near + (r * a) % p) % p) * b) % p ≡ ((sum + near * b) % p + (r * ((a * b) % p)) % p) % p
-near_more p sum near b a r =
+-- one term more, where a is the product of the low bits, b that of the path, and x has the residue of the term
+pub near_more : (p sum near b a r x : ℕ) → x % p ≡ (r * a) % p → (sum + (near + x) * b) % p ≡ ((sum + near * b) % p + (r * ((a * b) % p)) % p) % p
+near_more p sum near b a r x is =
     let whole : ℕ = sum + near * b in
-    let same : sum + (near + r * a) * b ≡ whole + r * (a * b) = omega arith in
-    sym (add-mod-mod sum (((near + (r * a) % p) % p) * b) p)
-    ∙ ap (λ x. (sum + x) % p) (ap (λ y. (y * b) % p) (add-mod-mod near (r * a) p) ∙ mul-mod_first (near + r * a) b p)
-    ∙ add-mod-mod sum ((near + r * a) * b) p ∙ ap (λ x. x % p) same
-    ∙ sym (ap (λ x. (whole % p + x) % p) (mul-mod_second r (a * b) p) ∙ add-mod-mod (whole % p) (r * (a * b)) p ∙ mod-add-mod whole p (r * (a * b)))
+    let apart : sum + (near + x) * b ≡ whole + x * b = omega arith in
+    let same : r * a * b ≡ r * (a * b) = omega arith in
+    let term : (x * b) % p ≡ (r * (a * b)) % p = sym (mul-mod_first x b p) ∙ ap (λ y. (y * b) % p) is ∙ mul-mod_first (r * a) b p ∙ ap (λ y. y % p) same in
+    ap (λ y. y % p) apart ∙ sym (add-mod-mod whole (x * b) p) ∙ ap (λ y. (whole + y) % p) term ∙ add-mod-mod whole (r * (a * b)) p
+    ∙ sym (ap (λ y. (whole % p + y) % p) (mul-mod_second r (a * b) p) ∙ add-mod-mod (whole % p) (r * (a * b)) p ∙ mod-add-mod whole p (r * (a * b)))
 
 -- the sum where the path is left, at any other path
 pub near_left : (p sum near b c : ℕ) → ((sum + (near * b) % p) % p + 0 * c) % p ≡ (sum + near * b) % p
@@ -41,7 +41,7 @@ near_left p sum near b c =
     mod-add-mod (sum + (near * b) % p) p (0 * c) ∙ ap (λ x. x % p) (let same : sum + (near * b) % p + 0 * c ≡ sum + (near * b) % p = omega arith in same) ∙ add-mod-mod sum (near * b) p
 
 -- before the first term
-pub near_none : (p b : ℕ) → 0 < p → (0 % p + 0 % p * b) % p ≡ 0 % p
+pub near_none : (p b : ℕ) → 0 < p → (0 % p + 0 * b) % p ≡ 0 % p
 near_none p b some =
     let none : 0 % p ≡ 0 = mod-eq_of_lt some in
     rw none (ap (λ x. x % p) (let same : 0 + 0 * b ≡ 0 = omega arith in same) ∙ none)

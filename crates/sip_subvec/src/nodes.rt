@@ -1,6 +1,6 @@
 //! Nodes of a level as weighted sums over the entries below them.
 
-ghost use Rattle.std.specs.Prelude.{◌≡◌, ℕ, List, [], ◌+◌, ◌-◌, ◌*◌, ◌%◌, ◌^◌, ◌<◌, ◌≤◌, All, length, map, take, filter, IfOk};
+ghost use Rattle.std.specs.Prelude.{◌≡◌, ℕ, List, [], ◌+◌, ◌-◌, ◌*◌, ◌%◌, ◌^◌, ◌<◌, ◌≤◌, All, length, map, take, drop, filter, IfOk};
 ghost use Rattle.sip_field.specs.Products.{zero_factor, bits_product, AreTables};
 ghost use Rattle.sip_field.specs.declared.factors.Factors.TheVariants.{Tree};
 ghost use Rattle.sip_subvec.specs.Checking.{entries_sum};
@@ -9,7 +9,9 @@ ghost use Rattle.sip_vector.specs.Answers.{is_within};
 ghost use Rattle.sip_vector.specs.Limits.{most_depth};
 ghost use Rattle.sip_vector.specs.Vectors.{nonzero};
 
-use sip_field::{Factors, Field, OutOfMemory, Seat, by_tables, fill_tables};
+use sip_field::{
+    Factors, Field, OutOfMemory, Seat, by_tables, fill_tables, loosely_by_tables, of_wide,
+};
 use sip_vector::{CAP, Entry, Vector};
 use std::alloc::Global;
 
@@ -109,9 +111,6 @@ fn own_tables(entries: &[Entry], size: u64, count: usize) -> usize
 // The sum of these entries, each times the product of the challenges at the bits of its index that
 // are 1. There are as many challenges as `size` has bits 0, and the higher bits of an index count
 // nothing.
-//
-// Entries near each other have their higher bits in common, and these bits' product is looked up
-// once for them.
 fn weighed<F: Field>(entries: &[Entry], tables: &[[u64; 128]], size: u64) -> F
     requires some { 0 < size }
     requires below { All (All (λ x. x < F.MODULUS)) tables.now }
@@ -122,27 +121,81 @@ fn weighed<F: Field>(entries: &[Entry], tables: &[[u64; 128]], size: u64) -> F
 {
     let own = own_tables(entries, size, tables.len());
     let (low, high) = tables.split_at(own);
-    let reach = 1u64 << (7 * own);
+    weighed_by(entries, low, high, size)
+}
+
+// The same by the tables of the lowest bits, which are looked up in for each entry, and by those of
+// the others. For each number of the former there is a loop of its own, since one that the compiler
+// knows the length of takes two thirds of the time.
+fn weighed_by<F: Field>(entries: &[Entry], low: &[[u64; 128]], high: &[[u64; 128]], size: u64) -> F
+    requires some { 0 < size }
+    requires few { length low.now ≤ 7 }
+    requires below { All (All (λ x. x < F.MODULUS)) low.now }
+    requires above { All (All (λ x. x < F.MODULUS)) high.now }
+    ensures { (challenges : List ℕ) → size ≡ 2 ^ length challenges
+        → AreTables F.MODULUS (zero_factor F.MODULUS Tree)
+        (take (7 * length low.now) challenges) low.now
+        → AreTables F.MODULUS (zero_factor F.MODULUS Tree)
+        (drop (7 * length low.now) challenges) high.now
+        → length (drop (7 * length low.now) challenges) ≤ 7 * length high.now
+        → F.number result ≡ entries_sum F.MODULUS challenges entries.now % F.MODULUS }
+{
+    match low.len() {
+        0 => summed::<F, 0>(entries, low, high, size),
+        1 => summed::<F, 1>(entries, low, high, size),
+        2 => summed::<F, 2>(entries, low, high, size),
+        3 => summed::<F, 3>(entries, low, high, size),
+        4 => summed::<F, 4>(entries, low, high, size),
+        5 => summed::<F, 5>(entries, low, high, size),
+        6 => summed::<F, 6>(entries, low, high, size),
+        _ => summed::<F, 7>(entries, low, high, size),
+    }
+}
+
+// The same where N tables are looked up in for each entry. Entries near each other have their
+// higher bits in common, and these bits' product is looked up once for them.
+fn summed<F: Field, const N: usize>(
+    entries: &[Entry],
+    low: &[[u64; 128]],
+    high: &[[u64; 128]],
+    size: u64,
+) -> F
+    requires exact { length low.now ≡ N }
+    requires few { N ≤ 7 }
+    requires some { 0 < size }
+    requires below { All (All (λ x. x < F.MODULUS)) low.now }
+    requires above { All (All (λ x. x < F.MODULUS)) high.now }
+    ensures { (challenges : List ℕ) → size ≡ 2 ^ length challenges
+        → AreTables F.MODULUS (zero_factor F.MODULUS Tree)
+        (take (7 * length low.now) challenges) low.now
+        → AreTables F.MODULUS (zero_factor F.MODULUS Tree)
+        (drop (7 * length low.now) challenges) high.now
+        → length (drop (7 * length low.now) challenges) ≤ 7 * length high.now
+        → F.number result ≡ entries_sum F.MODULUS challenges entries.now % F.MODULUS }
+{
+    let reach = 1u64 << (7 * N);
     let mut sums = Near {
         sum: F::of(0),
-        near: F::of(0),
+        near: 0,
         path: 0,
     };
     for entry in entries {
         let place = entry.index % size;
         sums = moved_to(sums, high, place / reach);
-        let term = by_tables(F::of_signed(entry.value), low, place % reach);
-        sums.near = sums.near.plus(term);
+        let value = F::of_signed(entry.value);
+        // No sum of as many numbers of 64 bits as memory holds leaves 128 bits.
+        sums.near += u128::from(loosely_by_tables::<F, N>(value, low, place % reach));
     }
-    sums.sum.plus(by_tables(sums.near, high, sums.path))
+    sums.sum
+        .plus(by_tables(of_wide(sums.near), high, sums.path))
 }
 
-// A sum, and beside it the sum of the entries that have a path in common, the higher bits of their
-// indices: that one counts as often as the product of the path.
+// A sum, and beside it a number with the residue of the sum of the entries that have a path in
+// common, the higher bits of their indices: that one counts as often as the product of the path.
 #[derive(Clone, Copy)]
 struct Near<F: Field> {
     sum: F,
-    near: F,
+    near: u128,
     path: u64,
 }
 
@@ -150,20 +203,23 @@ struct Near<F: Field> {
 fn moved_to<F: Field>(sums: Near<F>, high: &[[u64; 128]], path: u64) -> Near<F>
     requires below { All (All (λ x. x < F.MODULUS)) high.now }
     ensures path { result.path ≡ path }
+    ensures near { result.near ≤ sums.near }
     ensures sum { (challenges : List ℕ)
         → AreTables F.MODULUS (zero_factor F.MODULUS Tree) challenges high.now
         → length challenges ≤ 7 * length high.now → sums.path < 2 ^ length challenges
-        → (F.number result.sum + F.number result.near
+        → (F.number result.sum + result.near
         * bits_product F.MODULUS (zero_factor F.MODULUS Tree) path challenges) % F.MODULUS
-        ≡ (F.number sums.sum + F.number sums.near
+        ≡ (F.number sums.sum + sums.near
         * bits_product F.MODULUS (zero_factor F.MODULUS Tree) sums.path challenges) % F.MODULUS }
 {
     if sums.path == path {
         return sums;
     }
     Near {
-        sum: sums.sum.plus(by_tables(sums.near, high, sums.path)),
-        near: F::of(0),
+        sum: sums
+            .sum
+            .plus(by_tables(of_wide(sums.near), high, sums.path)),
+        near: 0,
         path,
     }
 }

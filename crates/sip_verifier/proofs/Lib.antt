@@ -6,6 +6,7 @@ pub mod WideQueries
 pub mod FramesFit
 mod Sends
 mod DueFrames
+mod HeldRows
 mod SeatsGiven
 mod SeatsDrawn
 mod Challenges

@@ -12,7 +12,6 @@ ghost use Rattle.sip_wire.specs.Versions.{deepest, index_width, number_of};
 ghost use Rattle.sip_wire.specs.declared.message.Message.TheVariants as messages;
 ghost use Rattle.sip_verifier.specs.Feeding.{due_at_end, due_with, waiting_with};
 
-use arrayvec::ArrayVec;
 use sip_ports::{PortStop, Sink, Source};
 use sip_stream::Reader;
 use sip_vector::{Depth, Update};
@@ -20,18 +19,18 @@ use sip_wire::{MOST_ROWS, Message, Version, encode, encode_updates};
 use std::marker::Model;
 
 /// Sends a stream in frames of at most 512 updates, in a version. What waits for a frame is kept in a buffer of a fixed size, where
-/// the caller may read it before it goes out.
+/// the caller may read it before it goes out. Nothing of it is cleared for the next frame.
 #[derive(Drop)]
 pub struct Feed {
     version: Version,
-    waiting: ArrayVec<Update, MOST_ROWS>,
+    rows: [Update; MOST_ROWS],
+    count: usize,
     is_spent: bool,
 }
 
 impl Model for Feed {
-    ghost use Rattle.std.specs.Prelude.{IsTrue, ◌≤◌};
+    ghost use Rattle.std.specs.Prelude.{IsTrue, ◌≤◌, take};
     ghost use Rattle.std.specs.List.{list_all};
-    ghost use Rattle.arrayvec.specs.ArrayVec.{array_vec_len};
     ghost use Rattle.sip_wire.specs.Table.{most_rows};
     ghost use Rattle.sip_verifier.specs.Feeding.{Waiting, has_spelling};
 
@@ -39,12 +38,12 @@ impl Model for Feed {
 
     ghost view = { λ f. record {
       version = f.version;
-      waiting = f.waiting.items;
+      waiting = take f.count f.rows;
       is_spent = f.is_spent;
     } };
 
-    ghost invariant = { λ f. (array_vec_len f.waiting ≤ most_rows)
-        × IsTrue (list_all (has_spelling f.version) f.waiting.items) };
+    ghost invariant = { λ f. (f.count ≤ most_rows)
+        × IsTrue (list_all (has_spelling f.version) (take f.count f.rows)) };
 }
 
 impl Feed {
@@ -54,7 +53,8 @@ impl Feed {
     {
         Feed {
             version,
-            waiting: ArrayVec::new(),
+            rows: [Update::default(); MOST_ROWS],
+            count: 0,
             is_spent: false,
         }
     }
@@ -88,14 +88,14 @@ impl Feed {
     pub fn waiting(&self) -> &[Update]
         ensures { result.now ≡ self.now.waiting }
     {
-        &self.waiting
+        &self.rows[..self.count]
     }
 
     /// Whether those that wait fill a frame.
     pub fn is_full(&self) -> bool
         ensures { result ≡ (length self.now.waiting == most_rows) }
     {
-        self.waiting.is_full()
+        self.waiting().len() == MOST_ROWS
     }
 
     /// Takes one more update of the stream, which waits for its frame.
@@ -109,7 +109,8 @@ impl Feed {
     {
         // The type of a delta bounds it.
         let _delta = update.delta;
-        self.waiting.push(*update);
+        self.rows[self.count] = *update;
+        self.count += 1;
     }
 
     /// Takes legal records that a source holds whole, which wait for their frame, until one is missing to fill it, or the next is
@@ -126,7 +127,7 @@ impl Feed {
         ensures told { IsSome (S.left source.old) → IsSome (S.left source.new) }
         ensures source { Lasts S.faults S.wants S.is_sure source.old source.new }
     {
-        reader.read_held(source, MOST_ROWS - 1, &mut self.waiting);
+        self.count += reader.read_held(source, &mut self.rows[self.count..MOST_ROWS - 1]);
     }
 
     /// Sends the updates that wait as a frame, in one write.
@@ -145,8 +146,8 @@ impl Feed {
         ensures spent { self.new.is_spent ≡ is_err result }
         ensures cause { HasCause K.faults K.wants K.is_sure sink.old sink.new result }
     {
-        let sent = encode_updates(&self.waiting, self.version, sink);
-        self.waiting.clear();
+        let sent = encode_updates(&self.rows[..self.count], self.version, sink);
+        self.count = 0;
         self.is_spent = sent.is_err();
         sent
     }
@@ -210,7 +211,7 @@ impl Feed {
         ensures waiting { OnOk result (self.new.waiting ≡ []) }
         ensures cause { HasCause K.faults K.wants K.is_sure sink.old sink.new result }
     {
-        if !self.waiting.is_empty() {
+        if self.count > 0 {
             self.send(sink)?;
         }
         encode(&Message::EndStream, self.version, sink)

@@ -27,6 +27,7 @@ use crate::{Feed, Port, Seats, Status, Task};
 use sip_ports::{Link, PortStop, Sink, Source, read_exact_into};
 use sip_stream::{Reader, StreamFault};
 use sip_vector::{Depth, Update};
+use sip_wire::MOST_ROWS;
 
 /// What reading a record gave.
 fn on_stream(read: Result<Option<Update>, StreamFault>) -> Result<Option<Update>, Status>
@@ -83,11 +84,12 @@ fn draw<B: Source>(
 }
 
 /// Takes one more record of the stream, which waits for its frame. With the last one of a frame the seats take the frame's updates as
-/// a block, and it is sent, in one write.
+/// a block, which they split in `taken`, and it is sent, in one write.
 fn pass_on<K: Sink>(
     update: &Update,
     feed: &mut Feed,
     seats: &mut Seats,
+    taken: &mut [Update; MOST_ROWS],
     peer: &mut K,
 ) -> Result<(), PortStop>
     requires unspent { feed.old.is_spent ≡ false }
@@ -118,7 +120,7 @@ fn pass_on<K: Sink>(
     if !feed.is_full() {
         return Ok(());
     }
-    seats.update_all(feed.waiting());
+    seats.update_all_by(feed.waiting(), taken);
     feed.send(peer)
 }
 
@@ -158,8 +160,9 @@ pub fn follow<A: Source, K: Sink>(
     let mut feed = Feed::new(task.version());
     on_link(feed.begin(peer, task.depth))?;
     let mut reader = Reader::new(task.depth, task.form);
+    let mut taken = [Update::default(); MOST_ROWS];
     while let Some(update) = on_stream(reader.next(first))? {
-        on_link(pass_on(&update, &mut feed, seats, peer))?;
+        on_link(pass_on(&update, &mut feed, seats, &mut taken, peer))?;
         feed.take_held(&mut reader, first);
     }
     let rest = feed.waiting();

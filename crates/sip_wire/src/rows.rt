@@ -14,6 +14,21 @@ use crate::numbers::{Bytes, put_u16, take_u16};
 use crate::row::Row;
 use arrayvec::ArrayVec;
 
+/// Makes the rows so many, whatever they say. Where they are as many, as those of one frame after another mostly are, nothing is
+/// written: to clear them would be to write all of them.
+fn make_rows<T: Row + Drop, const CAP: usize>(rows: &mut ArrayVec<T, CAP>, count: usize)
+    requires { count ≤ CAP }
+    ensures { length rows.new.items ≡ count }
+{
+    if rows.len() == count {
+        return;
+    }
+    rows.clear();
+    for _ in 0..count {
+        rows.push(T::default());
+    }
+}
+
 /// So many rows, if each number is one that its field may hold. They lie where the rows before lay.
 fn fill_rows<T: Row + Drop, const CAP: usize>(
     version: Version,
@@ -32,11 +47,11 @@ fn fill_rows<T: Row + Drop, const CAP: usize>(
     ensures none { IfNone result (all_hold (repeat count (T.layout version))
         (numbers_in (repeat count (T.layout version)) bytes.now) ≡ false) }
 {
-    rows.clear();
+    make_rows(rows, count);
     let mut rest = bytes;
-    for _ in 0..count {
+    for index in 0..count {
         let (row, after) = T::take(version, rest)?;
-        rows.push(row);
+        rows.as_mut_slice()[index] = row;
         rest = after;
     }
     Some(())
