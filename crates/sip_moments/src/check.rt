@@ -35,6 +35,7 @@ pub struct MomentCheck<F: Field, const CAP: usize> {
 impl<F: Field, const CAP: usize> Model for MomentCheck<F, CAP> {
     ghost use Rattle.std.specs.Prelude.{◌≤◌, length};
     ghost use Rattle.sip_moments.specs.Checking.{Kept};
+    ghost use Rattle.sip_moments.specs.Moments.{IsDegree};
 
     ghost Value = { Kept };
 
@@ -47,7 +48,7 @@ impl<F: Field, const CAP: usize> Model for MomentCheck<F, CAP> {
       spent = c.spent;
     } };
 
-    ghost invariant = { λ c. c.given ≤ length c.seat };
+    ghost invariant = { λ c. (c.given ≤ length c.seat) × IsDegree c.degree };
 }
 
 impl<F: Field, const CAP: usize> MomentCheck<F, CAP> {
@@ -79,7 +80,8 @@ impl<F: Field, const CAP: usize> MomentCheck<F, CAP> {
 
     /// The degree of the moment, and of each polynomial.
     pub fn degree(&self) -> u8
-        ensures { result ≡ self.now.degree }
+        ensures same { result ≡ self.now.degree }
+        ensures fits { IsDegree result }
     {
         self.degree
     }
