@@ -131,13 +131,24 @@ impl<F: Field, const CAP: usize> MomentCheck<F, CAP> {
     /// Ends the check: `Reason::Root` where the last polynomial's value at the last challenge is
     /// not the power of `extension`, which is to be the extension of the vector at the challenges.
     ///
-    /// A `times` for each degree.
-    pub fn finish(self, extension: F) -> Result<(), Reason>
-        requires unspent { self.spent ≡ false }
-        requires whole { self.given ≡ length self.challenges }
-        requires left { self.given ≡ self.revealed + 1 }
-        ensures { result ≡ needs (self.expected
-            == (F.number extension ^ self.degree) % F.MODULUS) Reason.Root }
+    /// As many `times` as the degree.
+    pub fn finish(&mut self, extension: F) -> Result<(), Reason>
+        requires unspent { self.old.spent ≡ false }
+        requires whole { self.old.given ≡ length self.old.challenges }
+        requires left { self.old.given ≡ self.old.revealed + 1 }
+        ensures answer { result ≡ needs (self.old.expected
+            == (F.number extension ^ self.old.degree) % F.MODULUS) Reason.Root }
+        ensures spent { self.new ≡ record self.old { spent = is_err result } }
+    {
+        let tested = self.test_power(extension);
+        self.spent = tested.is_err();
+        tested
+    }
+
+    // Whether the power of the extension is what is expected.
+    fn test_power(&self, extension: F) -> Result<(), Reason>
+        ensures { result ≡ needs (self.now.expected
+            == (F.number extension ^ self.now.degree) % F.MODULUS) Reason.Root }
     {
         if !is_same(self.expected, power(extension, self.degree)) {
             return Err(Reason::Root);
