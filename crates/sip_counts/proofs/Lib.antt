@@ -4,5 +4,6 @@ pub mod Escapes
 pub mod Roots
 pub mod Differences
 pub mod Talks
+pub mod WrongClaims
 pub mod Walks
 pub mod Joint

@@ -10,6 +10,18 @@ unfolding sum_below
 sum_below-same zero f g h = refl
 sum_below-same (suc n) f g h = omega (arith, sum_below-same n f g h, h n)
 
+-- only what is below the bound counts
+pub sum_below-within : (p : ℕ) (f g : ℕ → ℕ) → ((x : ℕ) → x < p → f x ≡ g x) → sum_below p f ≡ sum_below p g
+unfolding sum_below
+sum_below-within zero f g h = refl
+sum_below-within (suc n) f g h = omega (arith, sum_below-within n f g (λ x lt. h x (omega arith)), h n (omega arith))
+
+-- the first term, and those behind it
+pub sum_below-front : (p : ℕ) (f : ℕ → ℕ) → sum_below (suc p) f ≡ f 0 + sum_below p (λ x. f (suc x))
+unfolding sum_below
+sum_below-front zero f = omega arith
+sum_below-front (suc n) f = omega (arith, sum_below-front n f)
+
 pub sum_below-le : (p : ℕ) (f g : ℕ → ℕ) → ((x : ℕ) → x < p → f x ≤ g x) → sum_below p f ≤ sum_below p g
 unfolding sum_below
 sum_below-le zero f g h = omega arith

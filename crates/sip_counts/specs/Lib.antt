@@ -2,4 +2,5 @@ pub mod Counts
 pub mod Strategies
 pub mod Joint
 pub mod Clauses
+pub mod Rounds
 pub mod Examples

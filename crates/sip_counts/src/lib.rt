@@ -12,6 +12,7 @@
 //! | `Strategies` | what a helper may do; its replies at a vector; the test that it has a wrong answer accepted there; how many vectors are such |
 //! | `Joint` | the same for several queries in turn, whose helper sees the earlier blocks of challenges |
 //! | `Clauses` | what a call that writes an answer promises of a helper that lies |
+//! | `Rounds` | the rounds of a sum-check of any degree: when stated polynomials add up, and which are true |
 //!
 //! A test is a function from a list of challenges to a truth value, and not a relation between
 //! challenges and replies: a strategy turns the second into the first, so that one count, one
@@ -31,6 +32,8 @@
 //!   no more than k points. So c is 1 for a check that compares lines (sub-vectors), 2 where it
 //!   compares parabolas (sums of products), 3 for cubics (counted nodes), and k for sums of k-th
 //!   powers: k is a variable in both laws.
+//! - [`rounds`]: at degree k no more than k·d·p^(d - 1) vectors lead a wrong claim to the right
+//!   value, whatever round polynomials are stated. The checks of sums are sum-checks of degree 2.
 //! - [`strategies`]: talks and finite maps as strategies, and the joint count.
 //! - [`examples`]: counts worked out one by one.
 #![tactic(auto)]
@@ -38,4 +41,5 @@
 pub mod counting;
 pub mod examples;
 pub mod polynomials;
+pub mod rounds;
 pub mod strategies;

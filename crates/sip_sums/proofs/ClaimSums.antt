@@ -17,7 +17,7 @@ use Rattle.sip_sums.specs.Claims.{value_in, value_within, squares_sum, products_
 abbrev pub kept : ℕ → List ℤ → List Entry
 kept i xs = filter (λ e. not (is_zero e.value)) (map as_entry (enumerate_from i xs))
 
-abbrev entry : ℕ → ℤ → Entry
+abbrev pub entry : ℕ → ℤ → Entry
 entry i x = record { index = i; value = x }
 
 kept-first : (i : ℕ) (x : ℤ) (xs : List ℤ) → kept i (x ∷ xs) ≡ cond (is_zero x) (kept (i + 1) xs) (entry i x ∷ kept (i + 1) xs)
@@ -26,11 +26,11 @@ kept-first i x xs = elim (cases_Bool (is_zero x)) [
   | inr t ↦ rw t refl
 ]
 
-abbrev sum_of : (Entry → ℤ) → List Entry → ℤ
+abbrev pub sum_of : (Entry → ℤ) → List Entry → ℤ
 sum_of f es = int_sum (map f es)
 
 -- a number counts whether it is 0 or not
-sum-first : (f : Entry → ℤ) → ((i : ℕ) → f (entry i (pos 0)) ≡ pos 0) → (i : ℕ) (x : ℤ) (xs : List ℤ)
+pub sum-first : (f : Entry → ℤ) → ((i : ℕ) → f (entry i (pos 0)) ≡ pos 0) → (i : ℕ) (x : ℤ) (xs : List ℤ)
     → sum_of f (kept i (x ∷ xs)) ≡ f (entry i x) +ℤ sum_of f (kept (i + 1) xs)
 sum-first f nothing i x xs = ap (sum_of f) (kept-first i x xs) ∙ elim (is_zero_tells x) [
   | inl t ↦ rw (t.0, t.1, nothing i) (omega (arith, ints))

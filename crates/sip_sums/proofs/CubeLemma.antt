@@ -8,6 +8,7 @@ use Rattle.sip_field.specs.Residue.{residue, difference_mod}
 use Rattle.sip_vector.specs.Extensions.{ext, line}
 use Rattle.sip_mle.proofs.Folding.{length-line, line_at, line_below, residues_below, fold_is_ext}
 use Rattle.sip_counts.specs.Counts.{sum_below}
+use Rattle.sip_counts.proofs.Sums.{sum_below-front, sum_below-within}
 use Rattle.sip_sums.specs.AcceptsSum.{Coefficients}
 use Rattle.sip_sums.specs.Honest.{Proving, begun, learnt, proving, constant, linear, square, cube, over_cube, over_pairs, round_polynomial, its_polynomial}
 use Rattle.sip_sums.proofs.RoundSums.{other_end}
@@ -16,16 +17,6 @@ abbrev pub Residues : ℕ → List ℕ → Type 0
 Residues p = All (λ x. x < p)
 
 -- ---- sums over the numbers below a bound
-
-sum_same : (m : ℕ) (f g : ℕ → ℕ) → ((i : ℕ) → i < m → f i ≡ g i) → sum_below m f ≡ sum_below m g
-unfolding sum_below
-sum_same zero f g same = refl
-sum_same (suc m) f g same = omega (arith, sum_same m f g (λ i lt. same i (omega arith)), same m (omega arith))
-
-sum_front : (m : ℕ) (f : ℕ → ℕ) → sum_below (suc m) f ≡ f 0 + sum_below m (λ i. f (suc i))
-unfolding sum_below
-sum_front zero f = omega arith
-sum_front (suc m) f = omega (arith, sum_front m f)
 
 -- the even numbers, and the odd ones
 sum_pairs : (m k : ℕ) (f : ℕ → ℕ) → k ≡ 2 * m → sum_below m (λ i. f (i * 2)) + sum_below m (λ i. f (i * 2 + 1)) ≡ sum_below k f
@@ -65,8 +56,8 @@ pairs_sum of zero (u ∷ w ∷ us) (x ∷ y ∷ xs) e f = absurd (omega arith)
 pairs_sum of (suc m) (u ∷ w ∷ us) (x ∷ y ∷ xs) e f =
     let rest = pairs_sum of m us xs (omega arith) (omega arith) in
     let shifted : sum_below m (λ i. pair_at of (u ∷ w ∷ us) (x ∷ y ∷ xs) (suc i)) ≡ sum_below m (pair_at of us xs) =
-    sum_same m _ _ (λ i lt. let a = behind_pair u w us i in let b = behind_pair x y xs i in cc) in
-    omega (arith, sum_front m (pair_at of (u ∷ w ∷ us) (x ∷ y ∷ xs)))
+    sum_below-within m _ _ (λ i lt. let a = behind_pair u w us i in let b = behind_pair x y xs i in cc) in
+    omega (arith, sum_below-front m (pair_at of (u ∷ w ∷ us) (x ∷ y ∷ xs)))
 
 -- ---- folds by bits
 
@@ -130,11 +121,11 @@ module _ (p : ℕ) (above_one : 1 < p) where
       let high = cube_is of n (λ k. f (1 ∷ k)) (line p us 1) (line p ws 1) (line p xs 1) (line p ys 1) (level_above n 1 us a) (level_above n 1 ws b) (level_above n 1 xs c) (level_above n 1 ys d)
       (λ k len below. each (1 ∷ k) (ap suc len) (All-cons (λ x. x < p) 1 k above_one below)) in
       let even : sum_below (2 ^ n) (four_at of (line p us 0) (line p ws 0) (line p xs 0) (line p ys 0)) ≡ sum_below (2 ^ n) (λ i. F (i * 2)) =
-      sum_same (2 ^ n) _ _ (λ i lt.
+      sum_below-within (2 ^ n) _ _ (λ i lt.
       let s = even_at us i a.below (inside n i us a lt) in let t = even_at ws i b.below (inside n i ws b lt) in
       let u = even_at xs i c.below (inside n i xs c lt) in let v = even_at ys i d.below (inside n i ys d lt) in cc) in
       let odd : sum_below (2 ^ n) (four_at of (line p us 1) (line p ws 1) (line p xs 1) (line p ys 1)) ≡ sum_below (2 ^ n) (λ i. F (i * 2 + 1)) =
-      sum_same (2 ^ n) _ _ (λ i lt.
+      sum_below-within (2 ^ n) _ _ (λ i lt.
       let s = odd_at us i a.below (inside n i us a lt) in let t = odd_at ws i b.below (inside n i ws b lt) in
       let u = odd_at xs i c.below (inside n i xs c lt) in let v = odd_at ys i d.below (inside n i ys d lt) in cc) in
       let whole = sum_pairs (2 ^ n) (2 ^ suc n) F (pow-succ' 2 n) in
@@ -172,7 +163,7 @@ module _ (p : ℕ) (above_one : 1 < p) where
     abbrev ys : List ℕ
     ys = now second revealed n rs two
 
-    over_cube_is : (of : ℕ → ℕ → ℕ → ℕ → ℕ) → over_cube p of first second revealed n ≡ over_pairs of xs ys
+    pub over_cube_is : (of : ℕ → ℕ → ℕ → ℕ → ℕ) → over_cube p of first second revealed n ≡ over_pairs of xs ys
     over_cube_is of =
         let a = now_level first revealed n rs one in
         let b = now_level second revealed n rs two in
@@ -182,7 +173,7 @@ module _ (p : ℕ) (above_one : 1 < p) where
         (λ k len below.
         let s = ext_is first revealed n rs one 0 k (omega arith) len below in let t = ext_is first revealed n rs one 1 k above_one len below in
         let u = ext_is second revealed n rs two 0 k (omega arith) len below in let v = ext_is second revealed n rs two 1 k above_one len below in cc)
-        ∙ sum_same (2 ^ n) _ _ (λ i lt.
+        ∙ sum_below-within (2 ^ n) _ _ (λ i lt.
         let s = even_at xs i a.below (inside n i xs a lt) in let t = odd_at xs i a.below (inside n i xs a lt) in
         let u = even_at ys i b.below (inside n i ys b lt) in let v = odd_at ys i b.below (inside n i ys b lt) in cc)
         ∙ sym (pairs_sum of (2 ^ n) xs ys long also)

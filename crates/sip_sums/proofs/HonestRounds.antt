@@ -11,7 +11,7 @@ use Rattle.sip_sums.specs.Stating.{AreElements}
 use Rattle.sip_sums.proofs.CubeLemma.{now_level, proving_lists, cube_lemma}
 use Rattle.sip_sums.proofs.ResidueProducts.{dot, residue_of_total}
 use Rattle.sip_sums.proofs.RoundSums.{value_is, ends_are}
-use Rattle.sip_sums.proofs.WrongRounds.{alone}
+use Rattle.sip_sums.proofs.DegreeTwo.{alone}
 
 abbrev Residues : ℕ → List ℕ → Type 0
 Residues p = All (λ x. x < p)

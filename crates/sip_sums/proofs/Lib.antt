@@ -6,6 +6,7 @@ pub mod AcceptedReplies
 pub mod AcceptedLists
 pub mod ResidueProducts
 pub mod RoundSums
+pub mod DegreeTwo
 pub mod WrongRounds
 pub mod ReadSums
 pub mod SaidSums

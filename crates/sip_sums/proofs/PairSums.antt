@@ -69,7 +69,7 @@ module _ (of : Of) (nothing : (x y : ℕ) → of 0 0 x y ≡ 0) where
 -- ---- the three coefficients
 
 module _ (p : ℕ) where
-  no_difference : difference_mod p 0 0 ≡ 0
+  pub no_difference : difference_mod p 0 0 ≡ 0
   no_difference = ap (λ n. n % p) (let e : 0 + (p - 0) ≡ p = omega arith in e) ∙ mod_self p
 
   pub constant-nothing : (x y : ℕ) → constant p 0 0 x y ≡ 0

@@ -1,11 +1,11 @@
 -- Walks over two rising lists of pairs beside each other.
 use Rattle.std.proofs.Common.{◌≡◌, ℕ, suc, ◌+◌, ◌-◌, ◌*◌, ◌%◌, ◌<◌, ◌≤◌, List, [], ◌∷◌, refl, sym, ap, ◌∙◌, arith}
-use Rattle.std.proofs.Math.Nat.{mod-eq_of_lt, mod_self}
+use Rattle.std.proofs.Math.Nat.{mod-eq_of_lt}
 use Rattle.sip_field.specs.Residue.{difference_mod}
 use Rattle.sip_sums.specs.AcceptsSum.{Coefficients}
 use Rattle.sip_sums.specs.Pairs.{Neighbours, neighbours, pair_at, summed, with_product, Rises}
 use Rattle.sip_sums.proofs.ListPairs.{rises-earlier, pair_at-earlier, pair_at-here, pair_at-later}
-use Rattle.sip_sums.proofs.PairSums.{IsReduced, made-same}
+use Rattle.sip_sums.proofs.PairSums.{IsReduced, made-same, no_difference}
 
 module _ (p : ℕ) where
   -- only the pairs that are taken matter
@@ -16,17 +16,14 @@ module _ (p : ℕ) where
       ap (λ t. summed p f (with_product p c s t) ss) (same s rise.0)
       ∙ summed-agree f g (suc s.index) n (with_product p c s (g s)) ss rise.2 (λ t le. same t (omega (arith, rise.0, le)))
 
-  no_difference : difference_mod p 0 0 ≡ 0
-  no_difference = ap (λ n. n % p) (let e : 0 + (p - 0) ≡ p = omega arith in e) ∙ mod_self p
-
   -- a pair of zeros adds nothing
   no_product : (c : Coefficients) (s : Neighbours) (k : ℕ) → IsReduced p c → with_product p c s (neighbours k 0 0) ≡ c
   no_product c s k h =
       made-same p _ _ _ c.c0 c.c1 c.c2
       (ap (λ n. n % p) (let e : c.c0 + s.left * 0 ≡ c.c0 = omega arith in e) ∙ mod-eq_of_lt h.c0)
-      (ap (λ d. (c.c1 + (s.left * d + 0 * difference_mod p s.right s.left)) % p) no_difference
+      (ap (λ d. (c.c1 + (s.left * d + 0 * difference_mod p s.right s.left)) % p) (no_difference p)
       ∙ ap (λ n. n % p) (let e : c.c1 + (s.left * 0 + 0 * difference_mod p s.right s.left) ≡ c.c1 = omega arith in e) ∙ mod-eq_of_lt h.c1)
-      (ap (λ d. (c.c2 + difference_mod p s.right s.left * d) % p) no_difference
+      (ap (λ d. (c.c2 + difference_mod p s.right s.left * d) % p) (no_difference p)
       ∙ ap (λ n. n % p) (let e : c.c2 + difference_mod p s.right s.left * 0 ≡ c.c2 = omega arith in e) ∙ mod-eq_of_lt h.c2)
 
   pub summed-nothing : (c : Coefficients) (ss : List Neighbours) → IsReduced p c → summed p (λ s. neighbours s.index 0 0) c ss ≡ c

@@ -16,9 +16,13 @@ pub record Coefficients : Type 0 where
   pub c1 : ℕ
   pub c2 : ℕ
 
+-- its coefficients, the constant one first
+abbrev pub listed : Coefficients → List ℕ
+listed c = c.c0 ∷ c.c1 ∷ c.c2 ∷ []
+
 -- its value at x
 abbrev pub value_at : ℕ → Coefficients → ℕ → ℕ
-value_at p c x = polynomial x (c.c0 ∷ c.c1 ∷ c.c2 ∷ []) % p
+value_at p c x = polynomial x (listed c) % p
 
 -- the sum of its values at 0 and at 1
 abbrev pub sum_of_ends : ℕ → Coefficients → ℕ

@@ -1,19 +1,20 @@
 //! Laws of the check of a sum. These functions do nothing: each contract is a fact that holds.
 #![tactic(auto, unfolding(crate::specs::AcceptsSum::adds_up, sip_replies::specs::Replies::run_from, sip_replies::specs::Replies::read_from, sip_wire::specs::Reading::read_frame, sip_wire::specs::Spelling::frame_fault, sip_wire::specs::Spelling::kind_fault, sip_wire::specs::Spelling::body_fault, sip_wire::specs::Spelling::asked, sip_wire::specs::Spelling::numbers_in, sip_wire::specs::Spelling::all_hold))]
 
-ghost use Rattle.std.specs.Prelude.{◌≡◌, ℕ, ◌+◌, ℤ, ◌<◌, ◌==◌, ◌&&◌, slice_index, replicate, drop, ◌++◌, true, pos, Ok, Err, List, [], ◌∷◌, length, All, filter, is_none};
+ghost use Rattle.std.specs.Prelude.{◌≡◌, ℕ, ◌+◌, ℤ, ◌<◌, ◌==◌, ◌&&◌, slice_index, replicate, drop, ◌++◌, true, pos, Ok, Err, List, [], ◌∷◌, length, map, All, filter, is_none};
 ghost use Rattle.std.specs.List.{range_with_len};
 ghost use Rattle.sip_field.specs.Moduli.{m61_modulus};
 ghost use Rattle.sip_field.specs.Residue.{residue};
 ghost use Rattle.sip_vector.specs.Answers.{Answer, number};
 ghost use Rattle.sip_vector.specs.Examples.{four};
 ghost use Rattle.sip_vector.specs.Extensions.{ones};
+ghost use Rattle.sip_counts.specs.Rounds.{adds_up as rounds_add_up};
 ghost use Rattle.sip_wire.specs.declared.message.Reason.TheVariants as reasons;
 ghost use Rattle.sip_wire.specs.declared.version.Version.{Version};
 ghost use Rattle.sip_wire.specs.declared.version.Version.TheVariants.{One, Two};
 ghost use Rattle.sip_wire.specs.Decoding.{IsBytes};
 ghost use Rattle.sip_replies.specs.Replies.{IsAccepted, verdict};
-ghost use Rattle.sip_sums.specs.AcceptsSum.{Coefficients, Stated, accepts_stated, adds_up, product_at, total, value_at, sum_of_ends};
+ghost use Rattle.sip_sums.specs.AcceptsSum.{Coefficients, Stated, accepts_stated, adds_up, listed, product_at, total, value_at, sum_of_ends};
 ghost use Rattle.sip_sums.specs.Checking.{Kept, adds_up_from, begun as started, with_polynomial, with_revealed};
 ghost use Rattle.sip_sums.specs.Counting.{accepts_sum};
 ghost use Rattle.sip_sums.specs.Examples.{claim_frame, coefficients, less, other, poly_frame, reply_0, reply_1, stated_products, stated_range, stated_squares, stated_two, verdict_of};
@@ -111,6 +112,13 @@ pub fn calls_are_steps_of_the_definition()
         → adds_up_from p product
         (with_revealed p check (slice_index check.challenges check.revealed)) []
         ≡ (value_at p check.last (slice_index check.challenges check.revealed) == product) }
+{}
+
+/// A sum's check is the sum-check of degree 2 of the rounds of any degree.
+pub fn sums_are_checked_at_degree_two()
+    ensures { (p product expected : ℕ) (cs : List Coefficients) (challenges : List ℕ)
+        → adds_up p product expected cs challenges
+        ≡ rounds_add_up p 2 product expected (map listed cs) challenges }
 {}
 
 /// The protocol, which goes state by state, is the check over whole lists. Accepted replies are the

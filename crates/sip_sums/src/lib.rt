@@ -9,6 +9,7 @@
 //! - [`SumCheck`] is the verifier's check of a claimed sum, round by round.
 //! - [`SumAsking`] is that check in the form in which the general talk of `sip_replies` asks.
 //! - [`SumProver`] is the honest side: the sum, and the true polynomial of each round.
+//! - [`next_pair`] goes over the pairs of neighbours of a folded list, for provers of other powers.
 //!
 //! # What is proved
 //!
@@ -87,5 +88,6 @@ pub mod proving;
 
 pub use asking::SumAsking;
 pub use check::SumCheck;
+pub use pairs::{Pair, next_pair};
 pub use polynomial::Poly;
 pub use prover::SumProver;

@@ -10,12 +10,15 @@ use sip_field::Field;
 use sip_mle::IntervalFold;
 use sip_vector::{Level, Spot};
 
-// The entries of a list at `2 * index` and after it.
+/// A pair of neighbours of a list.
 #[derive(Clone, Copy)]
-struct Pair<F> {
-    index: u64,
-    left: F,
-    right: F,
+pub struct Pair<F> {
+    /// The index of the pair in the folded list.
+    pub index: u64,
+    /// The entry at `2 * index`.
+    pub left: F,
+    /// The entry after it.
+    pub right: F,
 }
 
 /// The round polynomial of a list with itself. O(m) for m entries that are not 0, three `times` a
@@ -121,8 +124,9 @@ fn pair_of<F: Field>(interval: &IntervalFold<F>, index: u64) -> Pair<F>
     }
 }
 
-// The first pair of rising spots, and the spots behind it.
-fn next_pair<F: Field>(spots: &[Spot<F>]) -> Option<(Pair<F>, &[Spot<F>])>
+/// The first pair of neighbours among the spots of a list, whose indices rise, and the spots behind
+/// it; `None` where there are none. The entry of a pair that has no spot is 0. O(1).
+pub fn next_pair<F: Field>(spots: &[Spot<F>]) -> Option<(Pair<F>, &[Spot<F>])>
     ensures { MatchOption result (pairs_of F.number spots.now ≡ [])
         (λ r. IsNext F.number spots.now r.0 r.1.now) }
 {

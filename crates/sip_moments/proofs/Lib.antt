@@ -1,0 +1,12 @@
+pub mod Binomials
+pub mod RangeSums
+pub mod LevelPowers
+pub mod Residues
+pub mod TrueRounds
+pub mod WrongMoments
+pub mod MomentCube
+pub mod PairTerms
+pub mod IntPowers
+pub mod PowerSums
+pub mod CallSteps
+pub mod PowerSteps

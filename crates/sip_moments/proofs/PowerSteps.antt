@@ -1,0 +1,79 @@
+-- One step of a power, of the sum of a polynomial's ends, and of Pascal's rule.
+use Rattle.std.proofs.Common.{◌≡◌, ◌≢◌, ℕ, zero, suc, ◌+◌, ◌*◌, ◌-◌, ◌%◌, ◌^◌, ◌<◌, ◌≤◌, List, [], ◌∷◌, length, get_or, drop, map, sum, refl, ap, sym, ◌∙◌, add-one, arith}
+use Rattle.std.proofs.Math.Nat.{mod-add-mod, mod-eq_of_lt, pow-zero, pow-suc, pow-le-pow_right}
+use Rattle.std.proofs.lemmas.Nat.{mul-mod_first, mul-mod_second}
+use Rattle.std.proofs.lemmas.List.{drop_more}
+use Rattle.std.proofs.lemmas.List.Sums.{sum_by-cons}
+use Rattle.sip_counts.specs.Rounds.{sum_of_ends}
+use Rattle.sip_field.specs.Residue.{difference_mod}
+use Rattle.sip_moments.specs.Honest.{binomial, term}
+use Rattle.sip_moments.specs.Moments.{most_degree}
+use Rattle.sip_moments.proofs.Binomials.{binomial-most}
+
+-- ---- powers
+
+pub power-first : (p x v : ℕ) → v ≡ 1 % p → v ≡ (x ^ 0) % p
+power-first p x v e = e ∙ ap (λ n. n % p) (sym (pow-zero x))
+
+pub power-next : (p x i v w : ℕ) → v ≡ (x ^ i) % p → w ≡ (v * x) % p → w ≡ (x ^ (i + 1)) % p
+power-next p x i v w e f =
+    f ∙ ap (λ n. (n * x) % p) e ∙ mul-mod_first (x ^ i) x p ∙ ap (λ n. n % p) (sym (pow-suc x i) ∙ ap (λ n. x ^ n) (sym (add-one i)))
+
+-- ---- the sum of the values at 0 and 1
+
+module _ {F : Type 0} (number : F → ℕ) (p : ℕ) where
+  pub ends-first : (xs : List F) (x : F) → 0 < length xs → x ≡ get_or xs 0 x → (number x + sum (map number xs)) % p ≡ sum_of_ends p (map number xs)
+  ends-first [] x some is = absurd (omega arith)
+  ends-first (y ∷ ys) x some is =
+      ap (λ z. (number z + sum (map number (y ∷ ys))) % p) is
+      ∙ ap (λ n. n % p) (let e : number y + sum (map number (y ∷ ys)) ≡ 2 * number y + sum (map number ys) = omega (arith, sum_by-cons (λ n. n) (number y) (map number ys)) in e)
+
+  pub ends-next : (x : F) (xs : List F) (sum_so_far next all : ℕ) → (sum_so_far + sum (map number (x ∷ xs))) % p ≡ all → next ≡ (sum_so_far + number x) % p
+      → (next + sum (map number xs)) % p ≡ all
+  ends-next x xs so_far next all e f =
+      ap (λ n. (n + sum (map number xs)) % p) f ∙ mod-add-mod (so_far + number x) p (sum (map number xs))
+      ∙ ap (λ n. n % p) (let g : so_far + number x + sum (map number xs) ≡ so_far + sum (map number (x ∷ xs)) = omega (arith, sum_by-cons (λ n. n) (number x) (map number xs)) in g) ∙ e
+
+  pub ends-step : (xs : List F) (i : ℕ) (x : F) (so_far next all : ℕ) → i < length xs → x ≡ get_or xs i x → (so_far + sum (map number (drop i xs))) % p ≡ all → next ≡ (so_far + number x) % p
+      → (next + sum (map number (drop (i + 1) xs))) % p ≡ all
+  ends-step xs i x so_far next all lt is e f =
+      let more : drop i xs ≡ x ∷ drop (i + 1) xs = drop_more xs i x lt ∙ ap (λ y. y ∷ drop (i + 1) xs) (sym is) in
+      ends-next x (drop (i + 1) xs) so_far next all (ap (λ l. (so_far + sum (map number l)) % p) (sym more) ∙ e) f
+
+  pub ends-last : (xs : List F) (so_far all : ℕ) → xs ≡ [] → so_far < p → (so_far + sum (map number xs)) % p ≡ all → so_far ≡ all
+  ends-last xs so_far all none below e =
+      sym (mod-eq_of_lt below) ∙ ap (λ n. n % p) (let f : so_far ≡ so_far + sum (map number []) = omega arith in f)
+      ∙ ap (λ l. (so_far + sum (map number l)) % p) (sym none) ∙ e
+
+-- ---- binomial coefficients
+
+pub pascal : (n m r s : ℕ) → n ≢ 0 → m ≢ 0 → r ≡ binomial (n - 1) (m - 1) → s ≡ binomial (n - 1) m → r + s ≡ binomial n m
+pascal zero m r s some others e f = absurd (some refl)
+pascal (suc n) zero r s some others e f = absurd (others refl)
+pascal (suc n) (suc m) r s some others e f =
+    let less : suc n - 1 ≡ n = omega arith in
+    let fewer : suc m - 1 ≡ m = omega arith in
+    let left : r ≡ binomial n m = e ∙ ap (λ k. binomial k (suc m - 1)) less ∙ ap (binomial n) fewer in
+    let right : s ≡ binomial n (suc m) = f ∙ ap (λ k. binomial k (suc m)) less in
+    omega (arith, left, right)
+
+pub binomial-small : (n m : ℕ) → n ≤ most_degree → binomial n m ≤ 256
+binomial-small n m few =
+    let top = pow-le-pow_right {n = 2} (omega arith) {i = n} {j = 8} few in
+    omega (arith, binomial-most n m, top)
+
+pub none_of_nothing : (m : ℕ) → m ≢ 0 → 0 ≡ binomial 0 m
+none_of_nothing zero some = absurd (some refl)
+none_of_nothing (suc m) some = refl
+
+-- ---- the term of a pair
+
+pub term-steps : (p k m u w d b i v x y z : ℕ) → d ≡ difference_mod p w u → b ≡ binomial k m → i ≡ b % p → v ≡ (u ^ (k - m)) % p → x ≡ (i * v) % p → y ≡ (d ^ m) % p → z ≡ (x * y) % p
+    → z ≡ term p k m u w % p
+term-steps p k m u w d b i v x y z is_d is_b is_i is_v is_x is_y is_z =
+    let first : x ≡ (binomial k m * u ^ (k - m)) % p =
+    is_x ∙ ap (λ n. (n * v) % p) (is_i ∙ ap (λ n. n % p) is_b) ∙ ap (λ n. ((binomial k m % p) * n) % p) is_v
+    ∙ mul-mod_first (binomial k m) ((u ^ (k - m)) % p) p ∙ mul-mod_second (binomial k m) (u ^ (k - m)) p in
+    is_z ∙ ap (λ n. (n * y) % p) first ∙ ap (λ n. (((binomial k m * u ^ (k - m)) % p) * n) % p) is_y
+    ∙ mul-mod_first (binomial k m * u ^ (k - m)) ((d ^ m) % p) p ∙ mul-mod_second (binomial k m * u ^ (k - m)) (d ^ m) p
+    ∙ ap (λ n. (binomial k m * u ^ (k - m) * n ^ m) % p) is_d

@@ -1,0 +1,69 @@
+//! Frequency moments of degree 3 to 8: the sum of the k-th powers of a vector's numbers, checked by
+//! a sum-check of degree k (Cormode, Thaler, Yi, PVLDB 5(1), section 3).
+//!
+//! - [`MomentCheck`] is the verifier's check of a claimed moment, round by round.
+//! - [`MomentProver`] is the honest side: the moment, and the true polynomial of each round.
+//!
+//! The second moment is a sum of products, and `sip_sums` has its check. What the two have in
+//! common, the rounds of a sum-check of any degree and the count of the challenges at which a wrong
+//! claim is accepted, stands in `sip_counts` (`Rounds`).
+//!
+//! # What is proved
+//!
+//! - A check is seen as the few numbers that it keeps. `round` refuses exactly where a polynomial's
+//!   values at 0 and 1 do not add up to what is expected, and makes its value at the next challenge
+//!   the next expected number; `reveal` gives the challenges in order; `finish` refuses exactly
+//!   where the last value is not the power of the extension that the verifier knows. This holds
+//!   over every [`Field`](sip_field::Field), and each call is a step of the definition over whole
+//!   lists ([`laws`]).
+//! - A prover's claim is the moment, and its polynomials are those that are defined as sums over
+//!   the cube of all lists of bits. A moment is no larger than the same power of the vector's
+//!   weight ([`proving`]).
+//! - For every helper whose polynomials depend on the challenges revealed so far, at most
+//!   k·d·p^(d-1) of the p^d challenge vectors make the check accept a wrong moment ([`counting`]).
+//!
+//! Not yet here: the frames in which a claim and its polynomials are sent, and the talk.
+//!
+//! # The definitions to read
+//!
+//! | Module | Definitions |
+//! |---|---|
+//! | `Moments` | the moments of a vector, and for which of them a claim has room |
+//! | `AcceptsMoment` | what replies state, and when that is accepted |
+//! | `Checking` | what a check keeps, and what a call makes of it |
+//! | `Honest` | the true round polynomials, and what a prover keeps |
+//!
+//! `Powers` serves the contracts of private functions alone.
+//!
+//! # Cost
+//!
+//! No call of a check takes memory: it is the challenges, one number of the field, the degree and
+//! two counts. The unit of time is one `Field::times`.
+//!
+//! | Call | `times` |
+//! |---|---|
+//! | `MomentCheck::start` | 0, and one copy of the challenges |
+//! | `MomentCheck::round` at degree k | k + 1 |
+//! | `MomentCheck::reveal`, `MomentCheck::depth`, `MomentCheck::degree`, `MomentCheck::spent` | 0 |
+//! | `MomentCheck::finish` | k |
+//!
+//! A prover keeps 16 bytes for each entry of its vector that is not 0, and takes them at its start,
+//! in a time that is linear in these entries. With n pairs of neighbours left:
+//!
+//! | Call | `times` |
+//! |---|---|
+//! | `MomentProver::coefficient` at degree k | (k + 2)n |
+//! | `MomentProver::learn` | n |
+//! | `MomentProver::claim`, `MomentProver::degree`, `MomentProver::rounds_left` | 0 |
+#![tactic(auto)]
+
+mod check;
+mod claims;
+pub mod counting;
+pub mod laws;
+mod powers;
+mod prover;
+pub mod proving;
+
+pub use check::MomentCheck;
+pub use prover::MomentProver;
