@@ -7,8 +7,9 @@ use Rattle.sip_ports.proofs.TalkLemmas.{GoesOn-refl}
 use Rattle.sip_vector.specs.Limits.{most_depth}
 use Rattle.sip_verifier.specs.declared.status.Status.TheVariants as statuses
 use Rattle.sip_verifier.specs.declared.task.Task.{Task}
-use Rattle.sip_verifier.specs.inside.Progress.{Ended}
+use Rattle.sip_verifier.specs.Concluding.{Ended}
 use Rattle.sip_verifier.specs.Exchanges.{Exchange, Tells}
+use Rattle.sip_verifier.specs.Inquiries.{inquiry_of}
 use Rattle.sip_verifier.specs.KeepClause.{Keeps}
 use Rattle.sip_verifier.specs.Moments.{Moment, moment}
 use Rattle.sip_verifier.specs.Promises.{Promises}
@@ -32,7 +33,7 @@ nothing_is_honest = inl (record { steps = []; part = []; give = []; follows = re
 
 module _ (task : Task) (can : CanBeDone task) (some : 1 ≤ task.depth) (most : task.depth ≤ most_depth) where
   -- it wanted memory
-  wanted : (m : Moment) (x : Exchange) → Tells m m x → Ended task x m.faults m.faults statuses.OutOfMemory
+  wanted : (m : Moment) (x : Exchange) → Tells m m x → Ended (inquiry_of task x) x m.faults m.faults statuses.OutOfMemory
   wanted m x t = after_gather task x m.faults m.faults statuses.OutOfMemory _ _ t.talk (nothing_reported _ _ t.report) (inl refl) tt
 
   unbegun_promises : (m : Moment) (x : Exchange) → Tells m m x → Promises task x m.faults m.faults statuses.OutOfMemory
@@ -42,7 +43,7 @@ module _ (task : Task) (can : CanBeDone task) (some : 1 ≤ task.depth) (most : 
         verdict = e.verdict;
         talk = e.talk;
         cause = e.cause;
-        count = report_counts task x can.asked statuses.OutOfMemory e.verdict refl;
+        count = report_counts (inquiry_of task x) x can.asked statuses.OutOfMemory e.verdict refl;
         complete = completes task x some most (λ i other less. (can.asked i other less).1) m.faults m.faults statuses.OutOfMemory e.verdict e.cause refl;
         kept = kept_is (Keeps task x statuses.OutOfMemory) m.keep m.keep [] x.kept (GoesOn-refl m.keep) t.kept (inl refl);
       }

@@ -39,6 +39,7 @@ use Rattle.sip_verifier.specs.CauseClause.{CauseClause}
 use Rattle.sip_verifier.specs.CompletenessClause.{HasFewEntries}
 use Rattle.sip_verifier.specs.Draws.{blocks, challenge_count, drawn}
 use Rattle.sip_verifier.specs.Exchanges.{Exchange, Tells}
+use Rattle.sip_verifier.specs.Inquiries.{inquiry_of}
 use Rattle.sip_verifier.specs.Moments.{Counts, Moment}
 use Rattle.sip_verifier.specs.RunClause.{RunClause}
 use Rattle.sip_verifier.specs.Questions.{AreQuestions, IsFaulty, Question, Reached, questions_of, said_for, updates}
@@ -119,7 +120,7 @@ module _ (task : Task) (x : Exchange) (some : 1 ≤ task.depth) (most : task.dep
   v = version_of task
 
   abbrev stream : List Update
-  stream = updates task x
+  stream = updates (inquiry_of task x) x
 
   legal : IsLegal task.depth stream
   legal = records_legal task.depth task.form x.stream
@@ -147,13 +148,13 @@ module _ (task : Task) (x : Exchange) (some : 1 ≤ task.depth) (most : task.dep
         at = All-head (IsBlock task.depth) t.block (map (λ (t : Question). t.block) questions) bs;
       }) (all_posed questions (All-tail Can t.query (map (λ (t : Question). t.query) questions) qs) (All-tail (IsBlock task.depth) t.block (map (λ (t : Question). t.block) questions) bs))
 
-  posed : (questions : List Question) → AreQuestions task x questions → All (Posed v task.depth stream some legal) questions
+  posed : (questions : List Question) → AreQuestions (inquiry_of task x) x questions → All (Posed v task.depth stream some legal) questions
   posed questions are =
       let each : All Can task.queries.items = λ i d less. (can.asked i d less, speak i d less, good.few i d less) in
       all_posed questions (subst (All Can) (sym are.queries) (All-take Can (length questions) task.queries.items each))
       (subst (All (IsBlock task.depth)) (sym are.blocks) (All-take (IsBlock task.depth) (length questions) (blocks task are.challenges) (are_blocks task x.seed are.challenges some are.drawn)))
 
-  few_questions : (questions : List Question) → AreQuestions task x questions → length questions ≤ most_queries
+  few_questions : (questions : List Question) → AreQuestions (inquiry_of task x) x questions → length questions ≤ most_queries
   few_questions questions are =
       omega (arith, room, ap (λ (l : List Query). length l) are.queries, length-map questions (λ (t : Question). t.query), length-take (length questions) task.queries.items)
 
@@ -184,9 +185,9 @@ module _ (task : Task) (x : Exchange) (some : 1 ≤ task.depth) (most : task.dep
 
   -- ---- every query was accepted
 
-  pub accepted_report : AllWritten task x → x.report ≡ report_of task.depth stream task.queries.items
+  pub accepted_report : AllWritten (inquiry_of task x) x → x.report ≡ report_of task.depth stream task.queries.items
   accepted_report w =
-      let questions = questions_of task x w.done in
+      let questions = questions_of (inquiry_of task x) x w.done in
       let are = w.reached.are_questions in
       let C : Type 0 = x.report ≡ report_of task.depth stream task.queries.items in
       let Last : List ℕ → List ℕ → Type 0 = λ _ _. C in
@@ -211,14 +212,14 @@ module _ (task : Task) (x : Exchange) (some : 1 ≤ task.depth) (most : task.dep
   same_said [] t = append-nil (said_for v task.depth stream t)
   same_said (q ∷ l) t = ap (λ m. said_for v task.depth stream q ++ m) (same_said l t) ∙ sym (append_assoc (said_for v task.depth stream q) (flat_map (said_for v task.depth stream) l) (said_for v task.depth stream t))
 
-  rejected : (query round : ℕ) (reason : Reason) → (w : OneFaulty task x query round reason) → reason ≡ reasons.Refused want_of_memory
+  rejected : (query round : ℕ) (reason : Reason) → (w : OneFaulty (inquiry_of task x) x query round reason) → reason ≡ reasons.Refused want_of_memory
   rejected query round reason w = by_replies w.last.replies refl
     where
       fault : Fault
       fault = record { round = round; reason = reason }
 
       questions : List Question
-      questions = questions_of task x w.done
+      questions = questions_of (inquiry_of task x) x w.done
 
       all_are : All (Posed v task.depth stream some legal) (questions ++ w.last ∷ [])
       all_are = posed (questions ++ w.last ∷ []) w.reached.are_questions
@@ -275,11 +276,11 @@ module _ (task : Task) (x : Exchange) (some : 1 ≤ task.depth) (most : task.dep
 
 module _ (task : Task) (x : Exchange) (some : 1 ≤ task.depth) (most : task.depth ≤ most_depth) (room : length task.queries.items ≤ most_queries) (can : CanBeDone task) (talk : IsHonestTalk x.talk) where
   -- the promise, by the clauses of verdicts and of causes
-  pub duel_accepts : (before now : Counts) (status : Status) → VerdictClause task x status → CauseClause task x before now status → IsListed status → DuelAccepts task x before now status
+  pub duel_accepts : (before now : Counts) (status : Status) → VerdictClause (inquiry_of task x) x status → CauseClause (inquiry_of task x) x before now status → IsListed status → DuelAccepts task x before now status
   duel_accepts before now statuses.Accepted w cause is = λ good none. inl (refl, accepted_report task x some most room can good talk w)
   duel_accepts before now (statuses.Rejected query round reason) w cause is = λ good none. inr (inr (query, round, ap (λ (r : Reason). statuses.Rejected query round r) (rejected task x some most room can good talk query round reason w)))
   duel_accepts before now (statuses.BadStream at why) w cause is = λ good none. absurd (let fault = cause.2 in let legal = good.legal in cc)
-  duel_accepts before now (statuses.TooWide query) w cause is = λ good none. absurd (let legal : IsLegal task.depth (updates task x) = records_legal task.depth task.form x.stream in let narrow = none_wide (version_of task) task.depth (updates task x) task.queries.items legal.items good.few in let wide = cause.1 in cc)
+  duel_accepts before now (statuses.TooWide query) w cause is = λ good none. absurd (let legal : IsLegal task.depth (updates (inquiry_of task x) x) = records_legal task.depth task.form x.stream in let narrow = none_wide (version_of task) task.depth (updates (inquiry_of task x) x) task.queries.items legal.items good.few in let wide = cause.1 in cc)
   duel_accepts before now statuses.BadSeed w cause is = λ good none. absurd (some_drawn task x some most room can good talk (none_drawn (challenge_count task) x.seed cause))
   duel_accepts before now statuses.SeedSpent w cause is = λ good none. absurd (some_drawn task x some most room can good talk cause.1)
   duel_accepts before now (statuses.ReadFault ports.First) w cause is = λ good none. absurd (none.first cause.1)

@@ -13,6 +13,7 @@ use Rattle.sip_verifier.specs.declared.task.Task.{Task}
 use Rattle.sip_verifier.specs.CompletenessClause.{HasFewEntries, NoneRose}
 use Rattle.sip_verifier.specs.Draws.{drawn}
 use Rattle.sip_verifier.specs.Exchanges.{Exchange}
+use Rattle.sip_verifier.specs.Inquiries.{inquiry_of}
 use Rattle.sip_verifier.specs.Moments.{Counts}
 use Rattle.sip_verifier.specs.Questions.{IsLegalToEnd, updates}
 use Rattle.sip_verifier.specs.Reports.{report_of}
@@ -29,13 +30,14 @@ module _ (task : Task) (x : Exchange) where
   pub record IsGood : Type 0 where
     pub challenges : List ℕ
     pub drawn : drawn task x.seed ≡ Some challenges
-    pub legal : IsLegalToEnd task x
-    pub few : All (HasFewEntries (version_of task) task.depth (updates task x)) task.queries.items
+    pub legal : IsLegalToEnd (inquiry_of task x) x
+    pub few : All (HasFewEntries (version_of task) task.depth (updates (inquiry_of task x) x))
+        task.queries.items
 
   abbrev pub DuelAccepts : Counts → Counts → Status → Type 0
   DuelAccepts before now status =
       IsGood → NoneRose before now
       → ((status ≡ statuses.Accepted)
-      × (x.report ≡ report_of task.depth (updates task x) task.queries.items))
+      × (x.report ≡ report_of task.depth (updates (inquiry_of task x) x) task.queries.items))
       ⊎ (status ≡ statuses.OutOfMemory)
       ⊎ IsRefused status

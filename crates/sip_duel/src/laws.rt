@@ -7,6 +7,7 @@ ghost use Rattle.sip_verifier.specs.declared.status.Status.{Status as AnyStatus}
 ghost use Rattle.sip_verifier.specs.declared.task.Task.{Task as AnyTask};
 ghost use Rattle.sip_verifier.specs.CauseClause.{CauseClause};
 ghost use Rattle.sip_verifier.specs.Exchanges.{Exchange as AnyExchange};
+ghost use Rattle.sip_verifier.specs.Inquiries.{inquiry_of};
 ghost use Rattle.sip_verifier.specs.Moments.{Counts as AnyCounts};
 ghost use Rattle.sip_verifier.specs.Statuses.{IsListed};
 ghost use Rattle.sip_verifier.specs.Tasks.{CanBeDone};
@@ -21,6 +22,7 @@ pub fn honest_talks_are_accepted()
     ensures { (task : AnyTask) (x : AnyExchange) (before now : AnyCounts) (status : AnyStatus)
         → 1 ≤ task.depth → task.depth ≤ most_depth → length task.queries.items ≤ most_queries
         → CanBeDone task → IsHonestTalk x.talk
-        → VerdictClause task x status → CauseClause task x before now status → IsListed status
+        → VerdictClause (inquiry_of task x) x status
+        → CauseClause (inquiry_of task x) x before now status → IsListed status
         → DuelAccepts task x before now status }
 {}

@@ -9,14 +9,13 @@ use Rattle.sip_vector.specs.declared.query.Query.{Query}
 use Rattle.sip_vector.specs.Answers.{Fits}
 use Rattle.sip_vector.specs.Streams.{IsLegal}
 use Rattle.sip_wire.specs.declared.message.Reason.{Reason}
-use Rattle.sip_verifier.specs.Tasks.{version_of}
 use Rattle.sip_verifier.specs.declared.status.Port.TheVariants as ports
 use Rattle.sip_verifier.specs.declared.status.Status.{Status}
 use Rattle.sip_verifier.specs.declared.status.Status.TheVariants as statuses
-use Rattle.sip_verifier.specs.declared.task.Task.{Task}
 use Rattle.sip_verifier.specs.CountClause.{FewFor, CountsFor, Written, questions_written, lines_written, IsRejection, AreInTalk, CountClause}
 use Rattle.sip_replies.specs.Talks.{IsPrefix, ending}
 use Rattle.sip_verifier.specs.Exchanges.{Exchange}
+use Rattle.sip_verifier.specs.Inquiries.{Inquiry}
 use Rattle.sip_verifier.specs.Reports.{line, rejection}
 use Rattle.sip_verifier.specs.Statuses.{IsListed}
 use Rattle.sip_verifier.specs.Talks.{bye_sent}
@@ -26,113 +25,113 @@ use Rattle.sip_verifier.specs.VerdictClause.{OneFaulty, WereReached, PartWritten
 use Rattle.sip_verifier.proofs.CountedQuestions.{few_wrong, question_counts}
 use Rattle.sip_stream.proofs.LegalRecords.{records_legal}
 
-module _ (task : Task) (x : Exchange) (can : All (CanBeAsked task.depth) task.queries.items) where
-  fits : All (Fits task.depth) task.queries.items
-  fits i other less = (can i other less).1
+module _ (i : Inquiry) (x : Exchange) (can : All (CanBeAsked i.depth) i.queries) where
+  fits : All (Fits i.depth) i.queries
+  fits at other less = (can at other less).1
 
-  legal : IsLegal task.depth (updates task x)
-  legal = records_legal task.depth task.form x.stream
+  legal : IsLegal i.depth (updates i x)
+  legal = records_legal i.depth i.form x.stream
 
-  few_of : (queries : List Query) → All (CanBeAsked task.depth) queries
-      → All (FewFor (version_of task) task.depth (updates task x)) queries
-  few_of [] all = All-nil (FewFor (version_of task) task.depth (updates task x))
+  few_of : (queries : List Query) → All (CanBeAsked i.depth) queries
+      → All (FewFor i.version i.depth (updates i x)) queries
+  few_of [] all = All-nil (FewFor i.version i.depth (updates i x))
   few_of (q ∷ queries) all =
-      All-cons (FewFor (version_of task) task.depth (updates task x)) q queries
-      (few_wrong (version_of task) task.depth (updates task x) q (All-head (CanBeAsked task.depth) q queries all)
-      legal) (few_of queries (All-tail (CanBeAsked task.depth) q queries all))
+      All-cons (FewFor i.version i.depth (updates i x)) q queries
+      (few_wrong i.version i.depth (updates i x) q (All-head (CanBeAsked i.depth) q queries all)
+      legal) (few_of queries (All-tail (CanBeAsked i.depth) q queries all))
 
   -- what was written of accepted questions
-  written_of : Done task x → List Written
+  written_of : Done i x → List Written
   written_of done = map (λ a. record { question = a.question; answer = a.answer }) done
 
-  questions_same : (done : Done task x) → questions_written (written_of done) ≡ questions_of task x done
+  questions_same : (done : Done i x) → questions_written (written_of done) ≡ questions_of i x done
   unfolding written_of
   questions_same [] = refl
   questions_same (a ∷ done) = ap (λ ts. a.question ∷ ts) (questions_same done)
 
-  lines_same : (done : Done task x) → lines_written (written_of done) ≡ lines task x done
+  lines_same : (done : Done i x) → lines_written (written_of done) ≡ lines i x done
   unfolding written_of
   lines_same [] = refl
   lines_same (a ∷ done) = ap (λ ls. line a.question.query a.answer ++ ls) (lines_same done)
 
-  counted_of : (done : Done task x) → All (Fits task.depth) (map (λ (t : Question). t.query) (questions_of task x done)) → All (λ (w : Written). CountsFor (version_of task) task.depth (updates task x) w.question w.answer) (written_of done)
+  counted_of : (done : Done i x) → All (Fits i.depth) (map (λ (t : Question). t.query) (questions_of i x done)) → All (λ (w : Written). CountsFor i.version i.depth (updates i x) w.question w.answer) (written_of done)
   unfolding written_of
-  counted_of [] all = All-nil (λ (w : Written). CountsFor (version_of task) task.depth (updates task x) w.question w.answer)
+  counted_of [] all = All-nil (λ (w : Written). CountsFor i.version i.depth (updates i x) w.question w.answer)
   counted_of (a ∷ done) all =
-      All-cons (λ (w : Written). CountsFor (version_of task) task.depth (updates task x) w.question w.answer) (record { question = a.question; answer = a.answer }) (written_of done)
-      (question_counts (version_of task) task.depth (updates task x) a.question.query a.question.block a.question.replies a.answer (All-head (Fits task.depth) a.question.query _ all) legal a.accepts)
-      (counted_of done (All-tail (Fits task.depth) a.question.query _ all))
+      All-cons (λ (w : Written). CountsFor i.version i.depth (updates i x) w.question w.answer) (record { question = a.question; answer = a.answer }) (written_of done)
+      (question_counts i.version i.depth (updates i x) a.question.query a.question.block a.question.replies a.answer (All-head (Fits i.depth) a.question.query _ all) legal a.accepts)
+      (counted_of done (All-tail (Fits i.depth) a.question.query _ all))
 
   -- the queries of questions that were reached fit
-  all_fit : (questions : List Question) (rest : List TalkEvent) → Reached task x questions rest → All (Fits task.depth) (map (λ (t : Question). t.query) questions)
-  all_fit questions rest reached = subst (All (Fits task.depth)) (sym reached.are_questions.queries) (All-take (Fits task.depth) (length questions) task.queries.items fits)
+  all_fit : (questions : List Question) (rest : List TalkEvent) → Reached i x questions rest → All (Fits i.depth) (map (λ (t : Question). t.query) questions)
+  all_fit questions rest reached = subst (All (Fits i.depth)) (sym reached.are_questions.queries) (All-take (Fits i.depth) (length questions) i.queries fits)
 
-  front_fits : (questions more : List Question) → All (Fits task.depth) (map (λ (t : Question). t.query) (questions ++ more)) → All (Fits task.depth) (map (λ (t : Question). t.query) questions)
-  front_fits [] more all = All-nil (Fits task.depth)
+  front_fits : (questions more : List Question) → All (Fits i.depth) (map (λ (t : Question). t.query) (questions ++ more)) → All (Fits i.depth) (map (λ (t : Question). t.query) questions)
+  front_fits [] more all = All-nil (Fits i.depth)
   front_fits (t ∷ questions) more all =
-      All-cons (Fits task.depth) t.query (map (λ (t : Question). t.query) questions) (All-head (Fits task.depth) t.query _ all) (front_fits questions more (All-tail (Fits task.depth) t.query _ all))
+      All-cons (Fits i.depth) t.query (map (λ (t : Question). t.query) questions) (All-head (Fits i.depth) t.query _ all) (front_fits questions more (All-tail (Fits i.depth) t.query _ all))
 
-  talk_fits : (questions : List Question) → AreInTalk task x questions → All (Fits task.depth) (map (λ (t : Question). t.query) questions)
-  talk_fits questions (inl none) = subst (λ (ts : List Question). All (Fits task.depth) (map (λ (t : Question). t.query) ts)) (sym none) (All-nil (Fits task.depth))
+  talk_fits : (questions : List Question) → AreInTalk i x questions → All (Fits i.depth) (map (λ (t : Question). t.query) questions)
+  talk_fits questions (inl none) = subst (λ (ts : List Question). All (Fits i.depth) (map (λ (t : Question). t.query) ts)) (sym none) (All-nil (Fits i.depth))
   talk_fits questions (inr (after, rest, reached)) = front_fits questions (option_to_list after) (all_fit (questions ++ option_to_list after) rest reached)
 
   -- the clause, by the questions whose lines are written and what may follow them
-  clause_of : (done : Done task x) → AreInTalk task x (questions_of task x done) → (rejected : List ℕ) → IsRejection rejected → IsPrefix x.report (lines task x done ++ rejected) → CountClause task x
+  clause_of : (done : Done i x) → AreInTalk i x (questions_of i x done) → (rejected : List ℕ) → IsRejection rejected → IsPrefix x.report (lines i x done ++ rejected) → CountClause i x
   clause_of done reached rejected is report = record {
-    few = few_of task.queries.items can;
+    few = few_of i.queries can;
     lines = written_of done;
-    questions = subst (AreInTalk task x) (sym (questions_same done)) reached;
+    questions = subst (AreInTalk i x) (sym (questions_same done)) reached;
     rejected = rejected;
     is_rejection = is;
     report = subst (λ (ls : List ℕ). IsPrefix x.report (ls ++ rejected)) (sym (lines_same done)) report;
-    counted = counted_of done (talk_fits (questions_of task x done) reached);
+    counted = counted_of done (talk_fits (questions_of i x done) reached);
   }
 
-  were_in_talk : (done : Done task x) → WereReached task x done → AreInTalk task x (questions_of task x done)
-  were_in_talk done (inl none) = inl (ap (questions_of task x) none)
-  were_in_talk done (inr (rest, reached)) = inr (None, rest, subst (λ (ts : List Question). Reached task x ts rest) (sym (append-nil (questions_of task x done))) reached)
+  were_in_talk : (done : Done i x) → WereReached i x done → AreInTalk i x (questions_of i x done)
+  were_in_talk done (inl none) = inl (ap (questions_of i x) none)
+  were_in_talk done (inr (rest, reached)) = inr (None, rest, subst (λ (ts : List Question). Reached i x ts rest) (sym (append-nil (questions_of i x done))) reached)
 
   -- a report of whole lines
-  whole : (done : Done task x) → AreInTalk task x (questions_of task x done) → x.report ≡ lines task x done → CountClause task x
+  whole : (done : Done i x) → AreInTalk i x (questions_of i x done) → x.report ≡ lines i x done → CountClause i x
   whole done reached report = clause_of done reached [] (inl refl) ([], ap (λ (ls : List ℕ). ls ++ []) (sym report))
 
-  nothing : x.report ≡ [] → CountClause task x
+  nothing : x.report ≡ [] → CountClause i x
   nothing report = whole [] (inl refl) report
 
   front_of : (before part all more : List ℕ) → x.report ≡ before ++ part → all ≡ part ++ more → before ++ all ≡ x.report ++ more
   front_of before part all more report is = ap (λ (l : List ℕ). before ++ l) is ∙ sym (append_assoc before part more) ∙ ap (λ (l : List ℕ). l ++ more) (sym report)
 
   -- a report that ends in a part of an answer's line
-  part_written : (done : Done task x) (part : List ℕ) → PartWritten task x done part → x.report ≡ lines task x done ++ part → CountClause task x
+  part_written : (done : Done i x) (part : List ℕ) → PartWritten i x done part → x.report ≡ lines i x done ++ part → CountClause i x
   part_written done part w report =
       let all = done ++ w.next ∷ [] in
-      let questions : questions_of task x all ≡ questions_of task x done ++ w.next.question ∷ [] = map-append _ done (w.next ∷ []) in
-      let ends : lines task x all ≡ lines task x done ++ line w.next.question.query w.next.answer = flat_map-append _ done (w.next ∷ []) ∙ ap (λ (l : List ℕ). lines task x done ++ l) (append-nil _) in
+      let questions : questions_of i x all ≡ questions_of i x done ++ w.next.question ∷ [] = map-append _ done (w.next ∷ []) in
+      let ends : lines i x all ≡ lines i x done ++ line w.next.question.query w.next.answer = flat_map-append _ done (w.next ∷ []) ∙ ap (λ (l : List ℕ). lines i x done ++ l) (append-nil _) in
       clause_of all
-      (inr (None, [], subst (λ (ts : List Question). Reached task x ts []) (sym questions ∙ sym (append-nil (questions_of task x all))) w.reached)) [] (inl refl)
-      (w.front.0, append-nil _ ∙ ends ∙ front_of (lines task x done) part (line w.next.question.query w.next.answer) w.front.0 report w.front.1)
+      (inr (None, [], subst (λ (ts : List Question). Reached i x ts []) (sym questions ∙ sym (append-nil (questions_of i x all))) w.reached)) [] (inl refl)
+      (w.front.0, append-nil _ ∙ ends ∙ front_of (lines i x done) part (line w.next.question.query w.next.answer) w.front.0 report w.front.1)
 
   -- a report that ends in a part of a rejection's line
-  part_rejected : (done : Done task x) (part : List ℕ) → PartRejected task x done part → x.report ≡ lines task x done ++ part → CountClause task x
+  part_rejected : (done : Done i x) (part : List ℕ) → PartRejected i x done part → x.report ≡ lines i x done ++ part → CountClause i x
   part_rejected done part w report =
       clause_of done (inr (Some w.last, ending w.fault.reason, w.reached)) (rejection (suc (length done)) w.fault.round w.fault.reason)
       (inr (suc (length done), w.fault.round, w.fault.reason, refl))
-      (w.front.0, front_of (lines task x done) part (rejection (suc (length done)) w.fault.round w.fault.reason) w.front.0 report w.front.1)
+      (w.front.0, front_of (lines i x done) part (rejection (suc (length done)) w.fault.round w.fault.reason) w.front.0 report w.front.1)
 
-  rejected : (query round : ℕ) (reason : Reason) → OneFaulty task x query round reason → CountClause task x
+  rejected : (query round : ℕ) (reason : Reason) → OneFaulty i x query round reason → CountClause i x
   rejected query round reason w =
       clause_of w.done (inr (Some w.last, ending reason, w.reached)) (rejection query round reason) (inr (query, round, reason, refl)) ([], sym w.report ∙ sym (append-nil x.report))
 
-  cut_in_line : (w : CutInLine task x) → (verdict : PartWritten task x w.done w.part ⊎ PartRejected task x w.done w.part) → CountClause task x
+  cut_in_line : (w : CutInLine i x) → (verdict : PartWritten i x w.done w.part ⊎ PartRejected i x w.done w.part) → CountClause i x
   cut_in_line w (inl written) = part_written w.done w.part written w.report
   cut_in_line w (inr other) = part_rejected w.done w.part other w.report
 
   -- a report that has the lines of the queries before one that was not judged
-  unjudged : UnjudgedWritten task x → CountClause task x
+  unjudged : UnjudgedWritten i x → CountClause i x
   unjudged (end, report) = whole end.done (inr (Some end.last, end.ended, end.reached)) report
 
-  pub report_counts : (status : Status) → VerdictClause task x status → IsListed status → CountClause task x
-  report_counts statuses.Accepted v is = whole v.done (were_in_talk v.done (inr (bye_sent (version_of task), v.reached))) v.report
+  pub report_counts : (status : Status) → VerdictClause i x status → IsListed status → CountClause i x
+  report_counts statuses.Accepted v is = whole v.done (were_in_talk v.done (inr (bye_sent i.version, v.reached))) v.report
   report_counts (statuses.Rejected query round reason) v is = rejected query round reason v
   report_counts (statuses.Usage word) v is = nothing v
   report_counts (statuses.BadStream at why) v is = nothing v

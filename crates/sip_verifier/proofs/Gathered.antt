@@ -8,7 +8,7 @@ use Rattle.sip_wire.specs.Table.{most_rows}
 use Rattle.std.specs.Prelude.{Some, None, Ok, Err}
 use Rattle.std.specs.declared.option.Option.{Option}
 use Rattle.sip_ports.specs.declared.port.PortStop.{PortStop}
-use Rattle.sip_ports.specs.declared.port.PortStop.TheVariants as ports
+use Rattle.sip_ports.specs.declared.port.PortStop.TheVariants as stops
 use Rattle.sip_ports.specs.declared.port.TalkEvent.{TalkEvent}
 use Rattle.sip_ports.specs.Ports.{GoesOn}
 use Rattle.sip_vector.specs.declared.update.Side.{Side}
@@ -22,12 +22,15 @@ use Rattle.sip_stream.specs.Records.{Records, records, records_from, pieces_of}
 use Rattle.sip_stream.proofs.Copies.{read_front}
 use Rattle.sip_stream.proofs.RecordsRead.{came_front, records_end}
 use Rattle.sip_verifier.specs.Tasks.{version_of}
+use Rattle.sip_verifier.specs.declared.status.Port.TheVariants as ports
+use Rattle.sip_verifier.specs.declared.status.Status.{Status}
+use Rattle.sip_verifier.specs.declared.status.Status.TheVariants as statuses
 use Rattle.sip_verifier.specs.declared.task.Task.{Task}
-use Rattle.sip_verifier.specs.inside.Drawing.{AreOf, HasDrawn}
+use Rattle.sip_verifier.specs.inside.Drawing.{HasDrawn}
 use Rattle.sip_verifier.specs.Draws.{blocks}
 use Rattle.sip_verifier.specs.inside.Ending.{status_of_link, status_of_stream}
 use Rattle.sip_replies.specs.Talks.{IsPrefix}
-use Rattle.sip_verifier.specs.Gathering.{legal, before_end, IsGathered, IsCut, IsCutBefore, HasSeed, Gathers}
+use Rattle.sip_verifier.specs.Gathering.{AreOf, legal, before_end, Breaks, IsCut, IsCutBefore, IsGathered, IsPassedOn, HasSeed, Refuses}
 use Rattle.sip_verifier.specs.Feeding.{fills, waiting_with}
 use Rattle.sip_verifier.specs.inside.Passing.{taken_with}
 use Rattle.sip_verifier.specs.QuerySeats.{HaveRoom}
@@ -36,7 +39,7 @@ use Rattle.sip_verifier.specs.inside.Sending.{IsSentBut, IsStopped, IsStoppedAtE
 use Rattle.sip_verifier.specs.Talks.{whole_frames, opening_sent, stream_sent}
 use Rattle.sip_verifier.proofs.SeatTotals.{all_front, legal_room}
 use Rattle.sip_verifier.proofs.StreamSending.{stopped}
-use Rattle.sip_verifier.proofs.StreamSent.{IsPrefix-trans, frames_front, stream_sent-front, whole_frames-waiting}
+use Rattle.sip_verifier.proofs.StreamSent.{IsPrefix-trans, before_end-short, frames_front, stream_sent-front, whole_frames-waiting}
 
 -- The records read so far are this stream. All but what waits was sent, and the seats stand for that.
 pub record IsUnderway (task : Task) (bytes : List ℕ) (at_blocks : List (List ℕ)) (left : Option (List ℕ)) (start now : Option (List TalkEvent)) (reader : Reading) (seats : Seating) (waiting : List Update) : Type 0 where
@@ -101,19 +104,13 @@ pub fair_items : (depth : ℕ) (us : List Update) → All (IsFair depth) us → 
 fair_items depth [] fair = All-nil (λ (u : Update). u.item < 2 ^ depth)
 fair_items depth (u ∷ us) fair = All-cons (λ (v : Update). v.item < 2 ^ depth) u us (All-head (IsFair depth) u us fair).item (fair_items depth us (All-tail (IsFair depth) u us fair))
 
-module _ (task : Task) (bytes seed : List ℕ) (start : Option (List TalkEvent)) (first : Seating) (has : HasDrawn task seed first) where
-  abbrev at_blocks : List (List ℕ)
-  at_blocks = blocks task has.challenges
-
-  gives : HasSeed task bytes seed
-  gives = (has.challenges, has.draws)
-
+module _ (task : Task) (bytes : List ℕ) (start : Option (List TalkEvent)) (first : Seating) (at_blocks : List (List ℕ)) (has : AreSeats task.depth task.queries.items at_blocks [] first) where
   -- before the first record
   pub begins : (left : Option (List ℕ)) (now : Option (List TalkEvent)) (reader : Reading) (waiting : List Update)
       → left ≡ Some bytes → IsAfter reader [] → IsSentBut (version_of task) task.depth start now [] waiting → IsUnderway task bytes at_blocks left start now reader first waiting
   begins left now reader waiting all after said =
       let none : said.sent ≡ [] = nil_from_length said.sent (omega (arith, ap length said.order, length-append said.sent waiting)) in
-      record { rest = bytes; to_come = all; stream = []; after = after; ahead = refl; said = said; stand = subst (λ l. AreSeats task.depth task.queries.items at_blocks l first) (sym none) has.stand }
+      record { rest = bytes; to_come = all; stream = []; after = after; ahead = refl; said = said; stand = subst (λ l. AreSeats task.depth task.queries.items at_blocks l first) (sym none) has }
 
   -- after one more record
   pub goes_on : (left left' : Option (List ℕ)) (now now' : Option (List TalkEvent)) (reader reader' : Reading) (seats seats' : Seating) (waiting waiting' : List Update) (u : Update)
@@ -153,32 +150,33 @@ module _ (task : Task) (bytes seed : List ℕ) (start : Option (List TalkEvent))
       }
 
   -- the records so far are a front of the legal ones
-  is_front : (stream : List Update) (rest : List ℕ) → records task.depth task.form bytes ≡ records_from task.depth task.form stream rest → IsPrefix stream (legal task bytes seed)
+  is_front : (stream : List Update) (rest : List ℕ) → records task.depth task.form bytes ≡ records_from task.depth task.form stream rest → IsPrefix stream (legal task bytes)
   is_front stream rest ahead = subst (λ (r : Records). IsPrefix stream r.legal) (sym ahead) (read_front task.depth task.form stream (pieces_of (layout_of task.form) rest))
 
   -- what was said of a front of the legal records is a front of what is said of them
-  cut_before : (now : Option (List TalkEvent)) (stream : List Update) → IsPrefix stream (legal task bytes seed) → IsStopped (version_of task) task.depth start now stream → IsCutBefore task bytes seed start now
+  cut_before : (now : Option (List TalkEvent)) (stream : List Update) → IsPrefix stream (legal task bytes) → IsStopped (version_of task) task.depth start now stream → IsCutBefore task bytes start now
   cut_before now stream front stop = record {
     said = stop.said;
     talk = stop.talk;
     order = IsPrefix-trans _ _ _ stop.order (subst (λ l. IsPrefix (opening_sent (version_of task) task.depth (whole_frames stream)) (opening_sent (version_of task) task.depth (whole_frames l))) (sym front.1) (frames_front (version_of task) task.depth stream front.0));
   }
 
-  cut_short : (now : Option (List TalkEvent)) → IsCutBefore task bytes seed start now → IsCut task bytes seed start now
+  cut_short : (now : Option (List TalkEvent)) → IsCutBefore task bytes start now → IsCut task bytes start now
   cut_short now cut = record {
     said = cut.said;
     talk = cut.talk;
-    order = IsPrefix-trans _ _ _ cut.order (stream_sent-front (version_of task) task.depth (legal task bytes seed));
+    order = IsPrefix-trans _ _ _ cut.order (stream_sent-front (version_of task) task.depth (legal task bytes));
+    short = omega (arith, ap length cut.order.1, length-append cut.said cut.order.0, before_end-short (version_of task) task.depth (legal task bytes));
     illegal = λ _. cut.order;
   }
 
   -- it stopped in the opening
-  pub stops_first : (now : Option (List TalkEvent)) → IsStopped (version_of task) task.depth start now [] → IsCut task bytes seed start now
-  stops_first now stop = cut_short now (cut_before now [] (legal task bytes seed, refl) stop)
+  pub stops_first : (now : Option (List TalkEvent)) → IsStopped (version_of task) task.depth start now [] → IsCut task bytes start now
+  stops_first now stop = cut_short now (cut_before now [] (legal task bytes, refl) stop)
 
   -- it stopped after one more record was read
   pub stops_after : (left left' : Option (List ℕ)) (now now' : Option (List TalkEvent)) (reader : Reading) (seats : Seating) (waiting : List Update) (u : Update)
-      (so : IsUnderway task bytes at_blocks left start now reader seats waiting) → Reads task.depth task.form so.stream so.rest left' (Ok (Some u)) → IsStopped (version_of task) task.depth start now' (so.stream ++ u ∷ []) → IsCut task bytes seed start now'
+      (so : IsUnderway task bytes at_blocks left start now reader seats waiting) → Reads task.depth task.form so.stream so.rest left' (Ok (Some u)) → IsStopped (version_of task) task.depth start now' (so.stream ++ u ∷ []) → IsCut task bytes start now'
   stops_after left left' now now' reader seats waiting u so (piece, rest, told, split, same) stop =
       cut_short now' (cut_before now' (so.stream ++ u ∷ []) (is_front (so.stream ++ u ∷ []) rest (so.ahead ∙ same)) stop)
 
@@ -189,24 +187,23 @@ module _ (task : Task) (bytes seed : List ℕ) (start : Option (List TalkEvent))
 
   -- the rest or the end was cut short
   pub stops_at_end : (left left' : Option (List ℕ)) (now new : Option (List TalkEvent)) (reader : Reading) (seats : Seating) (waiting : List Update)
-      (so : IsUnderway task bytes at_blocks left start now reader seats waiting) → Reads task.depth task.form so.stream so.rest left' (Ok None) → IsStoppedAtEnd (version_of task) task.depth start new so.stream → IsCut task bytes seed start new
+      (so : IsUnderway task bytes at_blocks left start now reader seats waiting) → Reads task.depth task.form so.stream so.rest left' (Ok None) → IsStoppedAtEnd (version_of task) task.depth start new so.stream → IsCut task bytes start new
   stops_at_end left left' now new reader seats waiting so reads stop =
       let is = ended left left' now reader seats waiting so reads in
       record {
         said = stop.said;
         talk = stop.talk;
         order = subst (λ (r : Records). IsPrefix stop.said (stream_sent (version_of task) task.depth r.legal)) (sym is) stop.order;
+        short = subst (λ (r : Records). length stop.said < length (stream_sent (version_of task) task.depth r.legal)) (sym is) stop.short;
         illegal = λ not. absurd (not (ap (λ (r : Records). r.fault) is));
       }
 
   -- the stream was read and sent whole, and the seats took those that waited
-  pub gathered : (left left' : Option (List ℕ)) (now new : Option (List TalkEvent)) (reader : Reading) (seats seats' : Seating) (waiting : List Update)
-      (so : IsUnderway task bytes at_blocks left start now reader seats waiting) → Reads task.depth task.form so.stream so.rest left' (Ok None) → GoesOn start new (stream_sent (version_of task) task.depth so.stream) → AreSeats task.depth task.queries.items at_blocks (so.said.sent ++ waiting) seats' → IsGathered task bytes seed left' start new seats'
-  gathered left left' now new reader seats seats' waiting so reads said stand =
+  pub passed_on : (left left' : Option (List ℕ)) (now new : Option (List TalkEvent)) (reader : Reading) (seats seats' : Seating) (waiting : List Update)
+      (so : IsUnderway task bytes at_blocks left start now reader seats waiting) → Reads task.depth task.form so.stream so.rest left' (Ok None) → GoesOn start new (stream_sent (version_of task) task.depth so.stream) → AreSeats task.depth task.queries.items at_blocks (so.said.sent ++ waiting) seats' → IsPassedOn task bytes at_blocks left' start new seats'
+  passed_on left left' now new reader seats seats' waiting so reads said stand =
       let is = ended left left' now reader seats waiting so reads in
       record {
-        challenges = has.challenges;
-        draws = has.draws;
         to_end = ap (λ (r : Records). r.fault) is;
         read = reads.0;
         talk = subst (λ (r : Records). GoesOn start new (stream_sent (version_of task) task.depth r.legal)) (sym is) said;
@@ -216,23 +213,44 @@ module _ (task : Task) (bytes seed : List ℕ) (start : Option (List TalkEvent))
   -- ---- what is answered
 
   -- the link stopped
-  pub link_stops : (left : Option (List ℕ)) (now : Option (List TalkEvent)) (stop : PortStop) → IsCut task bytes seed start now → Gathers task bytes seed left start now (Err (status_of_link stop))
-  link_stops left now ports.Failed cut = (gives, cut)
-  link_stops left now ports.OutOfMemory cut = inr (gives, cut)
+  pub link_stops : (now : Option (List TalkEvent)) (stop : PortStop) → IsCut task bytes start now → Breaks task bytes start now (status_of_link stop)
+  link_stops now stops.Failed cut = cut
+  link_stops now stops.OutOfMemory cut = cut
 
   -- it stopped between two records
-  stops_between : (left : Option (List ℕ)) (now : Option (List TalkEvent)) (reader : Reading) (seats : Seating) (waiting : List Update) → IsUnderway task bytes at_blocks left start now reader seats waiting → IsCutBefore task bytes seed start now
+  stops_between : (left : Option (List ℕ)) (now : Option (List TalkEvent)) (reader : Reading) (seats : Seating) (waiting : List Update) → IsUnderway task bytes at_blocks left start now reader seats waiting → IsCutBefore task bytes start now
   stops_between left now reader seats waiting so = cut_before now so.stream (is_front so.stream so.rest so.ahead) (stopped (version_of task) task.depth start now so.stream waiting so.said)
 
   -- no record was read: the next one is not legal, or the source stopped
   pub reading_stops : (left left' : Option (List ℕ)) (now : Option (List TalkEvent)) (reader : Reading) (seats : Seating) (waiting : List Update) (fault : StreamFault)
-      (so : IsUnderway task bytes at_blocks left start now reader seats waiting) → Reads task.depth task.form so.stream so.rest left' (Err fault) → Gathers task bytes seed left' start now (Err (status_of_stream fault))
+      (so : IsUnderway task bytes at_blocks left start now reader seats waiting) → Reads task.depth task.form so.stream so.rest left' (Err fault) → Breaks task bytes start now (status_of_stream fault)
   reading_stops left left' now reader seats waiting (faults.Bad at why) so (front, number, same) =
       let is : records task.depth task.form bytes ≡ record { legal = so.stream; fault = Some why } = so.ahead ∙ same in
-      let frames : before_end task bytes seed ≡ opening_sent (version_of task) task.depth so.said.sent =
+      let frames : before_end task bytes ≡ opening_sent (version_of task) task.depth so.said.sent =
       ap (λ (r : Records). opening_sent (version_of task) task.depth (whole_frames r.legal)) is
       ∙ ap (λ l. opening_sent (version_of task) task.depth (whole_frames l)) so.said.order
       ∙ ap (opening_sent (version_of task) task.depth) (whole_frames-waiting so.said.sent waiting so.said.whole so.said.few) in
-      (gives, number ∙ ap (λ (r : Records). length r.legal) (sym is), ap (λ (r : Records). r.fault) is, subst (GoesOn start now) (sym frames) so.said.talk)
-  reading_stops left left' now reader seats waiting faults.ReadFault so front = (gives, stops_between left now reader seats waiting so)
-  reading_stops left left' now reader seats waiting faults.OutOfMemory so front = inr (gives, cut_short now (stops_between left now reader seats waiting so))
+      (number ∙ ap (λ (r : Records). length r.legal) (sym is), ap (λ (r : Records). r.fault) is, subst (GoesOn start now) (sym frames) so.said.talk)
+  reading_stops left left' now reader seats waiting faults.ReadFault so front = stops_between left now reader seats waiting so
+  reading_stops left left' now reader seats waiting faults.OutOfMemory so front = cut_short now (stops_between left now reader seats waiting so)
+
+-- ---- behind the draw
+
+module _ (task : Task) (bytes seed : List ℕ) (first : Seating) (has : HasDrawn task seed first) where
+  gives : HasSeed task bytes seed
+  gives = (has.challenges, has.draws)
+
+  -- the stream was not passed on
+  pub refuses : (old new : Option (List TalkEvent)) (status : Status) → Breaks task bytes old new status → Refuses task bytes seed old new status
+  refuses old new (statuses.BadStream at why) breaks = (gives, breaks)
+  refuses old new (statuses.ReadFault ports.First) breaks = (gives, breaks)
+  refuses old new (statuses.ReadFault ports.Second) breaks = absurd breaks
+  refuses old new (statuses.ReadFault ports.Report) breaks = absurd breaks
+  refuses old new (statuses.ReadFault ports.Keep) breaks = absurd breaks
+  refuses old new statuses.PeerFault breaks = (gives, breaks)
+  refuses old new statuses.OutOfMemory breaks = inr (gives, breaks)
+  refuses old new _ breaks = absurd breaks
+
+  -- it was
+  pub gathered : {left : Option (List ℕ)} {old new : Option (List TalkEvent)} {seats : Seating} → IsPassedOn task bytes (blocks task has.challenges) left old new seats → IsGathered task bytes seed left old new seats
+  gathered passed = record { challenges = has.challenges; draws = has.draws; passed = passed }

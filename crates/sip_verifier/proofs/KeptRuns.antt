@@ -1,11 +1,9 @@
 -- What is kept of a run: the head, and then what is heard.
-use Rattle.std.proofs.Common.{◌≡◌, ℕ, Option, Some, None, Result, Ok, Err, List, [], ◌∷◌, ◌++◌, refl, sym, ap, subst, ◌∙◌, inl, inr, append_assoc, append-nil, take}
-use Rattle.std.specs.Prelude.{IfSome, IsTrue, MatchResult}
-use Rattle.sip_ports.specs.declared.port.PortStop.{PortStop}
-use Rattle.sip_ports.specs.declared.port.PortStop.TheVariants as port_stops
+use Rattle.std.proofs.Common.{◌≡◌, ℕ, Option, Some, None, Result, Ok, Err, List, [], ◌∷◌, ◌++◌, refl, sym, ap, subst, ◌∙◌, inl, inr, append_assoc, append-nil}
+use Rattle.std.specs.Prelude.{IfErr, IfSome, IsTrue}
 use Rattle.sip_ports.specs.declared.port.TalkEvent.{TalkEvent}
-use Rattle.sip_ports.specs.Ports.{GoesOn, SendsWhole, heard, outs}
-use Rattle.sip_ports.proofs.TalkLemmas.{GoesOn-refl, GoesOn-trans, heard-append, heard-outs, outs-append}
+use Rattle.sip_ports.specs.Ports.{GoesOn, heard, outs}
+use Rattle.sip_ports.proofs.TalkLemmas.{GoesOn-refl, GoesOn-trans, heard-append, outs-append}
 use Rattle.sip_replies.specs.Talks.{IsPrefix}
 use Rattle.sip_verifier.specs.declared.session.SessionStart.{SessionStart}
 use Rattle.sip_verifier.specs.declared.session.SessionStart.TheVariants as starts
@@ -14,10 +12,10 @@ use Rattle.sip_verifier.specs.declared.status.Status.{Status}
 use Rattle.sip_verifier.specs.declared.status.Status.TheVariants as statuses
 use Rattle.sip_verifier.specs.declared.task.Task.{Task}
 use Rattle.sip_verifier.specs.Exchanges.{Appends, Exchange}
+use Rattle.sip_verifier.specs.Inquiries.{inquiry_of}
 use Rattle.sip_verifier.specs.Gathering.{Refuses, IsCut}
-use Rattle.sip_verifier.specs.inside.Ending.{status_of_link, status_of_start}
-use Rattle.sip_verifier.specs.inside.Progress.{Kept, status_of}
-use Rattle.sip_verifier.specs.Keeping.{HeadIsKept, HeadIsCut, KeepsHead, AllIsKept, FrontIsKept}
+use Rattle.sip_verifier.specs.inside.Ending.{status_of_start}
+use Rattle.sip_verifier.specs.Keeping.{HeadIsKept, HeadIsCut, KeepsHead, AllIsKept, FrontIsKept, KeepsTalk}
 use Rattle.sip_verifier.specs.KeepClause.{IsTranscript, HasHead, IsCutTranscript, Keeps}
 use Rattle.sip_verifier.specs.Seats.{Seating}
 use Rattle.sip_verifier.specs.Statuses.{stops_asking}
@@ -27,8 +25,8 @@ use Rattle.sip_verifier.specs.Tasks.{version_of}
 use Rattle.sip_verifier.specs.Transcripts.{asks_of, head_of, transcript_of}
 use Rattle.sip_verifier.specs.Questions.{updates}
 use Rattle.sip_verifier.proofs.HeardTalks.{heard-opening, heard-stream}
-use Rattle.sip_verifier.proofs.KeptQueries.{front_of_all}
-use Rattle.sip_verifier.proofs.RunTalks.{Adds, Reports, said_is, nothing_new, written_is, front_before}
+use Rattle.sip_verifier.specs.Concluding.{Reports, status_of}
+use Rattle.sip_verifier.proofs.RunTalks.{Adds, Moves, said_is, nothing_new, written_is, front_before}
 
 -- ---- fronts of what is heard
 
@@ -77,7 +75,7 @@ module _ (task : Task) (seed : List ℕ) (before now : Option (List TalkEvent)) 
   head_moves (Err _) k = (whole k.challenges, k.wrote)
 
 module _ (old new before now : Option (List TalkEvent)) where
-  pub replies_move : (r : Result (Unit {0}) Status) → Kept old new before now r → Reports before now
+  pub replies_move : (r : Result (Unit {0}) Status) → KeepsTalk old new before now r → Reports before now
   replies_move (Ok u) k = (heard k.said, k.wrote)
   replies_move (Err (statuses.Rejected query round reason)) k = (heard k.said, k.wrote)
   replies_move (Err (statuses.WriteFault ports.First)) k = (k.wrote.0, k.wrote.2)
@@ -85,6 +83,15 @@ module _ (old new before now : Option (List TalkEvent)) where
   replies_move (Err (statuses.WriteFault ports.Report)) k = (heard k.said, k.wrote)
   replies_move (Err (statuses.WriteFault ports.Keep)) k = (k.wrote.0, k.wrote.2)
   replies_move (Err _) k = (k.wrote.0, k.wrote.2)
+
+  pub talk_moves : (r : Result (Unit {0}) Status) → KeepsTalk old new before now r → Moves old new
+  talk_moves (Ok u) k = (k.said, k.talk)
+  talk_moves (Err (statuses.Rejected query round reason)) k = (k.said, k.talk)
+  talk_moves (Err (statuses.WriteFault ports.First)) k = (k.said, k.talk)
+  talk_moves (Err (statuses.WriteFault ports.Second)) k = (k.said, k.talk)
+  talk_moves (Err (statuses.WriteFault ports.Report)) k = (k.said, k.talk)
+  talk_moves (Err (statuses.WriteFault ports.Keep)) k = (k.said, k.talk)
+  talk_moves (Err _) k = (k.said, k.talk)
 
 -- both, one behind the other
 pub both_move : (before during now : Option (List TalkEvent)) → Reports before during → Reports during now → Reports before now
@@ -99,14 +106,14 @@ KeptSo task x status before now = (bytes : List ℕ) × GoesOn before now (outs 
 
 module _ (task : Task) (x : Exchange) where
   abbrev streamed : List TalkEvent
-  streamed = stream_sent (version_of task) task.depth (updates task x)
+  streamed = stream_sent (version_of task) task.depth (updates (inquiry_of task x) x)
 
   streamed_silent : heard streamed ≡ []
-  streamed_silent = heard-stream (version_of task) task.depth (updates task x)
+  streamed_silent = heard-stream (version_of task) task.depth (updates (inquiry_of task x) x)
 
   -- what is said while the stream is read
-  before_silent : heard (before_end task x) ≡ []
-  before_silent = heard-opening (version_of task) task.depth (whole_frames (updates task x))
+  before_silent : heard (before_end (inquiry_of task x) x) ≡ []
+  before_silent = heard-opening (version_of task) task.depth (whole_frames (updates (inquiry_of task x) x))
 
   abbrev head : List ℕ → List ℕ
   head challenges = head_of (version_of task) task.depth (asks_of task challenges)
@@ -139,16 +146,16 @@ module _ (task : Task) (x : Exchange) where
   -- ---- a run that ends before its first query
 
   module _ (old new before now : Option (List TalkEvent)) (told : Adds old new x.talk) where
-    cut_silent : IsCut task x.stream x.seed old new → heard x.talk ≡ []
+    cut_silent : IsCut task x.stream old new → heard x.talk ≡ []
     cut_silent cut = ap heard (said_is old new cut.said x.talk cut.talk told) ∙ silent_front cut.said streamed cut.order streamed_silent
 
     pub gather_kept : (status : Status) → Refuses task x.stream x.seed old new status → KeepsHead task x.seed before now (Err status) → KeptSo task x status before now
     gather_kept statuses.BadSeed refuses k = ([], (same_moves before now k).1, refl)
     gather_kept statuses.SeedSpent refuses k = ([], (same_moves before now k).1, refl)
-    gather_kept (statuses.BadStream at why) (seed, at_is, fault, went) k =
-        (head k.challenges, k.wrote, head_only (ap heard (said_is old new _ x.talk went told) ∙ before_silent) before now k)
+    gather_kept (statuses.BadStream at why) (seed, breaks) k =
+        (head k.challenges, k.wrote, head_only (ap heard (said_is old new _ x.talk breaks.2 told) ∙ before_silent) before now k)
     gather_kept (statuses.ReadFault ports.First) (seed, cut) k =
-        (head k.challenges, k.wrote, head_only (ap heard (said_is old new cut.said x.talk cut.talk told) ∙ silent_front cut.said (before_end task x) cut.order before_silent) before now k)
+        (head k.challenges, k.wrote, head_only (ap heard (said_is old new cut.said x.talk cut.talk told) ∙ silent_front cut.said (before_end (inquiry_of task x) x) cut.order before_silent) before now k)
     gather_kept (statuses.ReadFault ports.Second) refuses k = ([], (same_moves before now k).1, refl)
     gather_kept (statuses.ReadFault ports.Report) refuses k = absurd refuses
     gather_kept (statuses.ReadFault ports.Keep) refuses k = absurd refuses
@@ -171,15 +178,11 @@ module _ (task : Task) (x : Exchange) where
 
   -- ---- a run that came to its queries
 
-  module _ (t0 t1 t2 t3 k0 k1 k2 : Option (List TalkEvent)) (went : GoesOn t0 t1 streamed) (rest : List TalkEvent) (goes : GoesOn t2 t3 rest) (silent : heard rest ≡ [])
-      (told : Adds t0 t3 x.talk) (k : HeadIsKept task x.seed k0 k1) where
+  module _ (t0 t1 t2 k0 k1 k2 : Option (List TalkEvent)) (went : GoesOn t0 t1 streamed) (told : Adds t0 t2 x.talk) (k : HeadIsKept task x.seed k0 k1) where
     -- all that was heard, was heard behind the stream
     heard_is : (said : List TalkEvent) → GoesOn t1 t2 said → heard x.talk ≡ heard said
     heard_is said asked =
-        ap heard (said_is t0 t3 _ x.talk (GoesOn-trans t0 t2 t3 (streamed ++ said) rest (GoesOn-trans t0 t1 t2 streamed said went asked) goes) told)
-        ∙ heard-append (streamed ++ said) rest
-        ∙ ap (λ (l : List ℕ). heard (streamed ++ said) ++ l) silent
-        ∙ append-nil (heard (streamed ++ said))
+        ap heard (said_is t0 t2 _ x.talk (GoesOn-trans t0 t1 t2 streamed said went asked) told)
         ∙ heard-append streamed said
         ∙ ap (λ (l : List ℕ). l ++ heard said) streamed_silent
 
@@ -187,17 +190,10 @@ module _ (task : Task) (x : Exchange) where
     wrote_more : (more : List ℕ) → GoesOn k1 k2 (outs more) → GoesOn k0 k2 (outs (transcript_of task k.challenges more))
     wrote_more more then = subst (GoesOn k0 k2) (sym (outs-append (head k.challenges) more)) (GoesOn-trans k0 k1 k2 (outs (head k.challenges)) (outs more) k.wrote then)
 
-    module _ (a : AllIsKept t1 t2 k1 k2) where
-      all_wrote : GoesOn k0 k2 (outs (transcript_of task k.challenges (heard a.said)))
-      all_wrote = wrote_more (heard a.said) a.wrote
-
-      all_kept : IsTranscript task x (transcript_of task k.challenges (heard a.said))
-      all_kept = record { challenges = k.challenges; drawn = k.draws; all = ap (transcript_of task k.challenges) (sym (heard_is a.said a.talk)) }
+    all_kept : (a : AllIsKept t1 t2 k1 k2) → IsTranscript task x (transcript_of task k.challenges (heard a.said))
+    all_kept a = record { challenges = k.challenges; drawn = k.draws; all = ap (transcript_of task k.challenges) (sym (heard_is a.said a.talk)) }
 
     module _ (f : FrontIsKept t1 t2 k1 k2) where
-      front_wrote : GoesOn k0 k2 (outs (transcript_of task k.challenges f.wrote.0))
-      front_wrote = wrote_more f.wrote.0 f.wrote.2
-
       front_heard : IsPrefix f.wrote.0 (heard x.talk)
       front_heard = subst (IsPrefix f.wrote.0) (sym (heard_is f.said f.talk)) f.wrote.1
 
@@ -207,30 +203,14 @@ module _ (task : Task) (x : Exchange) where
       front_cut : IsCutTranscript task x (transcript_of task k.challenges f.wrote.0)
       front_cut = record { challenges = k.challenges; drawn = k.draws; front = behind (head k.challenges) f.wrote.0 (heard x.talk) front_heard }
 
-    -- a query ended the run
-    pub asked_kept : (status : Status) → IsTrue (stops_asking status) → Kept t1 t2 k1 k2 (Err status) → KeptSo task x status k0 k2
-    asked_kept (statuses.Rejected query round reason) is a = (transcript_of task k.challenges (heard a.said), all_wrote a, all_kept a)
-    asked_kept (statuses.WriteFault ports.First) is f = absurd (let no = is in cc)
-    asked_kept (statuses.WriteFault ports.Second) is f = absurd (let no = is in cc)
-    asked_kept (statuses.WriteFault ports.Report) is a = (transcript_of task k.challenges (heard a.said), all_wrote a, all_kept a)
-    asked_kept (statuses.WriteFault ports.Keep) is f = (transcript_of task k.challenges f.wrote.0, front_wrote f, front_cut f)
-    asked_kept statuses.PeerFault is f = (transcript_of task k.challenges f.wrote.0, front_wrote f, front_kept f)
-    asked_kept statuses.OutOfMemory is f = (transcript_of task k.challenges f.wrote.0, front_wrote f, inr (front_cut f))
-    asked_kept _ is f = absurd (let no = is in cc)
-
-    -- all were accepted, and the farewell was sent, or a front of it
-    pub bye_kept : (sent : Result (Unit {0}) PortStop) (r : Result (Unit {0}) Status) → MatchResult r (λ u. sent ≡ Ok u) (λ status. (port : PortStop) × (sent ≡ Err port) × (status ≡ status_of_link port))
-        → AllIsKept t1 t2 k1 k2 → KeptSo task x (status_of r) k0 k2
-    bye_kept sent (Ok u) on a = (transcript_of task k.challenges (heard a.said), all_wrote a, all_kept a)
-    bye_kept sent (Err status) (port, is, so) a =
-        let f = front_of_all t1 t2 k1 k2 a in
-        let at : KeptSo task x (status_of_link port) k0 k2 = elim port as (λ p. KeptSo task x (status_of_link p) k0 k2) [
-          | port_stops.Failed ↦ (transcript_of task k.challenges f.wrote.0, front_wrote f, front_kept f)
-          | port_stops.OutOfMemory ↦ (transcript_of task k.challenges f.wrote.0, front_wrote f, inr (front_cut f))
-        ] in
-        subst (λ (s : Status). KeptSo task x s k0 k2) (sym so) at
-
--- no byte is heard while a farewell is sent
-pub sent_silent : (old new : Option (List TalkEvent)) (sent : Result (Unit {0}) PortStop) (bytes : List ℕ) → SendsWhole old new sent bytes → (said : List TalkEvent) × GoesOn old new said × (heard said ≡ [])
-sent_silent old new (Ok u) bytes went = (outs bytes, went, heard-outs bytes)
-sent_silent old new (Err stop) bytes (n, less, went) = (outs (take n bytes), went, heard-outs (take n bytes))
+    -- what came of the queries
+    pub asked_kept : (r : Result (Unit {0}) Status) → IfErr r (λ status. IsTrue (stops_asking status)) → KeepsTalk t1 t2 k1 k2 r → KeptSo task x (status_of r) k0 k2
+    asked_kept (Ok u) is a = (transcript_of task k.challenges (heard a.said), wrote_more (heard a.said) a.wrote, all_kept a)
+    asked_kept (Err (statuses.Rejected query round reason)) is a = (transcript_of task k.challenges (heard a.said), wrote_more (heard a.said) a.wrote, all_kept a)
+    asked_kept (Err (statuses.WriteFault ports.First)) is f = absurd (let no = is in cc)
+    asked_kept (Err (statuses.WriteFault ports.Second)) is f = absurd (let no = is in cc)
+    asked_kept (Err (statuses.WriteFault ports.Report)) is a = (transcript_of task k.challenges (heard a.said), wrote_more (heard a.said) a.wrote, all_kept a)
+    asked_kept (Err (statuses.WriteFault ports.Keep)) is f = (transcript_of task k.challenges f.wrote.0, wrote_more f.wrote.0 f.wrote.2, front_cut f)
+    asked_kept (Err statuses.PeerFault) is f = (transcript_of task k.challenges f.wrote.0, wrote_more f.wrote.0 f.wrote.2, front_kept f)
+    asked_kept (Err statuses.OutOfMemory) is f = (transcript_of task k.challenges f.wrote.0, wrote_more f.wrote.0 f.wrote.2, inr (front_cut f))
+    asked_kept (Err _) is f = absurd (let no = is in cc)

@@ -20,6 +20,7 @@ mod QueryAsked
 mod SeatAsked
 pub mod QueriesChecked
 pub mod RunTalks
+pub mod SeatedBehind
 pub mod StreamPromises
 pub mod QueryPromises
 pub mod ShareAnswers

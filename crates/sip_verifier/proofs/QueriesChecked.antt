@@ -16,24 +16,29 @@ use Rattle.sip_vector.specs.declared.query.Query.{Query}
 use Rattle.sip_vector.specs.declared.update.Entry.{Entry}
 use Rattle.sip_vector.specs.declared.update.Update.{Update}
 use Rattle.sip_vector.specs.Answers.{Answer}
+use Rattle.sip_vector.specs.Pieces.{cut}
 use Rattle.sip_wire.specs.declared.message.Reason.{Reason}
-use Rattle.sip_verifier.specs.Tasks.{version_of}
 use Rattle.sip_verifier.specs.declared.session.SessionFault.{SessionFault}
 use Rattle.sip_verifier.specs.declared.session.SessionFault.TheVariants as faults
 use Rattle.sip_verifier.specs.declared.status.Port.TheVariants as ports
 use Rattle.sip_verifier.specs.declared.status.Status.{Status}
 use Rattle.sip_verifier.specs.declared.status.Status.TheVariants as statuses
-use Rattle.sip_verifier.specs.declared.task.Task.{Task}
 use Rattle.sip_verifier.specs.Asking.{Asks, IsAnswered, IsRejected, question_of}
-use Rattle.sip_verifier.specs.Draws.{blocks}
-use Rattle.sip_verifier.specs.inside.Ending.{status_of_fault, status_of_report}
+use Rattle.sip_verifier.specs.Concluding.{GoesBehind}
+use Rattle.sip_verifier.specs.Exchanges.{Exchange}
+use Rattle.sip_verifier.specs.Inquiries.{Inquiry}
+use Rattle.sip_verifier.specs.inside.Ending.{status_of_fault, status_of_link, status_of_report}
 use Rattle.sip_verifier.specs.Moments.{counts}
 use Rattle.sip_verifier.specs.inside.Progress.{Checks, ChecksAll, Passes, PassesInPart, FailsInPart, AreFirst, PassedBy, EndsWith}
 use Rattle.sip_verifier.specs.QuerySeats.{Seated, StandsFor}
 use Rattle.sip_verifier.specs.Reports.{line, rejection}
-use Rattle.sip_verifier.specs.Seats.{AreSeats, Seating}
+use Rattle.sip_verifier.specs.Sittings.{Sitting}
 use Rattle.sip_verifier.specs.Statuses.{FaultClause}
-use Rattle.sip_verifier.specs.Questions.{Question, Accepted, said_for}
+use Rattle.sip_verifier.specs.Questions.{Question, Accepted, said_for, updates}
+
+-- what a send on the link becomes
+abbrev pub OnLink : Result (Unit {0}) PortStop → Result (Unit {0}) Status → Type 0
+OnLink sent r = MatchResult r (λ u. sent ≡ Ok u) (λ status. (port : PortStop) × (sent ≡ Err port) × (status ≡ status_of_link port))
 
 -- what a write to the report becomes
 abbrev pub OnReport : Result (Unit {0}) PortStop → Result (Unit {0}) Status → Type 0
@@ -192,19 +197,18 @@ pub next_seat : (depth : ℕ) (stream : List Update) (seats : List Seated) (quer
     → drop count queries ≡ query ∷ more → NextSeat depth stream seats queries count query
 next_seat depth stream seats queries more count query same all from = next_seat_of depth stream seats (drop count seats) queries more count query refl same (All-drop (StandsFor depth stream) count seats all) from
 
--- what came of all queries of a task, whose seats the session had
-pub all_checked : (task : Task) (stream : List Update) (challenges : List ℕ) (seats : Seating) (version : Version) (depth : ℕ) (left : List Seated) (queries : List Query) (old new blank full : Option (List TalkEvent)) {r s : Result (Unit {0}) Status} → r ≡ s → version ≡ version_of task → depth ≡ seats.depth
-    → left ≡ seats.seats → queries ≡ task.queries.items → AreSeats task.depth task.queries.items (blocks task challenges) stream seats
-    → ((stream : List Update) → map (λ seat. seat.query) left ≡ queries → All (StandsFor depth stream) left → ChecksAll version depth stream queries (map (λ (s : Seated). s.block) left) old new blank full r)
-    → ChecksAll (version_of task) task.depth stream task.queries.items (blocks task challenges) old new blank full s
-all_checked task stream challenges seats version depth left queries old new blank full {r = r} {s = s} ends said deep its same are came =
-    let levels : depth ≡ task.depth = deep ∙ are.levels in
-    let stand = subst (λ (n : ℕ). All (StandsFor n stream) left) (sym levels) (subst (All (StandsFor task.depth stream)) (sym its) are.stand) in
-    let checks = subst (λ (v : Version). ChecksAll v depth stream queries (map (λ (s : Seated). s.block) left) old new blank full r) said (came stream (ap (λ (seats : List Seated). map (λ (s : Seated). s.query) seats) its ∙ are.asked ∙ sym same) stand) in
-    let at_blocks : map (λ (s : Seated). s.block) left ≡ blocks task challenges = ap (λ (seats : List Seated). map (λ (s : Seated). s.block) seats) its ∙ are.at_blocks in
-    subst (ChecksAll (version_of task) task.depth stream task.queries.items (blocks task challenges) old new blank full) ends
-    (subst (λ (n : ℕ). ChecksAll (version_of task) n stream task.queries.items (blocks task challenges) old new blank full r) levels
-    (subst (λ (qs : List Query). ChecksAll (version_of task) depth stream qs (blocks task challenges) old new blank full r) same (subst (λ (bs : List (List ℕ)). ChecksAll (version_of task) depth stream queries bs old new blank full r) at_blocks checks)))
+-- what came of all queries of an inquiry, whose seats the session had
+pub all_checked : (i : Inquiry) (x : Exchange) (s : Sitting) (queries : List Query) (old new end blank full last : Option (List TalkEvent)) {r t : Result (Unit {0}) Status} → r ≡ t → queries ≡ i.queries → (b : GoesBehind i x s old end blank last)
+    → ((stream : List Update) → map (λ seat. seat.query) s.left ≡ queries → All (StandsFor s.depth stream) s.left → ChecksAll s.version s.depth stream queries (map (λ (s : Seated). s.block) s.left) old new blank full r)
+    → ChecksAll i.version i.depth (updates i x) i.queries (cut i.depth b.challenges) old new blank full t
+all_checked i x s queries old new end blank full last {r = r} {t = t} ends same b came =
+    let stand = subst (λ (n : ℕ). All (StandsFor n (updates i x)) s.left) (sym b.depth) b.stand in
+    let checks = came (updates i x) (b.asked ∙ sym same) stand in
+    subst (ChecksAll i.version i.depth (updates i x) i.queries (cut i.depth b.challenges) old new blank full) ends
+    (subst (λ (v : Version). ChecksAll v i.depth (updates i x) i.queries (cut i.depth b.challenges) old new blank full r) b.version
+    (subst (λ (n : ℕ). ChecksAll s.version n (updates i x) i.queries (cut i.depth b.challenges) old new blank full r) b.depth
+    (subst (λ (qs : List Query). ChecksAll s.version s.depth (updates i x) qs (cut i.depth b.challenges) old new blank full r) same
+    (subst (λ (bs : List (List ℕ)). ChecksAll s.version s.depth (updates i x) queries bs old new blank full r) b.at_blocks checks))))
 
 -- a fault of a port has its cause, since an earlier moment of the link and of the record of the talk
 pub since_before : (first firsts second seconds earlier peer peers report reports sooner keep keeps : ℕ) (status : Status) → earlier ≤ peer → sooner ≤ keep

@@ -1,24 +1,26 @@
 -- All that a run keeps, from its first three promises and what is kept of its talk.
-use Rattle.std.proofs.Common.{◌≡◌, ◌≤◌, Bool, true, false, true≢false, refl, sym}
-use Rattle.std.specs.Prelude.{All, ◌||◌}
+use Rattle.std.proofs.Common.{◌≡◌, ◌≤◌, ℕ, Result, Ok, Err, Bool, true, false, true≢false, refl, sym}
+use Rattle.std.specs.Prelude.{All, IfErr, IsTrue, ◌||◌}
 use Rattle.sip_vector.specs.Answers.{Fits}
 use Rattle.sip_verifier.specs.declared.session.SessionStart.{SessionStart}
 use Rattle.sip_verifier.specs.declared.session.SessionStart.TheVariants as starts
 use Rattle.sip_verifier.specs.declared.status.Status.{Status}
 use Rattle.sip_verifier.specs.declared.task.Task.{Task}
 use Rattle.sip_verifier.specs.Exchanges.{Exchange, Tells}
-use Rattle.sip_verifier.specs.Moments.{Counts, Moment, IsTold}
+use Rattle.sip_verifier.specs.Inquiries.{inquiry_of}
+use Rattle.sip_verifier.specs.Moments.{Counts, Moment, IsTold, counts}
 use Rattle.sip_verifier.specs.inside.Ending.{status_of_start}
-use Rattle.sip_verifier.specs.inside.Progress.{Ended}
+use Rattle.sip_verifier.specs.Concluding.{Ended, status_of}
 use Rattle.sip_verifier.specs.KeepClause.{KeepClause, Keeps}
 use Rattle.sip_verifier.specs.Promises.{Promises}
 use Rattle.sip_verifier.specs.RunClause.{RunClause}
-use Rattle.sip_verifier.specs.Statuses.{FaultClause, IsListed, is_accepted, stops_gathering, stops_starting, stops_asking}
+use Rattle.sip_verifier.specs.Statuses.{FaultClause, IsListed, Stops, is_accepted, stops_gathering, stops_starting, stops_asking}
 use Rattle.sip_verifier.specs.Tasks.{CanBeDone}
 use Rattle.sip_verifier.proofs.CompleteRuns.{completes}
 use Rattle.sip_vector.specs.Limits.{most_depth}
 use Rattle.sip_verifier.proofs.CountedReports.{report_counts}
 use Rattle.sip_verifier.proofs.KeptRuns.{KeptSo, kept_is}
+use Rattle.sip_verifier.proofs.QueriesChecked.{since_before}
 
 -- the queries of a task that can be done fit its depth
 all_fit : (task : Task) → CanBeDone task → All (Fits task.depth) task.queries.items
@@ -27,12 +29,12 @@ all_fit task can i other less = (can.asked i other less).1
 module _ (task : Task) (can : CanBeDone task) (some : 1 ≤ task.depth) (most : task.depth ≤ most_depth) where
   -- counts follow from verdicts, and honest helpers from verdicts and causes
   promised : (x : Exchange) (before now : Counts) (status : Status) → IsListed status
-      → Ended task x before now status → KeepClause task x status → Promises task x before now status
+      → Ended (inquiry_of task x) x before now status → KeepClause task x status → Promises task x before now status
   promised x before now status listed e keeps = record {
     verdict = e.verdict;
     talk = e.talk;
     cause = e.cause;
-    count = report_counts task x can.asked status e.verdict listed;
+    count = report_counts (inquiry_of task x) x can.asked status e.verdict listed;
     complete = completes task x some most (all_fit task can) before now status e.verdict e.cause listed;
     kept = keeps;
   }
@@ -40,7 +42,7 @@ module _ (task : Task) (can : CanBeDone task) (some : 1 ≤ task.depth) (most : 
   -- a run keeps all, where each exchange that is told has the first three promises, and what is kept
   -- is so
   pub kept : {before now : Moment} {status : Status}
-      → ((x : Exchange) → Tells before now x → Ended task x before.faults now.faults status)
+      → ((x : Exchange) → Tells before now x → Ended (inquiry_of task x) x before.faults now.faults status)
       → ((x : Exchange) → Tells before now x → KeptSo task x status before.keep now.keep)
       → (IsTold before → (x : Exchange) × Tells before now x)
       → FaultClause before.faults now.faults status → IsListed status
@@ -76,6 +78,15 @@ starting_listed status is =
 
 pub asking_listed : (status : Status) → stops_asking status ≡ true → IsListed status
 asking_listed status is = or_right (is_accepted status || stops_gathering status || stops_starting status) (stops_asking status) is
+
+-- what came of the queries has its cause since an earlier moment of the link and of the record, and
+-- is listed
+pub asked_stops : (first firsts second seconds earlier peer peers report reports sooner keep keeps : ℕ) (r : Result (Unit {0}) Status) → earlier ≤ peer → sooner ≤ keep
+    → Stops stops_asking (counts first second peer report keep) (counts firsts seconds peers reports keeps) r
+    → FaultClause (counts first second earlier report sooner) (counts firsts seconds peers reports keeps) (status_of r) × IsListed (status_of r) × IfErr r (λ status. IsTrue (stops_asking status))
+asked_stops first firsts second seconds earlier peer peers report reports sooner keep keeps (Ok u) later still stops = (tt, refl, tt)
+asked_stops first firsts second seconds earlier peer peers report reports sooner keep keeps (Err status) later still (is, fault) =
+    (since_before first firsts second seconds earlier peer peers report reports sooner keep keeps status later still fault, asking_listed status is, is)
 
 -- where there is no session the status is one of those, and needs no count
 pub start_listed : (start : SessionStart) → IsListed (status_of_start start)

@@ -14,6 +14,7 @@ use Rattle.sip_verifier.specs.declared.status.Status.TheVariants as statuses
 use Rattle.sip_verifier.specs.declared.task.Task.{Task}
 use Rattle.sip_replies.specs.Talks.{IsPrefix}
 use Rattle.sip_verifier.specs.Exchanges.{Appends, Exchange, Tells}
+use Rattle.sip_verifier.specs.Concluding.{Reports}
 use Rattle.sip_verifier.specs.Gathering.{Refuses}
 use Rattle.sip_verifier.specs.Moments.{Moment, IsTold}
 use Rattle.sip_verifier.specs.inside.Progress.{Checks, PassesInPart, FailsInPart, PassedBy, EndsWith}
@@ -97,7 +98,7 @@ still_moves old new same = ([], subst (λ (o : Option (List TalkEvent)). GoesOn 
 pub refuses_moves : (task : Task) (bytes seed : List ℕ) (old new : Option (List TalkEvent)) (status : Status) → Refuses task bytes seed old new status → Moves old new
 refuses_moves task bytes seed old new statuses.BadSeed refuses = still_moves old new refuses.1
 refuses_moves task bytes seed old new statuses.SeedSpent refuses = still_moves old new refuses.2
-refuses_moves task bytes seed old new (statuses.BadStream at why) refuses = (_, refuses.3)
+refuses_moves task bytes seed old new (statuses.BadStream at why) refuses = (_, refuses.1.2)
 refuses_moves task bytes seed old new (statuses.ReadFault ports.First) refuses = (refuses.1.said, refuses.1.talk)
 refuses_moves task bytes seed old new (statuses.ReadFault ports.Second) refuses = still_moves old new refuses
 refuses_moves task bytes seed old new (statuses.ReadFault ports.Report) refuses = absurd refuses
@@ -110,10 +111,6 @@ refuses_moves task bytes seed old new statuses.PeerFault refuses = (refuses.1.sa
 refuses_moves task bytes seed old new statuses.OutOfMemory (inl same) = still_moves old new same
 refuses_moves task bytes seed old new statuses.OutOfMemory (inr (has, cut)) = (cut.said, cut.talk)
 refuses_moves task bytes seed old new _ refuses = absurd refuses
-
--- some bytes were written
-abbrev pub Reports : Option (List TalkEvent) → Option (List TalkEvent) → Type 0
-Reports blank full = (bytes : List ℕ) × GoesOn blank full (outs bytes)
 
 module _ (version : Version) (depth : ℕ) (stream : List Update) (query : Query) (block : List ℕ) (number : ℕ) (old new blank full : Option (List TalkEvent)) where
   part_moves : PassesInPart version depth stream query block number old new blank full ⊎ FailsInPart version depth stream query block number old new blank full → Moves old new × Reports blank full

@@ -19,7 +19,7 @@ use Rattle.sip_verifier.specs.inside.Passing.{taken_with}
 use Rattle.sip_verifier.specs.inside.Sending.{IsSentBut, IsStopped, IsStoppedAtEnd}
 use Rattle.sip_verifier.specs.Talks.{whole_frames, opening_sent, stream_sent}
 use Rattle.sip_replies.proofs.Saying.{sent-one}
-use Rattle.sip_verifier.proofs.StreamSent.{IsPrefix-trans, frame, sent_front, opening_sent-frame, opening_sent-front, stream_sent-rest}
+use Rattle.sip_verifier.proofs.StreamSent.{IsPrefix-trans, frame, sent_front, sent_short, opening_sent-frame, opening_sent-front, stream_sent-rest}
 
 module _ (version : Version) (depth : ℕ) (start : Option (List TalkEvent)) where
   -- the opening was sent
@@ -126,4 +126,6 @@ module _ (version : Version) (depth : ℕ) (start : Option (List TalkEvent)) whe
     talk = GoesOn-trans start now new (opening_sent version depth so.sent) (outs (take n (due_at_end version waiting))) so.talk went;
     order = subst (IsPrefix (opening_sent version depth so.sent ++ outs (take n (due_at_end version waiting)))) (sym (ap (stream_sent version depth) so.order ∙ stream_sent-rest version depth so.sent waiting so.whole))
         (sent_front (opening_sent version depth so.sent) (due_at_end version waiting) n);
+    short = subst (λ (l : List TalkEvent). length (opening_sent version depth so.sent ++ outs (take n (due_at_end version waiting))) < length l) (sym (ap (stream_sent version depth) so.order ∙ stream_sent-rest version depth so.sent waiting so.whole))
+        (sent_short (opening_sent version depth so.sent) (due_at_end version waiting) n fewer);
   }

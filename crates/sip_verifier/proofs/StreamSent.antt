@@ -1,12 +1,13 @@
 -- What goes out for a stream, frame by frame.
 use Rattle.std.proofs.Common.{◌≡◌, ℕ, ◌+◌, ◌-◌, ◌%◌, ◌<◌, ◌≤◌, List, [], ◌∷◌, ◌++◌, length, take, drop, map, sym, ap, ◌∙◌, arith, append_assoc, append-nil, length-append, take-append-drop}
 use Rattle.std.proofs.Math.Seq.{take-append-add}
-use Rattle.std.proofs.lemmas.List.{map-append, length-take-le}
+use Rattle.std.proofs.lemmas.List.{length-map, map-append, length-take-le}
 use Rattle.std.specs.List.{flat_map}
 use Rattle.std.proofs.lemmas.List.Concat.{flat_map-append}
 use Rattle.sip_wire.specs.Versions.{number_of}
 use Rattle.sip_wire.specs.declared.version.Version.{Version}
 use Rattle.sip_ports.specs.declared.port.TalkEvent.{TalkEvent}
+use Rattle.sip_ports.specs.declared.port.TalkEvent.TheVariants.{Out}
 use Rattle.sip_ports.specs.Ports.{outs}
 use Rattle.sip_ports.proofs.TalkLemmas.{outs-append}
 use Rattle.sip_vector.specs.declared.update.Update.{Update}
@@ -15,6 +16,7 @@ use Rattle.sip_stream.proofs.Cuts.{cut-one}
 use Rattle.sip_wire.specs.declared.message.Message.{Message}
 use Rattle.sip_wire.specs.declared.message.Message.TheVariants as messages
 use Rattle.sip_wire.specs.Spelling.{spelling}
+use Rattle.sip_wire.proofs.ReadingLaws.{length-spelling}
 use Rattle.sip_replies.specs.Talks.{IsPrefix, sent}
 use Rattle.sip_replies.proofs.Saying.{sent-one}
 use Rattle.sip_verifier.specs.Feeding.{due_at_end}
@@ -35,6 +37,11 @@ sent_front events bytes n = (
   outs (drop n bytes),
   ap (λ l. events ++ outs l) (sym (take-append-drop n bytes)) ∙ ap (λ l. events ++ l) (outs-append (take n bytes) (drop n bytes)) ∙ sym (append_assoc events (outs (take n bytes)) (outs (drop n bytes))),
 )
+
+-- which is shorter, where bytes are missing
+pub sent_short : (events : List TalkEvent) (bytes : List ℕ) (n : ℕ) → n < length bytes → length (events ++ outs (take n bytes)) < length (events ++ outs bytes)
+sent_short events bytes n less =
+    omega (arith, less, length-append events (outs (take n bytes)), length-append events (outs bytes), length-map (take n bytes) Out, length-map bytes Out, length-take-le n bytes (omega (arith, less)))
 
 -- ---- messages one after another
 
@@ -115,8 +122,26 @@ frames_front version depth stream more =
     let front = opening_sent-front version depth (whole_frames stream) (f.rest ++ more) f.whole in
     (front.0, ap (λ l. opening_sent version depth (whole_frames l)) (ap (λ l. l ++ more) f.split ∙ append_assoc (whole_frames stream) f.rest more) ∙ front.1)
 
--- what goes out before the end is a front of what goes out
-pub stream_sent-front : (version : Version) (depth : ℕ) (stream : List Update) → IsPrefix (opening_sent version depth (whole_frames stream)) (stream_sent version depth stream)
-stream_sent-front version depth stream =
+-- at the end of a stream something goes out
+due-some_bytes : (version : Version) (ys : List Update) → 0 < length (due_at_end version ys)
+due-some_bytes version ys =
+    let end = spelling version messages.EndStream in
+    omega (arith, ap length (flat_map-append (spelling version) (update_frames ys) (messages.EndStream ∷ [])), length-append (flat_map (spelling version) (update_frames ys)) (end ++ []), ap length (append-nil end), length-spelling version messages.EndStream)
+
+-- what goes out is the whole frames, those that are left, and the end
+stream_sent-frames : (version : Version) (depth : ℕ) (stream : List Update) → (rest : List Update) × (stream_sent version depth stream ≡ opening_sent version depth (whole_frames stream) ++ outs (due_at_end version rest))
+stream_sent-frames version depth stream =
     let f = framed stream in
-    (outs (due_at_end version f.rest), ap (stream_sent version depth) f.split ∙ stream_sent-rest version depth (whole_frames stream) f.rest f.whole)
+    (f.rest, ap (stream_sent version depth) f.split ∙ stream_sent-rest version depth (whole_frames stream) f.rest f.whole)
+
+-- so what goes out before the end is a front of it
+pub stream_sent-front : (version : Version) (depth : ℕ) (stream : List Update) → IsPrefix (opening_sent version depth (whole_frames stream)) (stream_sent version depth stream)
+stream_sent-front version depth stream = let all = stream_sent-frames version depth stream in (outs (due_at_end version all.0), all.1)
+
+-- and is shorter
+pub before_end-short : (version : Version) (depth : ℕ) (stream : List Update) → length (opening_sent version depth (whole_frames stream)) < length (stream_sent version depth stream)
+before_end-short version depth stream =
+    let all = stream_sent-frames version depth stream in
+    let opening = opening_sent version depth (whole_frames stream) in
+    let due = due_at_end version all.0 in
+    omega (arith, ap length all.1, length-append opening (outs due), length-map due Out, due-some_bytes version all.0)

@@ -16,43 +16,42 @@ use Rattle.sip_stream.specs.Records.{records}
 use Rattle.sip_verifier.specs.declared.status.Port.TheVariants as ports
 use Rattle.sip_verifier.specs.declared.status.Status.{Status}
 use Rattle.sip_verifier.specs.declared.status.Status.TheVariants as statuses
-use Rattle.sip_verifier.specs.declared.task.Task.{Task}
-use Rattle.sip_verifier.specs.Draws.{drawn}
 use Rattle.sip_verifier.specs.Exchanges.{Exchange}
+use Rattle.sip_verifier.specs.Inquiries.{Inquiry}
 use Rattle.sip_verifier.specs.Moments.{Counts}
 use Rattle.sip_verifier.specs.Statuses.{FaultClause}
 use Rattle.sip_verifier.specs.Questions.{IsLegalToEnd, updates}
 use Rattle.sip_verifier.specs.Widths.{first_wide}
 
-module _ (task : Task) (x : Exchange) where
+module _ (i : Inquiry) (x : Exchange) where
   -- the seed gives challenges, and the stream is legal to its end
   abbrev pub HasGoodInput : Type 0
-  HasGoodInput = (drawn task x.seed ≢ None) × IsLegalToEnd task x
+  HasGoodInput = (i.challenges ≢ None) × IsLegalToEnd i x
 
   -- that, and no query's answer may be too wide
   abbrev pub CanBeJudged : Type 0
-  CanBeJudged = HasGoodInput × (first_wide (updates task x) task.queries.items ≡ None)
+  CanBeJudged = HasGoodInput × (first_wide (updates i x) i.queries ≡ None)
 
   abbrev pub CauseClause : Counts → Counts → Status → Type 0
   CauseClause before now statuses.Accepted = CanBeJudged
   CauseClause before now (statuses.Rejected query round reason) = CanBeJudged
   CauseClause before now (statuses.BadStream at why) =
-      (drawn task x.seed ≢ None) × (at ≡ length (updates task x))
-      × ((records task.depth task.form x.stream).fault ≡ Some why)
+      (i.challenges ≢ None) × (at ≡ length (updates i x))
+      × ((records i.depth i.form x.stream).fault ≡ Some why)
   CauseClause before now (statuses.TooWide query) =
-      HasGoodInput × (first_wide (updates task x) task.queries.items ≡ Some query)
+      HasGoodInput × (first_wide (updates i x) i.queries ≡ Some query)
   CauseClause before now statuses.BadSeed = length x.seed < 32
-  CauseClause before now statuses.SeedSpent = (32 ≤ length x.seed) × (drawn task x.seed ≡ None)
+  CauseClause before now statuses.SeedSpent = (32 ≤ length x.seed) × (i.challenges ≡ None)
   CauseClause before now (statuses.ReadFault ports.First) =
-      (drawn task x.seed ≢ None) × FaultClause before now (statuses.ReadFault ports.First)
+      (i.challenges ≢ None) × FaultClause before now (statuses.ReadFault ports.First)
   CauseClause before now (statuses.ReadFault port) =
       FaultClause before now (statuses.ReadFault port)
   CauseClause before now (statuses.WriteFault ports.Keep) =
-      (drawn task x.seed ≢ None) × (x.talk ≢ [] → CanBeJudged)
+      (i.challenges ≢ None) × (x.talk ≢ [] → CanBeJudged)
       × FaultClause before now (statuses.WriteFault ports.Keep)
   CauseClause before now (statuses.WriteFault port) =
       CanBeJudged × FaultClause before now (statuses.WriteFault port)
   CauseClause before now statuses.PeerFault =
-      (drawn task x.seed ≢ None) × FaultClause before now statuses.PeerFault
+      (i.challenges ≢ None) × FaultClause before now statuses.PeerFault
   CauseClause before now statuses.OutOfMemory = Unit {0}
   CauseClause before now _ = ⊥

@@ -19,6 +19,7 @@ use Rattle.sip_verifier.specs.Tasks.{version_of}
 use Rattle.sip_verifier.specs.Draws.{drawn, blocks}
 use Rattle.sip_replies.specs.Talks.{IsPrefix}
 use Rattle.sip_verifier.specs.Exchanges.{Exchange}
+use Rattle.sip_verifier.specs.Inquiries.{inquiry_of}
 use Rattle.sip_verifier.specs.Kinds.{KindRow, built, missing, kind_row, OfKind}
 use Rattle.sip_verifier.specs.Moments.{Counts}
 use Rattle.sip_verifier.specs.Reports.{report_of}
@@ -52,10 +53,11 @@ module _ (task : Task) (x : Exchange) where
   pub record IsHonest : Type 0 where
     pub challenges : List ℕ
     pub drawn : drawn task x.seed ≡ Some challenges
-    pub legal : IsLegalToEnd task x
-    pub few : All (HasFewEntries (version_of task) task.depth (updates task x)) task.queries.items
+    pub legal : IsLegalToEnd (inquiry_of task x) x
+    pub few : All (HasFewEntries (version_of task) task.depth (updates (inquiry_of task x) x))
+        task.queries.items
     pub heard : IsPrefix (heard x.talk)
-        (flat_map (honest_bytes (version_of task) task.depth (updates task x))
+        (flat_map (honest_bytes (version_of task) task.depth (updates (inquiry_of task x) x))
         (zip task.queries.items (blocks task challenges)))
     pub lasts : All (λ e. e ≢ Ended) x.talk
 
@@ -63,5 +65,5 @@ module _ (task : Task) (x : Exchange) where
   CompletenessClause before now status =
       IsHonest → NoneRose before now
       → ((status ≡ statuses.Accepted)
-      × (x.report ≡ report_of task.depth (updates task x) task.queries.items))
+      × (x.report ≡ report_of task.depth (updates (inquiry_of task x) x) task.queries.items))
       ⊎ (status ≡ statuses.OutOfMemory)

@@ -18,10 +18,9 @@ use Rattle.sip_counts.specs.Clauses.{FewAndCounted}
 use Rattle.sip_counts.specs.Strategies.{Strategy, IsOfBytes, fooled}
 use Rattle.sip_replies.specs.Replies.{accepts}
 use Rattle.sip_wire.specs.declared.version.Version.{Version}
-use Rattle.sip_verifier.specs.declared.task.Task.{Task}
-use Rattle.sip_verifier.specs.Tasks.{version_of}
 use Rattle.sip_replies.specs.Talks.{IsPrefix}
 use Rattle.sip_verifier.specs.Exchanges.{Exchange}
+use Rattle.sip_verifier.specs.Inquiries.{Inquiry}
 use Rattle.sip_verifier.specs.Kinds.{Kind, OfKind}
 use Rattle.sip_verifier.specs.Reports.{line, rejection}
 use Rattle.sip_verifier.specs.Questions.{Question, updates, Reached}
@@ -70,20 +69,20 @@ abbrev pub IsRejection : List ℕ → Type 0
 IsRejection bytes =
     (bytes ≡ []) ⊎ ((query round : ℕ) × (reason : Reason) × (bytes ≡ rejection query round reason))
 
-module _ (task : Task) (x : Exchange) where
+module _ (i : Inquiry) (x : Exchange) where
   -- the talk has these questions, and perhaps one more
   abbrev pub AreInTalk : List Question → Type 0
   AreInTalk questions =
       (questions ≡ [])
       ⊎ ((after : Option Question) × (rest : List TalkEvent)
-      × Reached task x (questions ++ option_to_list after) rest)
+      × Reached i x (questions ++ option_to_list after) rest)
 
   pub record CountClause : Type 0 where
-    pub few : All (FewFor (version_of task) task.depth (updates task x)) task.queries.items
+    pub few : All (FewFor i.version i.depth (updates i x)) i.queries
     pub lines : List Written
     pub questions : AreInTalk (questions_written lines)
     pub rejected : List ℕ
     pub is_rejection : IsRejection rejected
     pub report : IsPrefix x.report (lines_written lines ++ rejected)
     pub counted : All
-        (λ w. CountsFor (version_of task) task.depth (updates task x) w.question w.answer) lines
+        (λ w. CountsFor i.version i.depth (updates i x) w.question w.answer) lines

@@ -1,5 +1,5 @@
--- What a call did that draws the challenges, reads the stream and sends it, by the bytes that its
--- ports had.
+-- What a call did that reads the stream and sends it, and one that draws the challenges before, by
+-- the bytes that their ports had.
 use Rattle.std.specs.Prelude.{◌≡◌, ◌⊎◌, ◌<◌, ◌≤◌, ℕ, List, [], length, Option, Some, None, Result, Ok, Err}
 use Rattle.sip_ports.specs.declared.port.TalkEvent.{TalkEvent}
 use Rattle.sip_ports.specs.Ports.{GoesOn}
@@ -15,7 +15,14 @@ use Rattle.sip_replies.specs.Talks.{IsPrefix}
 use Rattle.sip_verifier.specs.Seats.{AreSeats, Seating}
 use Rattle.sip_verifier.specs.Talks.{whole_frames, opening_sent, stream_sent}
 
-module _ (task : Task) (bytes seed : List ℕ) where
+-- the seats have the task's queries, each with some block of challenges, and stand for this stream
+pub record AreOf (task : Task) (stream : List Update) (seats : Seating) : Type 0 where
+  pub at_blocks : List (List ℕ)
+  pub stand : AreSeats task.depth task.queries.items at_blocks stream seats
+
+-- ---- the stream
+
+module _ (task : Task) (bytes : List ℕ) where
   -- the legal records of the stream
   abbrev pub legal : List Update
   legal = (records task.depth task.form bytes).legal
@@ -27,23 +34,22 @@ module _ (task : Task) (bytes seed : List ℕ) where
   abbrev pub before_end : List TalkEvent
   before_end = opening_sent (version_of task) task.depth (whole_frames legal)
 
-  -- the seed gives these challenges, the stream was legal and was read to its end, all of it was
-  -- sent, and the seats stand for it
-  pub record IsGathered (left : Option (List ℕ)) (old new : Option (List TalkEvent))
-      (seats : Seating) : Type 0 where
-    pub challenges : List ℕ
-    pub draws : drawn task seed ≡ Some challenges
+  -- the stream was legal and was read to its end, all of it was sent, and the seats stand for it at
+  -- these challenges
+  pub record IsPassedOn (at_blocks : List (List ℕ)) (left : Option (List ℕ))
+      (old new : Option (List TalkEvent)) (seats : Seating) : Type 0 where
     pub to_end : EndsLegally
     pub read : left ≡ Some []
     pub talk : GoesOn old new (stream_sent (version_of task) task.depth legal)
-    pub stand : AreSeats task.depth task.queries.items (blocks task challenges) legal seats
+    pub stand : AreSeats task.depth task.queries.items at_blocks legal seats
 
-  -- a front was sent of what a legal stream sends; with one that isn't legal it ends before the end
-  -- of the stream
+  -- a front was sent of what a legal stream sends, and not the end of the stream whole; with one
+  -- that isn't legal it ends before the end of the stream
   pub record IsCut (old new : Option (List TalkEvent)) : Type 0 where
     pub said : List TalkEvent
     pub talk : GoesOn old new said
     pub order : IsPrefix said (stream_sent (version_of task) task.depth legal)
+    pub short : length said < length (stream_sent (version_of task) task.depth legal)
     pub illegal : ¬ EndsLegally → IsPrefix said before_end
 
   -- the same, before the stream was read to its end
@@ -51,6 +57,33 @@ module _ (task : Task) (bytes seed : List ℕ) where
     pub said : List TalkEvent
     pub talk : GoesOn old new said
     pub order : IsPrefix said before_end
+
+  -- why the stream was not passed on, and what was sent
+  abbrev pub Breaks : Option (List TalkEvent) → Option (List TalkEvent) → Status → Type 0
+  Breaks old new (statuses.BadStream at why) =
+      (at ≡ length legal) × ((records task.depth task.form bytes).fault ≡ Some why)
+      × GoesOn old new before_end
+  Breaks old new (statuses.ReadFault ports.First) = IsCutBefore old new
+  Breaks old new statuses.PeerFault = IsCut old new
+  Breaks old new statuses.OutOfMemory = IsCut old new
+  Breaks old new _ = ⊥
+
+  -- what a call answers that leaves the seats so
+  abbrev pub PassesOn : List (List ℕ) → Option (List ℕ) → Option (List TalkEvent)
+      → Option (List TalkEvent) → Seating → Result Unit Status → Type 0
+  PassesOn at_blocks left old new seats (Ok _) = IsPassedOn at_blocks left old new seats
+  PassesOn at_blocks left old new seats (Err status) = Breaks old new status
+
+-- ---- the challenges, and then the stream
+
+module _ (task : Task) (bytes seed : List ℕ) where
+  -- the seed gives these challenges, the stream was legal and was read to its end, all of it was
+  -- sent, and the seats stand for it
+  pub record IsGathered (left : Option (List ℕ)) (old new : Option (List TalkEvent))
+      (seats : Seating) : Type 0 where
+    pub challenges : List ℕ
+    pub draws : drawn task seed ≡ Some challenges
+    pub passed : IsPassedOn task bytes (blocks task challenges) left old new seats
 
   -- the seed gives challenges
   abbrev pub HasSeed : Type 0
@@ -61,13 +94,14 @@ module _ (task : Task) (bytes seed : List ℕ) where
   Refuses old new statuses.BadSeed = (length seed < 32) × (new ≡ old)
   Refuses old new statuses.SeedSpent = (32 ≤ length seed) × (drawn task seed ≡ None) × (new ≡ old)
   Refuses old new (statuses.BadStream at why) =
-      HasSeed × (at ≡ length legal) × ((records task.depth task.form bytes).fault ≡ Some why)
-      × GoesOn old new before_end
-  Refuses old new (statuses.ReadFault ports.First) = HasSeed × IsCutBefore old new
+      HasSeed × Breaks task bytes old new (statuses.BadStream at why)
+  Refuses old new (statuses.ReadFault ports.First) =
+      HasSeed × Breaks task bytes old new (statuses.ReadFault ports.First)
   Refuses old new (statuses.ReadFault ports.Second) = new ≡ old
   Refuses old new (statuses.WriteFault ports.Keep) = HasSeed × (new ≡ old)
-  Refuses old new statuses.PeerFault = HasSeed × IsCut old new
-  Refuses old new statuses.OutOfMemory = (new ≡ old) ⊎ (HasSeed × IsCut old new)
+  Refuses old new statuses.PeerFault = HasSeed × Breaks task bytes old new statuses.PeerFault
+  Refuses old new statuses.OutOfMemory =
+      (new ≡ old) ⊎ (HasSeed × Breaks task bytes old new statuses.OutOfMemory)
   Refuses old new _ = ⊥
 
   abbrev pub Gathers : Option (List ℕ) → Option (List TalkEvent) → Option (List TalkEvent)

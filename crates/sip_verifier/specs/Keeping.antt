@@ -42,7 +42,7 @@ module _ (task : Task) (seed : List ℕ) (before now : Option (List TalkEvent)) 
   KeepsHead (Err statuses.OutOfMemory) = (now ≡ before) ⊎ HeadIsCut
   KeepsHead (Err _) = HeadIsKept
 
--- ---- what was received for a query
+-- ---- what was received for a query, and for all of them
 
 module _ (old new before now : Option (List TalkEvent)) where
   -- all was kept that was heard
@@ -61,3 +61,10 @@ module _ (old new before now : Option (List TalkEvent)) where
   abbrev pub KeepsReplies : Result Verdict SessionFault → Type 0
   KeepsReplies (Ok verdict) = AllIsKept
   KeepsReplies (Err fault) = FrontIsKept
+
+  -- what a call kept that asks all queries
+  abbrev pub KeepsTalk : Result (Unit {0}) Status → Type 0
+  KeepsTalk (Ok _) = AllIsKept
+  KeepsTalk (Err (statuses.Rejected query round reason)) = AllIsKept
+  KeepsTalk (Err (statuses.WriteFault ports.Report)) = AllIsKept
+  KeepsTalk (Err _) = FrontIsKept

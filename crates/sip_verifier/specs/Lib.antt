@@ -4,6 +4,7 @@ pub mod Reports
 pub mod Moments
 pub mod Statuses
 pub mod Exchanges
+pub mod Inquiries
 pub mod Kinds
 pub mod Questions
 pub mod Transcripts
@@ -20,6 +21,7 @@ pub mod Feeding
 pub mod Gathering
 pub mod Sittings
 pub mod Asking
+pub mod Concluding
 pub mod Keeping
 pub mod CountClause
 pub mod CompletenessClause

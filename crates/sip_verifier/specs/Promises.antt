@@ -5,6 +5,7 @@ use Rattle.sip_verifier.specs.CauseClause.{CauseClause}
 use Rattle.sip_verifier.specs.CompletenessClause.{CompletenessClause}
 use Rattle.sip_verifier.specs.CountClause.{CountClause}
 use Rattle.sip_verifier.specs.Exchanges.{Exchange}
+use Rattle.sip_verifier.specs.Inquiries.{inquiry_of}
 use Rattle.sip_verifier.specs.KeepClause.{KeepClause}
 use Rattle.sip_verifier.specs.Moments.{Counts}
 use Rattle.sip_verifier.specs.TalkClause.{TalkClause}
@@ -14,13 +15,13 @@ use Rattle.sip_verifier.specs.VerdictClause.{VerdictClause}
 pub record Promises (task : Task) (x : Exchange) (before now : Counts)
     (status : Status) : Type 0 where
   -- which lines are written, and when
-  pub verdict : VerdictClause task x status
+  pub verdict : VerdictClause (inquiry_of task x) x status
   -- in which order the bytes go
-  pub talk : TalkClause task x status
+  pub talk : TalkClause (inquiry_of task x) x status
   -- when each other answer comes
-  pub cause : CauseClause task x before now status
+  pub cause : CauseClause (inquiry_of task x) x before now status
   -- how many challenges a helper can win by, and that no line has a wrong answer but at those
-  pub count : CountClause task x
+  pub count : CountClause (inquiry_of task x) x
   -- what an honest helper comes to
   pub complete : CompletenessClause task x before now status
   -- what is kept of the talk

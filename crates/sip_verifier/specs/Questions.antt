@@ -4,18 +4,17 @@ use Rattle.sip_ports.specs.declared.port.TalkEvent.{TalkEvent}
 use Rattle.sip_vector.specs.declared.query.Query.{Query}
 use Rattle.sip_vector.specs.declared.update.Update.{Update}
 use Rattle.sip_vector.specs.Answers.{Answer}
+use Rattle.sip_vector.specs.Pieces.{cut}
 use Rattle.sip_stream.specs.Records.{records}
 use Rattle.sip_wire.specs.declared.version.Version.{Version}
 use Rattle.sip_replies.specs.Protocols.{Protocol}
 use Rattle.sip_replies.specs.Replies as general
 use Rattle.sip_replies.specs.Replies.{Fault}
 use Rattle.sip_replies.specs.Talks.{asked_unless}
-use Rattle.sip_verifier.specs.declared.task.Task.{Task}
-use Rattle.sip_verifier.specs.Draws.{drawn, blocks}
 use Rattle.sip_verifier.specs.Exchanges.{Exchange}
+use Rattle.sip_verifier.specs.Inquiries.{Inquiry}
 use Rattle.sip_verifier.specs.Kinds.{KindRow, built, missing, kind_row, OfKind}
 use Rattle.sip_verifier.specs.Reports.{line}
-use Rattle.sip_verifier.specs.Tasks.{version_of}
 use Rattle.sip_verifier.specs.Talks.{stream_sent, bye_sent}
 
 pub record Question : Type 0 where
@@ -73,17 +72,17 @@ said_by_kind missing q = []
 abbrev pub said_for : Version → ℕ → List Update → Question → List TalkEvent
 said_for version depth stream q = said_by_kind (kind_row version depth stream q.query) q
 
-module _ (task : Task) (x : Exchange) where
+module _ (i : Inquiry) (x : Exchange) where
   -- the legal records of the stream
   abbrev pub updates : List Update
-  updates = (records task.depth task.form x.stream).legal
+  updates = (records i.depth i.form x.stream).legal
 
   -- the stream is legal to its end
   abbrev pub IsLegalToEnd : Type 0
-  IsLegalToEnd = (records task.depth task.form x.stream).fault ≡ None
+  IsLegalToEnd = (records i.depth i.form x.stream).fault ≡ None
 
   abbrev pub Done : Type 0
-  Done = List (Accepted (version_of task) task.depth updates)
+  Done = List (Accepted i.version i.depth updates)
 
   abbrev pub questions_of : Done → List Question
   questions_of done = map (λ a. a.question) done
@@ -93,21 +92,19 @@ module _ (task : Task) (x : Exchange) where
 
   -- the farewell, which comes once every query was accepted
   abbrev pub farewell : Done → List TalkEvent
-  farewell done =
-      if length done == length task.queries.items then bye_sent (version_of task) else []
+  farewell done = if length done == length i.queries then bye_sent i.version else []
 
-  -- these are the task's first queries in order, each with its own block of the challenges that the
-  -- seed gives
+  -- these are the first queries in order, each with its own block of the challenges
   pub record AreQuestions (questions : List Question) : Type 0 where
     pub challenges : List ℕ
-    pub drawn : drawn task x.seed ≡ Some challenges
-    pub queries : map (λ q. q.query) questions ≡ take (length questions) task.queries.items
-    pub blocks : map (λ q. q.block) questions ≡ take (length questions) (blocks task challenges)
+    pub drawn : i.challenges ≡ Some challenges
+    pub queries : map (λ q. q.query) questions ≡ take (length questions) i.queries
+    pub blocks : map (λ q. q.block) questions ≡ take (length questions) (cut i.depth challenges)
 
   -- the whole stream was legal and was sent, and then these questions were taken, and then the rest
   -- was said
   pub record Reached (questions : List Question) (rest : List TalkEvent) : Type 0 where
     pub are_questions : AreQuestions questions
     pub legal : IsLegalToEnd
-    pub talk : x.talk ≡ stream_sent (version_of task) task.depth updates ++ flat_map
-        (said_for (version_of task) task.depth updates) questions ++ rest
+    pub talk : x.talk ≡ stream_sent i.version i.depth updates ++ flat_map
+        (said_for i.version i.depth updates) questions ++ rest

@@ -18,52 +18,51 @@ use Rattle.sip_replies.specs.Replies.{Fault}
 use Rattle.sip_verifier.specs.declared.status.Port.TheVariants as ports
 use Rattle.sip_verifier.specs.declared.status.Status.{Status}
 use Rattle.sip_verifier.specs.declared.status.Status.TheVariants as statuses
-use Rattle.sip_verifier.specs.declared.task.Task.{Task}
-use Rattle.sip_verifier.specs.Tasks.{version_of}
 use Rattle.sip_replies.specs.Talks.{IsPrefix, ending}
 use Rattle.sip_verifier.specs.Exchanges.{Exchange}
+use Rattle.sip_verifier.specs.Inquiries.{Inquiry}
 use Rattle.sip_verifier.specs.Talks.{whole_frames, opening_sent, stream_sent, bye_sent}
 use Rattle.sip_verifier.specs.Questions.{Question, IsFaulty, IsUnfinished, said_for, updates, IsLegalToEnd, Done, questions_of, lines, farewell, AreQuestions, Reached}
 use Rattle.sip_verifier.specs.VerdictClause.{WereReached, EndsUnjudged}
 
-module _ (task : Task) (x : Exchange) where
+module _ (i : Inquiry) (x : Exchange) where
   -- the whole talk
   pub record IsWholeTalk : Type 0 where
-    pub done : Done task x
-    pub all : length done ≡ length task.queries.items
-    pub reached : Reached task x (questions_of task x done) (bye_sent (version_of task))
+    pub done : Done i x
+    pub all : length done ≡ length i.queries
+    pub reached : Reached i x (questions_of i x done) (bye_sent i.version)
 
   -- the talk up to a fault of the replies to a query, after those to the queries before were
   -- accepted
   pub record EndsAtFault (fault : Fault) : Type 0 where
-    pub done : Done task x
+    pub done : Done i x
     pub last : Question
-    pub faulty : IsFaulty (version_of task) task.depth (updates task x) last fault
-    pub reached : Reached task x (questions_of task x done ++ last ∷ []) (ending fault.reason)
+    pub faulty : IsFaulty i.version i.depth (updates i x) last fault
+    pub reached : Reached i x (questions_of i x done ++ last ∷ []) (ending fault.reason)
 
   -- what was said while the stream was read
   abbrev pub before_end : List TalkEvent
-  before_end = opening_sent (version_of task) task.depth (whole_frames (updates task x))
+  before_end = opening_sent i.version i.depth (whole_frames (updates i x))
 
   -- The talk stopped somewhere: it has some accepted questions, each of them whole, and then a
   -- front of one that is under way or of the farewell.
   pub record IsUnderWay : Type 0 where
-    pub done : Done task x
-    pub reached : WereReached task x done
+    pub done : Done i x
+    pub reached : WereReached i x done
     pub current : Option Question
-    pub unfinished : IfSome current (IsUnfinished (version_of task) task.depth (updates task x))
+    pub unfinished : IfSome current (IsUnfinished i.version i.depth (updates i x))
     pub questions : x.talk ≢ []
-        → AreQuestions task x (questions_of task x done ++ option_to_list current)
+        → AreQuestions i x (questions_of i x done ++ option_to_list current)
     pub order : IsPrefix x.talk
-        (stream_sent (version_of task) task.depth (updates task x) ++ flat_map
-        (said_for (version_of task) task.depth (updates task x))
-        (questions_of task x done ++ option_to_list current) ++ farewell task x done)
-    pub legal : ¬ IsLegalToEnd task x → IsPrefix x.talk before_end
+        (stream_sent i.version i.depth (updates i x) ++ flat_map
+        (said_for i.version i.depth (updates i x))
+        (questions_of i x done ++ option_to_list current) ++ farewell i x done)
+    pub legal : ¬ IsLegalToEnd i x → IsPrefix x.talk before_end
     -- what is said after the accepted questions is said only once all their lines were written
     pub written : ¬ IsPrefix x.talk
-        (stream_sent (version_of task) task.depth (updates task x) ++ flat_map
-        (said_for (version_of task) task.depth (updates task x)) (questions_of task x done))
-        → x.report ≡ lines task x done
+        (stream_sent i.version i.depth (updates i x) ++ flat_map
+        (said_for i.version i.depth (updates i x)) (questions_of i x done))
+        → x.report ≡ lines i x done
 
   -- the talk stopped somewhere, or at a fault that was judged
   abbrev pub Stopped : Type 0
@@ -78,11 +77,11 @@ module _ (task : Task) (x : Exchange) where
   TalkClause statuses.BadSeed = x.talk ≡ []
   TalkClause statuses.SeedSpent = x.talk ≡ []
   TalkClause (statuses.TooWide query) =
-      x.talk ≡ stream_sent (version_of task) task.depth (updates task x)
+      x.talk ≡ stream_sent i.version i.depth (updates i x)
   TalkClause (statuses.ReadFault ports.First) = IsUnderWay × IsPrefix x.talk before_end
   TalkClause (statuses.ReadFault ports.Second) = x.talk ≡ []
   TalkClause (statuses.WriteFault ports.Report) = Stopped
-  TalkClause (statuses.WriteFault ports.Keep) = (x.talk ≡ []) ⊎ EndsUnjudged task x
+  TalkClause (statuses.WriteFault ports.Keep) = (x.talk ≡ []) ⊎ EndsUnjudged i x
   TalkClause statuses.PeerFault = IsUnderWay
-  TalkClause statuses.OutOfMemory = Stopped ⊎ EndsUnjudged task x
+  TalkClause statuses.OutOfMemory = Stopped ⊎ EndsUnjudged i x
   TalkClause _ = ⊥

@@ -18,89 +18,88 @@ use Rattle.sip_wire.specs.declared.message.Reason.{Reason}
 use Rattle.sip_verifier.specs.declared.status.Port.TheVariants as ports
 use Rattle.sip_verifier.specs.declared.status.Status.{Status}
 use Rattle.sip_verifier.specs.declared.status.Status.TheVariants as statuses
-use Rattle.sip_verifier.specs.declared.task.Task.{Task}
-use Rattle.sip_verifier.specs.Tasks.{version_of}
 use Rattle.sip_replies.specs.Talks.{IsPrefix, ending}
 use Rattle.sip_verifier.specs.Exchanges.{Exchange}
+use Rattle.sip_verifier.specs.Inquiries.{Inquiry}
 use Rattle.sip_verifier.specs.Reports.{line, rejection}
 use Rattle.sip_verifier.specs.Talks.{bye_sent, stream_sent}
 use Rattle.sip_verifier.specs.Questions.{Question, Accepted, IsFaulty, IsUnjudged, IsWaiting, said_for, updates, Done, questions_of, lines, farewell, Reached}
 
-module _ (task : Task) (x : Exchange) where
+module _ (i : Inquiry) (x : Exchange) where
   -- every query was accepted, and every line was written
   pub record AllWritten : Type 0 where
-    pub done : Done task x
-    pub all : length done ≡ length task.queries.items
-    pub reached : Reached task x (questions_of task x done) (bye_sent (version_of task))
-    pub report : x.report ≡ lines task x done
+    pub done : Done i x
+    pub all : length done ≡ length i.queries
+    pub reached : Reached i x (questions_of i x done) (bye_sent i.version)
+    pub report : x.report ≡ lines i x done
     pub read : x.unread ≡ []
 
   -- The replies to the queries before this one were accepted, and its own have this first fault.
   -- The report is the lines of those before and the line of the rejection.
   pub record OneFaulty (query round : ℕ) (reason : Reason) : Type 0 where
-    pub done : Done task x
+    pub done : Done i x
     pub number : query ≡ suc (length done)
     pub last : Question
-    pub faulty : IsFaulty (version_of task) task.depth (updates task x) last
+    pub faulty : IsFaulty i.version i.depth (updates i x) last
         (record { round = round; reason = reason })
-    pub reached : Reached task x (questions_of task x done ++ last ∷ []) (ending reason)
-    pub report : x.report ≡ lines task x done ++ rejection query round reason
+    pub reached : Reached i x (questions_of i x done ++ last ∷ []) (ending reason)
+    pub report : x.report ≡ lines i x done ++ rejection query round reason
 
   -- these queries were accepted, as the talk shows
-  abbrev pub WereReached : Done task x → Type 0
+  abbrev pub WereReached : Done i x → Type 0
   WereReached done =
-      (done ≡ []) ⊎ ((rest : List TalkEvent) × Reached task x (questions_of task x done) rest)
+      (done ≡ []) ⊎ ((rest : List TalkEvent) × Reached i x (questions_of i x done) rest)
 
   -- a part of the line of the next query, whose replies were accepted, and after which nothing was
   -- said
-  pub record PartWritten (done : Done task x) (part : List ℕ) : Type 0 where
-    pub next : Accepted (version_of task) task.depth (updates task x)
-    pub reached : Reached task x (questions_of task x done ++ next.question ∷ []) []
+  pub record PartWritten (done : Done i x) (part : List ℕ) : Type 0 where
+    pub next : Accepted i.version i.depth (updates i x)
+    pub reached : Reached i x (questions_of i x done ++ next.question ∷ []) []
     pub front : IsPrefix part (line next.question.query next.answer)
 
   -- a part of the line of the rejection of the next query, whose replies have this first fault
-  pub record PartRejected (done : Done task x) (part : List ℕ) : Type 0 where
+  pub record PartRejected (done : Done i x) (part : List ℕ) : Type 0 where
     pub last : Question
     pub fault : Fault
-    pub faulty : IsFaulty (version_of task) task.depth (updates task x) last fault
-    pub reached : Reached task x (questions_of task x done ++ last ∷ []) (ending fault.reason)
+    pub faulty : IsFaulty i.version i.depth (updates i x) last fault
+    pub reached : Reached i x (questions_of i x done ++ last ∷ []) (ending fault.reason)
     pub front : IsPrefix part (rejection (suc (length done)) fault.round fault.reason)
 
   -- The lines of the queries before a verdict that was reached, and a front of the line of that
   -- verdict: none of it, a part, or all. Nothing was said after that verdict.
   pub record CutInLine : Type 0 where
-    pub done : Done task x
+    pub done : Done i x
     pub part : List ℕ
     pub reached : WereReached done
     pub verdict : PartWritten done part ⊎ PartRejected done part
-    pub report : x.report ≡ lines task x done ++ part
+    pub report : x.report ≡ lines i x done ++ part
 
   -- The lines of all queries that were accepted. What was said after them is a front of the
   -- farewell, or of a query that waits for replies: so no other verdict was reached, and no front
   -- of the talk can hide an accepted query.
   pub record NoneLeft : Type 0 where
-    pub done : Done task x
+    pub done : Done i x
     pub current : Option Question
-    pub waits : IfSome current (IsWaiting (version_of task) task.depth (updates task x))
+    pub waits : IfSome current (IsWaiting i.version i.depth (updates i x))
     pub reached : WereReached done
     pub order : IsPrefix x.talk
-        (stream_sent (version_of task) task.depth (updates task x) ++ flat_map
-        (said_for (version_of task) task.depth (updates task x))
-        (questions_of task x done ++ option_to_list current) ++ farewell task x done)
-    pub report : x.report ≡ lines task x done
+        (stream_sent i.version i.depth (updates i x) ++ flat_map
+        (said_for i.version i.depth (updates i x))
+        (questions_of i x done ++ option_to_list current) ++ farewell i x done)
+    pub report : x.report ≡ lines i x done
 
   -- What came of the last reply was not judged, after the replies to the queries before were
   -- accepted. Nothing was said after it.
   pub record EndsUnjudged : Type 0 where
-    pub done : Done task x
+    pub done : Done i x
     pub last : Question
     pub ended : List TalkEvent
-    pub unjudged : IsUnjudged (version_of task) task.depth (updates task x) last ended
-    pub reached : Reached task x (questions_of task x done ++ last ∷ []) ended
+    pub unjudged : IsUnjudged i.version i.depth (updates i x) last ended
+    pub reached : Reached i x (questions_of i x done ++ last ∷ []) ended
 
   -- the same, and the report is the lines of the queries before
   abbrev pub UnjudgedWritten : Type 0
-  UnjudgedWritten = (end : EndsUnjudged) × (x.report ≡ lines task x end.done)
+  UnjudgedWritten = (end : EndsUnjudged) × (x.report ≡ lines i x end.done)
 
   abbrev pub VerdictClause : Status → Type 0
   VerdictClause statuses.Accepted = AllWritten

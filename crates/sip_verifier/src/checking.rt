@@ -8,22 +8,25 @@ ghost use Rattle.sip_wire.specs.Spelling.{spelling};
 ghost use Rattle.sip_wire.specs.Table.{most_queries};
 ghost use Rattle.sip_wire.specs.Versions.{Speaks};
 ghost use Rattle.sip_verifier.specs.declared.session.SessionStart.{SessionStart as AnyStart};
-ghost use Rattle.sip_verifier.specs.Exchanges.{TakesAtMost};
+ghost use Rattle.sip_verifier.specs.Concluding.{Ended, GoesBehind, Reports, status_of};
+ghost use Rattle.sip_verifier.specs.Exchanges.{Exchange, TakesAtMost};
 ghost use Rattle.sip_verifier.specs.inside.Ending.{status_of_start};
-ghost use Rattle.sip_verifier.specs.Moments.{counts, moment};
+ghost use Rattle.sip_verifier.specs.Inquiries.{Inquiry};
+ghost use Rattle.sip_verifier.specs.Keeping.{KeepsTalk};
+ghost use Rattle.sip_verifier.specs.Moments.{Counts, counts, moment};
 ghost use Rattle.sip_verifier.specs.NextSeat.{IsNext};
-ghost use Rattle.sip_verifier.specs.inside.Progress.{Checks, ChecksAll, Kept, status_of};
+ghost use Rattle.sip_verifier.specs.inside.Progress.{Checks, ChecksAll};
 ghost use Rattle.sip_verifier.specs.QuerySeats.{Seated, StandsFor};
 ghost use Rattle.sip_verifier.specs.RunClause.{RunClause};
 ghost use Rattle.sip_verifier.specs.Seats.{Seating};
 ghost use Rattle.sip_verifier.specs.Sittings.{Starts};
-ghost use Rattle.sip_verifier.specs.Statuses.{Stops, stops_asking};
+ghost use Rattle.sip_verifier.specs.Statuses.{FaultClause, Stops, stops_asking};
 ghost use Rattle.sip_verifier.specs.Tasks.{CanBeDone};
 
 use crate::ending::{on_link, on_report, status_of_fault, status_of_start};
 use crate::gathering::gather_into;
 use crate::report::{write_number, write_pairs, write_rejection};
-use crate::{Seats, Session, SessionStart, Status, Task, Verdict};
+use crate::{Seats, Session, Status, Task, Verdict};
 use sip_ports::{Link, PortStop, Sink, Source};
 use sip_vector::{Depth, Query};
 use sip_wire::{Message, Version, encode};
@@ -45,7 +48,7 @@ fn check_query<L: Link, K: Sink, C: Sink>(
         → IsNext session.old.depth stream session.old.left query.now seat
         → Checks session.old.version session.old.depth stream query.now seat.block number
         (L.talk peer.old) (L.talk peer.new) (K.talk report.old) (K.talk report.new) result }
-    ensures kept { Kept (L.talk peer.old) (L.talk peer.new) (C.talk keep.old) (C.talk keep.new)
+    ensures kept { KeepsTalk (L.talk peer.old) (L.talk peer.new) (C.talk keep.old) (C.talk keep.new)
         result }
     ensures next { session.new.left ≡ drop 1 session.old.left }
     ensures version { session.new.version ≡ session.old.version }
@@ -92,7 +95,7 @@ fn check_all<L: Link, K: Sink, C: Sink>(
         → ChecksAll session.old.version session.old.depth stream queries.now
         (map (λ seat. seat.block) session.old.left)
         (L.talk peer.old) (L.talk peer.new) (K.talk report.old) (K.talk report.new) result }
-    ensures kept { Kept (L.talk peer.old) (L.talk peer.new) (C.talk keep.old) (C.talk keep.new)
+    ensures kept { KeepsTalk (L.talk peer.old) (L.talk peer.new) (C.talk keep.old) (C.talk keep.new)
         result }
     ensures fault { (first firsts second seconds : ℕ) → Stops stops_asking
         (counts first second (L.faults peer.old) (K.faults report.old) (C.faults keep.old))
@@ -108,19 +111,6 @@ fn check_all<L: Link, K: Sink, C: Sink>(
         check_query(session, number, query, peer, report, keep)?;
     }
     Ok(())
-}
-
-/// The session of these seats, on the heap.
-fn begin(alloc: Global, version: Version, seats: Seats) -> Result<Box<Session>, SessionStart>
-    requires { All (λ s. Speaks version seats.depth s.query) seats.seats }
-    ensures { MatchResult result (λ session. Starts version seats (Ok session.value))
-        (λ start. Starts version seats (Err start)) }
-{
-    let session = Session::new(alloc, version, seats)?;
-    match Box::new(alloc, session) {
-        Ok(session) => Ok(session),
-        Err(_) => Err(SessionStart::OutOfMemory),
-    }
 }
 
 /// The session of the seats that were gathered, if they were. These are taken from where they stand:
@@ -140,7 +130,7 @@ fn open(
         × (status ≡ status_of_start start)) }
 {
     match mem::replace(gathered, Err(Status::SeedSpent)) {
-        Ok(seats) => match begin(alloc, version, seats) {
+        Ok(seats) => match Session::boxed(alloc, version, seats) {
             Ok(session) => Ok(session),
             Err(start) => Err(status_of_start(start)),
         },
@@ -156,6 +146,49 @@ fn say_bye<L: Link>(version: Version, peer: &mut L) -> Result<(), PortStop>
     ensures cause { HasCause L.faults L.wants L.is_sure peer.old peer.new result }
 {
     encode(&Message::Bye, version, peer)
+}
+
+/// Asks all queries of a session in order over a link to where its stream is kept, writes the line of each verdict to `report`, up
+/// to the first stop, and says farewell where all were accepted. It takes no memory; the time is linear in the replies.
+///
+/// `keep` gets each frame's bytes as soon as they came, before they are judged.
+///
+/// # Errors
+///
+/// How the run ends: `Rejected`, behind the line of the rejection; `WriteFault` of the report, behind a front of a line; `WriteFault`
+/// of `keep` and `PeerFault`, behind the lines before. `OutOfMemory` is one of these three. The session is spent then.
+#[inline(never)]
+pub fn conclude<L: Link, K: Sink, C: Sink>(
+    session: &mut Session,
+    queries: &[Query],
+    peer: &mut L,
+    report: &mut K,
+    keep: &mut C,
+) -> Result<(), Status>
+    requires count { length session.old.left ≡ length queries.now }
+    requires most { length queries.now ≤ most_queries }
+    requires live { session.old.spent ≡ false }
+    ensures ends { (i : Inquiry) (x : Exchange) (before now : Counts) → queries.now ≡ i.queries
+        → GoesBehind i x session.old (L.talk peer.old) (L.talk peer.new) (K.talk report.old)
+        (K.talk report.new)
+        → FaultClause before now (status_of result) → Ended i x before now (status_of result) }
+    ensures kept { KeepsTalk (L.talk peer.old) (L.talk peer.new) (C.talk keep.old) (C.talk keep.new)
+        result }
+    ensures wrote { (stream : List AnyUpdate)
+        → map (λ seat. seat.query) session.old.left ≡ queries.now
+        → All (StandsFor session.old.depth stream) session.old.left
+        → Reports (K.talk report.old) (K.talk report.new) }
+    ensures fault { (first firsts second seconds : ℕ) → Stops stops_asking
+        (counts first second (L.faults peer.old) (K.faults report.old) (C.faults keep.old))
+        (counts firsts seconds (L.faults peer.new) (K.faults report.new) (C.faults keep.new))
+        result }
+    ensures peer { Lasts L.faults L.wants L.is_sure peer.old peer.new }
+    ensures report { Lasts K.faults K.wants K.is_sure report.old report.new }
+    ensures keep { Lasts C.faults C.wants C.is_sure keep.old keep.new }
+{
+    let version = session.version();
+    check_all(session, queries, peer, report, keep)?;
+    on_link(say_bye(version, peer))
 }
 
 /// All that a run does, up to its first stop.
@@ -191,8 +224,7 @@ fn steps<A: Source, B: Source, L: Link, K: Sink, C: Sink>(
     let mut gathered = Err(Status::SeedSpent);
     gather_into(task, first, second, peer, keep, &mut gathered);
     let mut session = open(alloc, version, &mut gathered)?;
-    check_all(&mut *session, &task.queries, peer, report, keep)?;
-    on_link(say_bye(version, peer))
+    conclude(&mut *session, &task.queries, peer, report, keep)
 }
 
 /// Does a task: draws the challenges from `second`, reads the stream of `first` and sends it over `peer`, asks each query, judges

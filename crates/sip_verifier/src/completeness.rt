@@ -14,6 +14,7 @@ ghost use Rattle.sip_verifier.specs.declared.task.Task.{Task};
 ghost use Rattle.sip_verifier.specs.CauseClause.{CauseClause};
 ghost use Rattle.sip_verifier.specs.CompletenessClause.{honest_bytes, CompletenessClause};
 ghost use Rattle.sip_verifier.specs.Exchanges.{Exchange};
+ghost use Rattle.sip_verifier.specs.Inquiries.{inquiry_of};
 ghost use Rattle.sip_verifier.specs.Moments.{Counts};
 ghost use Rattle.sip_verifier.specs.Reports.{report_of};
 ghost use Rattle.sip_verifier.specs.Statuses.{IsListed};
@@ -23,7 +24,8 @@ ghost use Rattle.sip_verifier.specs.VerdictClause.{VerdictClause};
 pub fn honest_helpers_are_accepted()
     ensures { (task : Task) (x : Exchange) (before now : Counts) (status : Status) → 1 ≤ task.depth
         → task.depth ≤ most_depth → All (Fits task.depth) task.queries.items
-        → VerdictClause task x status → CauseClause task x before now status → IsListed status
+        → VerdictClause (inquiry_of task x) x status
+        → CauseClause (inquiry_of task x) x before now status → IsListed status
         → CompletenessClause task x before now status }
 {}
 

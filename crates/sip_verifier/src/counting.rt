@@ -7,9 +7,9 @@ ghost use Rattle.sip_vector.specs.Answers.{Answer, Fits};
 ghost use Rattle.sip_vector.specs.Streams.{IsLegal};
 ghost use Rattle.sip_wire.specs.declared.version.Version.{Version};
 ghost use Rattle.sip_verifier.specs.declared.status.Status.{Status};
-ghost use Rattle.sip_verifier.specs.declared.task.Task.{Task};
 ghost use Rattle.sip_verifier.specs.CountClause.{CountsFor, CountClause};
 ghost use Rattle.sip_verifier.specs.Exchanges.{Exchange};
+ghost use Rattle.sip_verifier.specs.Inquiries.{Inquiry};
 ghost use Rattle.sip_verifier.specs.Statuses.{IsListed};
 ghost use Rattle.sip_verifier.specs.Tasks.{CanBeAsked};
 ghost use Rattle.sip_verifier.specs.Questions.{Question, Accepts, updates};
@@ -17,7 +17,7 @@ ghost use Rattle.sip_verifier.specs.VerdictClause.{VerdictClause};
 
 /// What is read of a stream is a legal stream.
 pub fn records_are_legal()
-    ensures { (task : Task) (x : Exchange) → IsLegal task.depth (updates task x) }
+    ensures { (i : Inquiry) (x : Exchange) → IsLegal i.depth (updates i x) }
 {}
 
 /// Where a question's replies are accepted and state an answer, that answer is counted.
@@ -29,7 +29,7 @@ pub fn accepted_questions_are_counted()
 
 /// Each report of a verifying command is counted, where its queries can be asked.
 pub fn reports_are_counted()
-    ensures { (task : Task) (x : Exchange) (status : Status)
-        → All (CanBeAsked task.depth) task.queries.items → VerdictClause task x status
-        → IsListed status → CountClause task x }
+    ensures { (i : Inquiry) (x : Exchange) (status : Status)
+        → All (CanBeAsked i.depth) i.queries → VerdictClause i x status
+        → IsListed status → CountClause i x }
 {}

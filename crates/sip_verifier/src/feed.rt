@@ -13,7 +13,7 @@ ghost use Rattle.sip_wire.specs.declared.message.Message.TheVariants as messages
 ghost use Rattle.sip_verifier.specs.Feeding.{due_at_end, due_with, waiting_with};
 
 use arrayvec::ArrayVec;
-use sip_ports::{Link, PortStop, Source};
+use sip_ports::{PortStop, Sink, Source};
 use sip_stream::Reader;
 use sip_vector::{Depth, Update};
 use sip_wire::{MOST_ROWS, Message, Version, encode, encode_updates};
@@ -63,23 +63,23 @@ impl Feed {
     ///
     /// # Errors
     ///
-    /// Those of the link, which a front of the opening has then reached that is shorter than it. The feed is then spent.
+    /// Those of the sink, which a front of the opening has then reached that is shorter than it. The feed is then spent.
     #[inline(never)]
-    pub fn begin<L: Link>(&mut self, link: &mut L, depth: Depth) -> Result<(), PortStop>
+    pub fn begin<K: Sink>(&mut self, sink: &mut K, depth: Depth) -> Result<(), PortStop>
         requires unspent { self.old.is_spent ≡ false }
         requires shallow { depth ≤ deepest self.old.version }
-        ensures talk { SendsWhole (L.talk link.old) (L.talk link.new) result
+        ensures talk { SendsWhole (K.talk sink.old) (K.talk sink.new) result
             (spelling self.old.version (messages.Open (number_of self.old.version) depth)) }
         ensures version { self.new.version ≡ self.old.version }
         ensures waiting { self.new.waiting ≡ self.old.waiting }
         ensures spent { self.new.is_spent ≡ is_err result }
-        ensures cause { HasCause L.faults L.wants L.is_sure link.old link.new result }
+        ensures cause { HasCause K.faults K.wants K.is_sure sink.old sink.new result }
     {
         let opening = Message::Open {
             version: self.version.number(),
             depth: depth.get(),
         };
-        let sent = encode(&opening, self.version, link);
+        let sent = encode(&opening, self.version, sink);
         self.is_spent = sent.is_err();
         sent
     }
@@ -133,19 +133,19 @@ impl Feed {
     ///
     /// # Errors
     ///
-    /// Those of the link, which a front of the frame has then reached that is shorter than it. The feed is then spent.
+    /// Those of the sink, which a front of the frame has then reached that is shorter than it. The feed is then spent.
     #[inline(never)]
-    pub fn send<L: Link>(&mut self, link: &mut L) -> Result<(), PortStop>
+    pub fn send<K: Sink>(&mut self, sink: &mut K) -> Result<(), PortStop>
         requires unspent { self.old.is_spent ≡ false }
         requires some { 0 < length self.old.waiting }
-        ensures talk { SendsWhole (L.talk link.old) (L.talk link.new) result
+        ensures talk { SendsWhole (K.talk sink.old) (K.talk sink.new) result
             (spelling self.old.version (messages.Updates (record { items = self.old.waiting }))) }
         ensures version { self.new.version ≡ self.old.version }
         ensures waiting { OnOk result (self.new.waiting ≡ []) }
         ensures spent { self.new.is_spent ≡ is_err result }
-        ensures cause { HasCause L.faults L.wants L.is_sure link.old link.new result }
+        ensures cause { HasCause K.faults K.wants K.is_sure sink.old sink.new result }
     {
-        let sent = encode_updates(&self.waiting, self.version, link);
+        let sent = encode_updates(&self.waiting, self.version, sink);
         self.waiting.clear();
         self.is_spent = sent.is_err();
         sent
@@ -156,45 +156,45 @@ impl Feed {
     ///
     /// # Errors
     ///
-    /// Those of the link, which a front of the frame has then reached that is shorter than it. The feed is then spent.
-    pub fn update<L: Link>(&mut self, link: &mut L, update: &Update) -> Result<(), PortStop>
+    /// Those of the sink, which a front of the frame has then reached that is shorter than it. The feed is then spent.
+    pub fn update<K: Sink>(&mut self, sink: &mut K, update: &Update) -> Result<(), PortStop>
         requires unspent { self.old.is_spent ≡ false }
         requires room { length self.old.waiting < most_rows }
         requires item { update.now.item < 256 ^ index_width self.old.version }
         requires delta { update.now.delta ≢ pos 0 }
-        ensures talk { SendsWhole (L.talk link.old)
-            (L.talk link.new) result (due_with self.old.version self.old.waiting update.now) }
+        ensures talk { SendsWhole (K.talk sink.old)
+            (K.talk sink.new) result (due_with self.old.version self.old.waiting update.now) }
         ensures version { self.new.version ≡ self.old.version }
         ensures waiting { OnOk result (self.new.waiting
             ≡ waiting_with self.old.waiting update.now) }
         ensures room { OnOk result (length self.new.waiting < most_rows) }
         ensures spent { self.new.is_spent ≡ is_err result }
-        ensures cause { HasCause L.faults L.wants L.is_sure link.old link.new result }
+        ensures cause { HasCause K.faults K.wants K.is_sure sink.old sink.new result }
     {
         self.push(update);
         if !self.is_full() {
             return Ok(());
         }
-        self.send(link)
+        self.send(sink)
     }
 
     /// Sends the updates that wait, where there are any, and the end of the stream.
     ///
     /// # Errors
     ///
-    /// Those of the link, which a front of these bytes has then reached that is shorter than they are. The feed is then
+    /// Those of the sink, which a front of these bytes has then reached that is shorter than they are. The feed is then
     /// spent.
     #[inline(never)]
-    pub fn finish<L: Link>(&mut self, link: &mut L) -> Result<(), PortStop>
+    pub fn finish<K: Sink>(&mut self, sink: &mut K) -> Result<(), PortStop>
         requires { self.old.is_spent ≡ false }
-        ensures talk { SendsWhole (L.talk link.old)
-            (L.talk link.new) result (due_at_end self.old.version self.old.waiting) }
+        ensures talk { SendsWhole (K.talk sink.old)
+            (K.talk sink.new) result (due_at_end self.old.version self.old.waiting) }
         ensures version { self.new.version ≡ self.old.version }
         ensures waiting { OnOk result (self.new.waiting ≡ []) }
         ensures spent { self.new.is_spent ≡ is_err result }
-        ensures cause { HasCause L.faults L.wants L.is_sure link.old link.new result }
+        ensures cause { HasCause K.faults K.wants K.is_sure sink.old sink.new result }
     {
-        let sent = self.send_rest(link);
+        let sent = self.send_rest(sink);
         self.is_spent = sent.is_err();
         sent
     }
@@ -202,17 +202,17 @@ impl Feed {
 
 impl Feed {
     // Sends the updates that wait, where there are any, and the end of the stream.
-    fn send_rest<L: Link>(&mut self, link: &mut L) -> Result<(), PortStop>
+    fn send_rest<K: Sink>(&mut self, sink: &mut K) -> Result<(), PortStop>
         requires { self.old.is_spent ≡ false }
-        ensures talk { SendsWhole (L.talk link.old)
-            (L.talk link.new) result (due_at_end self.old.version self.old.waiting) }
+        ensures talk { SendsWhole (K.talk sink.old)
+            (K.talk sink.new) result (due_at_end self.old.version self.old.waiting) }
         ensures version { self.new.version ≡ self.old.version }
         ensures waiting { OnOk result (self.new.waiting ≡ []) }
-        ensures cause { HasCause L.faults L.wants L.is_sure link.old link.new result }
+        ensures cause { HasCause K.faults K.wants K.is_sure sink.old sink.new result }
     {
         if !self.waiting.is_empty() {
-            self.send(link)?;
+            self.send(sink)?;
         }
-        encode(&Message::EndStream, self.version, link)
+        encode(&Message::EndStream, self.version, sink)
     }
 }

@@ -8,15 +8,15 @@ ghost use Rattle.sip_vector.specs.declared.query.Query.{Query as AnyQuery};
 ghost use Rattle.sip_vector.specs.declared.update.Side.{Side as AnySide};
 ghost use Rattle.sip_vector.specs.declared.update.Update.{Update as AnyUpdate};
 ghost use Rattle.sip_stream.specs.declared.fault.StreamFault.{StreamFault as AnyStreamFault};
-ghost use Rattle.sip_verifier.specs.inside.Drawing.{AreOf, Draws, HasDrawn};
+ghost use Rattle.sip_verifier.specs.inside.Drawing.{Draws};
 ghost use Rattle.sip_verifier.specs.inside.Ending.{status_of_stream};
 ghost use Rattle.sip_verifier.specs.Feeding.{due_with, waiting_with};
-ghost use Rattle.sip_verifier.specs.inside.Passing.{left, seated, taken_with};
+ghost use Rattle.sip_verifier.specs.inside.Passing.{left, taken_with};
 ghost use Rattle.sip_verifier.specs.QuerySeats.{HaveRoom};
 ghost use Rattle.sip_verifier.specs.Seats.{AreSeats};
 ghost use Rattle.std.specs.Result.{is_err};
 ghost use Rattle.sip_verifier.specs.Exchanges.{TakesAtMost};
-ghost use Rattle.sip_verifier.specs.Gathering.{Gathers};
+ghost use Rattle.sip_verifier.specs.Gathering.{AreOf, Gathers, PassesOn};
 ghost use Rattle.sip_verifier.specs.Keeping.{KeepsHead};
 ghost use Rattle.sip_verifier.specs.Moments.{counts};
 ghost use Rattle.sip_verifier.specs.Statuses.{Stops, stops_following, stops_gathering};
@@ -84,11 +84,11 @@ fn draw<B: Source>(
 
 /// Takes one more record of the stream, which waits for its frame. With the last one of a frame the seats take the frame's updates as
 /// a block, and it is sent, in one write.
-fn pass_on<L: Link>(
+fn pass_on<K: Sink>(
     update: &Update,
     feed: &mut Feed,
     seats: &mut Seats,
-    peer: &mut L,
+    peer: &mut K,
 ) -> Result<(), PortStop>
     requires unspent { feed.old.is_spent ≡ false }
     requires few { length feed.old.waiting < most_rows }
@@ -98,8 +98,8 @@ fn pass_on<L: Link>(
     requires items { All (λ u. u.item < 2 ^ seats.old.depth) feed.old.waiting }
     requires room { (side : AnySide)
         → HaveRoom seats.old.seats (feed.old.waiting ++ update.now ∷ []) side }
-    ensures talk { SendsWhole (L.talk peer.old)
-        (L.talk peer.new) result (due_with feed.old.version feed.old.waiting update.now) }
+    ensures talk { SendsWhole (K.talk peer.old)
+        (K.talk peer.new) result (due_with feed.old.version feed.old.waiting update.now) }
     ensures version { feed.new.version ≡ feed.old.version }
     ensures waiting { OnOk result (feed.new.waiting
         ≡ waiting_with feed.old.waiting update.now) }
@@ -112,7 +112,7 @@ fn pass_on<L: Link>(
         → AreSeats depth queries blocks stream seats.old
         → AreSeats depth queries blocks
         (stream ++ taken_with feed.old.waiting update.now) seats.new }
-    ensures cause { HasCause L.faults L.wants L.is_sure peer.old peer.new result }
+    ensures cause { HasCause K.faults K.wants K.is_sure peer.old peer.new result }
 {
     feed.push(update);
     if !feed.is_full() {
@@ -122,29 +122,36 @@ fn pass_on<L: Link>(
     feed.send(peer)
 }
 
-/// Opens the talk, reads the stream of `first` to its end, sends it on over `peer` and adds it to the seats.
+/// Opens the talk, reads the stream of `first` to its end, sends it on over `peer` and adds it to the seats. Nothing is heard, so a
+/// sink is enough. There is no allocator: see [`gather`], which draws the seats before.
+///
+/// # Errors
+///
+/// `PeerFault` of the opening; then what comes first while the stream is read and sent: `BadStream`, `ReadFault` of `first`, `PeerFault`.
+/// `OutOfMemory` comes only where a port's count of wants rose. The end of the stream was then not sent whole, and what the seats
+/// stand for is not said.
 #[inline(never)]
-fn follow<A: Source, L: Link>(
+pub fn follow<A: Source, K: Sink>(
     task: &Task,
     seats: &mut Seats,
     first: &mut A,
-    peer: &mut L,
+    peer: &mut K,
 ) -> Result<(), Status>
     requires { AreOf task.now [] seats.old }
-    ensures gathers { (bytes seed : List ℕ) → A.left first.old ≡ Some bytes
-        → HasDrawn task.now seed seats.old
-        → Gathers task.now bytes seed (A.left first.new) (L.talk peer.old)
-        (L.talk peer.new) (seated seats.new result) }
+    ensures passes_on { (bytes : List ℕ) (at_blocks : List (List ℕ)) → A.left first.old ≡ Some bytes
+        → AreSeats task.now.depth task.now.queries.items at_blocks [] seats.old
+        → PassesOn task.now bytes at_blocks (A.left first.new) (K.talk peer.old)
+        (K.talk peer.new) seats.new result }
     ensures seats { IfOk result (λ _. (stream : List AnyUpdate) × AreOf task.now stream seats.new) }
     ensures fault { (second seconds report reports keep keeps : ℕ) → Stops stops_following
-        (counts (A.faults first.old) second (L.faults peer.old) report keep)
-        (counts (A.faults first.new) seconds (L.faults peer.new) reports keeps) result }
+        (counts (A.faults first.old) second (K.faults peer.old) report keep)
+        (counts (A.faults first.new) seconds (K.faults peer.new) reports keeps) result }
     ensures memory { result ≡ Err Status.OutOfMemory
         → Rose (A.wants first.old) (A.wants first.new)
-        ⊎ Rose (L.wants peer.old) (L.wants peer.new) }
+        ⊎ Rose (K.wants peer.old) (K.wants peer.new) }
     ensures told { IsSome (A.left first.old) → IsSome (A.left first.new) }
     ensures first { Lasts A.faults A.wants A.is_sure first.old first.new }
-    ensures peer { Lasts L.faults L.wants L.is_sure peer.old peer.new }
+    ensures peer { Lasts K.faults K.wants K.is_sure peer.old peer.new }
 {
     let levels = task.depth.get();
     prove!(levels <= Depth::MOST);

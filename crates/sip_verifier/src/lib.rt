@@ -8,6 +8,7 @@
 //! | `Reports` | the lines of a report |
 //! | `Moments` | what the ports tell at one moment, and how often they have failed |
 //! | `Exchanges` | what one call moved through its ports |
+//! | `Inquiries` | what is asked of a stream, and at which challenges |
 //! | `Kinds` | what is known of a query by its kind, one row a kind |
 //! | `Questions` | a query with its block and its reply bytes; when its replies are accepted, and their fault |
 //! | `VerdictClause` | which lines are written, and when |
@@ -23,11 +24,14 @@
 //! | `Transcripts` | the head of a transcript |
 //! | `Gathering` | what a call did that reads the stream |
 //! | `Sittings`, `Asking` | what is seen of a session, and what a call did that asks a query |
+//! | `Concluding` | what a call did that asks all queries of a session |
 //!
 //! `specs/inside/` says what one private part of a run did. No promise rests on a reading of it.
 //!
-//! [`check_stream`] is a whole run: [`gather`], then a [`Session`] that asks the queries. It carries
-//! the six clauses, as one `RunClause`.
+//! [`check_stream`] is a whole run: [`gather`], then a [`Session`] that asks the queries, by
+//! [`conclude`]. It carries the six clauses, as one `RunClause`. The first four are said of an
+//! `Inquiry`: so [`follow`] and [`conclude`], over seats with challenges that are given
+//! ([`Seats::given`]), keep them for a run that is stored.
 #![tactic(auto)]
 
 mod asking;
@@ -46,9 +50,9 @@ mod session;
 mod status;
 mod task;
 
-pub use checking::check_stream;
+pub use checking::{check_stream, conclude};
 pub use feed::Feed;
-pub use gathering::gather;
+pub use gathering::{follow, gather};
 pub use report::query_word;
 pub use seats::Seats;
 pub use session::{Session, SessionFault, SessionStart, Verdict};

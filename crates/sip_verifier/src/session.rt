@@ -1,6 +1,6 @@
 //! The queries of a run, asked one after another.
 
-ghost use Rattle.std.specs.Prelude.{◌≡◌, ◌⊎◌, ◌<◌, ◌≤◌, ◌^◌, All, ℕ, List, [], ◌∷◌, true, false, length, drop, vec_len, IsTrue};
+ghost use Rattle.std.specs.Prelude.{◌≡◌, ◌⊎◌, ◌<◌, ◌≤◌, ◌^◌, All, ℕ, List, [], ◌∷◌, true, false, length, drop, vec_len, IsTrue, MatchResult, Ok, Err};
 ghost use Rattle.std.specs.List.{list_all};
 ghost use Rattle.sip_ports.specs.Ports.{Lasts, Rose};
 ghost use Rattle.sip_vector.specs.declared.query.Query.{Query as AnyQuery};
@@ -172,6 +172,34 @@ impl Session {
             space: Some(space),
             is_spent: false,
         })
+    }
+
+    /// [`Session::new`] on the heap: a session is large, since it has the seats of 16 queries.
+    ///
+    /// # Errors
+    ///
+    /// Those of [`Session::new`]; `OutOfMemory` also where there is no room for the session itself.
+    pub fn boxed(
+        alloc: Global,
+        version: Version,
+        seats: Seats,
+    ) -> Result<Box<Session>, SessionStart>
+        requires { All (λ s. Speaks version seats.depth s.query) seats.seats }
+        ensures { MatchResult result (λ session. Starts version seats (Ok session.value))
+            (λ start. Starts version seats (Err start)) }
+    {
+        let session = Session::new(alloc, version, seats)?;
+        match Box::new(alloc, session) {
+            Ok(session) => Ok(session),
+            Err(_) => Err(SessionStart::OutOfMemory),
+        }
+    }
+
+    /// The version of its talk.
+    pub(crate) fn version(&self) -> Version
+        ensures { result ≡ self.now.version }
+    {
+        self.version
     }
 
     /// How many queries were not asked yet.

@@ -1,6 +1,5 @@
 -- What a call that draws the challenges did, by the bytes that its port had.
 use Rattle.std.specs.Prelude.{◌≡◌, ◌<◌, ◌≤◌, ℕ, List, [], length, Some, None, Result, Ok, Err}
-use Rattle.sip_vector.specs.declared.update.Update.{Update}
 use Rattle.sip_verifier.specs.declared.status.Port.TheVariants as ports
 use Rattle.sip_verifier.specs.declared.status.Status.{Status}
 use Rattle.sip_verifier.specs.declared.status.Status.TheVariants as statuses
@@ -13,11 +12,6 @@ pub record HasDrawn (task : Task) (seed : List ℕ) (seats : Seating) : Type 0 w
   pub challenges : List ℕ
   pub draws : drawn task seed ≡ Some challenges
   pub stand : AreSeats task.depth task.queries.items (blocks task challenges) [] seats
-
--- the seats have the task's queries, each with some block of challenges, and stand for this stream
-pub record AreOf (task : Task) (stream : List Update) (seats : Seating) : Type 0 where
-  pub at_blocks : List (List ℕ)
-  pub stand : AreSeats task.depth task.queries.items at_blocks stream seats
 
 -- the seats are those of the seed's challenges; a seed that gives none is short, or its 32 bytes
 -- are spent

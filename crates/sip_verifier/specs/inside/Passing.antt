@@ -10,11 +10,6 @@ use Rattle.sip_verifier.specs.Seats.{Seating}
 abbrev pub taken_with : List Update → Update → List Update
 taken_with waiting u = if fills waiting then waiting ++ u ∷ [] else []
 
--- the seats as a call left them, or why it stopped
-abbrev pub seated : Seating → Result Unit Status → Result Seating Status
-seated seats (Ok _) = Ok seats
-seated seats (Err status) = Err status
-
 -- what a call answers that gathers at a place: what it left there, or why it stopped since
 abbrev pub left : Result Seating Status → Result Unit Status → Result Seating Status
 left gathered (Ok _) = gathered

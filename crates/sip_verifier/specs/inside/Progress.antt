@@ -11,17 +11,10 @@ use Rattle.sip_wire.specs.declared.version.Version.{Version}
 use Rattle.sip_verifier.specs.declared.status.Port.TheVariants as ports
 use Rattle.sip_verifier.specs.declared.status.Status.{Status}
 use Rattle.sip_verifier.specs.declared.status.Status.TheVariants as statuses
-use Rattle.sip_verifier.specs.declared.task.Task.{Task}
 use Rattle.sip_verifier.specs.Asking.{IsAnswered, IsRejected, IsInterrupted, IsUnrecorded}
-use Rattle.sip_verifier.specs.CauseClause.{CauseClause}
 use Rattle.sip_replies.specs.Talks.{IsPrefix}
-use Rattle.sip_verifier.specs.Exchanges.{Exchange}
-use Rattle.sip_verifier.specs.Keeping.{AllIsKept, FrontIsKept}
-use Rattle.sip_verifier.specs.Moments.{Counts}
 use Rattle.sip_verifier.specs.Reports.{line, rejection}
-use Rattle.sip_verifier.specs.TalkClause.{TalkClause}
 use Rattle.sip_verifier.specs.Questions.{Question, Accepted, said_for}
-use Rattle.sip_verifier.specs.VerdictClause.{VerdictClause}
 
 -- ---- one query, which has this number
 
@@ -75,14 +68,6 @@ module _ (version : Version) (depth : ℕ) (stream : List Update) (query : Query
   Checks (Err statuses.OutOfMemory) = PassesInPart ⊎ FailsInPart ⊎ HasNone ⊎ StaysUnjudged
   Checks (Err _) = ⊥
 
--- what was kept of what was heard, where the queries came to this
-abbrev pub Kept : Option (List TalkEvent) → Option (List TalkEvent) → Option (List TalkEvent)
-    → Option (List TalkEvent) → Result (Unit {0}) Status → Type 0
-Kept old new before now (Ok _) = AllIsKept old new before now
-Kept old new before now (Err (statuses.Rejected query round reason)) = AllIsKept old new before now
-Kept old new before now (Err (statuses.WriteFault ports.Report)) = AllIsKept old new before now
-Kept old new before now (Err _) = FrontIsKept old new before now
-
 -- ---- all queries
 
 -- these questions are those of the first queries, each with its own block
@@ -132,16 +117,3 @@ ChecksAll version depth stream queries blocks old new blank full (Ok _) =
     PassedBy version depth stream queries blocks old new blank full (length queries)
 ChecksAll version depth stream queries blocks old new blank full (Err status) =
     EndsWith version depth stream queries blocks old new blank full status
-
--- ---- the run
-
--- the first three promises, from which the other two follow
-pub record Ended (task : Task) (x : Exchange) (before now : Counts) (status : Status) : Type 0 where
-  pub verdict : VerdictClause task x status
-  pub talk : TalkClause task x status
-  pub cause : CauseClause task x before now status
-
--- how the steps ended
-abbrev pub status_of : Result (Unit {0}) Status → Status
-status_of (Ok _) = statuses.Accepted
-status_of (Err status) = status

@@ -24,8 +24,9 @@ module _ (version : Version) (depth : ℕ) (old new : Option (List TalkEvent))
     pub talk : GoesOn old new said
     pub order : IsPrefix said (opening_sent version depth (whole_frames stream))
 
-  -- a front was said of what a whole stream sends
+  -- a front was said of what a whole stream sends, and not all of it
   pub record IsStoppedAtEnd : Type 0 where
     pub said : List TalkEvent
     pub talk : GoesOn old new said
     pub order : IsPrefix said (stream_sent version depth stream)
+    pub short : length said < length (stream_sent version depth stream)

@@ -2,4 +2,4 @@ use Rattle.sip_stream.proofs.LegalRecords.{records_legal}
 use Rattle.sip_verifier.proofs.counting.records_are_legal.Goals as goal
 
 pub returns : goal.returns
-returns c = λ task x. records_legal task.depth task.form x.stream
+returns c = λ i x. records_legal i.depth i.form x.stream

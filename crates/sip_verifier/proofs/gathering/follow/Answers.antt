@@ -15,9 +15,8 @@ use Rattle.sip_verifier.specs.Feeding.{Waiting}
 use Rattle.sip_verifier.proofs.FramesFit.{item_below}
 use Rattle.sip_verifier.proofs.SeatsHead.{depth-shallow}
 use Rattle.sip_verifier.specs.QuerySeats.{HaveRoom}
-use Rattle.sip_verifier.specs.Draws.{blocks}
 use Rattle.sip_verifier.specs.Seats.{AreSeats}
-use Rattle.sip_verifier.proofs.Gathered.{IsFollowed, followed_many, followed_on, followed_one, followed_room, IsUnderway, begins, fair_items, goes_on, goes_on_many, stops_first, stops_after, stops_at_end, gathered, link_stops, reading_stops}
+use Rattle.sip_verifier.proofs.Gathered.{IsFollowed, followed_many, followed_on, followed_one, followed_room, IsUnderway, begins, fair_items, goes_on, goes_on_many, stops_first, stops_after, stops_at_end, passed_on, link_stops, reading_stops}
 use Rattle.sip_verifier.proofs.StreamSending.{opened, stopped_in_opening, one_more, at_end}
 use Rattle.sip_verifier.proofs.gathering.follow.Goals as goal
 
@@ -28,13 +27,13 @@ begin-requires-clause-shallow g c =
     let own : c.new-feed.result.version ≡ version_of task = ap (λ (w : Waiting). w.version) c.new-feed.ensures ∙ c.version.ensures in
     subst (λ (v : Version). task.depth ≤ deepest v) (sym own) (depth-shallow task.depth task.queries.items most)
 
-pub returns-in_err-on_link-clause-gathers : goal.returns-in_err-on_link-clause-gathers
-returns-in_err-on_link-clause-gathers g c = λ bytes seed all has.
+pub returns-in_err-on_link-clause-passes_on : goal.returns-in_err-on_link-clause-passes_on
+returns-in_err-on_link-clause-passes_on g c = λ bytes at_blocks all has.
     let p = err_from_is_err_and c.from_residual.result c.from_residual.ensures.1 in
     let (port, stop, is) = c.in_err-on_link.ensures in
     let own : c.new-feed.result.version ≡ version_of c.args.task.now = ap (λ (w : Waiting). w.version) c.new-feed.ensures ∙ c.version.ensures in
     let said = rw (stop, own) at c.begin.ensures.talk in
-    rw (p.1, p.2, is) (link_stops _ bytes seed _ _ has (g.A.Source.left c.args.first.now) _ port (stops_first _ bytes seed _ _ has _ (stopped_in_opening (version_of c.args.task.now) _ _ _ said.0 said.2)))
+    rw (p.1, p.2, is) (link_stops _ bytes _ _ at_blocks has _ port (stops_first _ bytes _ _ at_blocks has _ (stopped_in_opening (version_of c.args.task.now) _ _ _ said.0 said.2)))
 
 pub loop-update-init : goal.loop-update-init
 loop-update-init g c =
@@ -43,9 +42,9 @@ loop-update-init g c =
     let none : c.begin.new.self.waiting ≡ [] = c.begin.ensures.waiting ∙ ap (λ (w : Waiting). w.waiting) c.new-feed.ensures in
     let few : length c.begin.new.self.waiting < most_rows = omega (arith, ap length none) in
     record {
-      underway = λ bytes seed all has.
+      underway = λ bytes at_blocks all has.
           let opening = opened (version_of task) task.depth _ _ (rw (c.in_ok-on_link.ensures, own) at c.begin.ensures.talk) in
-          begins task bytes seed _ _ has _ _ _ c.begin.new.self.waiting all c.new-reader.ensures.after (subst (IsSentBut (version_of task) task.depth _ _ []) (sym none) opening);
+          begins task bytes _ _ at_blocks has _ _ _ c.begin.new.self.waiting all c.new-reader.ensures.after (subst (IsSentBut (version_of task) task.depth _ _ []) (sym none) opening);
       version = c.begin.ensures.version ∙ own;
       few = few;
       items = subst (All (λ (u : Update). u.item < 2 ^ task.depth)) (sym none) (All-nil (λ (u : Update). u.item < 2 ^ task.depth));
@@ -64,13 +63,13 @@ loop-update-init g c =
       peer = search rules;
     }
 
-pub returns-in_err-update-clause-gathers : goal.returns-in_err-update-clause-gathers
-returns-in_err-update-clause-gathers g c = λ bytes seed all has.
-    let so = c.loop-update.invariant.underway bytes seed all has in
+pub returns-in_err-update-clause-passes_on : goal.returns-in_err-update-clause-passes_on
+returns-in_err-update-clause-passes_on g c = λ bytes at_blocks all has.
+    let so = c.loop-update.invariant.underway bytes at_blocks all has in
     let p = err_from_is_err_and c.from_residual-in_err-update.result c.from_residual-in_err-update.ensures.1 in
     let (fault, stop, is) = c.in_err-update.ensures in
     let reads = rw (c.loop-update.invariant.depth, c.loop-update.invariant.form, stop) at (c.next.ensures.reads so.stream so.rest so.after so.to_come) in
-    rw (p.1, p.2, is) (reading_stops _ bytes seed _ _ has _ _ _ _ _ _ fault so reads)
+    rw (p.1, p.2, is) (reading_stops _ bytes _ _ at_blocks has _ _ _ _ _ _ fault so reads)
 
 pub pass_on-requires-clause-fits : goal.pass_on-requires-clause-fits
 pass_on-requires-clause-fits g c =
@@ -105,16 +104,16 @@ loop-update-preserved g c =
     let ready : c.next.new.self.is_spent ≡ false = search rules in
     let unspent : c.pass_on.new.feed.is_spent ≡ false = search rules in
     record {
-      underway = λ bytes seed all has.
-          let so = c.loop-update.invariant.underway bytes seed all has in
+      underway = λ bytes at_blocks all has.
+          let so = c.loop-update.invariant.underway bytes at_blocks all has in
           let reads = rw (c.loop-update.invariant.depth, c.loop-update.invariant.form, c.in_ok-update.ensures, c.in-Some.is) at (c.next.ensures.reads so.stream so.rest so.after so.to_come) in
           let after = rw (c.in_ok-update.ensures, c.in-Some.is) at (c.next.ensures.after so.stream so.after) in
           let moved = rw c.in_ok-on_link-2.ensures at (one_more (version_of c.args.task.now) _ _ _ _ so.stream _ c.in-Some.update so.said c.pass_on.result (rw c.loop-update.invariant.version at c.pass_on.ensures.talk)) in
           let waiting = rw c.in_ok-on_link-2.ensures at c.pass_on.ensures.waiting in
-          let stand = subst (λ l. AreSeats c.args.task.now.depth c.args.task.now.queries.items (blocks c.args.task.now has.challenges) l c.pass_on.new.seats) (sym moved.longer) (c.pass_on.ensures.stands _ _ _ so.said.sent so.stand) in
-          let next = subst (IsUnderway c.args.task.now bytes (blocks c.args.task.now has.challenges) _ _ _ _ _) (sym waiting)
-          (goes_on _ bytes seed _ _ has _ _ _ _ _ _ _ _ _ _ c.in-Some.update so reads after moved.said stand) in
-          goes_on_many _ bytes seed _ _ has _ _ _ _ _ _ _ _ _ _ next depth form took.3 took.4 took.2 c.take_held.ensures.few;
+          let stand = subst (λ l. AreSeats c.args.task.now.depth c.args.task.now.queries.items at_blocks l c.pass_on.new.seats) (sym moved.longer) (c.pass_on.ensures.stands _ _ _ so.said.sent so.stand) in
+          let next = subst (IsUnderway c.args.task.now bytes at_blocks _ _ _ _ _) (sym waiting)
+          (goes_on _ bytes _ _ at_blocks has _ _ _ _ _ _ _ _ _ _ c.in-Some.update so reads after moved.said stand) in
+          goes_on_many _ bytes _ _ at_blocks has _ _ _ _ _ _ _ _ _ _ next depth form took.3 took.4 took.2 c.take_held.ensures.few;
       seats = (let had = c.loop-update.invariant.seats in
           let after = rw (c.in_ok-update.ensures, c.in-Some.is) at (c.next.ensures.after (had.sent ++ c.loop-update.feed.waiting) had.after) in
           let waiting = rw c.in_ok-on_link-2.ensures at c.pass_on.ensures.waiting in
@@ -135,23 +134,23 @@ loop-update-preserved g c =
       peer = search rules;
     }
 
-pub returns-in_err-on_link-2-clause-gathers : goal.returns-in_err-on_link-2-clause-gathers
-returns-in_err-on_link-2-clause-gathers g c = λ bytes seed all has.
-    let so = c.loop-update.invariant.underway bytes seed all has in
+pub returns-in_err-on_link-2-clause-passes_on : goal.returns-in_err-on_link-2-clause-passes_on
+returns-in_err-on_link-2-clause-passes_on g c = λ bytes at_blocks all has.
+    let so = c.loop-update.invariant.underway bytes at_blocks all has in
     let reads = rw (c.loop-update.invariant.depth, c.loop-update.invariant.form, c.in_ok-update.ensures, c.in-Some.is) at (c.next.ensures.reads so.stream so.rest so.after so.to_come) in
     let p = err_from_is_err_and c.from_residual-in_err-on_link-2.result c.from_residual-in_err-on_link-2.ensures.1 in
     let (port, stop, is) = c.in_err-on_link-2.ensures in
     let moved = rw stop at (one_more (version_of c.args.task.now) _ _ _ _ so.stream _ c.in-Some.update so.said c.pass_on.result (rw c.loop-update.invariant.version at c.pass_on.ensures.talk)) in
-    rw (p.1, p.2, is) (link_stops _ bytes seed _ _ has (g.A.Source.left c.next.new.source) _ port (stops_after _ bytes seed _ _ has _ _ _ _ _ _ _ c.in-Some.update so reads moved))
+    rw (p.1, p.2, is) (link_stops _ bytes _ _ at_blocks has _ port (stops_after _ bytes _ _ at_blocks has _ _ _ _ _ _ _ c.in-Some.update so reads moved))
 
-pub returns-in_err-on_link-3-clause-gathers : goal.returns-in_err-on_link-3-clause-gathers
-returns-in_err-on_link-3-clause-gathers g c = λ bytes seed all has.
-    let so = c.loop-update.invariant.underway bytes seed all has in
+pub returns-in_err-on_link-3-clause-passes_on : goal.returns-in_err-on_link-3-clause-passes_on
+returns-in_err-on_link-3-clause-passes_on g c = λ bytes at_blocks all has.
+    let so = c.loop-update.invariant.underway bytes at_blocks all has in
     let reads = rw (c.loop-update.invariant.depth, c.loop-update.invariant.form, c.in_ok-update.ensures, c.in_default.is) at (c.next.ensures.reads so.stream so.rest so.after so.to_come) in
     let p = err_from_is_err_and c.from_residual-in_err-on_link-3.result c.from_residual-in_err-on_link-3.ensures.1 in
     let (port, stop, is) = c.in_err-on_link-3.ensures in
     let moved = rw stop at (at_end (version_of c.args.task.now) _ _ _ _ so.stream _ c.finish.result so.said (rw c.loop-update.invariant.version at c.finish.ensures.talk)) in
-    rw (p.1, p.2, is) (link_stops _ bytes seed _ _ has (g.A.Source.left c.next.new.source) _ port (stops_at_end _ bytes seed _ _ has _ _ _ _ _ _ _ so reads moved))
+    rw (p.1, p.2, is) (link_stops _ bytes _ _ at_blocks has _ port (stops_at_end _ bytes _ _ at_blocks has _ _ _ _ _ _ _ so reads moved))
 
 pub pass_on-requires-clause-room : goal.pass_on-requires-clause-room
 pass_on-requires-clause-room g c =
@@ -171,10 +170,10 @@ returns-clause-seats g c =
     let had = c.loop-update.invariant.seats in
     (had.sent ++ c.waiting-rest.result.now, record { at_blocks = had.stand.at_blocks; stand = c.update_all.ensures.stands _ _ _ had.sent had.stand.stand })
 
-pub returns-clause-gathers : goal.returns-clause-gathers
-returns-clause-gathers g c = λ bytes seed all has.
-    let so = c.loop-update.invariant.underway bytes seed all has in
+pub returns-clause-passes_on : goal.returns-clause-passes_on
+returns-clause-passes_on g c = λ bytes at_blocks all has.
+    let so = c.loop-update.invariant.underway bytes at_blocks all has in
     let reads = rw (c.loop-update.invariant.depth, c.loop-update.invariant.form, c.in_ok-update.ensures, c.in_default.is) at (c.next.ensures.reads so.stream so.rest so.after so.to_come) in
     let moved = rw c.in_ok-on_link-3.ensures at (at_end (version_of c.args.task.now) _ _ _ _ so.stream _ c.finish.result so.said (rw c.loop-update.invariant.version at c.finish.ensures.talk)) in
     let stand = c.update_all.ensures.stands _ _ _ so.said.sent so.stand in
-    gathered _ bytes seed _ _ has _ _ _ _ _ _ _ _ so reads moved (rw c.waiting-rest.ensures at stand)
+    passed_on _ bytes _ _ at_blocks has _ _ _ _ _ _ _ _ so reads moved (rw c.waiting-rest.ensures at stand)

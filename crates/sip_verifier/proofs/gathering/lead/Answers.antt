@@ -1,6 +1,8 @@
 -- What was written of the head, by where the call stopped.
 use Rattle.std.proofs.lemmas.Result.{err_from_is_err_and}
+use Rattle.sip_verifier.specs.Draws.{blocks}
 use Rattle.sip_verifier.specs.inside.Drawing.{HasDrawn}
+use Rattle.sip_verifier.proofs.Gathered.{gathered, refuses}
 use Rattle.sip_verifier.proofs.KeptHead.{following_gathers, head_followed, head_kept, head_stopped}
 use Rattle.sip_verifier.proofs.gathering.lead.Goals as goal
 
@@ -28,3 +30,14 @@ pub returns-in_ok-follow-clause-kept : goal.returns-in_ok-follow-clause-kept
 returns-in_ok-follow-clause-kept g c = λ seed told.
     let has : HasDrawn c.args.task.now seed c.in-Ok.seats = rw c.in-Ok.is at c.in_ok-draw.ensures.draws seed told in
     head_kept c.args.task.now seed c.in-Ok.seats _ _ has (rw c.in_ok-on_keep.ensures at c.put_transcript_head.ensures.talk)
+
+pub returns-in_err-follow-clause-gathers : goal.returns-in_err-follow-clause-gathers
+returns-in_err-follow-clause-gathers g c = λ bytes seed all told.
+    let has : HasDrawn c.args.task.now seed c.in-Ok.seats = rw c.in-Ok.is at c.in_ok-draw.ensures.draws seed told in
+    let p = err_from_is_err_and c.from_residual-in_err-follow.result c.from_residual-in_err-follow.ensures.1 in
+    rw (p.1, p.2) (refuses c.args.task.now bytes seed c.in-Ok.seats has _ _ c.in_err-follow.field-0.0 (rw c.in_err-follow.was at c.follow.ensures.passes_on bytes (blocks c.args.task.now has.challenges) all has.stand))
+
+pub returns-in_ok-follow-clause-gathers : goal.returns-in_ok-follow-clause-gathers
+returns-in_ok-follow-clause-gathers g c = λ bytes seed all told.
+    let has : HasDrawn c.args.task.now seed c.in-Ok.seats = rw c.in-Ok.is at c.in_ok-draw.ensures.draws seed told in
+    gathered c.args.task.now bytes seed c.in-Ok.seats has (rw c.in_ok-follow.was at c.follow.ensures.passes_on bytes (blocks c.args.task.now has.challenges) all has.stand)

@@ -1,5 +1,5 @@
 -- A seat that does not take them is one more of those before.
-use Rattle.std.proofs.Common.{◌≡◌, ◌<◌, ◌≤◌, All, false, length, get_or, rules, arith, ap, sym, subst, take, take_all}
+use Rattle.std.proofs.Common.{◌≡◌, ◌<◌, ◌≤◌, All, false, length, get_or, rules, ap, sym, subst, take, take_all}
 use Rattle.std.proofs.lemmas.List.{take_more}
 use Rattle.std.proofs.lemmas.List.Elements.{All-push}
 use Rattle.sip_verifier.specs.QuerySeats.{Seated, concerns}
