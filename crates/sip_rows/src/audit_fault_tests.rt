@@ -218,7 +218,7 @@ fn check_converted(rt: &impl Abort, alloc: Global, parts: &[&[u8]], line: &str, 
         number: 2,
     };
     case.ends(rt, shown.status, Status::Wrote);
-    let converted = &[shown.report.bytes()];
+    let converted: &[&[u8]] = &[shown.report.bytes()];
     check_audit(rt, alloc, &("audit text:s t", BOTH_SIDES, converted, status, line))
 }
 

@@ -5,6 +5,7 @@ use crate::audit_frames::*;
 use crate::case::Case;
 use crate::frames::*;
 use crate::row::{At, Failing, Given, bytes_of, words_of};
+use crate::sum_frames::F2;
 use sip_cli::play_words;
 use sip_ports::{MemorySink, MemorySource};
 use sip_stream::Why;
@@ -291,13 +292,8 @@ fn kept(rt: &impl Abort, alloc: Global, run: &Run) -> Result<MemorySink, Fail> {
 fn check_agreeing(rt: &impl Abort, alloc: Global, runs: &[Run]) -> Result<(), Fail> {
     for run in runs {
         let kept = kept(rt, alloc, run)?;
-        let audit = (
-            "audit text:s t",
-            BOTH_SIDES,
-            &[kept.bytes()],
-            run.1,
-            run.2,
-        );
+        let parts: &[&[u8]] = &[kept.bytes()];
+        let audit = ("audit text:s t", BOTH_SIDES, parts, run.1, run.2);
         check_audit(rt, alloc, &audit)?;
     }
     Ok(())
@@ -317,9 +313,10 @@ fn check_ends(rt: &impl Abort, alloc: Global, run: &Run) -> Result<(), Fail> {
         reason: Reason::Closed,
     };
     let words = "audit text:s t";
-    check_audit(rt, alloc, &(words, BOTH_SIDES, &[front], closed, lines))?;
+    let parts: &[&[u8]] = &[front];
+    check_audit(rt, alloc, &(words, BOTH_SIDES, parts, closed, lines))?;
     let longer = Status::BadTranscript { offset: 345 };
-    let parts = &[kept.bytes(), &[0]];
+    let parts: &[&[u8]] = &[kept.bytes(), &[0]];
     check_audit(rt, alloc, &(words, BOTH_SIDES, parts, longer, ROW_LINES))?;
     let given = Given {
         words: "show t",
@@ -391,10 +388,11 @@ fn check_calls(rt: &impl Abort, alloc: Global, given: &Given, calls: Calls) -> R
 #[test]
 fn each_call_of_an_audit_fails_once(rt: HostRuntime) -> Result<(), Fail> {
     let alloc = rt.alloc();
+    let stored = bytes_of(alloc, STORED)?;
     let given = Given {
         words: "audit s t",
         stream: &THREE_RECORDS,
-        seed: &bytes_of(alloc, STORED)?,
+        seed: &stored,
         replies: &[],
     };
     for &calls in CALLS {
