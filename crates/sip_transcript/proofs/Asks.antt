@@ -80,7 +80,7 @@ ask-at head asks i other query block says lt here is =
     pair-is (get_or asks i (query, block)) query block (sym own ∙ sym here) (sym is)
 
 -- no version goes deeper
-deepest-most : (version : Version) → deepest version ≤ 48
+pub deepest-most : (version : Version) → deepest version ≤ 48
 deepest-most One = omega arith
 deepest-most Two = omega arith
 

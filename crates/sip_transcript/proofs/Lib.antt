@@ -11,3 +11,5 @@ pub mod Onward
 pub mod Digits
 pub mod Asks
 pub mod Replaying
+pub mod Heading
+pub mod Audited

@@ -71,6 +71,27 @@ replays_sent (Some first) (Some left) talk bytes p = record {
   ended = λ before after told. let rest = told_before Out out_is_none talk bytes before after told in p.ended before rest.0 rest.1;
 }
 
+-- an end that is told behind what was sent
+end_behind : (first sent : List ℕ) (talk before after : List TalkEvent) → ((before after : List TalkEvent) → talk ≡ before ++ Ended ∷ after → first ≡ heard before)
+    → outs sent ++ talk ≡ before ++ Ended ∷ after → first ≡ heard before
+end_behind first [] talk before after told e = told before after e
+end_behind first (b ∷ sent) talk [] after told e = absurd (out_is_none b (event_head _ _ _ _ e))
+end_behind first (b ∷ sent) talk (y ∷ ys) after told e =
+    let same : Out b ≡ y = event_head _ _ _ _ e in
+    end_behind first sent talk ys after told (event_tail _ _ _ _ e) ∙ ap (λ (z : TalkEvent). heard (z ∷ ys)) same
+
+-- bytes were sent before all of this
+pub follows_sent : (first left sent : List ℕ) (talk : List TalkEvent) → Follows first talk left → Follows first (outs sent ++ talk) left
+follows_sent first left sent talk p = record {
+  came = p.came ∙ ap (λ (l : List ℕ). l ++ left) (sym (heard-append (outs sent) talk ∙ ap (λ (l : List ℕ). l ++ heard talk) (heard-outs sent)));
+  ended = λ before after told. end_behind first sent talk before after p.ended told;
+}
+
+-- of a source that told its bytes, some are left
+pub replays_told : (first left : Option (List ℕ)) (bytes : List ℕ) (talk : List TalkEvent) → first ≡ Some bytes → Replays first talk left → (more : List ℕ) × (left ≡ Some more) × Follows bytes talk more
+replays_told first None bytes talk told p = absurd (subst (λ (f : Option (List ℕ)). Replays f talk None) told p)
+replays_told first (Some more) bytes talk told p = (more, refl, subst (λ (f : Option (List ℕ)). Replays f talk (Some more)) told p)
+
 -- a call stopped
 pub replays_kept : (first left now : Option (List ℕ)) (talk : List TalkEvent) → Keeps left now → Replays first talk left → Replays first talk now
 replays_kept None left now talk k p = tt

@@ -1,5 +1,5 @@
 -- The tests of a depth and of a number of queries.
-use Rattle.std.proofs.Common.{◌≡◌, ℕ, ◌≤◌, ◌&&◌, Bool, true, false, sym, subst, arith}
+use Rattle.std.proofs.Common.{◌≡◌, ℕ, ◌≤◌, ◌&&◌, ◌||◌, Bool, true, false, refl, sym, subst, arith}
 use Rattle.std.specs.Prelude.{IsTrue, nat_le}
 use Rattle.std.proofs.lemmas.Bool.{and_parts}
 use Rattle.std.proofs.lemmas.Bool.Decides.{nat_tests}
@@ -46,3 +46,8 @@ count-test count some most = between 1 most_queries count some most
 -- and what passes is one
 pub count-within : (count : ℕ) → IsTrue (is_count count) → (1 ≤ count) × (count ≤ most_queries)
 count-within count is = within 1 most_queries count is
+
+-- the second of two tests passes
+pub or_second : (a b : Bool) → b ≡ true → (a || b) ≡ true
+or_second true b is = refl
+or_second false b is = is

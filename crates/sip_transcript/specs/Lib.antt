@@ -13,3 +13,5 @@ pub mod Examples
 pub mod Replaying
 pub mod Links
 pub mod Pasts
+pub mod Auditing
+pub mod Replayed

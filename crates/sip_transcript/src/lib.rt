@@ -7,7 +7,8 @@
 //! transcript, and [`convert`] writes it in version 2: both read the head first, and then a frame
 //! at a time, so that the memory is that of one frame. [`show_line`] writes the line of one frame.
 //! [`TranscriptLink`] is a link whose replies come out of a source, so that a stored run can be
-//! judged again; it takes no memory, and counts the bytes that were heard.
+//! judged again; it takes no memory, and counts the bytes that were heard. [`audit`] judges one: it
+//! asks the head's queries, at the head's challenges, over such a link.
 //!
 //! # What is proved
 //!
@@ -23,8 +24,14 @@
 //!   or of the report, where its count rose, and `OutOfMemory`.
 //! - At each time what was heard on a `TranscriptLink`, and then what is left in its source, are
 //!   what the source had when the link was made; the end is told only where all of this was heard.
-//!   `taken` is how many bytes were heard, below the end of its type. This holds also behind a call that is generic over links: the link's type carries it, over an
-//!   [`Origin`] that the caller picks, and the source that is given back is the same [`Loan`].
+//!   `taken` is how many bytes were heard, below the end of its type. This holds also behind a call
+//!   that is generic over links: the link's type carries it, over an [`Origin`] that the caller
+//!   picks, and the source that is given back is the same [`Loan`].
+//! - `audit` keeps the clauses of verdicts, talk and causes that a run keeps, by the same
+//!   definitions: over the stored stream, the head's queries and challenges, and the bytes behind
+//!   the head, whose end is that of the link. With a verdict both files were read to their ends;
+//!   `BadTranscript` comes where a field of the head is not there, or where bytes follow those that
+//!   a verdict took, with that place.
 //! - The transcript of each run has no fault in its head, whatever the replies are, and it tells
 //!   that run ([`laws`]). A transcript by hand has the listing that is expected.
 //!
@@ -35,9 +42,11 @@
 //! answers. `specs/Tales.antt` has what bytes tell, `tale_of`, and `transcript_fault`, the place
 //! where they stop being a transcript; `specs/Listings.antt` the lines, `specs/Conversions.antt`
 //! the form in version 2, and `specs/Writing.antt` what `show` and `convert` promise.
-//! `specs/Replaying.antt` has what is heard on a link over a source.
+//! `specs/Replaying.antt` has what is heard on a link over a source, and `specs/Auditing.antt` what
+//! `audit` promises.
 #![tactic(auto)]
 
+mod auditing;
 mod fault;
 mod fields;
 mod frames;
@@ -51,6 +60,7 @@ mod rendering;
 mod showing;
 mod stopping;
 
+pub use auditing::audit;
 pub use fault::HeadFault;
 pub use head::{Head, MOST_CHALLENGES, TranscriptReader};
 pub use link::TranscriptLink;

@@ -61,7 +61,7 @@ pub some_value : {X : Type 0} (o : Option X) → IsSome o → (v : X) × (o ≡ 
 some_value None some = absurd (let is = some in cc)
 some_value (Some v) some = (v, refl)
 
-goes_to : (old new : Option (List TalkEvent)) (said : List TalkEvent) → IsSome old → GoesOn old new said → Adds old new said
+pub goes_to : (old new : Option (List TalkEvent)) (said : List TalkEvent) → IsSome old → GoesOn old new said → Adds old new said
 goes_to old new said some went = let had = some_value old some in (had.0, had.1, GoesOn-told had.0 new said (subst (λ (o : Option (List TalkEvent)). GoesOn o new said) had.1 went))
 
 -- of a sink that need not tell

@@ -1,6 +1,5 @@
 -- The promises where a run ends before its first query.
 use Rattle.std.proofs.Common.{◌≡◌, ◌≢◌, ℕ, Ok, Err, Option, None, Some, List, [], ◌++◌, refl, sym, ap, subst, ◌∙◌, inl, inr, append-nil}
-use Rattle.std.specs.Prelude.{All, map}
 use Rattle.sip_wire.specs.declared.version.Version.{Version}
 use Rattle.sip_ports.specs.declared.port.TalkEvent.{TalkEvent}
 use Rattle.sip_ports.specs.Ports.{outs}
@@ -22,7 +21,6 @@ use Rattle.sip_verifier.specs.Inquiries.{inquiry_of}
 use Rattle.sip_verifier.specs.Concluding.{Ended, GoesBehind}
 use Rattle.sip_verifier.specs.Gathering.{Refuses, HasSeed, IsCut, IsGathered, legal}
 use Rattle.sip_verifier.specs.Moments.{Counts}
-use Rattle.sip_verifier.specs.QuerySeats.{Seated, StandsFor}
 use Rattle.sip_verifier.specs.Sittings.{Sitting, Starts}
 use Rattle.sip_verifier.specs.Statuses.{FaultClause}
 use Rattle.sip_verifier.specs.Talks.{stream_sent}
@@ -143,15 +141,6 @@ module _ (task : Task) (x : Exchange) where
   after_start before now at_blocks version seats starts.OutOfMemory are is seed legal talk blank = after_stream before now seed legal talk blank
 
 -- ---- a session of seats that were gathered
-
-module _ (task : Task) {bytes seed : List ℕ} {left : Option (List ℕ)} {t0 t1 : Option (List TalkEvent)} {seats : Seating} {version : Version} {s : Sitting} where
-  -- it has them all
-  pub seats_behind : IsGathered task bytes seed left t0 t1 seats → Starts version seats (Ok s)
-      → (map (λ seat. seat.query) s.left ≡ task.queries.items) × All (StandsFor s.depth (legal task bytes)) s.left
-  seats_behind gathered starts = (
-    ap (λ (l : List Seated). map (λ (seat : Seated). seat.query) l) starts.2 ∙ gathered.passed.stand.asked,
-    subst (λ (n : ℕ). All (StandsFor n (legal task bytes)) s.left) (sym (starts.1 ∙ gathered.passed.stand.levels)) (subst (All (StandsFor task.depth (legal task bytes))) (sym starts.2) gathered.passed.stand.stand),
-  )
 
 -- what it says and writes is the rest of the exchange
 pub goes_behind : (task : Task) (x : Exchange) {left : Option (List ℕ)} {t0 t1 t2 r0 r1 : Option (List TalkEvent)} {seats : Seating} {version : Version} {s : Sitting}

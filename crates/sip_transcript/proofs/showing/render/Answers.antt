@@ -1,12 +1,7 @@
 -- What stops the writing is one of its statuses.
-use Rattle.std.proofs.Common.{◌≡◌, ◌||◌, Bool, true, false, refl}
 use Rattle.sip_transcript.specs.Writing.{is_whole, stops_writing}
+use Rattle.sip_transcript.proofs.Tests.{or_second}
 use Rattle.sip_transcript.proofs.showing.render.Goals as goal
-
--- the second of two tests passes
-or_second : (a b : Bool) → b ≡ true → (a || b) ≡ true
-or_second true b is = refl
-or_second false b is = is
 
 pub returns-clause-fault : goal.returns-clause-fault
 returns-clause-fault g c = λ first firsts peer peers keep keeps. (c.in-Err.ensures.fault first firsts peer peers keep keeps).1

@@ -8,7 +8,8 @@ use Rattle.sip_verifier.specs.Gathering.{legal}
 use Rattle.sip_verifier.specs.Inquiries.{inquiry_of}
 use Rattle.sip_verifier.proofs.RunPromises.{kept, gathering_listed, asked_stops, start_caused, start_listed}
 use Rattle.sip_verifier.proofs.RunTalks.{tells, said_is, refuses_moves, nothing_reported, some_value}
-use Rattle.sip_verifier.proofs.StreamPromises.{after_gather, after_start, goes_behind, seats_behind}
+use Rattle.sip_verifier.proofs.StreamPromises.{after_gather, after_start, goes_behind}
+use Rattle.sip_verifier.proofs.SeatedBehind.{seats_left}
 use Rattle.sip_verifier.proofs.KeptRuns.{asked_kept, both_move, gather_kept, head_moves, replies_move, start_kept, talk_moves}
 use Rattle.sip_verifier.proofs.QueryPromises.{all_read}
 use Rattle.sip_verifier.proofs.SeatsHead.{gathered-speak}
@@ -73,7 +74,7 @@ returns-clause-keeps g c =
     let bytes = some_value _ is.first in
     let seed = some_value _ is.second in
     let gathered = rw came at c.gather_into.ensures.gathers bytes.0 seed.0 bytes.1 seed.1 in
-    let behind = seats_behind c.args.task.now gathered starts in
+    let behind = seats_left c.args.task.now.depth c.args.task.now.queries.items _ (legal c.args.task.now bytes.0) seats _ _ gathered.passed.stand starts in
     let wrote = c.conclude.ensures.wrote (legal c.args.task.now bytes.0) (rw lent (behind.0 ∙ sym c.deref.ensures.0)) (rw lent behind.1) in
     let head = head_moves c.args.task.now seed.0 _ _ c.gather_into.new.gathered (c.gather_into.ensures.kept seed.0 seed.1) in
     let kept_to = both_move _ _ _ head (replies_move _ _ _ _ c.conclude.result c.conclude.ensures.kept) in

@@ -1,0 +1,58 @@
+-- The head was read, and the rest of the audit is what was done behind it; or it was not read.
+use Rattle.std.proofs.Common.{Err, [], le_refl, ap, ◌∙◌}
+use Rattle.sip_ports.specs.Ports.{outs}
+use Rattle.sip_ports.proofs.TalkLemmas.{GoesOn-refl}
+use Rattle.sip_stream.proofs.RecordsRead.{came_front}
+use Rattle.sip_wire.specs.Transcript.{transcript}
+use Rattle.sip_verifier.proofs.RunTalks.{goes_to, nothing_reported, some_value}
+use Rattle.sip_transcript.specs.declared.fault.HeadFault.{HeadFault}
+use Rattle.sip_transcript.proofs.Audited.{head_audits, head_caused, since_earlier, transcript_from}
+use Rattle.sip_transcript.proofs.auditing.audit.Goals as goal
+
+pub returns-in-Ok-clause-keeps : goal.returns-in-Ok-clause-keeps
+returns-in-Ok-clause-keeps g c = λ talk talks keep keeps peer peers kept kepts.
+    let (asks, says, taken) = c.in-Ok.ensures.reads in
+    let head = c.in-Ok.head in
+    let fault = since_earlier _ _ _ (g.B.Source.faults c.args.second.now) (g.B.Source.faults c.head.new.source) _ peer peers _ _ _ kept kepts c.check.result (le_refl _) c.head.ensures.lasts.later (le_refl _) (c.check.ensures.fault peer peers kept kepts) in
+    record {
+      audits = λ a t.
+          let came = came_front (g.B.Source.left c.args.second.now) (g.B.Source.left c.head.new.source) a.stored (transcript head.version head.depth asks []) t.stored taken in
+          c.check.ensures.audits asks a _ _ says
+          (record {
+            stream = t.stream;
+            unread = t.unread;
+            behind = came.0;
+            had = came.1;
+            stored = came.2 ∙ transcript_from head.version head.depth asks came.0;
+            left = t.left;
+            report = t.report;
+          }) fault;
+      moves = λ is_first is_second is_report.
+          let stream = some_value (g.A.Source.left c.args.first.now) is_first in
+          let unread = some_value (g.A.Source.left c.check.new.first) (c.check.ensures.told is_first) in
+          let stored = some_value (g.B.Source.left c.args.second.now) is_second in
+          let left = some_value (g.B.Source.left c.check.new.second) (c.check.ensures.also_told (c.head.ensures.told is_second)) in
+          let wrote = c.check.ensures.wrote is_first in (
+            record { stream = stream.0; unread = unread.0; stored = stored.0; left = left.0; report = wrote.0 },
+            record { stream = stream.1; unread = unread.1; stored = stored.1; left = left.1; report = goes_to (g.K.Sink.talk c.args.report.now) (g.K.Sink.talk c.check.new.report) (outs wrote.0) is_report wrote.1 },
+          );
+      fault = fault;
+      listed = c.check.ensures.listed;
+    }
+
+pub returns-in-Err-clause-keeps : goal.returns-in-Err-clause-keeps
+returns-in-Err-clause-keeps g c = λ talk talks keep keeps peer peers kept kepts.
+    let caused = head_caused (g.A.Source.faults c.args.first.now) (g.A.Source.faults c.args.first.now) (g.B.Source.faults c.args.second.now) (g.B.Source.faults c.head.new.source) peer peers (g.K.Sink.faults c.args.report.now) (g.K.Sink.faults c.args.report.now) kept kepts c.in-Err.fault (λ same. c.in-Err.ensures.failed (ap (λ (fault : HeadFault). Err fault) same)) in
+    rw c.status_of_head.ensures
+    (record {
+      audits = λ a t. head_audits c.args.form a _ _ c.in-Err.fault (g.B.Source.left c.args.second.now) (g.B.Source.left c.head.new.source) c.in-Err.ensures.reads t.stored (nothing_reported _ a.report t.report);
+      moves = λ is_first is_second is_report.
+          let stream = some_value (g.A.Source.left c.args.first.now) is_first in
+          let stored = some_value (g.B.Source.left c.args.second.now) is_second in
+          let left = some_value (g.B.Source.left c.head.new.source) (c.head.ensures.told is_second) in (
+            record { stream = stream.0; unread = stream.0; stored = stored.0; left = left.0; report = [] },
+            record { stream = stream.1; unread = stream.1; stored = stored.1; left = left.1; report = goes_to (g.K.Sink.talk c.args.report.now) (g.K.Sink.talk c.args.report.now) [] is_report (GoesOn-refl (g.K.Sink.talk c.args.report.now)) },
+          );
+      fault = caused.0;
+      listed = caused.1;
+    })
