@@ -99,8 +99,8 @@ same_task : {a b : Task} {x : Exchange} {before now : Counts} {status : Status} 
 same_task {x = x} {before = before} {now = now} {status = status} e p = subst (λ (k : Task). Promises k x before now status) (sym e) p
 
 -- an audit of streams in equal forms
-same_form : {f g : Form} {a : Audited} {before now : Counts} {status : Status} → f ≡ g → Audits f a before now status → Audits g a before now status
-same_form {a = a} {before = before} {now = now} {status = status} e k = subst (λ (f : Form). Audits f a before now status) e k
+same_form : (a : Audited) (before now : Counts) (status : Status) (f g : Form) → f ≡ g → Audits f a before now status → Audits g a before now status
+same_form a before now status f g e k = subst (λ (h : Form). Audits h a before now status) e k
 
 -- bytes that are new on a sink went on it
 went_on : (old new : Option (List TalkEvent)) (bytes : List ℕ) → Appends old new (Some bytes) → GoesOn old new (outs bytes)
@@ -282,7 +282,7 @@ module _ {before now : Moment} {status : Status} where
     lines = λ other depth is. absurd (let same = is in cc);
     wide = λ other depth is. absurd (let same = is in cc);
     help = λ is. absurd (let same = is in cc);
-    audit = λ other is a told. same_form (let same = is in cc) (k.audits a told);
+    audit = λ other is a told. same_form a before.faults now.faults status form other (let same = is in cc) (k.audits a told);
     show = λ is. absurd (let same = is in cc);
     convert = λ is. absurd (let same = is in cc);
     moves = moves;

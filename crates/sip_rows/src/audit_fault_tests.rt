@@ -204,7 +204,13 @@ const REJECTIONS: &[Rejection<'static>] = &[
 ];
 
 // What `convert` makes of a transcript.
-fn check_converted(rt: &impl Abort, alloc: Global, parts: &[&[u8]], line: &str, status: Status) -> Result<(), Fail> {
+fn check_converted(
+    rt: &impl Abort,
+    alloc: Global,
+    parts: &[&[u8]],
+    line: &str,
+    status: Status,
+) -> Result<(), Fail> {
     let transcript = bytes_of(alloc, parts)?;
     let given = Given {
         words: "convert t",
@@ -219,7 +225,11 @@ fn check_converted(rt: &impl Abort, alloc: Global, parts: &[&[u8]], line: &str, 
     };
     case.ends(rt, shown.status, Status::Wrote);
     let converted: &[&[u8]] = &[shown.report.bytes()];
-    check_audit(rt, alloc, &("audit text:s t", BOTH_SIDES, converted, status, line))
+    check_audit(
+        rt,
+        alloc,
+        &("audit text:s t", BOTH_SIDES, converted, status, line),
+    )
 }
 
 fn check_rejections(rt: &impl Abort, alloc: Global, rejections: &[Rejection]) -> Result<(), Fail> {
@@ -230,7 +240,11 @@ fn check_rejections(rt: &impl Abort, alloc: Global, rejections: &[Rejection]) ->
             round,
             reason,
         };
-        check_audit(rt, alloc, &("audit text:s t", BOTH_SIDES, parts, status, line))?;
+        check_audit(
+            rt,
+            alloc,
+            &("audit text:s t", BOTH_SIDES, parts, status, line),
+        )?;
         check_converted(rt, alloc, parts, line, status)?;
     }
     Ok(())

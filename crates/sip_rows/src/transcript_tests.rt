@@ -153,5 +153,13 @@ fn transcripts(rt: HostRuntime) -> Result<(), Fail> {
     check_readings(&rt, alloc, READINGS)?;
     let five = bytes_of(alloc, FIVE_KINDS)?;
     let wide = bytes_of(alloc, FIVE_WIDE_KINDS)?;
-    check_readings(&rt, alloc, &[("show t", &five, None, FIVE_LISTED), ("convert t", &five, None, &wide), ("convert t", &wide, None, &wide)])
+    check_readings(
+        &rt,
+        alloc,
+        &[
+            ("show t", &five, None, FIVE_LISTED),
+            ("convert t", &five, None, &wide),
+            ("convert t", &wide, None, &wide),
+        ],
+    )
 }
