@@ -316,7 +316,9 @@ fn check_ends(rt: &impl Abort, alloc: Global, run: &Run) -> Result<(), Fail> {
     let parts: &[&[u8]] = &[front];
     check_audit(rt, alloc, &(words, BOTH_SIDES, parts, closed, lines))?;
     let longer = Status::BadTranscript { offset: 345 };
-    let parts: &[&[u8]] = &[kept.bytes(), &[0]];
+    let mut more = kept.bytes().to_vec(alloc)?;
+    more.push(0)?;
+    let parts: &[&[u8]] = &[&more];
     check_audit(rt, alloc, &(words, BOTH_SIDES, parts, longer, ROW_LINES))?;
     let given = Given {
         words: "show t",
