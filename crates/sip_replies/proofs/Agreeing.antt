@@ -13,15 +13,15 @@ use Rattle.sip_replies.proofs.Fronts.{reply_front, reply_full}
 -- ---- reading one reply
 
 -- a front of what is whole is not, and what is whole has too many bytes with one more
-record IsReader {X : Type 0} (read : List ℕ → Result X Reason) : Type 0 where
-  front : (front : List ℕ) (byte : ℕ) (more : List ℕ) (x : X) → read (front ++ byte ∷ more) ≡ Ok x → read front ≡ Err reasons.Closed
-  full : (bytes : List ℕ) (byte : ℕ) (more : List ℕ) (x : X) → read bytes ≡ Ok x → read (bytes ++ byte ∷ more) ≡ Err reasons.BadLength
+pub record IsReader {X : Type 0} (read : List ℕ → Result X Reason) : Type 0 where
+  pub front : (front : List ℕ) (byte : ℕ) (more : List ℕ) (x : X) → read (front ++ byte ∷ more) ≡ Ok x → read front ≡ Err reasons.Closed
+  pub full : (bytes : List ℕ) (byte : ℕ) (more : List ℕ) (x : X) → read bytes ≡ Ok x → read (bytes ++ byte ∷ more) ≡ Err reasons.BadLength
 
-reads : {S : Type 0} (R : Rules S) (s : S) → IsReader (read_reply R s)
+pub reads : {S : Type 0} (R : Rules S) (s : S) → IsReader (read_reply R s)
 reads R s = record { front = reply_front R s; full = reply_full R s }
 
 -- of two fronts of the same bytes one is a front of the other
-two_fronts : (a u b v : List ℕ) → a ++ u ≡ b ++ v → ((more : List ℕ) × (b ≡ a ++ more)) ⊎ ((more : List ℕ) × (a ≡ b ++ more))
+pub two_fronts : (a u b v : List ℕ) → a ++ u ≡ b ++ v → ((more : List ℕ) × (b ≡ a ++ more)) ⊎ ((more : List ℕ) × (a ≡ b ++ more))
 two_fronts [] u b v e = inl (b, refl)
 two_fronts (x ∷ a) u [] v e = inr (x ∷ a, refl)
 two_fronts (x ∷ a) u (y ∷ b) v e =
@@ -33,18 +33,18 @@ two_fronts (x ∷ a) u (y ∷ b) v e =
     ]
 
 module _ {X : Type 0} (read : List ℕ → Result X Reason) (reads : IsReader read) where
-  ok_not_err : (bytes : List ℕ) (x : X) (reason : Reason) → read bytes ≡ Ok x → read bytes ≡ Err reason → ⊥
+  pub ok_not_err : (bytes : List ℕ) (x : X) (reason : Reason) → read bytes ≡ Ok x → read bytes ≡ Err reason → ⊥
   ok_not_err bytes x reason e f = let both : ◌≡◌ {A = Result X Reason} (Ok x) (Err reason) = sym e ∙ f in cc
 
-  same_reason : (bytes : List ℕ) (a b : Reason) → read bytes ≡ Err a → read bytes ≡ Err b → a ≡ b
+  pub same_reason : (bytes : List ℕ) (a b : Reason) → read bytes ≡ Err a → read bytes ≡ Err b → a ≡ b
   same_reason bytes a b e f = let both : ◌≡◌ {A = Result X Reason} (Err a) (Err b) = sym e ∙ f in cc
 
   -- a whole reply that is a front of another is that one
-  whole_front : (a more b : List ℕ) (x y : X) → read a ≡ Ok x → read b ≡ Ok y → b ≡ a ++ more → a ≡ b
+  pub whole_front : (a more b : List ℕ) (x y : X) → read a ≡ Ok x → read b ≡ Ok y → b ≡ a ++ more → a ≡ b
   whole_front a [] b x y first second is = sym (is ∙ append-nil a)
   whole_front a (c ∷ cs) b x y first second is = absurd (ok_not_err b y reasons.BadLength second (ap read is ∙ reads.full a c cs x first))
 
-  one_same : (a u b v : List ℕ) (x y : X) → read a ≡ Ok x → read b ≡ Ok y → a ++ u ≡ b ++ v → (a ≡ b) × (u ≡ v)
+  pub one_same : (a u b v : List ℕ) (x y : X) → read a ≡ Ok x → read b ≡ Ok y → a ++ u ≡ b ++ v → (a ≡ b) × (u ≡ v)
   one_same a u b v x y first second e =
       let same : a ≡ b = elim (two_fronts a u b v e) [
         | inl m ↦ whole_front a m.0 b x y first second m.1
@@ -86,11 +86,11 @@ run-none : {S : Type 0} (R : Rules S) (j : ℕ) (rs : List ℕ) (s : S) (fault :
 unfolding run_from
 run-none R j rs s fault e = absurd cc
 
-both_ok : {X Y : Type 0} (j : ℕ) (r : Result X Reason) (f : X → Result Y Fault) (y : Y) → (in_round j r >>= f) ≡ Ok y → (x : X) × (r ≡ Ok x) × (f x ≡ Ok y)
+pub both_ok : {X Y : Type 0} (j : ℕ) (r : Result X Reason) (f : X → Result Y Fault) (y : Y) → (in_round j r >>= f) ≡ Ok y → (x : X) × (r ≡ Ok x) × (f x ≡ Ok y)
 both_ok j (Ok x) f y e = (x, refl, e)
 both_ok j (Err reason) f y e = absurd cc
 
-both_err : {X Y : Type 0} (j : ℕ) (r : Result X Reason) (f : X → Result Y Fault) (fault : Fault) → (in_round j r >>= f) ≡ Err fault
+pub both_err : {X Y : Type 0} (j : ℕ) (r : Result X Reason) (f : X → Result Y Fault) (fault : Fault) → (in_round j r >>= f) ≡ Err fault
     → ((x : X) × (r ≡ Ok x) × (f x ≡ Err fault)) ⊎ ((reason : Reason) × (r ≡ Err reason) × (fault ≡ record { round = j; reason = reason }))
 both_err j (Ok x) f fault e = inl (x, refl, e)
 both_err j (Err reason) f fault e = inr (reason, refl, let same : ◌≡◌ {A = Fault} (record { round = j; reason = reason }) fault = cc in sym same)
@@ -98,13 +98,13 @@ both_err j (Err reason) f fault e = inr (reason, refl, let same : ◌≡◌ {A =
 split : (r : List ℕ) (rs : List (List ℕ)) (a : List ℕ) → joined (r ∷ rs) ++ a ≡ r ++ (joined rs ++ a)
 split r rs a = append_assoc r (joined rs) a
 
-both_split : (h : List ℕ) (hs : List (List ℕ)) (b r : List ℕ) (rs : List (List ℕ)) (a : List ℕ) → joined (h ∷ hs) ++ b ≡ joined (r ∷ rs) ++ a → h ++ (joined hs ++ b) ≡ r ++ (joined rs ++ a)
+pub both_split : (h : List ℕ) (hs : List (List ℕ)) (b r : List ℕ) (rs : List (List ℕ)) (a : List ℕ) → joined (h ∷ hs) ++ b ≡ joined (r ∷ rs) ++ a → h ++ (joined hs ++ b) ≡ r ++ (joined rs ++ a)
 both_split h hs b r rs a e = sym (split h hs b) ∙ e ∙ split r rs a
 
-same_lists : (h r : List ℕ) (hs rs : List (List ℕ)) → h ≡ r → hs ≡ rs → h ∷ hs ≡ r ∷ rs
+pub same_lists : (h r : List ℕ) (hs rs : List (List ℕ)) → h ≡ r → hs ≡ rs → h ∷ hs ≡ r ∷ rs
 same_lists h r hs rs e f = cc
 
-same_ok : {X : Type 0} (x y : X) → ◌≡◌ {A = Result X Reason} (Ok x) (Ok y) → x ≡ y
+pub same_ok : {X : Type 0} (x y : X) → ◌≡◌ {A = Result X Reason} (Ok x) (Ok y) → x ≡ y
 same_ok x y e = cc
 
 -- whole replies whose bytes agree are the same, and then what follows them
@@ -124,10 +124,10 @@ run_same R j block s (h ∷ hs) (r ∷ rs) b a t u first second count e =
 abbrev pub IsShortest : (List (List ℕ) → Fault → Type 0) → List (List ℕ) → Type 0
 IsShortest fails rs = (earlier : List (List ℕ)) (front : List ℕ) (byte : ℕ) → rs ≡ earlier ++ (front ++ byte ∷ []) ∷ [] → (fault : Fault) × fails (earlier ++ front ∷ []) fault × (fault.reason ≡ reasons.Closed)
 
-only_one : (r : List ℕ) (rs : List (List ℕ)) (front : List ℕ) (byte : ℕ) → rs ≡ [] → r ≡ front ++ byte ∷ [] → r ∷ rs ≡ (front ++ byte ∷ []) ∷ []
+pub only_one : (r : List ℕ) (rs : List (List ℕ)) (front : List ℕ) (byte : ℕ) → rs ≡ [] → r ≡ front ++ byte ∷ [] → r ∷ rs ≡ (front ++ byte ∷ []) ∷ []
 only_one r rs front byte none is = cc
 
-alone : {S : Type 0} (R : Rules S) (j : ℕ) (block : List ℕ) (s : S) (front : List ℕ) (fault : Fault) → run_from R j block s (front ∷ []) ≡ Err fault → read_reply R s front ≡ Err fault.reason
+pub alone : {S : Type 0} (R : Rules S) (j : ℕ) (block : List ℕ) (s : S) (front : List ℕ) (fault : Fault) → run_from R j block s (front ∷ []) ≡ Err fault → read_reply R s front ≡ Err fault.reason
 alone R j block s front fault e =
     elim (both_err j (read_reply R s front) (λ x. run_from R (j + 1) (drop 1 block) (learnt R block x) []) fault (sym (run-cons R j block s front []) ∙ e)) [
       | inl m ↦ absurd (run-none R (j + 1) (drop 1 block) (learnt R block m.0) fault m.2)

@@ -74,7 +74,7 @@ module _ {S : Type 0} (R : Rules S) (s : S) (bytes : List ℕ) (byte : ℕ) (mor
       (step_grows (read_reply R) frame.1 byte more (R.step s frame.0) (later frame.0 frame.1 is))
 
 -- by how many bytes there are at most
-grows : {S : Type 0} (R : Rules S) (n : ℕ) (s : S) (bytes : List ℕ) (byte : ℕ) (more : List ℕ) → length bytes ≤ n → Grows (read_reply R s bytes) (read_reply R s (bytes ++ byte ∷ more))
+pub grows : {S : Type 0} (R : Rules S) (n : ℕ) (s : S) (bytes : List ℕ) (byte : ℕ) (more : List ℕ) → length bytes ≤ n → Grows (read_reply R s bytes) (read_reply R s (bytes ++ byte ∷ more))
 grows R zero s bytes byte more le = grows_by R s bytes byte more (read_frame R.version (R.place s) bytes) refl (λ m rest is t. absurd (omega (arith, read_frame-shrinks R.version (R.place s) bytes m rest is)))
 grows R (suc n) s bytes byte more le = grows_by R s bytes byte more (read_frame R.version (R.place s) bytes) refl (λ m rest is t. grows R n t rest byte more (omega (arith, read_frame-shrinks R.version (R.place s) bytes m rest is)))
 
