@@ -5,6 +5,7 @@ _sip_kinds() {
     case $1 in
         verify) echo stream file file file record depth query ;;
         help) echo file file ;;
+        audit) echo stored file ;;
         show | convert) echo file ;;
         gen) echo number number depth ;;
         lines | widen) echo stream depth ;;
@@ -12,7 +13,7 @@ _sip_kinds() {
     esac
 }
 
-_sip_commands='verify help show convert gen lines widen play --help -h --progress --version -V'
+_sip_commands='verify help audit show convert gen lines widen play --help -h --progress --version -V'
 _sip_queries='sub: range:0: range:1: f2:0 f2:1 inner heavy:0: heavy:1: share:0: share:1:'
 
 # What may be written in the place of the last word, whose kind is given first.
@@ -29,12 +30,13 @@ _sip_candidates() {
         helper) compgen -W 'honest skewed mute' -- "$word" ;;
         depth) depths=$(seq 48) && compgen -W "$depths" -- "$word" ;;
         file) compgen -f -- "$word" ;;
-        stream)
+        stream | stored)
             case $word in
                 made:*) ;;
                 text:* | wide:*) compgen -P "${word%%:*}:" -f -- "${word#*:}" ;;
                 *)
-                    compgen -W 'made: text: wide:' -- "$word"
+                    [[ $kind == stored ]] || compgen -W 'made:' -- "$word"
+                    compgen -W 'text: wide:' -- "$word"
                     compgen -f -- "$word"
                     ;;
             esac
@@ -68,7 +70,7 @@ _sip() {
     mapfile -t COMPREPLY < <(_sip_candidates "$kind" "${words[place]}")
     if [[ ${#COMPREPLY[@]} -eq 1 && ${COMPREPLY[0]} == *: ]]; then
         compopt -o nospace 2>/dev/null
-    elif [[ $kind == file || $kind == stream || $kind == record ]]; then
+    elif [[ $kind == file || $kind == stream || $kind == stored || $kind == record ]]; then
         compopt -o filenames 2>/dev/null
     fi
     # Of a word with colons the shell replaces what stands behind the last one.

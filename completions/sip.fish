@@ -12,6 +12,8 @@ function __sip_kinds
             printf '%s\n' stream file file file record depth query
         case help
             printf '%s\n' file file
+        case audit
+            printf '%s\n' stored file
         case show convert
             printf '%s\n' file
         case gen
@@ -36,8 +38,11 @@ function __sip_candidates
         set kind query
     end
     switch "$kind"
-        case stream
-            printf '%s\n' made:\t'NUMBER:COUNT' text:\t'lines of text' wide:\t'wide records'
+        case stream stored
+            if test $kind = stream
+                printf '%s\n' made:\t'NUMBER:COUNT'
+            end
+            printf '%s\n' text:\t'lines of text' wide:\t'wide records'
             if string match -qr '^(text|wide):' -- $word
                 set -l front (string split -m 1 : -- $word)[1]
                 printf "$front:%s\n" (__fish_complete_path (string split -m 1 : -- $word)[2])
@@ -75,6 +80,7 @@ end
 complete -c sip -f
 complete -c sip -n __sip_is_first -a verify -d 'ask a helper and check what it answers'
 complete -c sip -n __sip_is_first -a help -d 'be the helper'
+complete -c sip -n __sip_is_first -a audit -d 'check a stored run again'
 complete -c sip -n __sip_is_first -a show -d 'list a transcript'
 complete -c sip -n __sip_is_first -a convert -d 'write a transcript in version 2'
 complete -c sip -n __sip_is_first -a gen -d 'write a made stream'

@@ -228,6 +228,15 @@ def has_numbers(message):
     return all(x is None or x < P for x in fields)
 
 
+def fault_end(data, at, reason):
+    """Where the bytes end that show this fault of the frame that begins here."""
+    if reason == "Closed":
+        return len(data)
+    if reason in ("BadKind", "BadLength"):
+        return at + 3
+    return at + 3 + whole(data[at + 1 : at + 3])
+
+
 def read(data, at, place, version):
     """The message that the bytes from here on begin with, and where the next one begins; else the
     first fault."""

@@ -5,17 +5,19 @@ from typing import NamedTuple
 
 from . import folds
 from .field import P, WIDEST
-from .frames import Fault, read
+from .frames import Fault, fault_end, read
 from .honest import siblings_asked
 
 
 class Verdict(NamedTuple):
-    """`said` is None where the replies are rejected. `ends` is where each whole reply ends."""
+    """`said` is None where the replies are rejected. `ends` is where each whole reply ends, and
+    `taken` where the bytes end that show the verdict."""
 
     said: object
     round: int
     reason: str
     ends: list
+    taken: int
 
 
 class Link:
@@ -25,7 +27,11 @@ class Link:
         self.data, self.at, self.version = data, at, version
 
     def take(self, place):
-        message, self.at = read(self.data, self.at, place, self.version)
+        try:
+            message, self.at = read(self.data, self.at, place, self.version)
+        except Fault as fault:
+            self.at = fault_end(self.data, self.at, fault.reason)
+            raise
         if message[0] == "Refuse":
             raise Fault(f"Refused({message[1]})")
         return message
@@ -47,8 +53,8 @@ def verdict(question, both, depth, challenges, data, at, version):
             ends.append(link.at)
         check.end()
     except Fault as fault:
-        return Verdict(None, len(ends), fault.reason, ends)
-    return Verdict(check.said(), depth, None, ends)
+        return Verdict(None, len(ends), fault.reason, ends, link.at)
+    return Verdict(check.said(), depth, None, ends, link.at)
 
 
 class Entries:

@@ -54,8 +54,8 @@ def run(words, files, may_be_made=lambda name: True):
         return Outcome("Usage", f"sip: usage at word {usage.word}", b"", None)
     port = Ports(said, files, may_be_made)
     return {
-        "verify": verify, "play": play, "help": help_, "show": read_back, "convert": read_back,
-        "gen": gen, "lines": copy, "widen": copy,
+        "verify": verify, "play": play, "help": help_, "audit": audit, "show": read_back,
+        "convert": read_back, "gen": gen, "lines": copy, "widen": copy,
     }[verb](verb, said, port)  # fmt: skip
 
 
@@ -66,7 +66,7 @@ def behind_progress(words):
 def asks_for_text(words):
     """Words for help or the version, alone, or for help behind a verb."""
     helps, versions = [[b"--help"], [b"-h"]], [[b"--version"], [b"-V"]]
-    verbs = [[verb] for verb in (b"verify", b"play", b"help", b"gen", b"lines", b"widen")]
+    verbs = [[verb] for verb in (b"verify", b"play", b"help", b"audit", b"gen", b"lines", b"widen")]
     return words in helps + versions or words[:1] in verbs and words[1:] in helps
 
 
@@ -74,6 +74,7 @@ class Ports:
     """The bytes of the files; None is a port whose calls fail."""
 
     def __init__(self, said, files, may_be_made):
+        self.files = files
         self.first = source(said["stream"], said["depth"], files) if "stream" in said else None
         self.second = files.get(said.get("transcript", said.get("seed")))
         self.replies = files.get(said.get("from"))
@@ -172,7 +173,7 @@ class Run:
     def __init__(self, said):
         self.depth, self.questions = said["depth"], said["queries"]
         self.version = version_needed(self.depth, self.questions)
-        self.sent, self.report, self.turns = b"", "", []
+        self.sent, self.report, self.turns, self.taken = b"", "", [], 0
 
     def send(self, *message):
         self.sent += spelling(message, self.version)
@@ -193,8 +194,13 @@ class Run:
             return self.ends("PeerFault", "sip: peer fault")
         updates, fault = ([], "unread") if port.first is None else port.first
         self.sent = talk_of(updates, fault, self.depth, self.version)
-        if port.first is None:
+        return self.take(port.first)
+
+    def take(self, first):
+        """Takes the stream. An outcome where the run ends there."""
+        if first is None:
             return self.ends("ReadFault", "sip: read fault on first")
+        updates, fault = first
         if fault:
             return self.ends("BadStream", bad_stream(fault), fault[1])
         self.updates, self.both = updates, vectors(updates)
@@ -211,6 +217,7 @@ class Run:
         if data is None:
             return None, self.ends("PeerFault", "sip: peer fault")
         judged = verdict(question, self.both, self.depth, block, data, at, self.version)
+        self.taken = judged.taken
         # Challenge j leaves before reply j is taken, for each j from 1 to d - 1.
         for j, end in enumerate([*judged.ends, len(data)][: self.depth]):
             if j > 0:
@@ -222,22 +229,53 @@ class Run:
         self.report += question.line(judged.said)
         return judged.ends[-1], None
 
+    def ask_all(self, data, at):
+        """Asks all queries of replies that begin there. An outcome where the run ends at one."""
+        for number, question in enumerate(self.questions, 1):
+            if not question.is_asked(self.both):
+                self.report += question.line([])
+                continue
+            at, ended = self.ask(number, data, at)
+            if ended:
+                return ended
+        return None
+
 
 def verify(_, said, port):
     going = Run(said)
     ended = going.gather(port, port.to is None)
     if ended:
         return ended if port.to is not None else ended._replace(to=None)
-    at = 0
-    for number, question in enumerate(going.questions, 1):
-        if not question.is_asked(going.both):
-            going.report += question.line([])
-            continue
-        at, ended = going.ask(number, port.replies, at)
-        if ended:
-            return ended
+    ended = going.ask_all(port.replies, 0)
+    if ended:
+        return ended
     going.send("Bye")
     return going.ends("Accepted")
+
+
+def judged_again(it, data, first):
+    """The run that a transcript tells, over a stream: the run, and its outcome, whatever stands
+    behind the bytes that it takes."""
+    going = Run({"depth": it.depth, "queries": [question for question, _ in it.asks]})
+    going.version, going.blocks = it.version, [block for _, block in it.asks]
+    going.taken = it.begins
+    ended = going.take(first) or going.ask_all(data, it.begins) or going.ends("Accepted")
+    return going, ended._replace(to=None)
+
+
+def audit(_, said, port):
+    if port.second is None:
+        return Outcome("ReadFault", "sip: read fault on second", b"", None)
+    try:
+        it = told(port.second)
+    except Bad as bad:
+        return bad_transcript(bad.at, b"")._replace(reason="Head")
+    going, ended = judged_again(
+        it, port.second, source(said["stored"], it.depth, port.files)
+    )
+    if ended.status in ("Accepted", "Rejected") and going.taken < len(port.second):
+        return bad_transcript(going.taken, ended.report)._replace(reason="Behind")
+    return ended
 
 
 def play(_, said, port):

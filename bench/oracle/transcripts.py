@@ -19,12 +19,13 @@ class Bad(Exception):
 
 
 class Told(NamedTuple):
-    """`asks` are queries with their challenges, and `bad` is the byte at which the bytes stop being
-    a transcript behind the head, if they do."""
+    """`asks` are queries with their challenges, `begins` is the byte behind the head, and `bad` the
+    one at which the bytes stop being a transcript behind it, if they do."""
 
     version: int
     depth: int
     asks: list
+    begins: int
     replies: list
     bad: Optional[int]
 
@@ -65,14 +66,14 @@ def told(data):
         question, at = asked(data, at, version, depth)
         asks.append((question, [element(data, at + 8 * level) for level in range(depth)]))
         at += 8 * depth
-    replies = []
+    begins, replies = at, []
     while at < len(data):
         try:
             message, at = read(data, at, "ToVerifier", version)
         except Fault:
-            return Told(version, depth, asks, replies, at)
+            return Told(version, depth, asks, begins, replies, at)
         replies.append(message)
-    return Told(version, depth, asks, replies, None)
+    return Told(version, depth, asks, begins, replies, None)
 
 
 def listing(it):
@@ -85,10 +86,14 @@ def listing(it):
     return "".join(line + "\n" for line in lines).encode()
 
 
+def head(version, depth, asks):
+    data = b"SIPT" + bytes([version, depth, len(asks)])
+    for question, block in asks:
+        data += spelling(("Query", question), version)
+        data += b"".join(challenge.to_bytes(8, "big") for challenge in block)
+    return data
+
+
 def wide(it):
     """The same content in version 2."""
-    data = b"SIPT" + bytes([2, it.depth, len(it.asks)])
-    for question, block in it.asks:
-        data += spelling(("Query", question), 2)
-        data += b"".join(challenge.to_bytes(8, "big") for challenge in block)
-    return data + b"".join(spelling(message, 2) for message in it.replies)
+    return head(2, it.depth, it.asks) + b"".join(spelling(message, 2) for message in it.replies)

@@ -13,6 +13,7 @@ QUERIES = 16
 COMMANDS = {
     "verify": ("stream", "seed", "from", "to", "record", "depth", "queries"),
     "help": ("from", "to"),
+    "audit": ("stored", "transcript"),
     "show": ("transcript",),
     "convert": ("transcript",),
     "gen": ("number", "count", "depth"),
@@ -90,6 +91,9 @@ def value(shape, word, depth):
     """What a word of this shape says; None where it has another one."""
     if shape == "stream":
         return stream(word)
+    if shape == "stored":
+        held = stream(word)
+        return None if held is None or held.form == "made" else held
     if shape == "queries":
         return question(word, depth)
     if shape == "helper":

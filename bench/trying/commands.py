@@ -104,7 +104,10 @@ def short_and_apart(words):
 def whole(chance):
     """The words of a command."""
     verb = chance.choice(
-        ("verify", "verify", "play", "play", "help", "show", "convert", "gen", "lines", "widen")
+        (
+            "verify", "verify", "play", "play", "help", "audit", "show", "convert", "gen", "lines",
+            "widen",
+        )
     )
     stream = chance.choice(("stream", "text:lines", "wide:records", "made:7:3", "none"))
     seed = chance.choice(("seed", "seed", "seed", "short", "none"))
@@ -119,6 +122,7 @@ def whole(chance):
             verb, stream, seed, chance.choice(("honest", "skewed", "mute")), kept, depth, *queries
         ],
         "help": [verb, FROM, TO],
+        "audit": [verb, stream, transcript],
         "show": [verb, transcript],
         "convert": [verb, transcript],
         "gen": [

@@ -6,6 +6,7 @@ from oracle.field import P
 from oracle.frames import spelling
 from oracle.judging import verdict
 from oracle.questions import Question
+from oracle.runs import run
 from oracle.streams import made, vectors
 
 BLOCK = [2, 10]
@@ -85,6 +86,22 @@ FAULTS = [
 ]
 
 
+# The transcript of a run that asks SUB, what is changed of it, and what its audit comes to: its
+# status, the place of a byte that is wrong, and its report.
+TRANSCRIPT = bytes.fromhex(
+    "53495054 010201 040009010000000100000002 0000000000000002 000000000000000a"
+    "13000e0001000000020000000000000005 140011030000000000000003 0000000000000001 14000100"
+)
+AUDITS = [
+    (TRANSCRIPT, "Accepted", None, b"sub:1:2 2:5\n"),
+    (TRANSCRIPT[:75], "Rejected", None, b"rejected query 1 round 1 Closed\n"),
+    (TRANSCRIPT + b"\0", "BadTranscript", 76, b"sub:1:2 2:5\n"),
+    (TRANSCRIPT[:35] + b"\x11\0\x08\0", "BadTranscript", 38, b"rejected query 1 round 0 BadKind\n"),
+    (TRANSCRIPT[:34], "BadTranscript", 27, b""),
+    (b"SIP", "BadTranscript", 0, b""),
+]
+
+
 def judged(question, data):
     return verdict(question, BOTH, 2, BLOCK, data, 0, 1)
 
@@ -130,6 +147,11 @@ def hold():
             (found.said, found.round, found.reason),
             (None, round_, reason),
         )
+    for data, status, at, report in AUDITS:
+        files = {"s": b"0 0 3\n0 2 5\n0 3 1\n", "t": data}
+        found = run([b"audit", b"text:s", b"t"], files, lambda name: True)
+        said = "" if at is None else f"sip: bad transcript at offset {at}"
+        same(f"the audit of {data.hex()}", found[:3], (status, said, report))
 
 
 def same(what, found, wanted):

@@ -113,9 +113,9 @@ def read_by(words):
         _, said = read_words([word.decode() for word in behind_progress(words)])
     except (UnicodeDecodeError, Usage):
         return set()
-    stream = said.get("stream")
+    stream = said.get("stream", said.get("stored"))
     path = stream.path if stream and stream.form != "made" else None
-    return {said.get("seed"), said.get("from"), path} - {None}
+    return {said.get("seed"), said.get("from"), said.get("transcript"), path} - {None}
 
 
 def compared(outcome, ran):

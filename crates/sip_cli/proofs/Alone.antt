@@ -4,7 +4,7 @@ use Rattle.std.specs.Prelude.{is_some, IsSome, IfSome}
 use Rattle.std.specs.List.{slice_get}
 use Rattle.std.specs.Option.{option_copied}
 use Rattle.sip_cli.specs.declared.verb.Verb.{Verb}
-use Rattle.sip_cli.specs.declared.verb.Verb.TheVariants.{Verify, Help, Show, Convert, Gen, Lines, Widen, Play}
+use Rattle.sip_cli.specs.declared.verb.Verb.TheVariants.{Verify, Help, Audit, Show, Convert, Gen, Lines, Widen, Play}
 use Rattle.sip_cli.specs.Verbs.{verb_word}
 use Rattle.sip_cli.specs.Words.{word, IsRefusedAt}
 use Rattle.sip_cli.specs.Pages.{AsksHelp, AsksVersion, AsksPart, AsksText}
@@ -23,6 +23,7 @@ alone (x ∷ (y ∷ rest)) first (Some z) is also none = absurd (let h = none in
 pub no_verb : (w : List ℕ) (verb : Verb) → get_or w 0 0 ≡ 45 → w ≢ verb_word verb
 no_verb w Verify dash = λ e. let h : get_or w 0 0 ≡ 118 = ap (λ v. get_or v 0 0) e in omega arith
 no_verb w Help dash = λ e. let h : get_or w 0 0 ≡ 104 = ap (λ v. get_or v 0 0) e in omega arith
+no_verb w Audit dash = λ e. let h : get_or w 0 0 ≡ 97 = ap (λ v. get_or v 0 0) e in omega arith
 no_verb w Show dash = λ e. let h : get_or w 0 0 ≡ 115 = ap (λ v. get_or v 0 0) e in omega arith
 no_verb w Convert dash = λ e. let h : get_or w 0 0 ≡ 99 = ap (λ v. get_or v 0 0) e in omega arith
 no_verb w Gen dash = λ e. let h : get_or w 0 0 ≡ 103 = ap (λ v. get_or v 0 0) e in omega arith

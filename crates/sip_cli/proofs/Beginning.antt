@@ -4,6 +4,7 @@ use Rattle.std.specs.Prelude.{codes, decimal, ◌==◌, if◌then◌else◌}
 use Rattle.std.proofs.lemmas.Bool.{cases_lt}
 use Rattle.std.proofs.lemmas.List.{length-take-le, length-drop, length-append, get_or-take, get_or-drop, get_or_append_left, get_or-append_right}
 use Rattle.std.proofs.lemmas.Nat.{pow_pos}
+use Rattle.sip_stream.specs.declared.form.Form.TheVariants.{Binary}
 use Rattle.sip_vector.specs.declared.query.Query.{Query}
 use Rattle.sip_vector.specs.declared.query.Query.TheVariants.{Sub}
 use Rattle.sip_verifier.specs.Reports.{query_word}
@@ -11,7 +12,7 @@ use Rattle.sip_cli.specs.declared.helper_name.HelperName.TheVariants.{Mute}
 use Rattle.sip_cli.specs.declared.shape.Shape.TheVariants.{Name}
 use Rattle.sip_cli.specs.declared.stream.Stream.TheVariants as stream
 use Rattle.sip_cli.specs.declared.verb.Verb.{Verb}
-use Rattle.sip_cli.specs.declared.verb.Verb.TheVariants.{Verify, Help, Show, Convert, Gen, Lines, Widen, Play}
+use Rattle.sip_cli.specs.declared.verb.Verb.TheVariants.{Verify, Help, Audit, Show, Convert, Gen, Lines, Widen, Play}
 use Rattle.sip_cli.specs.Shapes.{IsOf, IsDepth, Asks}
 use Rattle.sip_cli.specs.Verbs.{verb_word, shapes, depth_at, least_asked, most_asked}
 use Rattle.sip_cli.specs.Words.{word, IsCommandOf, BeginCommand, IsRefusedAt}
@@ -20,6 +21,7 @@ use Rattle.sip_cli.specs.Words.{word, IsCommandOf, BeginCommand, IsRefusedAt}
 abbrev pub examples : Verb → List (List ℕ)
 examples Verify = codes "verify" ∷ codes "s" ∷ codes "s" ∷ codes "f" ∷ codes "t" ∷ codes "-" ∷ decimal 1 ∷ query_word (Sub 0 0) ∷ []
 examples Help = codes "help" ∷ codes "f" ∷ codes "t" ∷ []
+examples Audit = codes "audit" ∷ codes "s" ∷ codes "t" ∷ []
 examples Show = codes "show" ∷ codes "f" ∷ []
 examples Convert = codes "convert" ∷ codes "f" ∷ []
 examples Gen = codes "gen" ∷ decimal 0 ∷ decimal 0 ∷ decimal 1 ∷ []
@@ -31,6 +33,7 @@ examples Play = codes "play" ∷ codes "s" ∷ codes "s" ∷ codes "mute" ∷ co
 pub examples_long : (verb : Verb) → length (examples verb) ≡ 1 + length (shapes verb) + least_asked verb
 examples_long Verify = refl
 examples_long Help = refl
+examples_long Audit = refl
 examples_long Show = refl
 examples_long Convert = refl
 examples_long Gen = refl
@@ -50,6 +53,9 @@ examples_fit Verify (suc (suc (suc (suc (suc (suc n)))))) h = absurd (omega arit
 examples_fit Help zero h = λ e. cc
 examples_fit Help (suc zero) h = λ e. cc
 examples_fit Help (suc (suc n)) h = absurd (omega arith)
+examples_fit Audit zero h = (Binary, (λ e. cc, refl, refl, refl))
+examples_fit Audit (suc zero) h = λ e. cc
+examples_fit Audit (suc (suc n)) h = absurd (omega arith)
 examples_fit Show zero h = λ e. cc
 examples_fit Show (suc n) h = absurd (omega arith)
 examples_fit Convert zero h = λ e. cc
@@ -75,6 +81,7 @@ examples_fit Play (suc (suc (suc (suc (suc n))))) h = absurd (omega arith)
 pub example_asks : (verb : Verb) (n d : ℕ) → length (shapes verb) < n → n < length (examples verb) → Asks d (Sub 0 0) (word (examples verb) n)
 example_asks Verify n d low high = let one : n ≡ 7 = omega arith in let item = pow_pos d in rw one (refl, (omega arith, omega arith), refl)
 example_asks Help n d low high = absurd (omega arith)
+example_asks Audit n d low high = absurd (omega arith)
 example_asks Show n d low high = absurd (omega arith)
 example_asks Convert n d low high = absurd (omega arith)
 example_asks Gen n d low high = absurd (omega arith)
@@ -86,6 +93,7 @@ example_asks Play n d low high = let one : n ≡ 6 = omega arith in let item = p
 pub depth_shape : (verb : Verb) (n : ℕ) → length (shapes verb) < n → n < 1 + length (shapes verb) + most_asked verb → (words : List (List ℕ)) → IsOf (get_or (shapes verb) (length (shapes verb) - 1) Name) (word words (depth_at verb)) → (d : ℕ) × IsDepth d (word words (depth_at verb))
 depth_shape Verify n low high words is = is
 depth_shape Help n low high words is = absurd (omega arith)
+depth_shape Audit n low high words is = absurd (omega arith)
 depth_shape Show n low high words is = absurd (omega arith)
 depth_shape Convert n low high words is = absurd (omega arith)
 depth_shape Gen n low high words is = absurd (omega arith)
@@ -97,6 +105,7 @@ depth_shape Play n low high words is = is
 pub has_shapes : (verb : Verb) → 1 ≤ length (shapes verb)
 has_shapes Verify = omega arith
 has_shapes Help = omega arith
+has_shapes Audit = omega arith
 has_shapes Show = omega arith
 has_shapes Convert = omega arith
 has_shapes Gen = omega arith
@@ -107,6 +116,7 @@ has_shapes Play = omega arith
 pub least_below_most : (verb : Verb) → least_asked verb ≤ most_asked verb
 least_below_most Verify = omega arith
 least_below_most Help = omega arith
+least_below_most Audit = omega arith
 least_below_most Show = omega arith
 least_below_most Convert = omega arith
 least_below_most Gen = omega arith
@@ -211,11 +221,13 @@ lettered letter =
     if letter == 108 then Lines else (
     if letter == 112 then Play else (
     if letter == 115 then Show else (
-    if letter == 99 then Convert else Widen))))))
+    if letter == 97 then Audit else (
+    if letter == 99 then Convert else Widen)))))))
 
 lettered_word : (verb : Verb) → lettered (get_or (verb_word verb) 0 0) ≡ verb
 lettered_word Verify = refl
 lettered_word Help = refl
+lettered_word Audit = refl
 lettered_word Show = refl
 lettered_word Convert = refl
 lettered_word Gen = refl

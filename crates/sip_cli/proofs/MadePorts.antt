@@ -1,5 +1,5 @@
 -- A made stream that is opened is short enough.
-use Rattle.std.proofs.Common.{◌≡◌, ℕ, ◌≤◌, List, ap, arith}
+use Rattle.std.proofs.Common.{◌≡◌, ℕ, ◌≤◌, List, ap, refl, ◌∙◌, arith}
 use Rattle.sip_cli.specs.declared.command.Command.{Command}
 use Rattle.sip_cli.specs.declared.command.Command.TheVariants as command
 use Rattle.sip_cli.specs.declared.plan.Opening.{Opening}
@@ -7,9 +7,11 @@ use Rattle.sip_cli.specs.declared.plan.Opening.TheVariants.{Nothing, Spared, Pat
 use Rattle.sip_cli.specs.declared.plan.PortPlan.{PortPlan}
 use Rattle.sip_cli.specs.declared.stream.Stream.{Stream}
 use Rattle.sip_cli.specs.declared.stream.Stream.TheVariants as stream
-use Rattle.sip_cli.specs.Plan.{Opens, opening_of, source_ports}
+use Rattle.sip_cli.specs.Plan.{Opens, opening_of, source_ports, stored_opening}
 use Rattle.sip_cli.specs.Shapes.{IsStreamWord}
 use Rattle.sip_cli.specs.Words.{word}
+use Rattle.sip_stream.specs.declared.form.Form.{Form}
+use Rattle.sip_stream.specs.declared.form.Form.TheVariants.{Binary, Text, Wide}
 use Rattle.sip_stream.specs.Made.{most_made}
 
 -- how many records an opening has
@@ -33,6 +35,12 @@ source_counted words s depth plan names is =
     let few = stream_counted s (word words 1) depth names in
     omega arith
 
+-- a file has none
+stored_counted : (form : Form) → count_of (stored_opening form) ≡ 0
+stored_counted Binary = refl
+stored_counted Text = refl
+stored_counted Wide = refl
+
 -- so is the first port of a command
 pub first_counted : (words : List (List ℕ)) (c : Command) (plan : PortPlan) → Opens words c plan → count_of plan.first ≤ most_made
 first_counted words (command.Verify task) plan (s, names, keep, record_is, is) =
@@ -41,6 +49,8 @@ first_counted words (command.Verify task) plan (s, names, keep, record_is, is) =
     omega arith
 first_counted words command.Help plan is =
     let same : count_of plan.first ≡ 0 = ap (λ (p : PortPlan). count_of p.first) is in omega arith
+first_counted words (command.Audit form) plan is =
+    let same : count_of plan.first ≡ 0 = ap (λ (p : PortPlan). count_of p.first) is ∙ stored_counted form in omega arith
 first_counted words command.Show plan is =
     let same : count_of plan.first ≡ 0 = ap (λ (p : PortPlan). count_of p.first) is in omega arith
 first_counted words command.Convert plan is =

@@ -11,8 +11,10 @@ use Rattle.sip_cli.specs.declared.plan.Opening.TheVariants.{Path}
 use Rattle.sip_cli.specs.declared.plan.PortPlan.{PortPlan}
 use Rattle.sip_cli.specs.declared.stream.Stream.{Stream}
 use Rattle.sip_cli.specs.declared.stream.Stream.TheVariants as stream
-use Rattle.sip_cli.specs.Plan.{HasName, HaveNames, IsMarked, IsRecord, Opens, opening_of, source_ports, transcript_ports}
-use Rattle.sip_cli.specs.Shapes.{IsStreamWord}
+use Rattle.sip_stream.specs.declared.form.Form.{Form}
+use Rattle.sip_stream.specs.declared.form.Form.TheVariants.{Binary, Text, Wide}
+use Rattle.sip_cli.specs.Plan.{HasName, HaveNames, IsMarked, IsRecord, Opens, opening_of, source_ports, stored_opening, transcript_ports}
+use Rattle.sip_cli.specs.Shapes.{IsStoredWord, IsStreamWord}
 use Rattle.sip_cli.specs.Words.{word, Spells}
 
 -- a word that is there is a name
@@ -25,6 +27,12 @@ stream_named words (stream.Made number count) depth more names = tt
 stream_named words stream.Text depth more (path, some, is) = (more, inr (refl, (path, inl is)))
 stream_named words stream.Wide depth more (path, some, is) = (more, inr (refl, (path, inr is)))
 stream_named words stream.File depth more names = (more, inl refl)
+
+-- so does that of a stream that a file holds
+stored_named : (words : List (List ℕ)) (form : Form) → 1 < length words → IsStoredWord form (word words 1) → HasName words (stored_opening form)
+stored_named words Binary more names = (more, inl refl)
+stored_named words Text more (path, some, is) = (more, inr (refl, (path, inl is)))
+stored_named words Wide more (path, some, is) = (more, inr (refl, (path, inr is)))
 
 -- so does that of the file that keeps a transcript
 record_named : (words : List (List ℕ)) (n : ℕ) (keep : Opening) → n < length words → IsRecord (word words n) n keep → HasName words keep
@@ -69,6 +77,15 @@ opens_named words command.Help plan spells is =
       second = tt;
       from = file_named words 1 (omega arith);
       to = file_named words 2 (omega arith);
+      keep = tt;
+    })
+opens_named words (command.Audit form) plan spells is =
+    let least = spells.0.least in
+    subst (HaveNames words) (sym is) (record {
+      first = stored_named words form (omega arith) spells.1;
+      second = file_named words 2 (omega arith);
+      from = tt;
+      to = tt;
       keep = tt;
     })
 opens_named words command.Show plan spells is =

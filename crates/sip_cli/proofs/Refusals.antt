@@ -17,7 +17,7 @@ use Rattle.sip_cli.specs.Shapes.{Asks, HasForm, IsDepth, helper_word}
 use Rattle.sip_cli.specs.Verbs.{depth_at}
 use Rattle.sip_cli.specs.Words.{word, IsCommandOf, SaysTask, Spells, BeginCommand, IsRefusedAt}
 use Rattle.sip_cli.proofs.QueryWords.{query_once}
-use Rattle.sip_cli.proofs.StreamWords.{form_once}
+use Rattle.sip_cli.proofs.StreamWords.{form_once, stored_once}
 use Rattle.sip_cli.proofs.Beginning.{verb_once}
 use Rattle.sip_cli.proofs.Stopping.{depth_once}
 
@@ -52,6 +52,7 @@ refused_once words m n first second =
 abbrev pub verb_of : Command → Verb
 verb_of (command.Verify task) = verb.Verify
 verb_of command.Help = verb.Help
+verb_of (command.Audit form) = verb.Audit
 verb_of command.Show = verb.Show
 verb_of command.Convert = verb.Convert
 verb_of (command.Gen depth) = verb.Gen
@@ -63,6 +64,7 @@ verb_of (command.Play task name) = verb.Play
 pub whole_of : (words : List (List ℕ)) (c : Command) → Spells words c → IsCommandOf (verb_of c) words
 whole_of words (command.Verify task) s = s.0
 whole_of words command.Help s = s
+whole_of words (command.Audit form) s = s.0
 whole_of words command.Show s = s
 whole_of words command.Convert s = s
 whole_of words (command.Gen depth) s = s.0
@@ -125,6 +127,7 @@ helper_once word name other is also = sym (named_word name) ∙ (ap (λ w. named
 pub command_once : (words : List (List ℕ)) (c d : Command) → Spells words c → Spells words d → c ≡ d
 command_once words (command.Verify task) (command.Verify other) s t = ap command.Verify (task_once verb.Verify words task other s.1 t.1)
 command_once words command.Help command.Help s t = refl
+command_once words (command.Audit f) (command.Audit g) s t = ap command.Audit (stored_once f g (word words 1) s.1 t.1)
 command_once words command.Show command.Show s t = refl
 command_once words command.Convert command.Convert s t = refl
 command_once words (command.Gen d) (command.Gen e) s t = ap command.Gen (depth_once (word words 3) d e s.1 t.1)

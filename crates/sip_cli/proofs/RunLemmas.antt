@@ -1,7 +1,9 @@
 -- A run's words and its task, and what each command keeps.
-use Rattle.std.proofs.Common.{◌≡◌, ℕ, ◌+◌, ◌≤◌, List, [], Some, get_or, true≢false, refl, sym, ap, subst, arith}
+use Rattle.std.proofs.Common.{◌≡◌, ℕ, ◌+◌, ◌≤◌, List, [], Option, Some, get_or, true≢false, refl, sym, ap, subst, arith}
 use Rattle.std.proofs.lemmas.List.Elements.{All-from_get_or}
 use Rattle.std.specs.Prelude.{◌↔◌}
+use Rattle.sip_ports.specs.declared.port.TalkEvent.{TalkEvent}
+use Rattle.sip_ports.specs.Ports.{GoesOn, outs}
 use Rattle.sip_ports.proofs.TalkLemmas.{GoesOn-refl}
 use Rattle.sip_stream.specs.declared.form.Form.{Form}
 use Rattle.sip_stream.specs.declared.form.Form.TheVariants.{Binary, Text, Wide}
@@ -10,20 +12,21 @@ use Rattle.sip_vector.specs.Limits.{most_depth, most_narrow_depth}
 use Rattle.sip_vector.specs.declared.query.Query.{Query}
 use Rattle.sip_vector.specs.declared.query.Query.TheVariants.{Inner}
 use Rattle.sip_cli.specs.declared.command.Command.{Command}
-use Rattle.sip_cli.specs.declared.command.Command.TheVariants.{Verify, Help, Show, Convert, Gen, Lines, Widen, Play}
+use Rattle.sip_cli.specs.declared.command.Command.TheVariants.{Verify, Help, Audit, Show, Convert, Gen, Lines, Widen, Play}
 use Rattle.sip_cli.specs.declared.helper_name.HelperName.{HelperName}
 use Rattle.sip_cli.specs.declared.verb.Verb.{Verb}
 use Rattle.sip_cli.specs.declared.verb.Verb.TheVariants as verbs
 use Rattle.sip_verifier.specs.declared.status.Status.{Status}
 use Rattle.sip_verifier.specs.declared.status.Status.TheVariants as statuses
 use Rattle.sip_verifier.specs.declared.task.Task.{Task}
-use Rattle.sip_verifier.specs.Exchanges.{Exchange, Tells}
+use Rattle.sip_verifier.specs.Exchanges.{Appends, Exchange, Tells}
 use Rattle.sip_verifier.specs.Moments.{Counts, Moment, IsTold}
 use Rattle.sip_verifier.specs.Promises.{Promises}
 use Rattle.sip_verifier.specs.RunClause.{RunClause}
 use Rattle.sip_verifier.specs.Statuses.{FaultClause}
 use Rattle.sip_verifier.specs.Tasks.{CanBeAsked, CanBeDone}
 use Rattle.sip_verifier.proofs.RunTalks.{tells}
+use Rattle.sip_transcript.specs.Auditing.{AuditClause, Audits, Audit as Audited}
 use Rattle.sip_transcript.specs.Conversions.{in_version_2}
 use Rattle.sip_transcript.specs.Listings.{listing}
 use Rattle.sip_transcript.specs.Tales.{Tale}
@@ -70,6 +73,7 @@ played_task words c s task name e = played words task name (subst (Spells words)
 ends_otherwise : (c : Command) (word : ℕ) → Ends c (statuses.Usage word) → ⊥
 ends_otherwise (Verify task) word listed = absurd (true≢false (sym listed))
 ends_otherwise Help word listed = listed
+ends_otherwise (Audit form) word listed = absurd (true≢false (sym listed))
 ends_otherwise Show word listed = absurd (true≢false (sym listed))
 ends_otherwise Convert word listed = absurd (true≢false (sym listed))
 ends_otherwise (Gen depth) word listed = listed
@@ -94,6 +98,21 @@ usage_at words word other refused =
 same_task : {a b : Task} {x : Exchange} {before now : Counts} {status : Status} → a ≡ b → Promises b x before now status → Promises a x before now status
 same_task {x = x} {before = before} {now = now} {status = status} e p = subst (λ (k : Task). Promises k x before now status) (sym e) p
 
+-- an audit of streams in equal forms
+same_form : (a : Audited) (before now : Counts) (status : Status) (f g : Form) → f ≡ g → Audits f a before now status → Audits g a before now status
+same_form a before now status f g e k = subst (λ (h : Form). Audits h a before now status) e k
+
+-- bytes that are new on a sink went on it
+went_on : (old new : Option (List TalkEvent)) (bytes : List ℕ) → Appends old new (Some bytes) → GoesOn old new (outs bytes)
+went_on old new bytes told = rw (told.1, told.2) refl
+
+-- an audit, by whose ports there is an exchange, where the link and the record of a talk are as they were
+pub audit_moves : (form : Form) (before now : Moment) (status : Status) → AuditClause form before now status
+    → GoesOn before.talk now.talk [] → GoesOn before.keep now.keep [] → IsTold before → (x : Exchange) × Tells before now x
+audit_moves form before now status k link record_of is =
+    let told = k.moves is.first is.second is.report in
+    tells before now is (λ some. rw told.1.unread refl) [] link told.0.report (went_on before.report now.report told.0.report told.1.report) [] record_of
+
 -- only binary records have no room for the items of each depth
 pub room_for : (depth : ℕ) (to : Form) → depth ≤ most_depth → (to ≡ Binary → depth ≤ most_narrow_depth) → depth ≤ deepest_in to
 room_for depth Binary most narrow = narrow refl
@@ -111,6 +130,7 @@ Copied before now status depth from to = (bytes : List ℕ) → before.first ≡
 abbrev Kept : Moment → Moment → Status → Command → Type 0
 Kept before now status (Verify task) = ⊥
 Kept before now status Help = ⊥
+Kept before now status (Audit form) = ⊥
 Kept before now status Show = ⊥
 Kept before now status Convert = ⊥
 Kept before now status (Gen depth) = Copied before now status depth (made_form depth) (made_form depth)
@@ -122,6 +142,7 @@ Kept before now status (Play task name) = ⊥
 ends_as_copy : (before now : Moment) (status : Status) (c : Command) → Kept before now status c → EndsCopy status → Ends c status
 ends_as_copy before now status (Verify task) copied listed = absurd copied
 ends_as_copy before now status Help copied listed = absurd copied
+ends_as_copy before now status (Audit form) copied listed = absurd copied
 ends_as_copy before now status Show copied listed = absurd copied
 ends_as_copy before now status Convert copied listed = absurd copied
 ends_as_copy before now status (Gen depth) copied listed = listed
@@ -138,6 +159,7 @@ Rendered before now status text = (bytes : List ℕ) → before.second ≡ Some 
 abbrev Written : Moment → Moment → Status → Command → Type 0
 Written before now status (Verify task) = ⊥
 Written before now status Help = ⊥
+Written before now status (Audit form) = ⊥
 Written before now status Show = Rendered before now status listing
 Written before now status Convert = Rendered before now status in_version_2
 Written before now status (Gen depth) = ⊥
@@ -149,6 +171,7 @@ Written before now status (Play task name) = ⊥
 ends_as_writing : (before now : Moment) (status : Status) (c : Command) → Written before now status c → EndsWriting status → Ends c status
 ends_as_writing before now status (Verify task) written listed = absurd written
 ends_as_writing before now status Help written listed = absurd written
+ends_as_writing before now status (Audit form) written listed = absurd written
 ends_as_writing before now status Show written listed = listed
 ends_as_writing before now status Convert written listed = listed
 ends_as_writing before now status (Gen depth) written listed = absurd written
@@ -166,6 +189,7 @@ module _ {before now : Moment} {status : Status} where
     lines = λ form depth is. absurd (let same = is in cc);
     wide = λ form depth is. absurd (let same = is in cc);
     help = λ is. absurd (let same = is in cc);
+    audit = λ form is. absurd (let same = is in cc);
     show = λ is. absurd (let same = is in cc);
     convert = λ is. absurd (let same = is in cc);
     moves = k.moves;
@@ -182,6 +206,7 @@ module _ {before now : Moment} {status : Status} where
     lines = λ form depth is. absurd (let same = is in cc);
     wide = λ form depth is. absurd (let same = is in cc);
     help = λ is. absurd (let same = is in cc);
+    audit = λ form is. absurd (let same = is in cc);
     show = λ is. absurd (let same = is in cc);
     convert = λ is. absurd (let same = is in cc);
     moves = k.moves;
@@ -200,6 +225,7 @@ module _ {before now : Moment} {status : Status} where
     lines = λ form depth is. absurd (let same = is in cc);
     wide = λ form depth is. absurd (let same = is in cc);
     help = λ is. served;
+    audit = λ form is. absurd (let same = is in cc);
     show = λ is. absurd (let same = is in cc);
     convert = λ is. absurd (let same = is in cc);
     moves = moves;
@@ -218,6 +244,7 @@ module _ {before now : Moment} {status : Status} where
     lines = λ form depth is. subst (Kept before now status) is copied;
     wide = λ form depth is. subst (Kept before now status) is copied;
     help = λ is. absurd (subst (Kept before now status) is copied);
+    audit = λ form is. absurd (subst (Kept before now status) is copied);
     show = λ is. absurd (subst (Kept before now status) is copied);
     convert = λ is. absurd (subst (Kept before now status) is copied);
     moves = moves;
@@ -236,11 +263,31 @@ module _ {before now : Moment} {status : Status} where
     lines = λ form depth is. absurd (subst (Written before now status) is written);
     wide = λ form depth is. absurd (subst (Written before now status) is written);
     help = λ is. absurd (subst (Written before now status) is written);
+    audit = λ form is. absurd (subst (Written before now status) is written);
     show = λ is. subst (Written before now status) is written;
     convert = λ is. subst (Written before now status) is written;
     moves = moves;
     fault = fault;
     listed = λ command is. subst (λ (c : Command). Ends c status) is (ends_as_writing before now status d written listed);
+  })
+
+  pub audit_keeps : {c : Command} (form : Form) → c ≡ Audit form
+      → AuditClause form before now status
+      → (IsTold before → (x : Exchange) × Tells before now x)
+      → CommandClause (λ is. c ≡ is) before now status
+  audit_keeps form e k moves = subst (λ (c : Command). CommandClause (λ is. c ≡ is) before now status) (sym e) (record {
+    verify = λ task is. absurd (let same = is in cc);
+    play = λ task name is. absurd (let same = is in cc);
+    made = λ depth is. absurd (let same = is in cc);
+    lines = λ other depth is. absurd (let same = is in cc);
+    wide = λ other depth is. absurd (let same = is in cc);
+    help = λ is. absurd (let same = is in cc);
+    audit = λ other is a told. same_form a before.faults now.faults status form other (let same = is in cc) (k.audits a told);
+    show = λ is. absurd (let same = is in cc);
+    convert = λ is. absurd (let same = is in cc);
+    moves = moves;
+    fault = k.fault;
+    listed = λ command is. subst (λ (c : Command). Ends c status) is k.listed;
   })
 
   -- what a command keeps, it keeps for all who know it by another sign
@@ -253,6 +300,7 @@ module _ {before now : Moment} {status : Status} where
     lines = λ form depth is. k.lines form depth (tells (Lines form depth) is);
     wide = λ form depth is. k.wide form depth (tells (Widen form depth) is);
     help = λ is. k.help (tells Help is);
+    audit = λ form is. k.audit form (tells (Audit form) is);
     show = λ is. k.show (tells Show is);
     convert = λ is. k.convert (tells Convert is);
     moves = k.moves;
@@ -270,6 +318,7 @@ none_keeps {m = m} word none = record {
   lines = λ form depth is. absurd (none (Lines form depth) is);
   wide = λ form depth is. absurd (none (Widen form depth) is);
   help = λ is. absurd (none Help is);
+  audit = λ form is. absurd (none (Audit form) is);
   show = λ is. absurd (none Show is);
   convert = λ is. absurd (none Convert is);
   moves = λ is. tells m m is (λ some. some) [] (GoesOn-refl _) [] (GoesOn-refl _) [] (GoesOn-refl _);

@@ -7,10 +7,12 @@ use Rattle.std.proofs.lemmas.Bool.{leb-true, le-leb}
 use Rattle.std.proofs.lemmas.Fmt.{decimal_injective}
 use Rattle.std.proofs.lemmas.Str.Pattern.{split_parts, split_after, IsSplitOnceResult}
 use Rattle.sip_stream.specs.declared.form.Form.{Form}
+use Rattle.sip_stream.specs.declared.form.Form.TheVariants.{Binary}
+use Rattle.sip_stream.specs.declared.form.Form.TheVariants as forms
 use Rattle.sip_stream.specs.Made.{most_made}
 use Rattle.sip_cli.specs.declared.stream.Stream.{Stream}
 use Rattle.sip_cli.specs.declared.stream.Stream.TheVariants.{Made, Text, Wide, File}
-use Rattle.sip_cli.specs.Shapes.{IsStreamWord, HasForm, form_of}
+use Rattle.sip_cli.specs.Shapes.{IsStoredWord, IsStreamWord, HasForm, file_in, form_of}
 use Rattle.sip_cli.proofs.QueryWords.{same_parts, decimal_lacks_colon}
 
 -- what follows `made:`
@@ -69,6 +71,22 @@ pub form_once : (depth : ℕ) (f g : Form) (word : List ℕ) → HasForm depth f
 form_once depth f g word (s, is, names) (t, also, names') =
     let same = stream_once s t word names names' in
     sym is ∙ (ap (form_of depth) same ∙ also)
+
+-- the form of a file; a made stream has none
+abbrev form_in : Stream → Form
+form_in (Made _ _) = Binary
+form_in Text = forms.Text
+form_in Wide = forms.Wide
+form_in File = Binary
+
+file_form : (f : Form) → form_in (file_in f) ≡ f
+file_form Binary = refl
+file_form forms.Text = refl
+file_form forms.Wide = refl
+
+-- a word names one stream that a file holds
+pub stored_once : (f g : Form) (word : List ℕ) → IsStoredWord f word → IsStoredWord g word → f ≡ g
+stored_once f g word names names' = sym (file_form f) ∙ (ap form_in (stream_once (file_in f) (file_in g) word names names') ∙ file_form g)
 
 -- the cut at the colon gives the two numbers
 pub cut_numbers : (rest : List ℕ) (r : Option (Bor (List ℕ) × Bor (List ℕ))) → IsSplitOnceResult 58 rest r → (n c : ℕ) → n < 2 ^ 64 → rest ≡ numbers n c → MatchOption r ⊥ (λ x. (x.0.now ≡ decimal n) × (x.1.now ≡ decimal c))

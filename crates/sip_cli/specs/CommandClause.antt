@@ -3,13 +3,14 @@
 use Rattle.std.specs.Prelude.{◌≡◌, ℕ, List, Some}
 use Rattle.sip_cli.specs.CopyClause.{CopyClause}
 use Rattle.sip_cli.specs.declared.command.Command.{Command}
-use Rattle.sip_cli.specs.declared.command.Command.TheVariants.{Verify, Help, Show, Convert, Gen, Lines, Widen, Play}
+use Rattle.sip_cli.specs.declared.command.Command.TheVariants.{Verify, Help, Audit, Show, Convert, Gen, Lines, Widen, Play}
 use Rattle.sip_cli.specs.declared.helper_name.HelperName.{HelperName}
 use Rattle.sip_cli.specs.HelpClause.{HelpClause}
 use Rattle.sip_cli.specs.Statuses.{Ends}
 use Rattle.sip_stream.specs.declared.form.Form.{Form}
 use Rattle.sip_stream.specs.declared.form.Form.TheVariants.{Text, Wide}
 use Rattle.sip_stream.specs.Layouts.{made_form}
+use Rattle.sip_transcript.specs.Auditing.{Audits, TellsAudit, Audit as Audited}
 use Rattle.sip_transcript.specs.Conversions.{in_version_2}
 use Rattle.sip_transcript.specs.Listings.{listing}
 use Rattle.sip_transcript.specs.Writing.{Writes}
@@ -44,6 +45,9 @@ pub record CommandClause (Is : Command → Type 0) (before now : Moment) (status
       → CopyClause depth form Wide bytes now.first before.report now.report status
   -- `help`: a talk is served
   pub help : Is Help → HelpClause before.talk now.talk status
+  -- `audit`: a stored run is judged again, by what the ports tell
+  pub audit : (form : Form) → Is (Audit form) → (a : Audited) → TellsAudit before now a
+      → Audits form a before.faults now.faults status
   -- `show`: the transcript is listed
   pub show : Is Show → (bytes : List ℕ) → before.second ≡ Some bytes
       → Writes listing bytes now.second before.report now.report status

@@ -7,7 +7,7 @@ use Rattle.sip_cli.specs.declared.place.Place.{Place}
 use Rattle.sip_cli.specs.declared.place.Place.TheVariants as place
 use Rattle.sip_cli.specs.declared.stream.Stream.TheVariants.{File}
 use Rattle.sip_cli.specs.declared.verb.Verb.{Verb}
-use Rattle.sip_cli.specs.declared.verb.Verb.TheVariants.{Verify, Help, Show, Convert, Gen, Lines, Widen, Play}
+use Rattle.sip_cli.specs.declared.verb.Verb.TheVariants.{Verify, Help, Audit, Show, Convert, Gen, Lines, Widen, Play}
 use Rattle.sip_cli.specs.Shapes.{IsStreamWord}
 use Rattle.sip_cli.specs.Verbs.{verb_word, most_asked}
 use Rattle.sip_cli.specs.Words.{word}
@@ -22,6 +22,7 @@ abbrev pub places : Verb → List Place
 places Verify = place.Verb ∷ place.Stream ∷ place.Seed ∷ place.From ∷ place.To ∷ place.Record
     ∷ place.Depth ∷ []
 places Help = place.Verb ∷ place.From ∷ place.To ∷ []
+places Audit = place.Verb ∷ place.Stored ∷ place.Transcript ∷ []
 places Show = place.Verb ∷ place.Transcript ∷ []
 places Convert = place.Verb ∷ place.Transcript ∷ []
 places Gen = place.Verb ∷ place.Number ∷ place.Count ∷ place.Depth ∷ []
@@ -52,6 +53,7 @@ StandsAt words n is =
 abbrev pub place_hint : Place → List ℕ
 place_hint place.Verb = hints.VERB.now
 place_hint place.Stream = hints.STREAM.now
+place_hint place.Stored = hints.STORED.now
 place_hint place.Seed = hints.SEED.now
 place_hint place.From = hints.FROM.now
 place_hint place.To = hints.TO.now

@@ -1,8 +1,8 @@
 -- The texts that words ask for in place of a command, and what writing one promises.
 use Rattle.std.specs.Prelude.{◌≡◌, ◌⊎◌, ℕ, ◌<◌, List, [], ◌∷◌, length, take, codes, Option}
-use Rattle.sip_cli.specs.declared.page_text.TheConstants.{CONVERT_PART, GEN_PART, HELP_PART, LINES_PART, PLAY_PART, SHOW_PART, VERIFY_PART, WIDEN_PART}
+use Rattle.sip_cli.specs.declared.page_text.TheConstants.{AUDIT_PART, CONVERT_PART, GEN_PART, HELP_PART, LINES_PART, PLAY_PART, SHOW_PART, VERIFY_PART, WIDEN_PART}
 use Rattle.sip_cli.specs.declared.verb.Verb.{Verb}
-use Rattle.sip_cli.specs.declared.verb.Verb.TheVariants.{Verify, Help, Show, Convert, Gen, Lines, Widen, Play}
+use Rattle.sip_cli.specs.declared.verb.Verb.TheVariants.{Verify, Help, Audit, Show, Convert, Gen, Lines, Widen, Play}
 use Rattle.sip_cli.specs.Verbs.{verb_word}
 use Rattle.sip_ports.specs.declared.port.TalkEvent.{TalkEvent}
 use Rattle.sip_ports.specs.Ports.{GoesOn, outs}
@@ -22,6 +22,7 @@ AsksVersion word = (word ≡ codes "--version") ⊎ (word ≡ codes "-V")
 abbrev pub part_of : Verb → List ℕ
 part_of Verify = VERIFY_PART.now
 part_of Help = HELP_PART.now
+part_of Audit = AUDIT_PART.now
 part_of Show = SHOW_PART.now
 part_of Convert = CONVERT_PART.now
 part_of Gen = GEN_PART.now

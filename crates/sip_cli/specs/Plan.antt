@@ -11,6 +11,8 @@ use Rattle.sip_cli.specs.declared.stream.Stream.{Stream}
 use Rattle.sip_cli.specs.declared.stream.Stream.TheVariants as stream
 use Rattle.sip_cli.specs.Shapes.{IsStreamWord}
 use Rattle.sip_cli.specs.Words.{word}
+use Rattle.sip_stream.specs.declared.form.Form.{Form}
+use Rattle.sip_stream.specs.declared.form.Form.TheVariants as forms
 use Rattle.sip_stream.specs.Made.{most_made}
 
 -- What the stream of word 1 is opened on at a depth. A path stands behind `text:` and `wide:`.
@@ -19,6 +21,12 @@ opening_of (stream.Made number count) depth = Made number count depth
 opening_of stream.Text depth = Path 1 5
 opening_of stream.Wide depth = Path 1 5
 opening_of stream.File depth = Path 1 0
+
+-- the same of a word that names a stream that a file holds, in this form
+abbrev pub stored_opening : Form → Opening
+stored_opening forms.Binary = Path 1 0
+stored_opening forms.Text = Path 1 5
+stored_opening forms.Wide = Path 1 5
 
 -- gen NUMBER COUNT DEPTH, lines STREAM DEPTH and widen STREAM DEPTH
 abbrev pub source_ports : Opening → PortPlan
@@ -48,6 +56,10 @@ play_ports first keep = record no_ports { first = first; second = Path 2 0; keep
 abbrev pub help_ports : PortPlan
 help_ports = record no_ports { from = Path 1 0; to = Path 2 0 }
 
+-- audit STORED TRANSCRIPT
+abbrev pub audit_ports : Opening → PortPlan
+audit_ports first = record no_ports { first = first; second = Path 2 0 }
+
 -- show TRANSCRIPT and convert TRANSCRIPT
 abbrev pub transcript_ports : PortPlan
 transcript_ports = record no_ports { second = Path 1 0 }
@@ -59,6 +71,7 @@ Opens words (command.Verify task) plan =
     × (keep : Opening) × IsRecord (word words 5) 5 keep
     × (plan ≡ verify_ports (opening_of s task.depth) keep)
 Opens words command.Help plan = plan ≡ help_ports
+Opens words (command.Audit form) plan = plan ≡ audit_ports (stored_opening form)
 Opens words command.Show plan = plan ≡ transcript_ports
 Opens words command.Convert plan = plan ≡ transcript_ports
 Opens words (command.Gen depth) plan =

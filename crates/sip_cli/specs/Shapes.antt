@@ -43,6 +43,16 @@ form_of depth stream.File = forms.Binary
 abbrev pub HasForm : ℕ → Form → List ℕ → Type 0
 HasForm depth form word = (s : Stream) × (form_of depth s ≡ form) × IsStreamWord s word
 
+-- a stream that a file holds, in this form
+abbrev pub file_in : Form → Stream
+file_in forms.Binary = stream.File
+file_in forms.Text = stream.Text
+file_in forms.Wide = stream.Wide
+
+-- the word names a stream that a file holds, in this form; so it does not begin with `made:`
+abbrev pub IsStoredWord : Form → List ℕ → Type 0
+IsStoredWord form word = IsStreamWord (file_in form) word
+
 -- the word is this depth
 abbrev pub IsDepth : ℕ → List ℕ → Type 0
 IsDepth depth word = (1 ≤ depth) × (depth ≤ most_depth) × (word ≡ decimal depth)
@@ -57,6 +67,7 @@ helper_word Mute = codes "mute"
 abbrev pub IsOf : Shape → List ℕ → Type 0
 IsOf shape.Name word = word ≢ []
 IsOf shape.Stream word = (s : Stream) × IsStreamWord s word
+IsOf shape.Stored word = (form : Form) × IsStoredWord form word
 IsOf shape.Helper word = (name : HelperName) × (word ≡ helper_word name)
 IsOf (shape.Number most) word = (n : ℕ) × (n ≤ most) × (n < 2 ^ 64) × (word ≡ decimal n)
 IsOf shape.Depth word = (d : ℕ) × IsDepth d word

@@ -5,6 +5,7 @@ use Rattle.sip_verifier.specs.declared.status.Port.TheVariants as ports
 use Rattle.sip_verifier.specs.declared.status.Status.{Status}
 use Rattle.sip_verifier.specs.declared.status.Status.TheVariants as statuses
 use Rattle.sip_verifier.specs.Statuses.{IsListed}
+use Rattle.sip_transcript.specs.Auditing.{EndsAudit}
 use Rattle.sip_transcript.specs.Writing.{EndsWriting}
 
 -- of `gen`, `lines` and `widen`
@@ -28,6 +29,7 @@ EndsHelp _ = ⊥
 abbrev pub Ends : Command → Status → Type 0
 Ends (command.Verify task) status = IsListed status
 Ends command.Help status = EndsHelp status
+Ends (command.Audit form) status = EndsAudit status
 Ends command.Show status = EndsWriting status
 Ends command.Convert status = EndsWriting status
 Ends (command.Gen depth) status = EndsCopy status
@@ -39,6 +41,7 @@ Ends (command.Play task name) status = IsListed status
 abbrev pub IsCopy : Command → Type 0
 IsCopy (command.Verify task) = ⊥
 IsCopy command.Help = ⊥
+IsCopy (command.Audit form) = ⊥
 IsCopy command.Show = ⊥
 IsCopy command.Convert = ⊥
 IsCopy (command.Gen depth) = Unit {0}
@@ -50,9 +53,22 @@ IsCopy (command.Play task name) = ⊥
 abbrev pub ReadsTranscript : Command → Type 0
 ReadsTranscript (command.Verify task) = ⊥
 ReadsTranscript command.Help = ⊥
+ReadsTranscript (command.Audit form) = Unit {0}
 ReadsTranscript command.Show = Unit {0}
 ReadsTranscript command.Convert = Unit {0}
 ReadsTranscript (command.Gen depth) = ⊥
 ReadsTranscript (command.Lines form depth) = ⊥
 ReadsTranscript (command.Widen form depth) = ⊥
 ReadsTranscript (command.Play task name) = ⊥
+
+-- the command writes what a transcript tells
+abbrev pub IsRendering : Command → Type 0
+IsRendering (command.Verify task) = ⊥
+IsRendering command.Help = ⊥
+IsRendering (command.Audit form) = ⊥
+IsRendering command.Show = Unit {0}
+IsRendering command.Convert = Unit {0}
+IsRendering (command.Gen depth) = ⊥
+IsRendering (command.Lines form depth) = ⊥
+IsRendering (command.Widen form depth) = ⊥
+IsRendering (command.Play task name) = ⊥

@@ -18,6 +18,7 @@ abbrev pub stream_form : Command → Form
 stream_form (command.Verify task) = task.form
 stream_form (command.Play task name) = task.form
 stream_form (command.Gen depth) = made_form depth
+stream_form (command.Audit form) = form
 stream_form (command.Lines form depth) = form
 stream_form (command.Widen form depth) = form
 stream_form command.Help = Binary

@@ -1,9 +1,9 @@
 -- The commands: each is a verb, words of its shapes, and queries where it asks some.
 use Rattle.std.specs.Prelude.{ℕ, List, [], ◌∷◌, codes, length}
 use Rattle.sip_cli.specs.declared.shape.Shape.{Shape}
-use Rattle.sip_cli.specs.declared.shape.Shape.TheVariants.{Name, Stream, Helper, Number, Depth}
+use Rattle.sip_cli.specs.declared.shape.Shape.TheVariants.{Name, Stream, Stored, Helper, Number, Depth}
 use Rattle.sip_cli.specs.declared.verb.Verb.{Verb}
-use Rattle.sip_cli.specs.declared.verb.Verb.TheVariants.{Verify, Help, Show, Convert, Gen, Lines, Widen, Play}
+use Rattle.sip_cli.specs.declared.verb.Verb.TheVariants.{Verify, Help, Audit, Show, Convert, Gen, Lines, Widen, Play}
 use Rattle.sip_stream.specs.Made.{most_made}
 use Rattle.sip_wire.specs.Table.{most_queries}
 
@@ -11,6 +11,7 @@ use Rattle.sip_wire.specs.Table.{most_queries}
 abbrev pub verb_word : Verb → List ℕ
 verb_word Verify = codes "verify"
 verb_word Help = codes "help"
+verb_word Audit = codes "audit"
 verb_word Show = codes "show"
 verb_word Convert = codes "convert"
 verb_word Gen = codes "gen"
@@ -21,6 +22,7 @@ verb_word Play = codes "play"
 -- The words behind the verb, and before the queries.
 --   verify STREAM SEED FROM TO RECORD DEPTH
 --   help FROM TO
+--   audit STORED TRANSCRIPT
 --   show TRANSCRIPT
 --   convert TRANSCRIPT
 --   gen NUMBER COUNT DEPTH
@@ -30,6 +32,7 @@ verb_word Play = codes "play"
 abbrev pub shapes : Verb → List Shape
 shapes Verify = Stream ∷ Name ∷ Name ∷ Name ∷ Name ∷ Depth ∷ []
 shapes Help = Name ∷ Name ∷ []
+shapes Audit = Stored ∷ Name ∷ []
 shapes Show = Name ∷ []
 shapes Convert = Name ∷ []
 shapes Gen = Number 18446744073709551615 ∷ Number most_made ∷ Depth ∷ []
@@ -45,6 +48,7 @@ depth_at verb = length (shapes verb)
 abbrev pub least_asked : Verb → ℕ
 least_asked Verify = 1
 least_asked Help = 0
+least_asked Audit = 0
 least_asked Show = 0
 least_asked Convert = 0
 least_asked Gen = 0
@@ -56,6 +60,7 @@ least_asked Play = 1
 abbrev pub most_asked : Verb → ℕ
 most_asked Verify = most_queries
 most_asked Help = 0
+most_asked Audit = 0
 most_asked Show = 0
 most_asked Convert = 0
 most_asked Gen = 0

@@ -8,7 +8,7 @@ use Rattle.sip_cli.specs.declared.command.Command.TheVariants as command
 use Rattle.sip_cli.specs.declared.shape.Shape.TheVariants.{Name}
 use Rattle.sip_cli.specs.declared.verb.Verb.{Verb}
 use Rattle.sip_cli.specs.declared.verb.Verb.TheVariants as verb
-use Rattle.sip_cli.specs.Shapes.{IsOf, HasForm, IsDepth, Asks, helper_word}
+use Rattle.sip_cli.specs.Shapes.{IsOf, HasForm, IsStoredWord, IsDepth, Asks, helper_word}
 use Rattle.sip_cli.specs.Verbs.{verb_word, shapes, depth_at, least_asked, most_asked}
 
 -- word n, from 0
@@ -40,6 +40,8 @@ abbrev pub Spells : List (List ℕ) → Command → Type 0
 Spells words (command.Verify task) =
     IsCommandOf verb.Verify words × SaysTask verb.Verify words task
 Spells words command.Help = IsCommandOf verb.Help words
+Spells words (command.Audit form) =
+    IsCommandOf verb.Audit words × IsStoredWord form (word words 1)
 Spells words command.Show = IsCommandOf verb.Show words
 Spells words command.Convert = IsCommandOf verb.Convert words
 Spells words (command.Gen depth) = IsCommandOf verb.Gen words × IsDepth depth (word words 3)

@@ -14,7 +14,7 @@ ghost use Rattle.sip_wire.specs.Table.{most_queries};
 use crate::decimal::read_decimal;
 use crate::query::read_query;
 use crate::shape::Shape;
-use crate::stream::stream_of;
+use crate::stream::{stored_of, stream_of};
 use crate::verb::Verb;
 use crate::{HelperName, Usage, Words};
 use arrayvec::ArrayVec;
@@ -30,6 +30,8 @@ pub enum Command {
     Verify(Task),
     /// To help another side to verify: `help FROM TO`.
     Help,
+    /// To check a stored run again: `audit STORED TRANSCRIPT`.
+    Audit { form: Form },
     /// To list a transcript: `show TRANSCRIPT`.
     Show,
     /// To write a transcript in version 2: `convert TRANSCRIPT`.
@@ -55,6 +57,7 @@ impl Command {
             Command::Play(task, name) => Some((task, name)),
             Command::Verify(_)
             | Command::Help
+            | Command::Audit { .. }
             | Command::Show
             | Command::Convert
             | Command::Gen { .. }
@@ -239,6 +242,22 @@ fn read_help(words: &Words) -> Result<Command, Usage>
     Ok(Command::Help)
 }
 
+// The rest of `audit`.
+fn read_audit(words: &Words) -> Result<Command, Usage>
+    ensures command { IfOk result (λ command. Fitted Verb.Audit words.now
+        → Spells words.now command) }
+    ensures refused { IfErr result (λ usage. Fitted Verb.Audit words.now
+        → IsRefusedAt words.now usage.word) }
+{
+    let Some(form) = stored_of(words) else {
+        return Err(Usage { word: 1 });
+    };
+    if has_word(words, 3) {
+        return Err(Usage { word: 3 });
+    }
+    Ok(Command::Audit { form })
+}
+
 // The rest of `show` and of `convert`, which have no more words.
 fn read_transcript(words: &Words) -> Result<(), Usage>
     ensures read { OnOk result ((verb : AnyVerb) → TakesName verb
@@ -305,6 +324,7 @@ pub fn read_words(words: &Words) -> Result<Command, Usage>
     match verb {
         Verb::Verify => read_verify(words),
         Verb::Help => read_help(words),
+        Verb::Audit => read_audit(words),
         Verb::Show => {
             read_transcript(words)?;
             Ok(Command::Show)

@@ -4,11 +4,16 @@
 
 /// A verb, the first word.
 pub(crate) const VERB: &str = "\
-sip: hint: the first word is verify, play, help, show, convert, gen, lines or widen; sip --help tells of each\n";
+sip: hint: the first word is verify, play, help, audit, show, convert, gen, lines or widen; sip --help \
+tells of each\n";
 
 /// A stream.
 pub(crate) const STREAM: &str = "\
 sip: hint: STREAM is here: PATH, text:PATH, wide:PATH or made:NUMBER:COUNT with COUNT up to 10000000\n";
+
+/// A stream that a file holds.
+pub(crate) const STORED: &str = "\
+sip: hint: STORED is here: PATH, text:PATH or wide:PATH, the stream that the run was about\n";
 
 /// A seed.
 pub(crate) const SEED: &str = "\
@@ -108,11 +113,12 @@ sip: hint: FROM of sip help is TO of sip verify, and TO of sip help is its FROM\
 
 /// The stream failed.
 pub(crate) const FIRST: &str = "\
-sip: hint: first is STREAM, which could not be opened or read\n";
+sip: hint: first is STREAM or STORED, which could not be opened or read\n";
 
 /// The seed or the transcript failed.
 pub(crate) const SECOND: &str = "\
-sip: hint: second is SEED, or TRANSCRIPT of show and convert, which could not be opened or read\n";
+sip: hint: second is SEED, or TRANSCRIPT of audit, show and convert, which could not be opened or \
+read\n";
 
 /// Standard output failed.
 pub(crate) const REPORT: &str = "sip: hint: report is standard output\n";

@@ -7,8 +7,8 @@ ghost use Rattle.sip_cli.specs.Pages.{AsksHelp, AsksPart, AsksText, AsksVersion,
 ghost use Rattle.sip_cli.specs.Words.{IsRefusedAt};
 
 use crate::page_text::{
-    CONVERT_PART, GEN_PART, HELP, HELP_PART, LINES_PART, PLAY_PART, SHOW_PART, VERIFY_PART,
-    VERSION, WIDEN_PART,
+    AUDIT_PART, CONVERT_PART, GEN_PART, HELP, HELP_PART, LINES_PART, PLAY_PART, SHOW_PART,
+    VERIFY_PART, VERSION, WIDEN_PART,
 };
 use crate::verb::Verb;
 use crate::{Words, read_words};
@@ -42,6 +42,7 @@ fn part(verb: Verb) -> &'static str
     match verb {
         Verb::Verify => VERIFY_PART,
         Verb::Help => HELP_PART,
+        Verb::Audit => AUDIT_PART,
         Verb::Show => SHOW_PART,
         Verb::Convert => CONVERT_PART,
         Verb::Gen => GEN_PART,

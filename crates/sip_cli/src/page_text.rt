@@ -1,6 +1,6 @@
 //! The text of the page, of which some parts are printed alone too. Each is written once.
 
-// The parts about verify, play, help, show, convert, gen, lines and widen, for a part's name or for `page`.
+// The parts about verify, play, help, audit, show, convert, gen, lines and widen, for a part's name or for `page`.
 macro_rules! text_of {
     ($which:ident) => {
         chosen!(
@@ -46,6 +46,16 @@ macro_rules! text_of {
       TO      the file or FIFO that takes ours, which is its FROM
 
       sip help to.fifo from.fifo
+"
+            "  sip audit STORED TRANSCRIPT
+
+      Checks a stored run again, without a helper: reads the queries, the challenges and the replies from TRANSCRIPT and
+      the stream from STORED, and prints the lines that the run printed.
+
+      STORED      the stream that the run was about: a file of records, or wide:PATH or text:PATH as for sip verify
+      TRANSCRIPT  the file that sip verify or sip play kept as its RECORD
+
+      sip audit log.stream today.record
 "
             "  sip show TRANSCRIPT
 
@@ -96,31 +106,34 @@ macro_rules! text_of {
 }
 
 macro_rules! chosen {
-    (verify $v:literal $p:literal $h:literal $s:literal $c:literal $g:literal $l:literal $w:literal) => {
+    (verify $v:literal $p:literal $h:literal $a:literal $s:literal $c:literal $g:literal $l:literal $w:literal) => {
         $v
     };
-    (play $v:literal $p:literal $h:literal $s:literal $c:literal $g:literal $l:literal $w:literal) => {
+    (play $v:literal $p:literal $h:literal $a:literal $s:literal $c:literal $g:literal $l:literal $w:literal) => {
         $p
     };
-    (help $v:literal $p:literal $h:literal $s:literal $c:literal $g:literal $l:literal $w:literal) => {
+    (help $v:literal $p:literal $h:literal $a:literal $s:literal $c:literal $g:literal $l:literal $w:literal) => {
         $h
     };
-    (show $v:literal $p:literal $h:literal $s:literal $c:literal $g:literal $l:literal $w:literal) => {
+    (audit $v:literal $p:literal $h:literal $a:literal $s:literal $c:literal $g:literal $l:literal $w:literal) => {
+        $a
+    };
+    (show $v:literal $p:literal $h:literal $a:literal $s:literal $c:literal $g:literal $l:literal $w:literal) => {
         $s
     };
-    (convert $v:literal $p:literal $h:literal $s:literal $c:literal $g:literal $l:literal $w:literal) => {
+    (convert $v:literal $p:literal $h:literal $a:literal $s:literal $c:literal $g:literal $l:literal $w:literal) => {
         $c
     };
-    (gen $v:literal $p:literal $h:literal $s:literal $c:literal $g:literal $l:literal $w:literal) => {
+    (gen $v:literal $p:literal $h:literal $a:literal $s:literal $c:literal $g:literal $l:literal $w:literal) => {
         $g
     };
-    (lines $v:literal $p:literal $h:literal $s:literal $c:literal $g:literal $l:literal $w:literal) => {
+    (lines $v:literal $p:literal $h:literal $a:literal $s:literal $c:literal $g:literal $l:literal $w:literal) => {
         $l
     };
-    (widen $v:literal $p:literal $h:literal $s:literal $c:literal $g:literal $l:literal $w:literal) => {
+    (widen $v:literal $p:literal $h:literal $a:literal $s:literal $c:literal $g:literal $l:literal $w:literal) => {
         $w
     };
-    (page $v:literal $p:literal $h:literal $s:literal $c:literal $g:literal $l:literal $w:literal) => {
+    (page $v:literal $p:literal $h:literal $a:literal $s:literal $c:literal $g:literal $l:literal $w:literal) => {
         concat!(
             "\
 sip checks answers about a stream that someone else keeps for you. You keep a seed and read the stream once, a helper
@@ -134,6 +147,8 @@ USAGE
             $p,
             "\n",
             $h,
+            "\n",
+            $a,
             "\n",
             $s,
             "\n",
@@ -210,7 +225,8 @@ A reply that is rejected has its line among the answers: rejected query K round 
   sip: bad transcript at offset N
       From byte N on TRANSCRIPT is none: the field of its head or the frame that begins there is not as it has to be, or
       the file ends in it. All that stands before that was written, if the head is whole. The RECORD of a run that was
-      rejected may end so.
+      rejected may end so. Such a frame sip audit rejects: behind the head its N is the first byte that its verdicts did
+      not take, and their lines were printed.
 
   sip: query K too wide
       The answer to query K, counted from 1, may be wider than LIMITS say: ask for a greater T or share.
@@ -220,8 +236,8 @@ A reply that is rejected has its line among the answers: rejected query K round 
       verify, the other way round.
 
   sip: read fault on FILE, sip: write fault on FILE
-      The file could not be opened, read or written: first is STREAM, second is SEED or TRANSCRIPT, record is RECORD, and
-      report is standard output.
+      The file could not be opened, read or written: first is STREAM or STORED, second is SEED or TRANSCRIPT, record is
+      RECORD, and report is standard output.
 
   sip: peer fault
       FROM or TO could not be opened, read or written, or the other side had left.
@@ -265,6 +281,9 @@ pub const PLAY_PART: &str = text_of!(play);
 
 /// What `sip help --help` prints: the part of the page that is about `help`.
 pub const HELP_PART: &str = text_of!(help);
+
+/// What `sip audit --help` prints: the part of the page that is about `audit`.
+pub const AUDIT_PART: &str = text_of!(audit);
 
 /// The part of the page that is about `show`.
 pub const SHOW_PART: &str = text_of!(show);

@@ -13,6 +13,7 @@ pub(crate) enum Place {
     /// The verb.
     Verb,
     Stream,
+    Stored,
     Seed,
     From,
     To,
@@ -46,6 +47,8 @@ const VERIFY: [Place; 7] = [
 
 const HELP: [Place; 3] = [Place::Verb, Place::From, Place::To];
 
+const AUDIT: [Place; 3] = [Place::Verb, Place::Stored, Place::Transcript];
+
 const SHOW: [Place; 2] = [Place::Verb, Place::Transcript];
 
 const CONVERT: [Place; 2] = [Place::Verb, Place::Transcript];
@@ -72,6 +75,7 @@ fn places_of(verb: Verb) -> &'static [Place]
     match verb {
         Verb::Verify => &VERIFY,
         Verb::Help => &HELP,
+        Verb::Audit => &AUDIT,
         Verb::Show => &SHOW,
         Verb::Convert => &CONVERT,
         Verb::Gen => &GEN,
@@ -87,7 +91,13 @@ fn behind_queries(verb: Verb) -> usize
 {
     let queries = match verb {
         Verb::Verify | Verb::Play => MOST_QUERIES,
-        Verb::Help | Verb::Show | Verb::Convert | Verb::Gen | Verb::Lines | Verb::Widen => 0,
+        Verb::Help
+        | Verb::Audit
+        | Verb::Show
+        | Verb::Convert
+        | Verb::Gen
+        | Verb::Lines
+        | Verb::Widen => 0,
     };
     places_of(verb).len() + queries
 }
@@ -111,6 +121,7 @@ impl Place {
         match self {
             Place::Verb => text::VERB,
             Place::Stream => text::STREAM,
+            Place::Stored => text::STORED,
             Place::Seed => text::SEED,
             Place::From => text::FROM,
             Place::To => text::TO,

@@ -6,13 +6,14 @@ ghost use Rattle.sip_verifier.specs.declared.task.Task.{Task as AnyTask};
 ghost use Rattle.sip_cli.specs.declared.command.Command.{Command as AnyCommand};
 ghost use Rattle.sip_cli.specs.declared.stream.Stream.{Stream as AnyStream};
 ghost use Rattle.sip_stream.specs.Made.{most_made};
-ghost use Rattle.sip_cli.specs.Plan.{HasName, HaveNames, IsMarked, IsRecord, Opens, file_name, help_ports, no_ports, opening_of, play_ports, source_ports, transcript_ports, verify_ports};
+ghost use Rattle.sip_cli.specs.Plan.{HasName, HaveNames, IsMarked, IsRecord, Opens, audit_ports, file_name, help_ports, no_ports, opening_of, play_ports, source_ports, stored_opening, transcript_ports, verify_ports};
 ghost use Rattle.sip_cli.specs.Shapes.{IsStreamWord};
 ghost use Rattle.sip_cli.specs.Words.{Spells, IsRefusedAt, word, word as word_at};
 
 use crate::decimal::read_decimal;
 use crate::stream::{Stream, stream_of};
 use crate::{Command, Words, read_words};
+use sip_stream::Form;
 use sip_vector::Depth;
 
 /// What a port is opened on.
@@ -111,6 +112,16 @@ impl Opening {
             },
             Stream::Text | Stream::Wide => Opening::Path { word: 1, skip: 5 },
             Stream::File => Opening::file(1),
+        }
+    }
+
+    // On the file of word 1 that holds a stream in this form.
+    fn stored(form: Form) -> Opening
+        ensures { result ≡ stored_opening form }
+    {
+        match form {
+            Form::Text | Form::Wide => Opening::Path { word: 1, skip: 5 },
+            Form::Binary => Opening::file(1),
         }
     }
 
@@ -218,6 +229,19 @@ impl PortPlan {
         }
     }
 
+    // The ports of `audit`, whose stream is opened like this.
+    fn audit(first: Opening) -> PortPlan
+        ensures { result ≡ audit_ports first }
+    {
+        PortPlan {
+            first,
+            second: Opening::file(2),
+            from: Opening::Nothing,
+            to: Opening::Nothing,
+            keep: Opening::Nothing,
+        }
+    }
+
     // The ports of `show` and of `convert`.
     fn transcript() -> PortPlan
         ensures { result ≡ transcript_ports }
@@ -241,6 +265,7 @@ impl PortPlan {
                 PortPlan::verify(stream, Opening::keep(words, 5))
             }
             Command::Help => PortPlan::help(),
+            Command::Audit { form } => PortPlan::audit(Opening::stored(*form)),
             Command::Show | Command::Convert => PortPlan::transcript(),
             Command::Gen { depth } => {
                 PortPlan::source(Opening::numbers(words, *depth).unwrap_or(Opening::Nothing))
@@ -259,7 +284,8 @@ impl PortPlan {
 
 /// The files and made streams that a command opens: for `verify` its stream, its seed, the two ends of its link and the
 /// file of its transcript, if it is to keep one, for `play` the same without a link, for `help` the two ends of its
-/// link, for `show` and `convert` the transcript, for `gen`, `lines` and `widen` their stream. Words that are no command open nothing.
+/// link, for `audit` its stream and the transcript, for `show` and `convert` the transcript, for `gen`, `lines` and `widen` their
+/// stream. Words that are no command open nothing.
 pub fn ports(words: &Words) -> PortPlan
     ensures spelled { (command : AnyCommand) → Spells words.now command
         → Opens words.now command result }

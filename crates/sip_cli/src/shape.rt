@@ -5,7 +5,7 @@ ghost use Rattle.sip_cli.specs.Shapes.{IsOf};
 
 use crate::decimal::read_decimal;
 use crate::helper_name::HelperName;
-use crate::stream::read_stream;
+use crate::stream::{read_stored, read_stream};
 use sip_vector::Depth;
 
 /// What one word of a command may be.
@@ -15,6 +15,8 @@ pub(crate) enum Shape {
     Name,
     /// A stream.
     Stream,
+    /// A stream that a file holds.
+    Stored,
     /// The name of a helper in the program.
     Helper,
     /// A number up to `most`.
@@ -56,6 +58,7 @@ impl Shape {
         match self {
             Shape::Name => !word.is_empty(),
             Shape::Stream => read_stream(word).is_some(),
+            Shape::Stored => read_stored(word).is_some(),
             Shape::Helper => HelperName::of(word).is_some(),
             Shape::Number { most } => is_within(word, 0, most),
             Shape::Depth => is_within(word, 1, Depth::MOST as u64),

@@ -1,9 +1,10 @@
 //! The word that names a stream.
 
 ghost use Rattle.std.specs.Prelude.{◌≡◌, ◌≢◌, ◌↔◌, IsTrue, ℕ, ◌≤◌, ◌<◌, ◌^◌, MatchOption, decimal, length, ◌++◌, ◌∷◌};
+ghost use Rattle.sip_stream.specs.declared.form.Form.{Form as AnyForm};
 ghost use Rattle.sip_stream.specs.Made.{most_made};
 ghost use Rattle.sip_cli.specs.declared.stream.Stream.{Stream as AnyStream};
-ghost use Rattle.sip_cli.specs.Shapes.{IsStreamWord, form_of};
+ghost use Rattle.sip_cli.specs.Shapes.{IsStoredWord, IsStreamWord, file_in, form_of};
 ghost use Rattle.sip_cli.specs.Words.{word};
 
 use crate::Words;
@@ -32,6 +33,20 @@ impl Stream {
         match self {
             Stream::File => true,
             Stream::Made { .. } | Stream::Text | Stream::Wide => false,
+        }
+    }
+
+    /// How the stream is written, where a file holds it.
+    pub(crate) fn file_form(self) -> Option<Form>
+        ensures { MatchOption result
+            ((form : AnyForm) → self ≢ file_in form)
+            (λ form. self ≡ file_in form) }
+    {
+        match self {
+            Stream::Made { .. } => None,
+            Stream::Text => Some(Form::Text),
+            Stream::Wide => Some(Form::Wide),
+            Stream::File => Some(Form::Binary),
         }
     }
 
@@ -69,6 +84,24 @@ pub(crate) fn stream_of(words: &Words) -> Option<Stream>
         (λ stream. (1 < length words.now) × IsStreamWord stream (word words.now 1)) }
 {
     read_stream(words.get(1)?)
+}
+
+/// The form of the stream that word 1 names as one that a file holds.
+pub(crate) fn stored_of(words: &Words) -> Option<Form>
+    ensures { MatchOption result
+        (1 < length words.now → (form : AnyForm) → IsStoredWord form (word words.now 1) → ⊥)
+        (λ form. (1 < length words.now) × IsStoredWord form (word words.now 1)) }
+{
+    read_stored(words.get(1)?)
+}
+
+/// The form of the stream that a word names as one that a file holds.
+pub(crate) fn read_stored(word: &str) -> Option<Form>
+    ensures { MatchOption result
+        ((form : AnyForm) → IsStoredWord form word.now → ⊥)
+        (λ form. IsStoredWord form word.now) }
+{
+    read_stream(word)?.file_form()
 }
 
 /// The stream that a word names.

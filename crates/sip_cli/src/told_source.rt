@@ -21,7 +21,8 @@ fn form_of(command: &Command) -> Form
     match command {
         Command::Verify(task) | Command::Play(task, _) => task.form,
         Command::Gen { depth } => Form::made(*depth),
-        Command::Lines { form, .. } | Command::Widen { form, .. } => *form,
+        Command::Audit { form } | Command::Lines { form, .. } | Command::Widen { form, .. } =>
+            *form,
         Command::Help | Command::Show | Command::Convert => Form::Binary,
     }
 }

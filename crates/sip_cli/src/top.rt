@@ -2,6 +2,7 @@
 
 ghost use Rattle.std.specs.Prelude.{◌≡◌, ◌↔◌, ◌⊎◌, ℕ};
 ghost use Rattle.sip_ports.specs.Ports.{Lasts, Rose};
+ghost use Rattle.sip_stream.specs.declared.form.Form.{Form as AnyForm};
 ghost use Rattle.sip_verifier.specs.declared.task.Task.{Task as AnyTask};
 ghost use Rattle.sip_verifier.specs.Exchanges.{TakesAtMost};
 ghost use Rattle.sip_verifier.specs.Moments.{moment};
@@ -9,7 +10,7 @@ ghost use Rattle.sip_verifier.specs.Tasks.{CanBeDone};
 ghost use Rattle.sip_cli.specs.declared.command.Command.{Command as AnyCommand};
 ghost use Rattle.sip_cli.specs.declared.helper_name.HelperName.{HelperName as AnyName};
 ghost use Rattle.sip_cli.specs.CommandClause.{CommandClause};
-ghost use Rattle.sip_cli.specs.Statuses.{IsCopy, ReadsTranscript};
+ghost use Rattle.sip_cli.specs.Statuses.{IsCopy, IsRendering, ReadsTranscript};
 ghost use Rattle.sip_cli.specs.Words.{Spells, IsRefusedAt};
 
 use crate::copying::copy_stream;
@@ -17,7 +18,7 @@ use crate::helping::help;
 use crate::{Command, Usage, Words, read_words};
 use sip_ports::{Link, Sink, Source};
 use sip_stream::Form;
-use sip_transcript::{convert, show};
+use sip_transcript::{audit, convert, show};
 use sip_verifier::{Status, check_stream};
 use std::alloc::Global;
 
@@ -49,7 +50,9 @@ fn obey<A: Source, B: Source, L: Link, K: Sink, C: Sink>(
         ⊎ Rose (K.wants report.old) (K.wants report.new) }
     ensures helps_apart { command.now ≡ Command.Help → (first.new ≡ first.old)
         × (second.new ≡ second.old) × (report.new ≡ report.old) × (keep.new ≡ keep.old) }
-    ensures shows_apart { ReadsTranscript command.now → (first.new ≡ first.old)
+    ensures audits_apart { (form : AnyForm) → command.now ≡ Command.Audit form
+        → (peer.new ≡ peer.old) × (keep.new ≡ keep.old) }
+    ensures shows_apart { IsRendering command.now → (first.new ≡ first.old)
         × (peer.new ≡ peer.old) × (keep.new ≡ keep.old) }
     ensures first { Lasts A.faults A.wants A.is_sure first.old first.new }
     ensures seed { (ReadsTranscript command.now → ⊥)
@@ -63,6 +66,7 @@ fn obey<A: Source, B: Source, L: Link, K: Sink, C: Sink>(
         Command::Verify(task) => check_stream(alloc, task, first, second, peer, report, keep),
         Command::Play(task, _) => check_stream(alloc, task, first, second, peer, report, keep),
         Command::Help => help(alloc, peer),
+        Command::Audit { form } => audit(alloc, *form, first, second, report),
         Command::Show => show(alloc, second, report),
         Command::Convert => convert(alloc, second, report),
         Command::Gen { depth } => {
@@ -83,6 +87,10 @@ fn obey<A: Source, B: Source, L: Link, K: Sink, C: Sink>(
 ///
 /// `help FROM TO`: serves one talk over `peer`. Memory grows with the entries that are not 0.
 ///
+/// `audit STORED TRANSCRIPT`: reads the head of the transcript of `second`, and then the stream of `first`, and judges the
+/// replies behind the head at its challenges. It writes the lines that the run wrote, a byte behind the replies that were
+/// judged is refused, and memory and cost are those of `verify`.
+///
 /// `show TRANSCRIPT`: lists the transcript of `second`. `convert TRANSCRIPT`: writes it in version 2. Nothing is written
 /// before the whole head was read, and then all up to the first frame that has no spelling. The memory is that of a frame.
 ///
@@ -101,9 +109,9 @@ pub fn run<A: Source, B: Source, L: Link, K: Sink, C: Sink>(
     keep: &mut C,
 ) -> Status
     // Of `verify` and `play` the six promises, of `gen`, `lines` and `widen` the copy that the
-    // report gets, of `help` the talk that it serves, of `show` and `convert` what the report gets of
-    // the transcript; and whatever the command, its faults have
-    // their cause, and its status is one of its own.
+    // report gets, of `help` the talk that it serves, of `audit` what a stored run is judged to be,
+    // and of `show` and `convert` what the report gets of the transcript; and whatever the command,
+    // its faults have their cause, and its status is one of its own.
     ensures keeps { CommandClause (Spells words.now)
         (moment (A.left first.old) (A.faults first.old) (B.left second.old) (B.faults second.old)
         (L.talk peer.old) (L.faults peer.old) (K.talk report.old) (K.faults report.old)
@@ -124,9 +132,11 @@ pub fn run<A: Source, B: Source, L: Link, K: Sink, C: Sink>(
     ensures helps_apart { Spells words.now Command.Help → (first.new ≡ first.old)
         × (second.new ≡ second.old) × (report.new ≡ report.old) × (keep.new ≡ keep.old) }
 
-    // To read a transcript leaves all ports alone but that of the transcript and the report.
-    ensures shows_apart { (command : AnyCommand) → Spells words.now command
-        → ReadsTranscript command
+    // An audit leaves the link and the record of a talk alone, and to write what a transcript tells
+    // all ports but that of the transcript and the report.
+    ensures audits_apart { (form : AnyForm) → Spells words.now (Command.Audit form)
+        → (peer.new ≡ peer.old) × (keep.new ≡ keep.old) }
+    ensures shows_apart { (command : AnyCommand) → Spells words.now command → IsRendering command
         → (first.new ≡ first.old) × (peer.new ≡ peer.old) × (keep.new ≡ keep.old) }
 
     // Words are refused exactly where they are no command, and then no port is called.

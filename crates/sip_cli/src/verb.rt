@@ -14,6 +14,8 @@ pub(crate) enum Verb {
     Verify,
     /// To help another side to verify.
     Help,
+    /// To check a stored run again.
+    Audit,
     /// To list a transcript.
     Show,
     /// To write a transcript in version 2.
@@ -38,6 +40,8 @@ const VERIFY: [Shape; 6] = [
 ];
 
 const HELP: [Shape; 2] = [Shape::Name, Shape::Name];
+
+const AUDIT: [Shape; 2] = [Shape::Stored, Shape::Name];
 
 const SHOW: [Shape; 1] = [Shape::Name];
 
@@ -73,6 +77,7 @@ impl Verb {
         match word {
             "verify" => Some(Verb::Verify),
             "help" => Some(Verb::Help),
+            "audit" => Some(Verb::Audit),
             "show" => Some(Verb::Show),
             "convert" => Some(Verb::Convert),
             "gen" => Some(Verb::Gen),
@@ -90,6 +95,7 @@ impl Verb {
         match self {
             Verb::Verify => &VERIFY,
             Verb::Help => &HELP,
+            Verb::Audit => &AUDIT,
             Verb::Show => &SHOW,
             Verb::Convert => &CONVERT,
             Verb::Gen => &GEN,

@@ -5,6 +5,7 @@ use Rattle.sip_ports.specs.declared.memory.MemorySink.{MemorySink}
 use Rattle.sip_ports.specs.declared.memory.MemoryLink.{MemoryLink}
 use Rattle.sip_ports.specs.declared.port.TalkEvent.{TalkEvent}
 use Rattle.sip_ports.specs.Memory.{source_left, source_faults, sink_bytes, sink_faults, link_talk, link_faults}
+use Rattle.sip_transcript.specs.Auditing.{Audit}
 use Rattle.sip_verifier.specs.Exchanges.{Exchange}
 use Rattle.sip_verifier.specs.Moments.{Counts, counts}
 
@@ -33,6 +34,17 @@ pub record Moves (old new : Held) (x : Exchange) : Type 0 where
   pub talk : new.talk ≡ old.talk ++ x.talk
   pub report : new.report ≡ old.report ++ x.report
   pub kept : (bytes : List ℕ) × (x.kept ≡ Some bytes) × (new.keep ≡ old.keep ++ bytes)
+
+-- what an audit moved where ports held the one before and hold the other now, and these bytes are
+-- new on the report
+abbrev pub audit_of : Held → Held → List ℕ → Audit
+audit_of old new lines = record {
+  stream = old.first;
+  unread = new.first;
+  stored = old.second;
+  left = new.second;
+  report = lines;
+}
 
 module _ (first second : MemorySource) (peer : MemoryLink) (report keep : MemorySink) where
   -- what these ports hold

@@ -27,7 +27,22 @@ type Refusal<'a> = (&'a str, Option<u32>);
 
 const REFUSALS: &[Refusal<'static>] = &[
     ("", Some(0)),
-    ("audit|s|t", Some(0)),
+    ("audit", Some(1)),
+    ("audit|", Some(1)),
+    ("audit|made:7:20|t", Some(1)),
+    ("audit|made:|t", Some(1)),
+    ("audit|text:|t", Some(1)),
+    ("audit|wide:|t", Some(1)),
+    ("audit|s", Some(2)),
+    ("audit|--help", Some(2)),
+    ("audit|s|", Some(2)),
+    ("audit|s|t", None),
+    ("audit|made|made:7:20", None),
+    ("audit|text:made:7:20|-", None),
+    ("audit|wide:text:|text:", None),
+    ("audit|s|t|", Some(3)),
+    ("audit|s|t|2", Some(3)),
+    ("Audit|s|t", Some(0)),
     ("show", Some(1)),
     ("show|", Some(1)),
     ("show|t", None),
@@ -360,6 +375,7 @@ fn form_and_depth(command: &Command) -> (Option<Form>, u8) {
         Command::Lines { form, depth } | Command::Widen { form, depth } => {
             (Some(*form), depth.get())
         }
+        Command::Audit { form } => (Some(*form), 0),
         Command::Play(..) | Command::Help | Command::Show | Command::Convert => (None, 0),
     }
 }
@@ -378,6 +394,9 @@ const READ: &[Read<'static>] = &[
     ("verify|s|k|f|t|-|48|sub:1:2", Some(Form::Binary), 48),
     ("verify|wide:s|k|f|t|-|3|sub:1:2", Some(Form::Wide), 3),
     ("verify|text:s|k|f|t|-|48|sub:1:2", Some(Form::Text), 48),
+    ("audit|s|t", Some(Form::Binary), 0),
+    ("audit|text:s|t", Some(Form::Text), 0),
+    ("audit|wide:s|t", Some(Form::Wide), 0),
     ("gen|7|1|32", None, 32),
     ("gen|7|1|48", None, 48),
     ("lines|s|1", Some(Form::Binary), 1),
@@ -445,6 +464,13 @@ const FILES: &[Files<'static>] = &[
         &[Some("s"), Some("k"), None, None, Some("r")],
     ),
     ("help|f|t", &[None, None, Some("f"), Some("t"), None]),
+    ("audit|s|t", &[Some("s"), Some("t"), None, None, None]),
+    (
+        "audit|text:s|made:7:1",
+        &[Some("s"), Some("made:7:1"), None, None, None],
+    ),
+    ("audit|wide:w|-", &[Some("w"), Some("-"), None, None, None]),
+    ("audit|made:7:1|t", NO_FILES),
     ("show|t", &[None, Some("t"), None, None, None]),
     (
         "convert|made:7:1",

@@ -8,6 +8,14 @@ mod memory;
 pub use memory::run_in_memory;
 
 #[cfg(test)]
+mod audit;
+#[cfg(test)]
+mod audit_fault_tests;
+#[cfg(test)]
+mod audit_frames;
+#[cfg(test)]
+mod audit_tests;
+#[cfg(test)]
 mod case;
 #[cfg(test)]
 mod command_tests;

@@ -1,6 +1,6 @@
 //! A run over ports in memory.
 
-ghost use Rattle.std.specs.Prelude.{◌≡◌, ◌≢◌, ◌↔◌, ℕ, Some};
+ghost use Rattle.std.specs.Prelude.{◌≡◌, ◌≢◌, ◌↔◌, ◌++◌, ℕ, List, Some};
 ghost use Rattle.sip_ports.specs.Memory.{source_is_sure, sink_is_sure, link_is_sure, source_left, sink_bytes, link_talk};
 ghost use Rattle.sip_ports.specs.Ports.{outs};
 ghost use Rattle.sip_stream.specs.declared.form.Form.{Form};
@@ -11,16 +11,17 @@ ghost use Rattle.sip_verifier.specs.declared.status.Port.TheVariants as ports;
 ghost use Rattle.sip_verifier.specs.Exchanges.{Exchange};
 ghost use Rattle.sip_verifier.specs.Promises.{Promises};
 ghost use Rattle.sip_cli.specs.declared.command.Command.{Command};
-ghost use Rattle.sip_cli.specs.declared.command.Command.TheVariants.{Verify, Gen, Lines, Widen, Help, Play, Show, Convert};
+ghost use Rattle.sip_cli.specs.declared.command.Command.TheVariants.{Verify, Gen, Lines, Widen, Help, Audit, Play, Show, Convert};
 ghost use Rattle.sip_cli.specs.declared.helper_name.HelperName.{HelperName};
 ghost use Rattle.sip_cli.specs.CopyClause.{CopyClause};
 ghost use Rattle.sip_cli.specs.HelpClause.{HelpClause};
 ghost use Rattle.sip_cli.specs.Statuses.{Ends};
 ghost use Rattle.sip_cli.specs.Words.{Spells, IsRefusedAt};
+ghost use Rattle.sip_transcript.specs.Auditing.{Audits};
 ghost use Rattle.sip_transcript.specs.Conversions.{in_version_2};
 ghost use Rattle.sip_transcript.specs.Listings.{listing};
 ghost use Rattle.sip_transcript.specs.Writing.{Writes};
-ghost use Rattle.sip_rows.specs.Moves.{Moves, held_by, faults_of};
+ghost use Rattle.sip_rows.specs.Moves.{Moves, audit_of, held_by, faults_of};
 
 use sip_cli::{Words, run};
 use sip_ports::{MemoryLink, MemorySink, MemorySource};
@@ -77,6 +78,15 @@ pub fn run_in_memory(
         (Some (outs (sink_bytes report.new))) result }
     ensures help { Spells words.now Help → HelpClause (Some (link_talk peer.old))
         (Some (link_talk peer.new)) result }
+
+    // A stored run is judged again by what moved, and its lines are new on the report.
+    ensures audited { (form : Form) → Spells words.now (Audit form) → (lines : List ℕ)
+        × (sink_bytes report.new ≡ sink_bytes report.old ++ lines)
+        × Audits form
+        (audit_of (held_by first.old second.old peer.old report.old keep.old)
+        (held_by first.new second.new peer.new report.new keep.new) lines)
+        (faults_of first.old second.old peer.old report.old keep.old)
+        (faults_of first.new second.new peer.new report.new keep.new) result }
 
     // Words that are no command are refused, and move nothing.
     ensures usage { (word : ℕ) → (result ≡ Status.Usage word) ↔ IsRefusedAt words.now word }

@@ -48,6 +48,7 @@ const EXAMPLES: &[&str] = &[
     "verify log.stream today.seed from.fifo to.fifo - 20 sub:100:199 range:0:0:1048575 f2:0 inner",
     "play made:7:100000 today.seed honest - 20 sub:0:99 range:0:0:1048575 f2:0 inner",
     "help to.fifo from.fifo",
+    "audit log.stream today.record",
     "show today.record",
     "convert today.record",
     "gen 7 100000 20",

@@ -3,7 +3,8 @@
 use crate::case::Case;
 use crate::page_tests::words_between;
 use sip_cli::{
-    GEN_PART, HELP, HELP_PART, LINES_PART, PLAY_PART, VERIFY_PART, VERSION, WIDEN_PART, page_of,
+    AUDIT_PART, GEN_PART, HELP, HELP_PART, LINES_PART, PLAY_PART, VERIFY_PART, VERSION, WIDEN_PART,
+    page_of,
 };
 use std::alloc::Global;
 use std::process::Abort;
@@ -23,6 +24,8 @@ const ASKED: &[Asked<'static>] = &[
     ("play|-h", Some(PLAY_PART)),
     ("help|--help", Some(HELP_PART)),
     ("help|-h", Some(HELP_PART)),
+    ("audit|--help", Some(AUDIT_PART)),
+    ("audit|-h", Some(AUDIT_PART)),
     ("gen|--help", Some(GEN_PART)),
     ("gen|-h", Some(GEN_PART)),
     ("lines|--help", Some(LINES_PART)),
@@ -40,7 +43,8 @@ const ASKED: &[Asked<'static>] = &[
     ("-h|-h", None),
     ("help|--version", None),
     ("verify|-V", None),
-    ("audit|--help", None),
+    ("Audit|--help", None),
+    ("audit|--help|--help", None),
     ("help|--help|to", None),
     ("lines|--help|20", None),
     ("gen|7|--help", None),
@@ -59,6 +63,7 @@ const SAID: &[&str] = &[
     VERIFY_PART,
     PLAY_PART,
     HELP_PART,
+    AUDIT_PART,
     GEN_PART,
     LINES_PART,
     WIDEN_PART,
@@ -82,7 +87,7 @@ const SAID: &[&str] = &[
     "\n      BadItem ",
     "\n      ZeroDelta ",
     "\n      TooHeavy(S) ",
-    "second is SEED or TRANSCRIPT",
+    "first is STREAM or STORED, second is SEED or TRANSCRIPT",
     "record N of a text is line N + 1",
     "1073741823",
 ];

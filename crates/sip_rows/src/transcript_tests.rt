@@ -1,6 +1,7 @@
 // The commands that read a transcript.
 
-use crate::row::{Given, Row};
+use crate::audit::{FIVE_KINDS, FIVE_WIDE_KINDS};
+use crate::row::{Given, Row, bytes_of};
 use sip_verifier::Status;
 use std::alloc::Global;
 use std::process::Abort;
@@ -95,6 +96,32 @@ const READINGS: &[Reading<'static>] = &[
     ("convert t", &LONGER, Some(76), &WIDE),
 ];
 
+// A query of each kind of version 1, and what an honest helper replied.
+const FIVE_LISTED: &[u8] = b"\
+depth 2
+query 1 sub:1:2 challenges 0000000000000002 000000000000000a
+query 2 range:0:1:3 challenges 0000000000000002 000000000000000a
+query 3 f2:0 challenges 0000000000000002 000000000000000a
+query 4 inner challenges 0000000000000002 000000000000000a
+query 5 heavy:0:4 challenges 0000000000000002 000000000000000a
+frame Entries 0001000000020000000000000005
+frame Siblings 0300000000000000030000000000000001
+frame Siblings 00
+frame Claim 0000000000000006
+frame Poly 00000000000000051ffffffffffffffe1ffffffffffffffc
+frame Poly 1ffffffffffffff900000000000000030000000000000000
+frame Claim 0000000000000023
+frame Poly 00000000000000221fffffffffffffc50000000000000019
+frame Poly 000000000000000900000000000000000000000000000000
+frame Claim 000000000000000b
+frame Poly 000000000000000b00000000000000001ffffffffffffff4
+frame Poly 1fffffffffffffdb00000000000000270000000000000000
+frame Leaves 0002000000020000000000000005000000030000000000000001
+frame LevelEnd -
+frame Nodes 00010000000000000000000000090000000000000003
+frame LevelEnd -
+";
+
 fn check_readings(rt: &impl Abort, alloc: Global, readings: &[Reading]) -> Result<(), Fail> {
     for &(words, transcript, bad, report) in readings {
         let (status, code) = match bad {
@@ -122,5 +149,17 @@ fn check_readings(rt: &impl Abort, alloc: Global, readings: &[Reading]) -> Resul
 
 #[test]
 fn transcripts(rt: HostRuntime) -> Result<(), Fail> {
-    check_readings(&rt, rt.alloc(), READINGS)
+    let alloc = rt.alloc();
+    check_readings(&rt, alloc, READINGS)?;
+    let five = bytes_of(alloc, FIVE_KINDS)?;
+    let wide = bytes_of(alloc, FIVE_WIDE_KINDS)?;
+    check_readings(
+        &rt,
+        alloc,
+        &[
+            ("show t", &five, None, FIVE_LISTED),
+            ("convert t", &five, None, &wide),
+            ("convert t", &wide, None, &wide),
+        ],
+    )
 }

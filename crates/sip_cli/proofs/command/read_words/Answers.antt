@@ -1,6 +1,6 @@
 use Rattle.std.proofs.Common.{subst}
 use Rattle.std.proofs.lemmas.Result.{err_from_is_err_and}
-use Rattle.sip_cli.specs.declared.verb.Verb.TheVariants.{Verify, Help, Gen, Play}
+use Rattle.sip_cli.specs.declared.verb.Verb.TheVariants.{Verify, Help, Audit, Gen, Play}
 use Rattle.sip_cli.specs.inside.Progress.{StopsInShapes}
 use Rattle.sip_cli.proofs.Beginning.{refused_verb}
 use Rattle.sip_cli.proofs.Stopping.{refused_shape, fitted_by, refused_by}
@@ -25,6 +25,11 @@ pub returns-in-Help-clause-refused : goal.returns-in-Help-clause-refused
 returns-in-Help-clause-refused c =
     let fitted = fitted_by c.in-Some.verb c.args.words.now c.shapes.result.now c.in-Some.ensures c.shapes.ensures c.in_ok-check_shapes.ensures.fitting in
     refused_by Help c.args.words.now c.read_help.result c.read_help.ensures.refused (rw c.in-Help.is at fitted)
+
+pub returns-in-Audit-clause-refused : goal.returns-in-Audit-clause-refused
+returns-in-Audit-clause-refused c =
+    let fitted = fitted_by c.in-Some.verb c.args.words.now c.shapes.result.now c.in-Some.ensures c.shapes.ensures c.in_ok-check_shapes.ensures.fitting in
+    refused_by Audit c.args.words.now c.read_audit.result c.read_audit.ensures.refused (rw c.in-Audit.is at fitted)
 
 pub returns-in-Gen-clause-refused : goal.returns-in-Gen-clause-refused
 returns-in-Gen-clause-refused c =

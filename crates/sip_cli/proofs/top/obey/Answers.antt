@@ -2,7 +2,7 @@
 use Rattle.std.proofs.Common.{[]}
 use Rattle.sip_ports.proofs.TalkLemmas.{GoesOn-refl}
 use Rattle.sip_verifier.proofs.RunTalks.{tells}
-use Rattle.sip_cli.proofs.RunLemmas.{verify_keeps, play_keeps, help_keeps, copy_keeps, transcript_keeps}
+use Rattle.sip_cli.proofs.RunLemmas.{verify_keeps, play_keeps, help_keeps, audit_keeps, audit_moves, copy_keeps, transcript_keeps}
 use Rattle.sip_cli.proofs.top.obey.Goals as goal
 
 pub returns-in-Verify-clause-keeps : goal.returns-in-Verify-clause-keeps
@@ -14,6 +14,11 @@ returns-in-Play-clause-keeps g c = play_keeps _ _ c.in-Play.is c.check_stream-in
 pub returns-in-Help-clause-keeps : goal.returns-in-Help-clause-keeps
 returns-in-Help-clause-keeps g c =
     help_keeps c.in-Help.is c.help.ensures.help (λ is. let said = c.help.ensures.said in tells _ _ is (λ some. some) said.0 said.1 [] (GoesOn-refl _) [] (GoesOn-refl _)) (c.help.ensures.fault _ _ _ _ _ _ _ _) c.help.ensures.listed
+
+pub returns-in-Audit-clause-keeps : goal.returns-in-Audit-clause-keeps
+returns-in-Audit-clause-keeps g c =
+    let keeps = c.audit.ensures.keeps _ _ _ _ _ _ _ _ in
+    audit_keeps _ c.in-Audit.is keeps (audit_moves _ _ _ _ keeps (GoesOn-refl _) (GoesOn-refl _))
 
 pub returns-in-Show-clause-keeps : goal.returns-in-Show-clause-keeps
 returns-in-Show-clause-keeps g c =

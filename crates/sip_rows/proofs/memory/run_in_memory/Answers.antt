@@ -1,6 +1,6 @@
 use Rattle.std.proofs.Common.{refl}
 use Rattle.sip_ports.specs.Calls.{failed_of-sure}
-use Rattle.sip_rows.specs.Moves.{held_by}
+use Rattle.sip_rows.specs.Moves.{audit_of, held_by}
 use Rattle.sip_rows.proofs.Telling.{all_told, Moves-told, first_sure, second_sure, peer_sure, report_sure, keep_sure}
 use Rattle.sip_rows.proofs.memory.run_in_memory.Goals as goal
 
@@ -32,6 +32,17 @@ returns-clause-shown c = λ spells. c.run.ensures.keeps.show spells _ refl
 
 pub returns-clause-converted : goal.returns-clause-converted
 returns-clause-converted c = λ spells. c.run.ensures.keeps.convert spells _ refl
+
+pub returns-clause-audited : goal.returns-clause-audited
+returns-clause-audited c = λ form spells.
+    let old = held_by c.args.first.now c.args.second.now c.args.peer.now c.args.report.now c.args.keep.now in
+    let new = held_by c.run.new.first c.run.new.second c.run.new.peer c.run.new.report c.run.new.keep in
+    let told = c.run.ensures.keeps.moves (all_told old _) in
+    let lines = told.0.report in (
+      lines,
+      (Moves-told old new _ _ told.0 told.1).report,
+      c.run.ensures.keeps.audit form spells (audit_of old new lines) (record { stream = refl; unread = refl; stored = refl; left = refl; report = told.1.report }),
+    )
 
 pub returns-clause-help : goal.returns-clause-help
 returns-clause-help c = c.run.ensures.keeps.help
