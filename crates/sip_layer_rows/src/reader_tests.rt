@@ -1,7 +1,6 @@
 ghost use Rattle.std.specs.Prelude.{◌≡◌, ◌≤◌, IfOk};
 
 use crate::facts::expect;
-use arrayvec::ArrayVec;
 use sip_ports::{MemorySource, ReaderSource, Source};
 use sip_stream::{Form, Reader, StreamFault, Why};
 use sip_vector::{Depth, Side, Update};
@@ -107,18 +106,16 @@ fn ends(
 
 // Whether a block of the first legal records that are held is read, in two calls, and then the
 // first record that is not legal.
-fn reads_a_block(alloc: Global, form: Form) -> Result<bool, Fail> {
-    let records = [(0, 5, 1), (1, 6, -2), (0, 7, 3), (0, 16, 1)];
+fn reads_a_block(alloc: Global, form: Form, records: &[u8]) -> Result<bool, Fail> {
     let mut bytes = b"x".to_vec(alloc)?;
-    bytes.extend_from_slice(&stream(alloc, form, &records)?)?;
+    bytes.extend_from_slice(records)?;
     bytes.push(0)?;
     let mut source = ReaderSource::new(Some(bytes.as_slice()));
     let first = source.read(&mut [0; 1]);
     let mut reader = Reader::new(depth(4)?, form);
-    let mut block: ArrayVec<Update, 8> = ArrayVec::new();
-    reader.read_held(&mut source, 2, &mut block);
-    let two = block.len();
-    reader.read_held(&mut source, 8, &mut block);
+    let mut block = [Update::default(); 8];
+    let two = reader.read_held(&mut source, &mut block[..2]);
+    let one = reader.read_held(&mut source, &mut block[2..]);
     let three = [
         update(Side::First, 5, 1),
         update(Side::Second, 6, -2),
@@ -131,18 +128,22 @@ fn reads_a_block(alloc: Global, form: Form) -> Result<bool, Fail> {
         at: 3,
         why: Why::BadItem,
     };
-    let is_block = (first == Ok(1)) & (two == 2) & (block.as_slice() == three.as_slice());
-    Ok(is_block & (reader.next(&mut source) == Err(bad)))
+    let is_block = (block[0] == three[0]) & (block[1] == three[1]) & (block[2] == three[2]);
+    let counts = (first == Ok(1)) & (two == 2) & (one == 1);
+    Ok(is_block & counts & (reader.next(&mut source) == Err(bad)))
 }
 
-// A record of binary form is held that is not legal behind three that are, and the front of one
-// more.
+// A record is held that is not legal behind three that are, and the front of one more.
 #[test]
 fn held_records_are_read_together(rt: HostRuntime) -> Result<(), Fail> {
     let alloc = rt.alloc();
+    let records = [(0, 5, 1), (1, 6, -2), (0, 7, 3), (0, 16, 1)];
+    let narrow = stream(alloc, Form::Binary, &records)?;
+    let wide = stream(alloc, Form::Wide, &records)?;
     let facts = [
-        reads_a_block(alloc, Form::Binary)?,
-        reads_a_block(alloc, Form::Wide)?,
+        reads_a_block(alloc, Form::Binary, &narrow)?,
+        reads_a_block(alloc, Form::Wide, &wide)?,
+        reads_a_block(alloc, Form::Text, b"0 5 1\n1 6 -2\n0 7 3\n0 16 1\n")?,
     ];
     expect(&rt, 0, &facts);
     Ok(())
