@@ -70,6 +70,8 @@ mod query_tests;
 #[cfg(test)]
 mod record_tests;
 #[cfg(test)]
+mod refused_words_tests;
+#[cfg(test)]
 mod row;
 #[cfg(test)]
 mod row_tests;
