@@ -48,6 +48,9 @@ impl Model for Feed {
 
 impl Feed {
     /// Nothing waits.
+    ///
+    /// It is a call of its own: what its rows are made in is then on the stack no longer than that.
+    #[inline(never)]
     pub fn new(version: Version) -> Feed
         ensures { result ≡ record { version = version; waiting = []; is_spent = false } }
     {

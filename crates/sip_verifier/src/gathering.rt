@@ -124,6 +124,12 @@ fn pass_on<K: Sink>(
     feed.send(peer)
 }
 
+/// Room to split the updates of a frame in. It is a call of its own, for the stack's sake.
+#[inline(never)]
+fn room() -> [Update; MOST_ROWS] {
+    [Update::default(); MOST_ROWS]
+}
+
 /// Opens the talk, reads the stream of `first` to its end, sends it on over `peer` and adds it to the seats. Nothing is heard, so a
 /// sink is enough. There is no allocator: see [`gather`], which draws the seats before.
 ///
@@ -160,13 +166,13 @@ pub fn follow<A: Source, K: Sink>(
     let mut feed = Feed::new(task.version());
     on_link(feed.begin(peer, task.depth))?;
     let mut reader = Reader::new(task.depth, task.form);
-    let mut taken = [Update::default(); MOST_ROWS];
+    let mut taken = room();
     while let Some(update) = on_stream(reader.next(first))? {
         on_link(pass_on(&update, &mut feed, seats, &mut taken, peer))?;
         feed.take_held(&mut reader, first);
     }
     let rest = feed.waiting();
-    seats.update_all(rest);
+    seats.update_all_by(rest, &mut taken);
     on_link(feed.finish(peer))?;
     Ok(())
 }
