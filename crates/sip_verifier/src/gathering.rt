@@ -27,7 +27,6 @@ use crate::{Feed, Port, Seats, Status, Task};
 use sip_ports::{Link, PortStop, Sink, Source, read_exact_into};
 use sip_stream::{Reader, StreamFault};
 use sip_vector::{Depth, Update};
-use sip_wire::MOST_ROWS;
 
 /// What reading a record gave.
 fn on_stream(read: Result<Option<Update>, StreamFault>) -> Result<Option<Update>, Status>
@@ -84,12 +83,11 @@ fn draw<B: Source>(
 }
 
 /// Takes one more record of the stream, which waits for its frame. With the last one of a frame the seats take the frame's updates as
-/// a block, which they split in `taken`, and it is sent, in one write.
+/// a block, and it is sent, in one write.
 fn pass_on<K: Sink>(
     update: &Update,
     feed: &mut Feed,
     seats: &mut Seats,
-    taken: &mut [Update; MOST_ROWS],
     peer: &mut K,
 ) -> Result<(), PortStop>
     requires unspent { feed.old.is_spent ≡ false }
@@ -120,14 +118,8 @@ fn pass_on<K: Sink>(
     if !feed.is_full() {
         return Ok(());
     }
-    seats.update_all_by(feed.waiting(), taken);
+    seats.update_all(feed.waiting());
     feed.send(peer)
-}
-
-/// Room to split the updates of a frame in. It is a call of its own, for the stack's sake.
-#[inline(never)]
-fn room() -> [Update; MOST_ROWS] {
-    [Update::default(); MOST_ROWS]
 }
 
 /// Opens the talk, reads the stream of `first` to its end, sends it on over `peer` and adds it to the seats. Nothing is heard, so a
@@ -166,13 +158,12 @@ pub fn follow<A: Source, K: Sink>(
     let mut feed = Feed::new(task.version());
     on_link(feed.begin(peer, task.depth))?;
     let mut reader = Reader::new(task.depth, task.form);
-    let mut taken = room();
     while let Some(update) = on_stream(reader.next(first))? {
-        on_link(pass_on(&update, &mut feed, seats, &mut taken, peer))?;
+        on_link(pass_on(&update, &mut feed, seats, peer))?;
         feed.take_held(&mut reader, first);
     }
     let rest = feed.waiting();
-    seats.update_all_by(rest, &mut taken);
+    seats.update_all(rest);
     on_link(feed.finish(peer))?;
     Ok(())
 }

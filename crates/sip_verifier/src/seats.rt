@@ -137,25 +137,10 @@ impl Seats {
             → AreSeats depth queries blocks stream self.old
             → AreSeats depth queries blocks (stream ++ updates.now) self.new }
     {
-        let mut taken = [Update::default(); MOST_ROWS];
-        self.update_all_by(updates, &mut taken);
-    }
-
-    /// [`update_all`](Seats::update_all) with a buffer of the caller's, which one of its own would first have to fill with zeros.
-    #[inline(never)]
-    pub(crate) fn update_all_by(&mut self, updates: &[Update], taken: &mut [Update; MOST_ROWS])
-        requires most { length updates.now ≤ most_rows }
-        requires items { All (λ u. u.item < 2 ^ self.old.depth) updates.now }
-        requires room { (side : AnySide) → HaveRoom self.old.seats updates.now side }
-        ensures depth { self.new.depth ≡ self.old.depth }
-        ensures stands { (depth : ℕ) (queries : List AnyQuery) (blocks : List (List ℕ))
-            (stream : List AnyUpdate)
-            → AreSeats depth queries blocks stream self.old
-            → AreSeats depth queries blocks (stream ++ updates.now) self.new }
-    {
         // One buffer for both sides: it has room for a whole frame.
-        self.raise_side(Side::First, updates, taken);
-        self.raise_side(Side::Second, updates, taken);
+        let mut taken = [Update::default(); MOST_ROWS];
+        self.raise_side(Side::First, updates, &mut taken);
+        self.raise_side(Side::Second, updates, &mut taken);
     }
 
     // Whether updates of a side change no running number. Where none is changed they need not be

@@ -160,20 +160,20 @@ pass_on-requires-clause-room g c =
     followed_room c.args.task.now c.next.new.self c.loop-update.seats _
     (followed_one c.args.task.now c.loop-update.reader c.next.new.self c.loop-update.seats c.loop-update.feed.waiting c.in-Some.update had after) depth
 
-pub update_all_by-requires-clause-room : goal.update_all_by-requires-clause-room
-update_all_by-requires-clause-room g c =
+pub update_all-requires-clause-room : goal.update_all-requires-clause-room
+update_all-requires-clause-room g c =
     subst (λ (l : List Update). (side : Side) → HaveRoom c.loop-update.seats.seats l side) (sym c.waiting-rest.ensures)
     (followed_room c.args.task.now c.loop-update.reader c.loop-update.seats c.loop-update.feed.waiting c.loop-update.invariant.seats c.loop-update.invariant.depth)
 
 pub returns-clause-seats : goal.returns-clause-seats
 returns-clause-seats g c =
     let had = c.loop-update.invariant.seats in
-    (had.sent ++ c.waiting-rest.result.now, record { at_blocks = had.stand.at_blocks; stand = c.update_all_by.ensures.stands _ _ _ had.sent had.stand.stand })
+    (had.sent ++ c.waiting-rest.result.now, record { at_blocks = had.stand.at_blocks; stand = c.update_all.ensures.stands _ _ _ had.sent had.stand.stand })
 
 pub returns-clause-passes_on : goal.returns-clause-passes_on
 returns-clause-passes_on g c = λ bytes at_blocks all has.
     let so = c.loop-update.invariant.underway bytes at_blocks all has in
     let reads = rw (c.loop-update.invariant.depth, c.loop-update.invariant.form, c.in_ok-update.ensures, c.in_default.is) at (c.next.ensures.reads so.stream so.rest so.after so.to_come) in
     let moved = rw c.in_ok-on_link-3.ensures at (at_end (version_of c.args.task.now) _ _ _ _ so.stream _ c.finish.result so.said (rw c.loop-update.invariant.version at c.finish.ensures.talk)) in
-    let stand = c.update_all_by.ensures.stands _ _ _ so.said.sent so.stand in
+    let stand = c.update_all.ensures.stands _ _ _ so.said.sent so.stand in
     passed_on _ bytes _ _ at_blocks has _ _ _ _ _ _ _ _ so reads moved (rw c.waiting-rest.ensures at stand)

@@ -19,9 +19,9 @@ returns-clause-stands g c = λ depth queries blocks stream are.
     let full : fills waiting ≡ true = eq-eqb (length waiting + 1) 512 count in
     let taken : taken_with waiting u ≡ waiting ++ u ∷ [] = ap (λ b. if b then waiting ++ u ∷ [] else []) full in
     let block : c.waiting.result.now ≡ waiting ++ u ∷ [] = search rules in
-    subst (λ l. AreSeats depth queries blocks (stream ++ l) c.update_all_by.new.self) (block ∙ sym taken) (c.update_all_by.ensures.stands depth queries blocks stream are)
+    subst (λ l. AreSeats depth queries blocks (stream ++ l) c.update_all.new.self) (block ∙ sym taken) (c.update_all.ensures.stands depth queries blocks stream are)
 
-pub update_all_by-requires-clause-room : goal.update_all_by-requires-clause-room
-update_all_by-requires-clause-room g c =
+pub update_all-requires-clause-room : goal.update_all-requires-clause-room
+update_all-requires-clause-room g c =
     let block : c.waiting.result.now ≡ c.args.feed.now.waiting ++ c.args.update.now ∷ [] = search rules in
     subst (λ (l : List Update). (side : Side) → HaveRoom c.args.seats.now.seats l side) (sym block) c.requires.room

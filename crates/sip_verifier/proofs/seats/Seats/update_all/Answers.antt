@@ -4,7 +4,7 @@ use Rattle.sip_vector.specs.declared.update.Side.TheVariants.{First, Second}
 use Rattle.sip_vector.specs.Streams.{of_side}
 use Rattle.sip_verifier.proofs.SeatsRaised.{room-left, same_seats}
 use Rattle.sip_verifier.proofs.Seating.{vector_split}
-use Rattle.sip_verifier.proofs.seats.Seats.update_all_by.Goals as goal
+use Rattle.sip_verifier.proofs.seats.Seats.update_all.Goals as goal
 
 pub returns-clause-stands : goal.returns-clause-stands
 returns-clause-stands c = λ depth queries blocks stream are.
