@@ -105,7 +105,7 @@ impl Reader {
     }
 
     /// Writes the legal records that the source holds whole to the front of a block, in order, until the block is full or the next
-    /// one is not legal or not held whole, and says how many they are. What stands behind them in the block is as it was.
+    /// one is not legal or not held whole, and says how many they are.
     ///
     /// It calls for no byte, so that it never stops. What it leaves is for [`next`](Reader::next).
     pub fn read_held<S: Source>(&mut self, source: &mut S, block: &mut [Update]) -> usize

@@ -96,8 +96,9 @@ impl<F: Field> SubProver<F> {
     /// right of it where its last index is even.
     ///
     /// O(log m), without memory: 127 `times` for each seven challenges so far, whose products are
-    /// on the stack for this call, one for an entry below the siblings, and one for each seven
-    /// challenges above the lowest and run of entries with the same higher bits.
+    /// on the stack for this call. An entry below the siblings takes one for each seven challenges
+    /// that tell it from its neighbours, so that some 32 of them have the higher bits in common, and
+    /// such a run takes one for each seven challenges above these.
     pub fn siblings(&self) -> SiblingPair<F>
         requires { 2 ≤ length self.now.level }
         ensures left { option_map F.number result.left ≡ (its_siblings self.now).left }
