@@ -155,11 +155,12 @@ pub fn follow<A: Source, K: Sink>(
 {
     let levels = task.depth.get();
     prove!(levels <= Depth::MOST);
-    let mut feed = Feed::new(task.version());
+    // Lent where it is made, since a variable of its own would be a second place for it on the stack.
+    let feed = &mut Feed::new(task.version());
     on_link(feed.begin(peer, task.depth))?;
     let mut reader = Reader::new(task.depth, task.form);
     while let Some(update) = on_stream(reader.next(first))? {
-        on_link(pass_on(&update, &mut feed, seats, peer))?;
+        on_link(pass_on(&update, feed, seats, peer))?;
         feed.take_held(&mut reader, first);
     }
     let rest = feed.waiting();
