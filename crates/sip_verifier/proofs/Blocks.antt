@@ -20,7 +20,7 @@ long_enough true all rs e = absurd (cc)
 long_enough false all rs e = e
 
 -- as many challenges are drawn of a seed as were asked for
-length-challenges : (count : ℕ) (seed rs : List ℕ) → challenges_of count seed ≡ Some rs → length rs ≡ count
+pub length-challenges : (count : ℕ) (seed rs : List ℕ) → challenges_of count seed ≡ Some rs → length rs ≡ count
 unfolding challenges_of
 length-challenges count seed rs e = drawn-length count (seed_words (take 32 seed)) rs (sym (long_enough (nat_lt (length seed) 32) _ rs e))
 
