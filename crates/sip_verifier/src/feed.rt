@@ -62,6 +62,15 @@ impl Feed {
         }
     }
 
+    /// The same in a place that is lent for it. The rows are copied within this call: where a feed is answered by value, they are
+    /// twice on the stack of the caller for as long as that runs.
+    #[inline(never)]
+    pub(crate) fn new_in(place: &mut Option<Feed>, version: Version) -> &mut Feed
+        ensures { result.now ≡ record { version = version; waiting = []; is_spent = false } }
+    {
+        place.insert(Feed::new(version))
+    }
+
     /// Sends the opening.
     ///
     /// # Errors

@@ -155,8 +155,8 @@ pub fn follow<A: Source, K: Sink>(
 {
     let levels = task.depth.get();
     prove!(levels <= Depth::MOST);
-    // Lent where it is made, since a variable of its own would be a second place for it on the stack.
-    let feed = &mut Feed::new(task.version());
+    let mut place = None;
+    let feed = Feed::new_in(&mut place, task.version());
     on_link(feed.begin(peer, task.depth))?;
     let mut reader = Reader::new(task.depth, task.form);
     while let Some(update) = on_stream(reader.next(first))? {

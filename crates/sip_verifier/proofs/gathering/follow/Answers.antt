@@ -24,22 +24,22 @@ pub begin-requires-clause-shallow : goal.begin-requires-clause-shallow
 begin-requires-clause-shallow g c =
     let task = c.args.task.now in
     let most : task.depth ≤ most_depth = omega (arith, c.get-levels.ensures.same, c.get-levels.ensures.most) in
-    let own : c.new.result.version ≡ version_of task = ap (λ (w : Waiting). w.version) c.new.ensures ∙ c.version.ensures in
+    let own : c.new_in-feed.result.now.version ≡ version_of task = ap (λ (w : Waiting). w.version) c.new_in-feed.ensures ∙ c.version.ensures in
     subst (λ (v : Version). task.depth ≤ deepest v) (sym own) (depth-shallow task.depth task.queries.items most)
 
 pub returns-in_err-on_link-clause-passes_on : goal.returns-in_err-on_link-clause-passes_on
 returns-in_err-on_link-clause-passes_on g c = λ bytes at_blocks all has.
     let p = err_from_is_err_and c.from_residual.result c.from_residual.ensures.1 in
     let (port, stop, is) = c.in_err-on_link.ensures in
-    let own : c.new.result.version ≡ version_of c.args.task.now = ap (λ (w : Waiting). w.version) c.new.ensures ∙ c.version.ensures in
+    let own : c.new_in-feed.result.now.version ≡ version_of c.args.task.now = ap (λ (w : Waiting). w.version) c.new_in-feed.ensures ∙ c.version.ensures in
     let said = rw (stop, own) at c.begin.ensures.talk in
     rw (p.1, p.2, is) (link_stops _ bytes _ _ at_blocks has _ port (stops_first _ bytes _ _ at_blocks has _ (stopped_in_opening (version_of c.args.task.now) _ _ _ said.0 said.2)))
 
 pub loop-update-init : goal.loop-update-init
 loop-update-init g c =
     let task = c.args.task.now in
-    let own : c.new.result.version ≡ version_of task = ap (λ (w : Waiting). w.version) c.new.ensures ∙ c.version.ensures in
-    let none : c.begin.new.self.waiting ≡ [] = c.begin.ensures.waiting ∙ ap (λ (w : Waiting). w.waiting) c.new.ensures in
+    let own : c.new_in-feed.result.now.version ≡ version_of task = ap (λ (w : Waiting). w.version) c.new_in-feed.ensures ∙ c.version.ensures in
+    let none : c.begin.new.self.waiting ≡ [] = c.begin.ensures.waiting ∙ ap (λ (w : Waiting). w.waiting) c.new_in-feed.ensures in
     let few : length c.begin.new.self.waiting < most_rows = omega (arith, ap length none) in
     record {
       underway = λ bytes at_blocks all has.
