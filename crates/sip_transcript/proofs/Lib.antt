@@ -14,3 +14,6 @@ pub mod Replaying
 pub mod Heading
 pub mod Audited
 pub mod Agreed
+pub mod Borrowed
+pub mod SameReplies
+pub mod SameVerdicts
