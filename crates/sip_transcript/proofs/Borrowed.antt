@@ -1,5 +1,7 @@
--- Lemmas on replies that belong to the crate of replies, word for word as they stand there.
-use Rattle.std.proofs.Common.{◌≡◌, ◌≢◌, ◌⊎◌, ℕ, zero, suc, ◌+◌, ◌≤◌, Result, Ok, Err, List, [], ◌∷◌, ◌++◌, length, drop, inl, inr, refl, sym, ap, ◌∙◌, arith, append_assoc}
+-- Lemmas that belong to the crates of replies and of runs, word for word as they stand there.
+use Rattle.std.proofs.Common.{◌≡◌, ◌≢◌, ◌⊎◌, ℕ, zero, suc, ◌+◌, ◌≤◌, Bool, true, false, cond, Option, Some, None, Result, Ok, Err, List, [], ◌∷◌, ◌++◌, length, take, drop, inl, inr, refl, sym, ap, ◌∙◌, arith, append_assoc}
+use Rattle.std.specs.Prelude.{nat_lt}
+use Rattle.sip_field.specs.Draw.{before, draw_list, seed_words}
 use Rattle.sip_vector.specs.Steps.{◌>>=◌}
 use Rattle.sip_wire.specs.declared.message.Message.{Message}
 use Rattle.sip_wire.specs.declared.message.Reason.{Reason}
@@ -14,6 +16,7 @@ use Rattle.sip_replies.specs.Replies.{Fault, in_round, joined, learnt, reason_of
 use Rattle.sip_wire.proofs.ReadingLaws.{read_frame-shrinks, read_frame-append, read_frame-append_fault}
 use Rattle.sip_replies.proofs.Fronts.{Grows, grows_closed, grows_fault, grows_end}
 use Rattle.sip_replies.proofs.Reading.{read_reply-fault, read_reply-step}
+use Rattle.sip_verifier.specs.Draws.{challenges_of}
 
 -- ---- of fronts of replies
 
@@ -98,3 +101,29 @@ alone R j block s front fault e =
       | inl m ↦ absurd (run-none R (j + 1) (drop 1 block) (learnt R block m.0) fault m.2)
       | inr m ↦ m.1 ∙ ap (λ (f : Fault). Err f.reason) (sym m.2)
     ]
+
+-- ---- of challenges that were drawn
+
+-- where some were drawn, there is a first and there are the others
+before-some : (a : Option ℕ) (b : Option (List ℕ)) (rs : List ℕ) → before a b ≡ Some rs → (r : ℕ) × (more : List ℕ) × (b ≡ Some more) × (rs ≡ r ∷ more)
+before-some (Some r) (Some more) rs e = (r, more, refl, cc)
+before-some (Some r) None rs e = absurd cc
+before-some None b rs e = absurd cc
+
+-- as many challenges are drawn as were asked for
+drawn-length : (n : ℕ) (words : _) (rs : List ℕ) → Some rs ≡ draw_list n words → length rs ≡ n
+unfolding draw_list
+drawn-length zero words rs e = let same : rs ≡ [] = cc in ap length same
+drawn-length (suc n) words rs e =
+    let parts = before-some _ _ rs (sym e) in
+    ap length parts.3 ∙ ap suc (drawn-length n _ parts.1 (sym parts.2))
+
+-- what is drawn where a seed is not too short is all there is
+long_enough : (short : Bool) (all : Option (List ℕ)) (rs : List ℕ) → cond short None all ≡ Some rs → all ≡ Some rs
+long_enough true all rs e = absurd (cc)
+long_enough false all rs e = e
+
+-- as many challenges are drawn of a seed as were asked for
+pub length-challenges : (count : ℕ) (seed rs : List ℕ) → challenges_of count seed ≡ Some rs → length rs ≡ count
+unfolding challenges_of
+length-challenges count seed rs e = drawn-length count (seed_words (take 32 seed)) rs (sym (long_enough (nat_lt (length seed) 32) _ rs e))

@@ -17,3 +17,6 @@ pub mod Agreed
 pub mod Borrowed
 pub mod SameReplies
 pub mod SameVerdicts
+pub mod RunVerdicts
+pub mod RunHeads
+pub mod AgreedAudits

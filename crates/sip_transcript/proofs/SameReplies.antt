@@ -60,33 +60,33 @@ record IsCutAt {X : Type 0} (read : List ℕ → Result X Reason) (reply behind 
 module _ {X : Type 0} (read : List ℕ → Result X Reason)
     (fewer : (front more : List ℕ) → read (front ++ more) ≡ Err reasons.Closed → read front ≡ Err reasons.Closed)
   where
-  -- none is a front of another
-  no_longer : (r u s v : List ℕ) (c : ℕ) (cs : List ℕ) → IsCutAt read r u → IsCutAt read s v
-      → s ≡ r ++ c ∷ cs → r ++ u ≡ s ++ v → ⊥
-  no_longer r u s v c cs p q is e =
-      let first : read r ≡ Err reasons.Closed = elim (is_closed (read s)) [
-        | inl closed ↦ fewer r (c ∷ cs) (ap read (sym is) ∙ closed)
-        | inr else_is ↦ q.front r c cs is else_is
-      ] in
-      let none : u ≡ [] = p.closed first in
-      let some : u ≡ (c ∷ cs) ++ v = append_cancel_left r u ((c ∷ cs) ++ v) (e ∙ ap (λ (l : List ℕ). l ++ v) is ∙ append_assoc r (c ∷ cs) v) in cc
+    -- none is a front of another
+    no_longer : (r u s v : List ℕ) (c : ℕ) (cs : List ℕ) → IsCutAt read r u → IsCutAt read s v
+        → s ≡ r ++ c ∷ cs → r ++ u ≡ s ++ v → ⊥
+    no_longer r u s v c cs p q is e =
+        let first : read r ≡ Err reasons.Closed = elim (is_closed (read s)) [
+          | inl closed ↦ fewer r (c ∷ cs) (ap read (sym is) ∙ closed)
+          | inr else_is ↦ q.front r c cs is else_is
+        ] in
+        let none : u ≡ [] = p.closed first in
+        let some : u ≡ (c ∷ cs) ++ v = append_cancel_left r u ((c ∷ cs) ++ v) (e ∙ ap (λ (l : List ℕ). l ++ v) is ∙ append_assoc r (c ∷ cs) v) in cc
 
-  same_cut : (r u s v : List ℕ) → IsCutAt read r u → IsCutAt read s v → r ++ u ≡ s ++ v
-      → (r ≡ s) × (u ≡ v)
-  same_cut r u s v p q e =
-      let same : r ≡ s = elim (two_fronts r u s v e) [
-        | inl m ↦ one m.0 m.1
-        | inr m ↦ other m.0 m.1
-      ] in
-      (same, append_cancel_left r u v (e ∙ ap (λ (l : List ℕ). l ++ v) (sym same)))
-    where
-      one : (more : List ℕ) → s ≡ r ++ more → r ≡ s
-      one [] is = sym (is ∙ append-nil r)
-      one (c ∷ cs) is = absurd (no_longer r u s v c cs p q is e)
+    same_cut : (r u s v : List ℕ) → IsCutAt read r u → IsCutAt read s v → r ++ u ≡ s ++ v
+        → (r ≡ s) × (u ≡ v)
+    same_cut r u s v p q e =
+        let same : r ≡ s = elim (two_fronts r u s v e) [
+          | inl m ↦ one m.0 m.1
+          | inr m ↦ other m.0 m.1
+        ] in
+        (same, append_cancel_left r u v (e ∙ ap (λ (l : List ℕ). l ++ v) (sym same)))
+      where
+        one : (more : List ℕ) → s ≡ r ++ more → r ≡ s
+        one [] is = sym (is ∙ append-nil r)
+        one (c ∷ cs) is = absurd (no_longer r u s v c cs p q is e)
 
-      other : (more : List ℕ) → r ≡ s ++ more → r ≡ s
-      other [] is = is ∙ append-nil s
-      other (c ∷ cs) is = absurd (no_longer s v r u c cs q p is (sym e))
+        other : (more : List ℕ) → r ≡ s ++ more → r ≡ s
+        other [] is = is ∙ append-nil s
+        other (c ∷ cs) is = absurd (no_longer s v r u c cs q p is (sym e))
 
 -- ---- all replies
 

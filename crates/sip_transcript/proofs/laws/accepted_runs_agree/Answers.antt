@@ -1,5 +1,3 @@
-use Rattle.sip_transcript.proofs.SameVerdicts.{same_verdicts}
-use Rattle.sip_transcript.proofs.SameReplies.{same_replies}
 use Rattle.sip_transcript.proofs.Agreed.{runs_agree}
 use Rattle.sip_transcript.proofs.laws.accepted_runs_agree.Goals as goal
 
