@@ -30,24 +30,9 @@ use Rattle.sip_transcript.specs.Heads.{Ask, IsRun}
 use Rattle.sip_transcript.specs.Replaying.{Follows}
 use Rattle.sip_transcript.proofs.Growing.{run-has_no_fault}
 use Rattle.sip_transcript.proofs.RunHeads.{asks_challenges, asks_queries, run_of}
-use Rattle.sip_transcript.proofs.RunVerdicts.{IsJudgedRun, came_to, close_all, judged_run, told}
-use Rattle.sip_transcript.proofs.SameVerdicts.{AreOf, replies_of, same_verdicts}
+use Rattle.sip_transcript.proofs.RunVerdicts.{IsJudgedRun, judged_run, judged_same}
 use Rattle.sip_transcript.proofs.Telling.{one_head}
 use Rattle.sip_transcript.proofs.Tests.{count-test, depth-test}
-
--- ---- two runs of one inquiry
-
--- where one heard a front of what the other heard, and found the end only behind all of it
-pub judged_same : (i : Inquiry) (bytes first left : List ℕ) (talk other : List TalkEvent) (wrote told_other : List ℕ) (status given : Status) → IsJudgedRun i bytes talk wrote status → IsJudgedRun i bytes other told_other given
-    → first ≡ heard talk → Follows first other left → (left ≡ []) × (given ≡ status) × (told_other ≡ wrote)
-judged_same i bytes first left talk other wrote told_other status given p q is follows =
-    let us : List Update = (records i.depth i.form bytes).legal in
-    let same : q.challenges ≡ p.challenges = let a = p.drawn in let b = q.drawn in cc in
-    let are = subst (λ (c : List ℕ). AreOf i.version i.depth us q.judged i.queries (cut i.depth c)) same q.are in
-    let both = same_verdicts i.version i.depth us p.judged q.judged i.queries (cut i.depth p.challenges) [] left p.are are
-    (close_all i.version i.depth us p.judged) (q.closes first left follows)
-    (append-nil (replies_of i.version i.depth us p.judged) ∙ sym p.heard ∙ sym is ∙ follows.came ∙ ap (λ (l : List ℕ). l ++ left) q.heard) in
-    (sym both.0, q.ends ∙ ap (came_to 0) both.1 ∙ sym p.ends, q.report ∙ ap (told 0) both.1 ∙ sym p.report)
 
 -- ---- what a verdict says
 
@@ -110,8 +95,9 @@ module _ (task : Task) (x : Exchange) (before now : Counts) (status : Status) (a
       verdict_same : IsTrue (is_verdict given) → (p.more ≡ []) × (given ≡ status) × (a.report ≡ x.report)
       verdict_same is =
           let judged = judged_run (inquiry_in task.form p.asked) (exchange_of task.form a p) given is ends.verdict in
-          judged_same (inquiry_of task x) x.stream p.behind p.more x.talk p.talk x.report a.report status given ran
-          (moved (λ i bytes. IsJudgedRun i bytes p.talk a.report given) judged) heads.3 p.follows
+          let own = moved (λ i bytes. IsJudgedRun i bytes p.talk a.report given) judged in
+          judged_same (inquiry_of task x) x.stream p.more x.talk p.talk x.report a.report status given ran own
+          (sym heads.3 ∙ p.follows.came) (own.closes p.behind p.more p.follows)
 
   module _ (earlier later : Counts) where
     pub audit_agrees : (given : Status) → Audits task.form a earlier later given → AuditAgrees x a status given

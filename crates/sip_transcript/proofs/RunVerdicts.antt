@@ -1,7 +1,7 @@
 -- A run that ended with a verdict, as the list of its questions that were judged.
-use Rattle.std.proofs.Common.{◌≡◌, ℕ, suc, ◌+◌, Some, None, Result, Ok, Err, List, [], ◌∷◌, ◌++◌, length, take, All, refl, sym, ap, ◌∙◌, arith, append-nil, append_assoc}
+use Rattle.std.proofs.Common.{◌≡◌, ℕ, suc, ◌+◌, Some, Ok, Err, List, [], ◌∷◌, ◌++◌, length, take, refl, sym, ap, subst, ◌∙◌, arith, append-nil, append_assoc}
 use Rattle.std.specs.Prelude.{IsTrue, flat_map, map}
-use Rattle.std.proofs.lemmas.List.{append_cancel_left, length-map}
+use Rattle.std.proofs.lemmas.List.{append_cancel_left}
 use Rattle.std.proofs.lemmas.List.Elements.{All-append, All-cons, All-nil}
 use Rattle.sip_ports.specs.declared.port.TalkEvent.{TalkEvent}
 use Rattle.sip_ports.specs.declared.port.TalkEvent.TheVariants.{Ended}
@@ -22,7 +22,7 @@ use Rattle.sip_verifier.specs.declared.status.Status.{Status}
 use Rattle.sip_verifier.specs.declared.status.Status.TheVariants as statuses
 use Rattle.sip_verifier.specs.Exchanges.{Exchange}
 use Rattle.sip_verifier.specs.Inquiries.{Inquiry}
-use Rattle.sip_verifier.specs.Questions.{Accepted, IsFaulty, Question, Reached, questions_of, said_for, updates}
+use Rattle.sip_verifier.specs.Questions.{Accepted, IsFaulty, Question, questions_of, said_for, updates}
 use Rattle.sip_verifier.specs.Reports.{line, rejection}
 use Rattle.sip_verifier.specs.Talks.{bye_sent, stream_sent}
 use Rattle.sip_verifier.specs.VerdictClause.{AllWritten, OneFaulty, VerdictClause}
@@ -30,7 +30,7 @@ use Rattle.sip_verifier.proofs.HeardTalks.{IsHeard, heard-talk, replied}
 use Rattle.sip_verifier.proofs.HonestRuns.{done_heard, faulty_heard}
 use Rattle.sip_transcript.specs.Auditing.{is_verdict}
 use Rattle.sip_transcript.specs.Replaying.{Follows}
-use Rattle.sip_transcript.proofs.SameVerdicts.{AllClose, AreOf, Closes, Judged, Outcome, replies_of, verdicts}
+use Rattle.sip_transcript.proofs.SameVerdicts.{AllClose, AreOf, Closes, Judged, Outcome, replies_of, same_verdicts, verdicts}
 
 -- ---- what is written of verdicts
 
@@ -163,7 +163,7 @@ module _ (i : Inquiry) (x : Exchange) where
   abbrev us : List Update
   us = updates i x
 
-  accepted_run : AllWritten i x → IsJudgedRun i x.stream x.talk x.report statuses.Accepted
+  pub accepted_run : AllWritten i x → IsJudgedRun i x.stream x.talk x.report statuses.Accepted
   accepted_run w =
       let questions = questions_of i x w.done in
       let are = w.reached.are_questions in record {
@@ -179,6 +179,11 @@ module _ (i : Inquiry) (x : Exchange) where
         report = w.report ∙ sym (told_end i.version i.depth us 0 w.done [] ∙ append-nil (written i.version i.depth us w.done));
         ends = sym (came_end i.version i.depth us 0 w.done []);
       }
+
+  -- the end of the link is none of its verdicts
+  pub accepted_closes : (w : AllWritten i x) (left : List ℕ) → AllClose i.version i.depth us (accepted_run w).judged left
+  unfolding accepted_run
+  accepted_closes w left = close_end i.version i.depth us w.done [] left tt
 
   rejected_run : (query round : ℕ) (reason : Reason) → OneFaulty i x query round reason → IsJudgedRun i x.stream x.talk x.report (statuses.Rejected query round reason)
   rejected_run query round reason w =
@@ -211,3 +216,16 @@ module _ (i : Inquiry) (x : Exchange) where
   judged_run statuses.Accepted is w = accepted_run w
   judged_run (statuses.Rejected query round reason) is w = rejected_run query round reason w
   judged_run _ is w = absurd cc
+
+-- ---- two runs of one inquiry
+
+-- of which one heard a front of what the other heard, and found the end only behind all of it
+pub judged_same : (i : Inquiry) (bytes left : List ℕ) (talk other : List TalkEvent) (wrote lines : List ℕ) (status given : Status) → IsJudgedRun i bytes talk wrote status → (q : IsJudgedRun i bytes other lines given)
+    → heard talk ≡ heard other ++ left → AllClose i.version i.depth (records i.depth i.form bytes).legal q.judged left → (left ≡ []) × (given ≡ status) × (lines ≡ wrote)
+judged_same i bytes left talk other wrote lines status given p q is closes =
+    let us : List Update = (records i.depth i.form bytes).legal in
+    let same : q.challenges ≡ p.challenges = let a = p.drawn in let b = q.drawn in cc in
+    let are = subst (λ (c : List ℕ). AreOf i.version i.depth us q.judged i.queries (cut i.depth c)) same q.are in
+    let both = same_verdicts i.version i.depth us p.judged q.judged i.queries (cut i.depth p.challenges) [] left p.are are (close_all i.version i.depth us p.judged) closes
+    (append-nil (replies_of i.version i.depth us p.judged) ∙ sym p.heard ∙ is ∙ ap (λ (l : List ℕ). l ++ left) q.heard) in
+    (sym both.0, q.ends ∙ ap (came_to 0) both.1 ∙ sym p.ends, q.report ∙ ap (told 0) both.1 ∙ sym p.report)
