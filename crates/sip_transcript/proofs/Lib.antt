@@ -14,3 +14,8 @@ pub mod Replaying
 pub mod Heading
 pub mod Audited
 pub mod Agreed
+pub mod SameReplies
+pub mod SameVerdicts
+pub mod RunVerdicts
+pub mod RunHeads
+pub mod AgreedAudits

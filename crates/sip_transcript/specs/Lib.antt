@@ -15,3 +15,4 @@ pub mod Links
 pub mod Pasts
 pub mod Auditing
 pub mod Replayed
+pub mod Agreements

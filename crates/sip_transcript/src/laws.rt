@@ -14,6 +14,11 @@ ghost use Rattle.sip_wire.specs.declared.version.Version.{Version as AnyVersion}
 ghost use Rattle.sip_verifier.specs.Exchanges.{Exchange as AnyExchange};
 ghost use Rattle.sip_verifier.specs.Inquiries.{Inquiry as AnyInquiry};
 ghost use Rattle.sip_verifier.specs.VerdictClause.{AllWritten};
+ghost use Rattle.sip_verifier.specs.Moments.{Counts as AnyCounts};
+ghost use Rattle.sip_verifier.specs.declared.status.Status.{Status as AnyStatus};
+ghost use Rattle.sip_verifier.specs.declared.task.Task.{Task as AnyTask};
+ghost use Rattle.sip_transcript.specs.Agreements.{AuditAgrees, IsStored};
+ghost use Rattle.sip_transcript.specs.Auditing.{Audit, Audits};
 ghost use Rattle.sip_transcript.specs.Examples.{head_by_hand, lines_by_hand, replies_by_hand};
 ghost use Rattle.sip_transcript.specs.Fields.{fits_at, head_fault};
 ghost use Rattle.sip_transcript.specs.Heads.{Ask, IsRun};
@@ -59,6 +64,18 @@ pub fn accepted_runs_agree()
     ensures { (i : AnyInquiry) (x y : AnyExchange) (more : List ℕ) → y.stream ≡ x.stream
         → heard x.talk ≡ heard y.talk ++ more → AllWritten i x → AllWritten i y
         → (more ≡ []) × (y.report ≡ x.report) }
+{}
+
+/// An audit of what a run left agrees with the run. Let a run of `verify` have ended with a verdict,
+/// and let `audit` keep its promises over the transcript that the run kept and the stream that it
+/// read. Then it gives the same status and writes the same lines, unless one of its ports failed or
+/// memory ran out. So it finds no fault in the transcript or in the stream, no query too wide, no
+/// byte behind the verdict, and no other verdict.
+pub fn audits_agree()
+    ensures { (task : AnyTask) (x : AnyExchange) (before now : AnyCounts) (status : AnyStatus)
+        (a : Audit) (earlier later : AnyCounts) (given : AnyStatus)
+        → IsStored task x before now status a → Audits task.form a earlier later given
+        → AuditAgrees x a status given }
 {}
 
 /// The test of a query at a depth is whether it can be asked there.

@@ -35,6 +35,9 @@
 //! - The transcript of each run has no fault in its head, whatever the replies are, and it tells
 //!   that run ([`laws`]), and no other. Two accepted runs of one inquiry over one stream that heard
 //!   the same wrote the same lines. A transcript by hand has the listing that is expected.
+//! - What `audit` answers over the transcript and the stream of a run that ended with a verdict is
+//!   that verdict, and it writes the run's lines, unless a port failed or memory ran out: so it is
+//!   never `BadTranscript`, `BadStream`, `TooWide` or another verdict ([`laws::audits_agree`]).
 //!
 //! # The definitions to read
 //!
@@ -43,8 +46,8 @@
 //! answers. `specs/Tales.antt` has what bytes tell, `tale_of`, and `transcript_fault`, the place
 //! where they stop being a transcript; `specs/Listings.antt` the lines, `specs/Conversions.antt`
 //! the form in version 2, and `specs/Writing.antt` what `show` and `convert` promise.
-//! `specs/Replaying.antt` has what is heard on a link over a source, and `specs/Auditing.antt` what
-//! `audit` promises.
+//! `specs/Replaying.antt` has what is heard on a link over a source, `specs/Auditing.antt` what
+//! `audit` promises, and `specs/Agreements.antt` what it comes to over what a run left.
 #![tactic(auto)]
 
 mod auditing;
