@@ -23,9 +23,8 @@ use Rattle.sip_verifier.specs.declared.task.Task.{Task}
 use Rattle.sip_verifier.specs.Draws.{challenge_count, drawn}
 use Rattle.sip_verifier.specs.Tasks.{CanBeAsked, CanBeDone, version_of}
 use Rattle.sip_verifier.specs.Transcripts.{asks_of}
-use Rattle.sip_verifier.proofs.Blocks.{IsBlock, are_blocks}
+use Rattle.sip_verifier.proofs.Blocks.{IsBlock, are_blocks, length-challenges}
 use Rattle.sip_transcript.specs.Heads.{Ask, IsAsk, IsRun}
-use Rattle.sip_verifier.proofs.Blocks.{length-challenges}
 
 -- ---- pieces
 
