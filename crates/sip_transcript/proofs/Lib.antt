@@ -20,3 +20,4 @@ pub mod SameVerdicts
 pub mod RunVerdicts
 pub mod RunHeads
 pub mod AgreedAudits
+pub mod Converted
