@@ -1,16 +1,12 @@
 -- An audit over what a run left comes to the run's own verdict.
-use Rattle.std.proofs.Common.{◌≡◌, ℕ, Option, Some, None, List, [], ◌++◌, length, inl, inr, refl, sym, ap, subst, ◌∙◌, append-nil}
+use Rattle.std.proofs.Common.{◌≡◌, ℕ, Option, Some, None, List, [], length, inl, inr, refl, sym, ap, subst, ◌∙◌}
 use Rattle.std.specs.Prelude.{IsTrue, IfSome, map}
 use Rattle.std.specs.List.{flat_map}
-use Rattle.sip_ports.specs.declared.port.TalkEvent.{TalkEvent}
 use Rattle.sip_ports.specs.Ports.{heard}
 use Rattle.sip_stream.specs.Records.{records}
 use Rattle.sip_stream.specs.declared.form.Form.{Form}
-use Rattle.sip_vector.specs.Pieces.{cut}
 use Rattle.sip_vector.specs.declared.query.Query.{Query}
-use Rattle.sip_vector.specs.declared.update.Update.{Update}
 use Rattle.sip_wire.specs.declared.version.Version.{Version}
-use Rattle.sip_wire.specs.Transcript.{transcript}
 use Rattle.sip_verifier.specs.declared.status.Port.TheVariants as ports
 use Rattle.sip_verifier.specs.declared.status.Status.{Status}
 use Rattle.sip_verifier.specs.declared.status.Status.TheVariants as statuses
@@ -24,10 +20,9 @@ use Rattle.sip_verifier.specs.Tasks.{version_of}
 use Rattle.sip_verifier.specs.Transcripts.{asks_of}
 use Rattle.sip_verifier.specs.Widths.{first_wide}
 use Rattle.sip_transcript.specs.Agreements.{AuditAgrees, IsStored}
-use Rattle.sip_transcript.specs.Auditing.{Asked, Audit, Audits, EndsSo, Replay, exchange_of, inquiry_in, is_verdict}
+use Rattle.sip_transcript.specs.Auditing.{Audit, Audits, EndsSo, Replay, exchange_of, inquiry_in, is_verdict}
 use Rattle.sip_transcript.specs.Fields.{head_fault}
 use Rattle.sip_transcript.specs.Heads.{Ask, IsRun}
-use Rattle.sip_transcript.specs.Replaying.{Follows}
 use Rattle.sip_transcript.proofs.Growing.{run-has_no_fault}
 use Rattle.sip_transcript.proofs.RunHeads.{asks_challenges, asks_queries, run_of}
 use Rattle.sip_transcript.proofs.RunVerdicts.{IsJudgedRun, judged_run, judged_same}

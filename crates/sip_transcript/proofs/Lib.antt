@@ -19,3 +19,4 @@ pub mod SameVerdicts
 pub mod RunVerdicts
 pub mod RunHeads
 pub mod AgreedAudits
+pub mod Converted

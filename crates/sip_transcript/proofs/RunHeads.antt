@@ -1,6 +1,6 @@
 -- The head of a run's transcript is that of a run that a transcript can tell of, with the run's own
 -- queries and challenges.
-use Rattle.std.proofs.Common.{◌≡◌, ℕ, zero, suc, ◌+◌, ◌-◌, ◌*◌, ◌/◌, ◌<◌, ◌≤◌, Option, Some, List, [], ◌∷◌, ◌++◌, length, take, drop, refl, sym, ap, ◌∙◌, arith, length-drop}
+use Rattle.std.proofs.Common.{◌≡◌, ℕ, zero, suc, ◌+◌, ◌-◌, ◌*◌, ◌/◌, ◌<◌, ◌≤◌, Some, List, [], ◌∷◌, ◌++◌, length, take, drop, refl, sym, ap, ◌∙◌, arith, length-drop}
 use Rattle.std.specs.Prelude.{All, IsTrue, map}
 use Rattle.std.specs.List.{flat_map, zip}
 use Rattle.std.proofs.Math.Nat.{div-eq_of_lt, mul-add-div, mul_comm, suc-mul}

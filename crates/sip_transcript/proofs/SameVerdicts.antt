@@ -43,7 +43,7 @@ round_of : {X : Type 0} (round : ℕ) (r : Result X Reason) (fault : Fault) → 
 round_of round (Ok x) fault e = absurd cc
 round_of round (Err reason) fault e = ap (λ (f : Fault). f.round) (sym (same_fault (record { round = round; reason = reason }) fault e))
 
-module _ {S : Type 0} (P : Protocol S) (block : List ℕ) (replies behind : List (List ℕ)) where
+module _ {S : Type 0} (P : Protocol S) (block : List ℕ) (replies : List (List ℕ)) where
   -- a fault of a reply is the verdict
   reply_fault : (fault : Fault) → run P.rules block replies ≡ Err fault → verdict P block replies ≡ Err fault
   reply_fault fault is = ap (λ (r : Result S Fault). r >>= λ s. in_round (length block) (P.finish s)) is
@@ -56,7 +56,7 @@ module _ {S : Type 0} (P : Protocol S) (block : List ℕ) (replies : List (List 
   stated_cut : (answer : Answer) → general.IsStated P block replies answer → IsCut P.rules (length block) 0 block P.rules.start replies behind
   stated_cut answer own =
       let long = own.all in
-      let none : (fault : Fault) → run P.rules block replies ≡ Err fault → ⊥ = λ fault e. ok_no_fault answer fault (sym own.found ∙ reply_fault P block replies [] fault e) in record {
+      let none : (fault : Fault) → run P.rules block replies ≡ Err fault → ⊥ = λ fault e. ok_no_fault answer fault (sym own.found ∙ reply_fault P block replies fault e) in record {
         few = omega (arith, long);
         all = λ t e. omega (arith, long);
         last = λ fault e. absurd (none fault e);
@@ -67,9 +67,9 @@ module _ {S : Type 0} (P : Protocol S) (block : List ℕ) (replies : List (List 
   faulty_cut : (fault : Fault) → general.IsFaulty P block replies fault → Closes (Err fault) behind → IsCut P.rules (length block) 0 block P.rules.start replies behind
   faulty_cut fault own closes =
       let long = own.taken in
-      let is : (f : Fault) → run P.rules block replies ≡ Err f → f ≡ fault = λ f e. same_fault {X = Answer} f fault (sym (reply_fault P block replies [] f e) ∙ own.found) in record {
+      let is : (f : Fault) → run P.rules block replies ≡ Err f → f ≡ fault = λ f e. same_fault {X = Answer} f fault (sym (reply_fault P block replies f e) ∙ own.found) in record {
         few = omega (arith, long);
-        all = λ t e. let last = round_of (length block) (P.finish t) fault (sym (tests_fault P block replies [] t e) ∙ own.found) in omega (arith, long, last);
+        all = λ t e. let last = round_of (length block) (P.finish t) fault (sym (tests_fault P block replies t e) ∙ own.found) in omega (arith, long, last);
         last = λ f e. let same = ap (λ (g : Fault). g.round) (is f e) in omega (arith, long, same);
         closed = λ f e at. closes (ap (λ (g : Fault). g.reason) (sym (is f e)) ∙ at);
         shortest = λ f e other earlier front byte at. (

@@ -11,6 +11,7 @@ ghost use Rattle.sip_wire.specs.Spelling.{spelling};
 ghost use Rattle.sip_wire.specs.Transcript.{transcript};
 ghost use Rattle.sip_wire.specs.declared.message.Message.{Message as AnyMessage};
 ghost use Rattle.sip_wire.specs.declared.version.Version.{Version as AnyVersion};
+ghost use Rattle.sip_wire.specs.declared.version.Version.TheVariants.{Two};
 ghost use Rattle.sip_verifier.specs.Exchanges.{Exchange as AnyExchange};
 ghost use Rattle.sip_verifier.specs.Inquiries.{Inquiry as AnyInquiry};
 ghost use Rattle.sip_verifier.specs.VerdictClause.{AllWritten};
@@ -19,6 +20,7 @@ ghost use Rattle.sip_verifier.specs.declared.status.Status.{Status as AnyStatus}
 ghost use Rattle.sip_verifier.specs.declared.task.Task.{Task as AnyTask};
 ghost use Rattle.sip_transcript.specs.Agreements.{AuditAgrees, IsStored};
 ghost use Rattle.sip_transcript.specs.Auditing.{Audit, Audits};
+ghost use Rattle.sip_transcript.specs.Conversions.{in_version_2};
 ghost use Rattle.sip_transcript.specs.Examples.{head_by_hand, lines_by_hand, replies_by_hand};
 ghost use Rattle.sip_transcript.specs.Fields.{fits_at, head_fault};
 ghost use Rattle.sip_transcript.specs.Heads.{Ask, IsRun};
@@ -46,6 +48,18 @@ pub fn runs_are_told()
         → IsRun version depth asks → All (IsReply version) replies
         → transcript_fault (transcript version depth asks (flat_map (spelling version) replies))
         ≡ None }
+{}
+
+/// In version 2 the transcript of a run tells the same run: its depth, queries, challenges and
+/// messages. It is one that a transcript of version 2 can tell of.
+pub fn converted_runs_are_told()
+    ensures told { (version : AnyVersion) (depth : ℕ) (asks : List Ask) (replies : List AnyMessage)
+        → IsRun version depth asks → All (IsReply version) replies
+        → tale_of (in_version_2 (tale_of
+        (transcript version depth asks (flat_map (spelling version) replies))))
+        ≡ record { version = Two; depth = depth; asks = asks; replies = replies; rest = [] } }
+    ensures run { (version : AnyVersion) (depth : ℕ) (asks : List Ask) → IsRun version depth asks
+        → IsRun Two depth asks }
 {}
 
 /// A transcript has one head: where bytes begin with the heads of two runs, these are one, and so is
