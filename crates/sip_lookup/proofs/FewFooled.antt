@@ -82,12 +82,14 @@ module _ (version : Version) (d : ℕ) (numbers : List ℤ) (l : Lookup) (len : 
   wrong_parts r x good wrong =
       let entries = said version (lo x.0) (hi x.0) x.1 in
       let own = and_parts (is_possible d l x.0) (takes_sub x.0 r x.1 && are_alone l x.0 entries) good in
-      let more = and_parts (takes_sub x.0 r x.1) (are_alone l x.0 entries) own.1 in
-      (more.0, false_from_ne_true (right_sub x.0 x.1) (λ right.
-      let same = (same_entries entries (nonzero_within (lo x.0) (hi x.0) numbers)).0 right in
-      let alone = sym (ap (are_alone l x.0) same) ∙ more.1 in
-      let answer = ap (stated_answer l) same ∙ alone_is_near d numbers l x.0 len item own.0 alone in
-      both_ways (is_same_answer (said_within version d l x) (near numbers l)) wrong (ap (λ y. is_same_answer y (near numbers l)) answer ∙ same_answer (near numbers l))))
+      let more = and_parts (takes_sub x.0 r x.1) (are_alone l x.0 entries) own.1 in (
+        more.0,
+        false_from_ne_true (right_sub x.0 x.1) (λ right.
+            let same = (same_entries entries (nonzero_within (lo x.0) (hi x.0) numbers)).0 right in
+            let alone = sym (ap (are_alone l x.0) same) ∙ more.1 in
+            let answer = ap (stated_answer l) same ∙ alone_is_near d numbers l x.0 len item own.0 alone in
+            both_ways (is_same_answer (said_within version d l x) (near numbers l)) wrong (ap (λ y. is_same_answer y (near numbers l)) answer ∙ same_answer (near numbers l))),
+      )
 
   -- so they are where a first reply has parts
   wrong_behind : (r first : List ℕ) (rest : List (List ℕ)) (x : Option ℕ × List ℕ) → read_found version first ≡ Ok x
@@ -130,7 +132,7 @@ module _ (version : Version) (d : ℕ) (numbers : List ℤ) (l : Lookup) (len : 
             read = read;
             possible = w.0;
             wrong = ap (λ k. is_wrong (takes_sub x.0 (c ∷ r)) (right_sub x.0) (all_there k)) (replies-more (behind strategy x.1) c r)
-            ∙ ap (λ o. is_wrong (takes_sub x.0 (c ∷ r)) (right_sub x.0) (before x.1 o)) there ∙ w.1;
+                ∙ ap (λ o. is_wrong (takes_sub x.0 (c ∷ r)) (right_sub x.0) (before x.1 o)) there ∙ w.1;
           }
 
       -- no answer is accepted where a first reply has no parts
