@@ -21,3 +21,4 @@ pub mod RunVerdicts
 pub mod RunHeads
 pub mod AgreedAudits
 pub mod Converted
+pub mod Respelled
