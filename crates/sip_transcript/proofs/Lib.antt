@@ -22,3 +22,4 @@ pub mod RunHeads
 pub mod AgreedAudits
 pub mod Converted
 pub mod Respelled
+pub mod RespelledRuns

@@ -71,7 +71,7 @@ module _ {X : Type 0} (read : List ℕ → Result X Reason)
         let none : u ≡ [] = p.closed first in
         let some : u ≡ (c ∷ cs) ++ v = append_cancel_left r u ((c ∷ cs) ++ v) (e ∙ ap (λ (l : List ℕ). l ++ v) is ∙ append_assoc r (c ∷ cs) v) in cc
 
-    same_cut : (r u s v : List ℕ) → IsCutAt read r u → IsCutAt read s v → r ++ u ≡ s ++ v
+    pub same_cut : (r u s v : List ℕ) → IsCutAt read r u → IsCutAt read s v → r ++ u ≡ s ++ v
         → (r ≡ s) × (u ≡ v)
     same_cut r u s v p q e =
         let same : r ≡ s = elim (two_fronts r u s v e) [
