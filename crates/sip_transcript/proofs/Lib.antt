@@ -23,3 +23,4 @@ pub mod AgreedAudits
 pub mod Converted
 pub mod Respelled
 pub mod RespelledRuns
+pub mod RespelledVerdicts

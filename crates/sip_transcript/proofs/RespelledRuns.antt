@@ -1,4 +1,4 @@
--- Two runs of one inquiry in two versions, over the same messages: they come to the same verdicts.
+-- The replies to one query in two versions, over the same messages: they come to the same.
 use Rattle.std.proofs.Common.{◌≡◌, ◌⊎◌, ℕ, ◌+◌, Option, Some, None, Result, Ok, Err, List, [], ◌∷◌, ◌++◌, length, drop, inl, inr, refl, sym, ap, subst, ◌∙◌, arith, append_assoc}
 use Rattle.std.specs.Prelude.{map}
 use Rattle.sip_vector.specs.Answers.{Answer}
@@ -22,7 +22,7 @@ learnt-same : {S : Type 0} (R : Rules S) (w : Version) (block : List ℕ) (s : S
 learnt-same R w [] s = refl
 learnt-same R w (r ∷ rs) s = refl
 
-ends_as : (b c a d : List ℕ) → b ≡ c → a ≡ d → SameEnd b a → SameEnd c d
+pub ends_as : (b c a d : List ℕ) → b ≡ c → a ≡ d → SameEnd b a → SameEnd c d
 ends_as b c a d e f ends = record { there = λ is. sym f ∙ ends.there (e ∙ is); back = λ is. sym e ∙ ends.back (f ∙ is) }
 
 fault_no_ok : {X : Type 0} (x : X) (fault : Fault) (r : Result X Fault) → r ≡ Err fault → r ≡ Ok x → ⊥
@@ -82,7 +82,7 @@ ran_first : {X Y : Type 0} (r : Result X Fault) (f : X → Result Y Fault) (y : 
 ran_first (Ok x) f y e = (x, refl)
 ran_first (Err fault) f y e = absurd cc
 
-one_alike : {S : Type 0} (P : Protocol S) (w : Version) (block : List ℕ) (ones others : List (List ℕ)) (one other : Outcome) (b a : List ℕ) (ms : List Message) (unasked : Option Answer) → P.unasked ≡ unasked
+pub one_alike : {S : Type 0} (P : Protocol S) (w : Version) (block : List ℕ) (ones others : List (List ℕ)) (one other : Outcome) (b a : List ℕ) (ms : List Message) (unasked : Option Answer) → P.unasked ≡ unasked
     → AreBoth P.rules.version w ms → IsJudged P block ones one → IsJudged (protocol_in w P) block others other → Closes one b → Closes other a
     → joined ones ++ b ≡ bytes_in P.rules.version ms → joined others ++ a ≡ bytes_in w ms → IsAlike P.rules.version w one other b a
 one_alike P w block ones others one other b a ms None is are p q f g e d =
