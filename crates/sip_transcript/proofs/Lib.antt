@@ -24,3 +24,5 @@ pub mod Converted
 pub mod Respelled
 pub mod RespelledRuns
 pub mod RespelledVerdicts
+pub mod AuditEnds
+pub mod AlikeAudits
