@@ -95,7 +95,7 @@ AreBoth v w (m ∷ ms) = IsReply v m × IsReply w m × AreBoth v w ms
 abbrev pub bytes_in : Version → List Message → List ℕ
 bytes_in v ms = flat_map (spelling v) ms
 
-bytes-cons : (v : Version) (m : Message) (ms : List Message) → bytes_in v (m ∷ ms) ≡ spelling v m ++ bytes_in v ms
+pub bytes-cons : (v : Version) (m : Message) (ms : List Message) → bytes_in v (m ∷ ms) ≡ spelling v m ++ bytes_in v ms
 bytes-cons v m ms = flat_map-cons (spelling v) m ms
 
 no-spelling : (v : Version) (m : Message) (rest : List ℕ) → spelling v m ++ rest ≡ [] → ⊥
