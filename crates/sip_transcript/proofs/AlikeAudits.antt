@@ -1,6 +1,5 @@
 -- An audit over a transcript that is whole, and one over the same in version 2.
-use Rattle.std.proofs.Common.{◌≡◌, ◌⊎◌, ℕ, zero, suc, ◌+◌, ◌≤◌, Bool, true, false, ◌||◌, Option, Some, None, Result, Ok, Err, List, [], ◌∷◌, ◌++◌, length, drop, inl, inr, refl, sym, ap, subst, ◌∙◌, arith, append_assoc, append-nil, drop_at}
-use Rattle.std.specs.Prelude.{IsTrue}
+use Rattle.std.proofs.Common.{◌≡◌, ℕ, zero, suc, ◌+◌, ◌≤◌, Option, Some, None, Result, Ok, Err, List, [], ◌∷◌, ◌++◌, length, drop, inl, inr, refl, sym, ap, subst, ◌∙◌, arith, append_assoc, append-nil, drop_at}
 use Rattle.std.specs.List.{flat_map}
 use Rattle.std.proofs.lemmas.Bool.{or_left, or_right}
 use Rattle.sip_stream.specs.declared.form.Form.{Form}
@@ -22,10 +21,10 @@ use Rattle.sip_verifier.specs.Inquiries.{Inquiry}
 use Rattle.sip_verifier.specs.Moments.{Counts}
 use Rattle.sip_transcript.specs.Agreements.{stops_freely}
 use Rattle.sip_transcript.specs.AlikeAudits.{ConvertAgrees, IsConverted, but_place}
-use Rattle.sip_transcript.specs.Auditing.{Asked, Audit, Audits, Replay, inquiry_in}
+use Rattle.sip_transcript.specs.Auditing.{Audit, Audits, Replay, inquiry_in}
 use Rattle.sip_transcript.specs.Conversions.{in_version_2}
 use Rattle.sip_transcript.specs.Fields.{head_fault}
-use Rattle.sip_transcript.specs.Heads.{Ask, IsRun}
+use Rattle.sip_transcript.specs.Heads.{Ask}
 use Rattle.sip_transcript.specs.Tales.{Tale, all_replies, rest_fault, tale_from, tale_of, transcript_fault}
 use Rattle.sip_transcript.proofs.AuditEnds.{Comes, audit_comes, ends_alike}
 use Rattle.sip_transcript.proofs.Converted.{run_two}

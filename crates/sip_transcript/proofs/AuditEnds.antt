@@ -19,7 +19,7 @@ use Rattle.sip_transcript.specs.Auditing.{Audit, Audits, EndsSo, Replay, exchang
 use Rattle.sip_transcript.specs.Fields.{head_fault}
 use Rattle.sip_transcript.specs.Replaying.{Follows}
 use Rattle.sip_transcript.proofs.AgreedAudits.{could_be_judged}
-use Rattle.sip_transcript.proofs.Respelled.{AreBoth, SameEnd, bytes_in}
+use Rattle.sip_transcript.proofs.Respelled.{AreBoth, bytes_in}
 use Rattle.sip_transcript.proofs.RespelledVerdicts.{inquiry_as, runs_alike}
 use Rattle.sip_transcript.proofs.RunVerdicts.{IsJudgedRun, judged_run}
 
@@ -68,16 +68,21 @@ module _ (form : Form) (a : Audit) (before now : Counts) where
   module _ (p : Replay form a) (verdict : Status) (is : IsTrue (is_verdict verdict)) (ends : EndsSo form a before now verdict p) where
     decides : (given : Status) → (p.more ≡ [] → given ≡ verdict) → (p.more ≢ [] → but_place given ≡ statuses.BadTranscript 0) → ComesSo given
     decides given all some =
-        let could = could_be_judged (inquiry_in form p.asked) (exchange_of form a p) _ _ verdict is ends.cause in
-        (p, inr (no_stop _ _ _ could.0.1 could.1, record {
-          verdict = verdict;
-          talk = p.talk;
-          more = p.more;
-          follows = p.follows;
-          judged = judged_run (inquiry_in form p.asked) (exchange_of form a p) verdict is ends.verdict;
-          all = all;
-          some = some;
-        }))
+        let could = could_be_judged (inquiry_in form p.asked) (exchange_of form a p) _ _ verdict is ends.cause in (
+          p,
+          inr (
+            no_stop _ _ _ could.0.1 could.1,
+            record {
+              verdict = verdict;
+              talk = p.talk;
+              more = p.more;
+              follows = p.follows;
+              judged = judged_run (inquiry_in form p.asked) (exchange_of form a p) verdict is ends.verdict;
+              all = all;
+              some = some;
+            },
+          ),
+        )
 
   pub audit_comes : (given : Status) → Audits form a before now given → IsTrue (stops_freely given) ⊎ ((at : ℕ) × (head_fault a.stored ≡ Some at)) ⊎ ComesSo given
   audit_comes statuses.Accepted (p, ends, more, left, unread) = inr (inr (decides p statuses.Accepted refl ends statuses.Accepted (λ e. refl) (λ other. absurd (other more))))

@@ -1,5 +1,5 @@
 -- A reply whose bytes are those of messages, spelled in another version.
-use Rattle.std.proofs.Common.{◌≡◌, ◌≢◌, ◌⊎◌, ℕ, zero, suc, ◌+◌, ◌≤◌, Bool, true, false, ◌&&◌, Option, Some, None, Result, Ok, Err, List, [], ◌∷◌, ◌++◌, length, take, drop, inl, inr, refl, sym, ap, subst, ◌∙◌, arith, append_assoc, append-nil, length-append}
+use Rattle.std.proofs.Common.{◌≡◌, ◌≢◌, ℕ, ◌+◌, ◌≤◌, Bool, true, false, Option, Some, Result, Ok, Err, List, [], ◌∷◌, ◌++◌, length, take, drop, inl, inr, refl, sym, ap, subst, ◌∙◌, arith, append_assoc, append-nil, length-append}
 use Rattle.std.specs.Prelude.{IsTrue, slice_index}
 use Rattle.std.specs.List.{flat_map}
 use Rattle.std.proofs.lemmas.List.{append_cancel_left}
@@ -14,8 +14,8 @@ use Rattle.sip_wire.specs.declared.message.WireFault.{WireFault}
 use Rattle.sip_wire.specs.declared.message.WireFault.TheVariants as faults
 use Rattle.sip_wire.specs.declared.version.Version.{Version}
 use Rattle.sip_wire.specs.Reading.{read_frame, read_of}
-use Rattle.sip_wire.specs.Spelling.{asked, asked_by, body_of, frame_fault, in_bytes, kind_fault, kind_of, length_in, spelling}
-use Rattle.sip_wire.specs.Table.{allows, byte_of, kind_at, shape}
+use Rattle.sip_wire.specs.Spelling.{asked, asked_by, body_of, frame_fault, in_bytes, kind_fault, kind_of, spelling}
+use Rattle.sip_wire.specs.Table.{allows, byte_of, kind_at}
 use Rattle.sip_wire.proofs.ReadingLaws.{asked-least, asked-spelling, length-spelling, read_frame-closed, read_frame-short, read_frame-spelling}
 use Rattle.sip_wire.proofs.Whole.{kind_again, past_length}
 use Rattle.sip_replies.specs.declared.check.More.{More}
@@ -25,7 +25,7 @@ use Rattle.sip_replies.specs.Replies.{at_end, read_reply, step_says}
 use Rattle.sip_replies.proofs.Reading.{read_reply-fault, read_reply-nil, read_reply-step}
 use Rattle.sip_transcript.specs.Tales.{IsReply}
 use Rattle.sip_transcript.proofs.Borrowed.{closed_or_not, two_fronts}
-use Rattle.sip_transcript.proofs.SameReplies.{IsCutAt, fewer_closed, is_closed, same_err}
+use Rattle.sip_transcript.proofs.SameReplies.{IsCutAt, same_err}
 
 -- ---- lists of bytes
 
@@ -146,7 +146,8 @@ read_few R s bytes le = read_reply-fault R s bytes faults.Closed (read_frame-clo
 abbrev pub in_version : {S : Type 0} → Version → Rules S → Rules S
 in_version w R = record R { version = w }
 
--- A reply whose bytes, and those that follow, are these messages. In the other version it is as whole, or has the same fault, and what follows ends where it did.
+-- A reply whose bytes, and those that follow, are these messages. In the other version it is as whole, or has the same fault, and
+-- what follows ends where it did.
 pub record IsRespelled {S : Type 0} (R : Rules S) (w : Version) (s : S) (reply behind : List ℕ) (ms : List Message) : Type 0 where
   pub respelled : List ℕ
   pub left : List ℕ

@@ -1,13 +1,11 @@
 -- The replies to one query in two versions, over the same messages: they come to the same.
-use Rattle.std.proofs.Common.{◌≡◌, ◌⊎◌, ℕ, ◌+◌, Option, Some, None, Result, Ok, Err, List, [], ◌∷◌, ◌++◌, length, drop, inl, inr, refl, sym, ap, subst, ◌∙◌, arith, append_assoc}
-use Rattle.std.specs.Prelude.{map}
+use Rattle.std.proofs.Common.{◌≡◌, ℕ, ◌+◌, Option, Some, None, Result, Ok, Err, List, [], ◌∷◌, ◌++◌, length, drop, inl, inr, refl, sym, ap, subst, ◌∙◌, arith, append_assoc}
 use Rattle.sip_vector.specs.Answers.{Answer}
 use Rattle.sip_vector.specs.Steps.{◌>>=◌}
 use Rattle.sip_wire.specs.declared.message.Message.{Message}
-use Rattle.sip_wire.specs.declared.message.Reason.{Reason}
 use Rattle.sip_wire.specs.declared.version.Version.{Version}
 use Rattle.sip_replies.specs.Protocols.{Protocol, Rules}
-use Rattle.sip_replies.specs.Replies.{Fault, in_round, joined, learnt, read_reply, run, run_from, verdict}
+use Rattle.sip_replies.specs.Replies.{Fault, in_round, joined, learnt, read_reply, run, run_from}
 use Rattle.sip_transcript.proofs.Respelled.{AreBoth, SameEnd, bytes_end, bytes_in, in_version, one_respelled}
 use Rattle.sip_transcript.proofs.SameReplies.{IsCut, fewer_closed, first_cut, none_behind, ok_or_err, rest_cut, run-nil, run_on, run_stops, same_cut}
 use Rattle.sip_transcript.proofs.SameVerdicts.{Closes, IsJudged, Outcome, judged_cut, judged_found, judged_known}

@@ -1,6 +1,5 @@
 -- Two runs of one inquiry in two versions, over the same messages: they come to the same verdicts.
-use Rattle.std.proofs.Common.{◌≡◌, ◌⊎◌, ℕ, ◌+◌, Option, Some, None, Result, Ok, Err, List, [], ◌∷◌, ◌++◌, length, inl, inr, refl, sym, ap, subst, ◌∙◌, arith, append_assoc}
-use Rattle.std.specs.Prelude.{map}
+use Rattle.std.proofs.Common.{◌≡◌, ℕ, ◌+◌, None, List, [], ◌∷◌, ◌++◌, inl, inr, refl, sym, ap, subst, ◌∙◌, append_assoc}
 use Rattle.sip_ports.specs.declared.port.TalkEvent.{TalkEvent}
 use Rattle.sip_ports.specs.Ports.{heard}
 use Rattle.sip_stream.specs.Records.{records}
@@ -20,7 +19,7 @@ use Rattle.sip_verifier.specs.Inquiries.{Inquiry}
 use Rattle.sip_verifier.specs.Kinds.{heavy_kind, kind_row, sub_kind, sum_kind}
 use Rattle.sip_transcript.specs.Replaying.{Follows}
 use Rattle.sip_transcript.proofs.Respelled.{AreBoth, SameEnd, bytes_end, bytes_in}
-use Rattle.sip_transcript.proofs.RespelledRuns.{Followed, IsAlike, ends_as, one_alike}
+use Rattle.sip_transcript.proofs.RespelledRuns.{IsAlike, ends_as, one_alike}
 use Rattle.sip_transcript.proofs.RunVerdicts.{IsJudgedRun, came_to, told}
 use Rattle.sip_transcript.proofs.SameVerdicts.{AllClose, AreOf, Closes, GoesOn, Judged, Outcome, RowJudged, closes_on, ok_or_fault, replies_of, verdicts}
 
@@ -102,7 +101,8 @@ module _ (v w : Version) (depth : ℕ) (stream : List Update) where
 abbrev pub inquiry_as : Version → Inquiry → Inquiry
 inquiry_as w i = record i { version = w }
 
--- They heard fronts of the same messages, each in its version, and came to the same and wrote the same lines. All messages were heard by both, or by neither.
+-- They heard fronts of the same messages, each in its version. They came to the same and wrote the same lines, and heard all of
+-- the bytes, both or neither.
 pub runs_alike : (i : Inquiry) (w : Version) (bytes : List ℕ) (ms : List Message) (talk other : List TalkEvent) (b a wrote lines : List ℕ) (status given : Status) → AreBoth i.version w ms
     → IsJudgedRun i bytes talk wrote status → IsJudgedRun (inquiry_as w i) bytes other lines given → Follows (bytes_in i.version ms) talk b → Follows (bytes_in w ms) other a
     → SameEnd b a × (given ≡ status) × (lines ≡ wrote)
