@@ -1,6 +1,8 @@
 -- An audit over a transcript that is whole, and one over the same in version 2.
-use Rattle.std.proofs.Common.{◌≡◌, ℕ, zero, suc, ◌+◌, ◌≤◌, Option, Some, None, Result, Ok, Err, List, [], ◌∷◌, ◌++◌, length, drop, inl, inr, refl, sym, ap, subst, ◌∙◌, arith, append_assoc, append-nil, drop_at}
+use Rattle.std.proofs.Common.{◌≡◌, ◌⊎◌, ℕ, zero, suc, ◌+◌, ◌≤◌, Option, Some, None, Result, Ok, Err, List, [], ◌∷◌, ◌++◌, length, drop, inl, inr, refl, sym, ap, subst, ◌∙◌, arith, append_assoc, append-nil, drop_at}
+use Rattle.std.specs.Prelude.{All, IsTrue}
 use Rattle.std.specs.List.{flat_map}
+use Rattle.std.proofs.lemmas.List.Elements.{All-head, All-tail}
 use Rattle.std.proofs.lemmas.Bool.{or_left, or_right}
 use Rattle.sip_stream.specs.declared.form.Form.{Form}
 use Rattle.sip_wire.specs.declared.kind.Place.TheVariants.{ToVerifier}
@@ -20,14 +22,14 @@ use Rattle.sip_verifier.specs.declared.status.Status.{Status}
 use Rattle.sip_verifier.specs.Inquiries.{Inquiry}
 use Rattle.sip_verifier.specs.Moments.{Counts}
 use Rattle.sip_transcript.specs.Agreements.{stops_freely}
-use Rattle.sip_transcript.specs.AlikeAudits.{ConvertAgrees, IsConverted, but_place}
+use Rattle.sip_transcript.specs.AlikeAudits.{ConvertAgrees, IsConverted, TellSame}
 use Rattle.sip_transcript.specs.Auditing.{Audit, Audits, Replay, inquiry_in}
 use Rattle.sip_transcript.specs.Conversions.{in_version_2}
 use Rattle.sip_transcript.specs.Fields.{head_fault}
-use Rattle.sip_transcript.specs.Heads.{Ask}
-use Rattle.sip_transcript.specs.Tales.{Tale, all_replies, rest_fault, tale_from, tale_of, transcript_fault}
+use Rattle.sip_transcript.specs.Heads.{Ask, IsRun}
+use Rattle.sip_transcript.specs.Tales.{IsReply, Tale, all_replies, rest_fault, tale_from, tale_of, transcript_fault}
 use Rattle.sip_transcript.proofs.AuditEnds.{Comes, audit_comes, ends_alike}
-use Rattle.sip_transcript.proofs.Converted.{run_two}
+use Rattle.sip_transcript.proofs.Converted.{replies_two, run_two}
 use Rattle.sip_transcript.proofs.Growing.{run-has_no_fault}
 use Rattle.sip_transcript.proofs.Respelled.{AreBoth, bytes-cons, bytes_in}
 use Rattle.sip_transcript.proofs.RespelledVerdicts.{inquiry_as}
@@ -64,89 +66,94 @@ replies-told : (version : Version) (n : ℕ) (bytes : List ℕ) → length bytes
 replies-told version zero bytes le are = told_by version bytes are (read_frame version ToVerifier bytes) refl (λ m rest less others. absurd (omega (arith, le, less)))
 replies-told version (suc n) bytes le are = told_by version bytes are (read_frame version ToVerifier bytes) refl (λ m rest less others. replies-told version n rest (omega (arith, le, less)) others)
 
+-- the messages of a run are replies in version 2 too
+both-replies : (version : Version) (ms : List Message) → All (IsReply version) ms → AreBoth version Two ms
+both-replies version [] are = tt
+both-replies version (m ∷ ms) are =
+    let first = All-head (IsReply version) m ms are in
+    let second = All-head (IsReply Two) m ms (replies_two version (m ∷ ms) are) in
+    (first, second, both-replies version ms (All-tail (IsReply version) m ms are))
+
 -- ---- a transcript that is whole
 
-none_found : (found : Option ℕ) (size : ℕ) (rest : List ℕ) → ◌≡◌ {A = Option ℕ} (elim found [ Some at ↦ Some at | None ↦ rest_fault size rest ]) None → found ≡ None
-none_found (Some at) size rest e = absurd cc
-none_found None size rest e = refl
-
-no_head_fault : (bytes : List ℕ) → transcript_fault bytes ≡ None → (at : ℕ) → head_fault bytes ≡ Some at → ⊥
-unfolding transcript_fault
-no_head_fault bytes whole at is =
-    let none = none_found (head_fault bytes) (length bytes) (tale_of bytes).rest whole in
-    let both : None ≡ Some at = sym none ∙ is in cc
-
-nothing_behind : (found : Option ℕ) (size : ℕ) (rest : List ℕ) → ◌≡◌ {A = Option ℕ} (elim found [ Some at ↦ Some at | None ↦ rest_fault size rest ]) None → rest ≡ []
+nothing_behind : (found : Option ℕ) (size : ℕ) (rest : List ℕ) → ◌≡◌ {A = Option ℕ} (elim found [ Some at ↦ Some at | None ↦ rest_fault size rest ]) None → (found ≡ None) × (rest ≡ [])
 nothing_behind (Some at) size rest e = absurd cc
-nothing_behind None size [] e = refl
+nothing_behind None size [] e = (refl, refl)
 nothing_behind None size (byte ∷ rest) e = absurd cc
 
-no_rest : (bytes : List ℕ) → transcript_fault bytes ≡ None → (tale_of bytes).rest ≡ []
+whole-parts : (bytes : List ℕ) → transcript_fault bytes ≡ None → (head_fault bytes ≡ None) × ((tale_of bytes).rest ≡ [])
 unfolding transcript_fault
-no_rest bytes none = nothing_behind (head_fault bytes) (length bytes) (tale_of bytes).rest none
+whole-parts bytes none = nothing_behind (head_fault bytes) (length bytes) (tale_of bytes).rest none
 
--- ---- the two audits
+-- ---- an audit of a run's transcript
 
 same_asked : (form : Form) (v w : Version) (d e : ℕ) (q r : List Ask) → v ≡ w → d ≡ e → q ≡ r
     → inquiry_in form (record { version = v; depth = d; asks = q }) ≡ inquiry_in form (record { version = w; depth = e; asks = r })
 same_asked form v w d e q r first second third = cc
 
-module _ (form : Form) (a b : Audit) (c : IsConverted a b) where
-  module _ (p : Replay form a) where
-    abbrev version : Version
-    version = p.asked.version
+module _ (form : Form) (a : Audit) (version : Version) (depth : ℕ) (asks : List Ask) (behind : List ℕ) (run : IsRun version depth asks) (stored : a.stored ≡ transcript version depth asks behind) where
+  abbrev asked_for : Inquiry
+  asked_for = inquiry_in form (record { version = version; depth = depth; asks = asks })
 
-    abbrev ms : List Message
-    ms = (all_replies version p.behind).0
+  -- its head is there
+  no_head_fault : (at : ℕ) → head_fault a.stored ≡ Some at → ⊥
+  no_head_fault at is =
+      let none = ap head_fault stored ∙ run-has_no_fault version depth asks behind (depth-test version depth run.deep run.shallow) (count-test (length asks) run.some run.most) run.each in
+      let both : None ≡ Some at = sym none ∙ is in cc
 
-    tells : tale_of a.stored ≡ tale_from version p.asked.depth (p.asked.asks, p.behind)
-    tells = let run = p.is_run in ap tale_of p.stored ∙ tale-of_run version p.asked.depth p.asked.asks p.behind run.each
+  -- and the run that is replayed is this one
+  come_as : (p : Replay form a) (given : Status) → Comes (inquiry_in form p.asked) p.behind a.stream a.report given → Comes asked_for behind a.stream a.report given
+  come_as p given x =
+      let other = p.is_run in
+      let heads = one_head version p.asked.version depth p.asked.depth asks p.asked.asks behind p.behind run.each other.each (sym stored ∙ p.stored) in
+      let same = subst (λ (i : Inquiry). Comes i p.behind a.stream a.report given) (same_asked form p.asked.version version p.asked.depth depth p.asked.asks asks heads.0 heads.1 heads.2) x in
+      subst (λ (l : List ℕ). Comes asked_for l a.stream a.report given) heads.3 same
 
-    behind-bytes : IsBytes p.behind
-    behind-bytes =
-        let head = head_bytes version p.asked.depth (length p.asked.asks) ++ flat_map (λ (ask : Ask). ask_bytes version ask.0 ask.1) p.asked.asks in
-        subst IsBytes (ap (drop (length head)) p.stored ∙ drop_at head p.behind (length head) refl) (IsBytes-drop (length head) a.stored c.bytes)
+  -- so it ends as such an audit, or stopped freely
+  run_comes : (before now : Counts) (given : Status) → Audits form a before now given → IsTrue (stops_freely given) ⊎ Comes asked_for behind a.stream a.report given
+  run_comes before now given x = elim (audit_comes form a before now given x) [
+    | inl free ↦ inl free
+    | inr (inl head) ↦ absurd (no_head_fault head.0 head.1)
+    | inr (inr p) ↦ inr (come_as p.0 given p.1)
+  ]
 
-    are_told : AreTold version p.behind (all_replies version p.behind)
-    are_told = replies-told version (length p.behind) p.behind (omega arith) behind-bytes
+-- ---- the two audits
 
-    all_told : p.behind ≡ bytes_in version ms
-    all_told =
-        let told = are_told in
-        told.spelled ∙ ap (λ (l : List ℕ). bytes_in version ms ++ l) (sym (ap (λ (t : Tale). t.rest) tells) ∙ no_rest a.stored c.whole) ∙ append-nil (bytes_in version ms)
-
-    module _ (q : Replay form b) where
-      heads : (q.asked.version ≡ Two) × (q.asked.depth ≡ p.asked.depth) × (q.asked.asks ≡ p.asked.asks) × (q.behind ≡ bytes_in Two ms)
-      heads =
-          let run = run_two version p.asked.depth p.asked.asks p.is_run in
-          let other = q.is_run in
-          one_head Two q.asked.version p.asked.depth q.asked.depth p.asked.asks q.asked.asks (bytes_in Two ms) q.behind run.each other.each (sym (c.converted ∙ ap in_version_2 tells) ∙ q.stored)
-
-      both_come : (given other : Status) → Comes (inquiry_in form p.asked) p.behind a.stream a.report given → Comes (inquiry_in form q.asked) q.behind b.stream b.report other
-          → (but_place other ≡ but_place given) × (b.report ≡ a.report)
-      both_come given other x y =
-          let told = are_told in
-          let first = subst (λ (l : List ℕ). Comes (inquiry_in form p.asked) l a.stream a.report given) all_told x in
-          let as_asked = subst (λ (i : Inquiry). Comes i q.behind b.stream b.report other) (same_asked form q.asked.version Two q.asked.depth p.asked.depth q.asked.asks p.asked.asks heads.0 heads.1 heads.2) y in
-          let as_said = subst (λ (l : List ℕ). Comes (inquiry_as Two (inquiry_in form p.asked)) l b.stream b.report other) heads.3 as_asked in
-          let second = subst (λ (l : List ℕ). Comes (inquiry_as Two (inquiry_in form p.asked)) (bytes_in Two ms) l b.report other) c.stream as_said in
-          ends_alike (inquiry_in form p.asked) Two a.stream ms told.both a.report b.report given other first second
-
-    second_head : (at : ℕ) → head_fault b.stored ≡ Some at → ⊥
-    second_head at is =
-        let asks = p.asked.asks in
-        let run = run_two version p.asked.depth asks p.is_run in
-        let none = ap head_fault (c.converted ∙ ap in_version_2 tells) ∙ run-has_no_fault Two p.asked.depth asks (bytes_in Two ms)
-        (depth-test Two p.asked.depth run.deep run.shallow) (count-test (length asks) run.some run.most) run.each in
-        let both : None ≡ Some at = sym none ∙ is in cc
-
-  pub convert_agrees : (earlier later before now : Counts) (given other : Status) → Audits form a earlier later given → Audits form b before now other → ConvertAgrees a b given other
-  convert_agrees earlier later before now given other x y = elim (audit_comes form a earlier later given x) [
+module _ (form : Form) (a b : Audit) (earlier later before now : Counts) (given other : Status) (x : Audits form a earlier later given) (y : Audits form b before now other) where
+  same_agree : (version : Version) (depth : ℕ) (asks : List Ask) (ms : List Message) → IsRun version depth asks → AreBoth version Two ms → a.stored ≡ transcript version depth asks (bytes_in version ms)
+      → b.stored ≡ transcript Two depth asks (bytes_in Two ms) → b.stream ≡ a.stream → ConvertAgrees a b given other
+  same_agree version depth asks ms run both first second stream = elim (run_comes form a version depth asks (bytes_in version ms) run first earlier later given x) [
     | inl free ↦ inr (or_left (stops_freely given) (stops_freely other) free)
-    | inr (inl head) ↦ absurd (no_head_fault a.stored c.whole head.0 head.1)
-    | inr (inr p) ↦ elim (audit_comes form b before now other y) [
+    | inr one ↦ elim (run_comes form b Two depth asks (bytes_in Two ms) (run_two version depth asks run) second before now other y) [
       | inl free ↦ inr (or_right (stops_freely given) (stops_freely other) free)
-      | inr (inl head) ↦ absurd (second_head p.0 head.0 head.1)
-      | inr (inr q) ↦ inl (both_come p.0 q.0 given other p.1 q.1)
+      | inr two ↦ inl (
+          let i = inquiry_in form (record { version = version; depth = depth; asks = asks }) in
+          let here = subst (λ (l : List ℕ). Comes (inquiry_as Two i) (bytes_in Two ms) l b.report other) stream two in
+          ends_alike i Two a.stream ms both a.report b.report given other one here)
     ]
   ]
+
+  -- where the first has the transcript of a run whose replies are messages
+  pub told_agree : TellSame a b → ConvertAgrees a b given other
+  told_agree t = same_agree t.version t.depth t.asks t.replies t.is_run (both-replies t.version t.replies t.are_replies) t.first t.second t.stream
+
+  -- where its transcript is whole, and each is a byte
+  pub convert_agrees : IsConverted a b → ConvertAgrees a b given other
+  convert_agrees c = elim (audit_comes form a earlier later given x) [
+    | inl free ↦ inr (or_left (stops_freely given) (stops_freely other) free)
+    | inr (inl head) ↦ absurd (let none = (whole-parts a.stored c.whole).0 in let both : None ≡ Some head.0 = sym none ∙ head.1 in cc)
+    | inr (inr p) ↦ by_replay p.0
+  ]
+    where
+      by_replay : Replay form a → ConvertAgrees a b given other
+      by_replay p =
+          let run = p.is_run in
+          let version = p.asked.version in
+          let front = head_bytes version p.asked.depth (length p.asked.asks) ++ flat_map (λ (ask : Ask). ask_bytes version ask.0 ask.1) p.asked.asks in
+          let are : IsBytes p.behind = subst IsBytes (ap (drop (length front)) p.stored ∙ drop_at front p.behind (length front) refl) (IsBytes-drop (length front) a.stored c.bytes) in
+          let told = replies-told version (length p.behind) p.behind (omega arith) are in
+          let ms = (all_replies version p.behind).0 in
+          let tells : tale_of a.stored ≡ tale_from version p.asked.depth (p.asked.asks, p.behind) = ap tale_of p.stored ∙ tale-of_run version p.asked.depth p.asked.asks p.behind run.each in
+          let none : (all_replies version p.behind).1 ≡ [] = sym (ap (λ (t : Tale). t.rest) tells) ∙ (whole-parts a.stored c.whole).1 in
+          let all : p.behind ≡ bytes_in version ms = told.spelled ∙ ap (λ (l : List ℕ). bytes_in version ms ++ l) none ∙ append-nil (bytes_in version ms) in
+          same_agree version p.asked.depth p.asked.asks ms run told.both (p.stored ∙ ap (λ (l : List ℕ). transcript version p.asked.depth p.asked.asks l) all) (c.converted ∙ ap in_version_2 tells) c.stream

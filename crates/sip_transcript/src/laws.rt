@@ -20,7 +20,7 @@ ghost use Rattle.sip_verifier.specs.Moments.{Counts as AnyCounts};
 ghost use Rattle.sip_verifier.specs.declared.status.Status.{Status as AnyStatus};
 ghost use Rattle.sip_verifier.specs.declared.task.Task.{Task as AnyTask};
 ghost use Rattle.sip_transcript.specs.Agreements.{AuditAgrees, IsStored};
-ghost use Rattle.sip_transcript.specs.AlikeAudits.{ConvertAgrees, IsConverted};
+ghost use Rattle.sip_transcript.specs.AlikeAudits.{ConvertAgrees, IsConverted, TellSame};
 ghost use Rattle.sip_transcript.specs.Auditing.{Audit, Audits};
 ghost use Rattle.sip_transcript.specs.Conversions.{in_version_2};
 ghost use Rattle.sip_transcript.specs.Examples.{head_by_hand, lines_by_hand, replies_by_hand};
@@ -99,9 +99,13 @@ pub fn audits_agree()
 /// promises. Then they give the same status, but for the place of `BadTranscript`, and write the
 /// same lines, unless a port of one of them failed or memory ran out there.
 pub fn converted_audits_agree()
-    ensures { (form : AnyForm) (a b : Audit) (earlier later before now : AnyCounts)
+    ensures whole { (form : AnyForm) (a b : Audit) (earlier later before now : AnyCounts)
         (given other : AnyStatus)
         → IsConverted a b → Audits form a earlier later given → Audits form b before now other
+        → ConvertAgrees a b given other }
+    ensures told { (form : AnyForm) (a b : Audit) (earlier later before now : AnyCounts)
+        (given other : AnyStatus)
+        → TellSame a b → Audits form a earlier later given → Audits form b before now other
         → ConvertAgrees a b given other }
 {}
 
