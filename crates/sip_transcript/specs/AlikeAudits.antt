@@ -17,6 +17,7 @@ use Rattle.sip_transcript.specs.Tales.{IsReply, tale_of, transcript_fault}
 
 -- the first audit has a transcript that is whole, and the other one has the same in version 2
 pub record IsConverted (a b : Audit) : Type 0 where
+  -- a number that is no byte would be spelled as others
   pub bytes : IsBytes a.stored
   pub whole : transcript_fault a.stored ≡ None
   pub converted : b.stored ≡ in_version_2 (tale_of a.stored)
