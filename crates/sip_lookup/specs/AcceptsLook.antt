@@ -1,6 +1,6 @@
 -- When the replies to a lookup are accepted, what they say, and how many vectors of challenges a
 -- wrong answer can be accepted at. Reply 0 is a Found and the sub-vector's reply 0 behind it.
-use Rattle.std.specs.Prelude.{ℕ, Bool, false, ◌&&◌, ℤ, List, [], ◌∷◌, None, Option, Result, Ok, Err}
+use Rattle.std.specs.Prelude.{ℕ, Bool, false, ◌&&◌, ℤ, List, [], ◌∷◌, Option, Result, Ok, Err}
 use Rattle.sip_field.specs.Moduli.{m61_modulus}
 use Rattle.sip_vector.specs.Steps.{◌>>=◌}
 use Rattle.sip_vector.specs.Trees.{root}
@@ -10,7 +10,7 @@ use Rattle.sip_wire.specs.declared.message.Reason.TheVariants as reasons
 use Rattle.sip_wire.specs.declared.version.Version.{Version}
 use Rattle.sip_subvec.specs.Counting.{accepts_sub, said}
 use Rattle.sip_lookup.specs.Frames.{read_found}
-use Rattle.sip_lookup.specs.Lookups.{Looked, nearest, are_alone, is_possible, is_same_answer, near, range_of, stated_answer}
+use Rattle.sip_lookup.specs.Lookups.{Looked, are_alone, is_possible, is_same_answer, near, range_of, stated_answer}
 use Rattle.sip_lookup.specs.declared.lookup.Lookup.{Lookup}
 
 -- the place that was found, and the sub-vector's replies

@@ -1,9 +1,7 @@
 -- The examples that the laws work out: lookups in (3, 0, 5, 1) at the challenges (2, 10).
-use Rattle.std.specs.Prelude.{ℕ, ℤ, pos, Some, None, List, [], ◌∷◌, ◌++◌, Option, replicate, map}
-use Rattle.std.specs.List.{range_with_len}
+use Rattle.std.specs.Prelude.{ℕ, pos, List, [], ◌∷◌, ◌++◌, Option}
 use Rattle.sip_field.specs.Moduli.{m61_modulus}
 use Rattle.sip_vector.specs.declared.update.Entry.{Entry}
-use Rattle.sip_wire.specs.declared.version.Version.{Version}
 use Rattle.sip_wire.specs.declared.version.Version.TheVariants.{One}
 use Rattle.sip_subvec.specs.Honest.{honest_replies}
 use Rattle.sip_vector.specs.Examples.{four}

@@ -2,10 +2,9 @@
 //! nothing: each contract is a fact that holds.
 #![tactic(auto, unfolding(crate::specs::Frames::read_found, sip_subvec::specs::Honest::honest_messages, sip_wire::specs::Spelling::spelling, sip_wire::specs::Spelling::in_bytes, sip_wire::specs::Spelling::spelled, sip_replies::specs::Replies::run_from, sip_replies::specs::Replies::read_from, sip_wire::specs::Reading::read_frame, sip_wire::specs::Spelling::frame_fault, sip_wire::specs::Spelling::kind_fault, sip_wire::specs::Spelling::body_fault, sip_wire::specs::Spelling::asked, sip_wire::specs::Spelling::numbers_in, sip_wire::specs::Spelling::all_hold))]
 
-ghost use Rattle.std.specs.Prelude.{◌≡◌, [], ◌∷◌, ◌++◌, Ok, Err, Some, None, true, false, pos, replicate, ℕ, List, Option};
+ghost use Rattle.std.specs.Prelude.{◌≡◌, [], ◌∷◌, ◌++◌, Ok, Err, Some, None, true, false, pos, replicate};
 ghost use Rattle.sip_vector.specs.Examples.{four};
 ghost use Rattle.sip_wire.specs.declared.message.Reason.TheVariants as reasons;
-ghost use Rattle.sip_wire.specs.declared.version.Version.{Version};
 ghost use Rattle.sip_wire.specs.declared.version.Version.TheVariants.{One, Two};
 ghost use Rattle.sip_lookup.specs.declared.lookup.Lookup.TheVariants as lookups;
 ghost use Rattle.sip_lookup.specs.AcceptsLook.{accepts_look, is_right};

@@ -12,9 +12,13 @@
 //! | `Frames` | the spelling of Ask, Found and End, and how a Found is read |
 //! | `AcceptsLook` | when replies are accepted, and at how many challenges wrong ones are |
 //!
-//! [`laws`] works out examples of each.
+//! [`laws`] works out examples of each. [`counting`] has the theorem on helpers that lie: at most
+//! d·p^(d-1) of the p^d vectors of challenges have a wrong answer accepted.
+//!
+//! No code runs here yet: the talk of a lookup and the helper's end of it are to come.
 #![tactic(auto)]
 
+pub mod counting;
 pub mod laws;
 mod lookup;
 
