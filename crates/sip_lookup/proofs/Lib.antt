@@ -1,0 +1,2 @@
+pub mod NearEntries
+pub mod FewFooled

@@ -1,0 +1,5 @@
+pub mod Last
+pub mod Lookups
+pub mod Frames
+pub mod AcceptsLook
+pub mod Examples
