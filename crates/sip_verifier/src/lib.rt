@@ -48,6 +48,7 @@ mod seat;
 mod seats;
 mod session;
 mod status;
+mod sub_vector;
 mod task;
 
 pub use checking::{check_stream, conclude};
@@ -57,4 +58,5 @@ pub use report::query_word;
 pub use seats::Seats;
 pub use session::{Session, SessionFault, SessionStart, Verdict};
 pub use status::{Port, Status};
+pub use sub_vector::ask_sub;
 pub use task::Task;
