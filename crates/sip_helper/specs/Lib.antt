@@ -8,4 +8,5 @@ pub mod Vectors
 pub mod SubVectors
 pub mod Sums
 pub mod Turns
+pub mod Shown
 pub mod inside

@@ -2,6 +2,7 @@
 
 ghost use Rattle.std.specs.Prelude.{◌≡◌, ◌≤◌};
 ghost use Rattle.sip_vector.specs.Limits.{most_depth};
+ghost use Rattle.sip_helper.specs.Shown.{opened};
 ghost use Rattle.sip_helper.specs.Turns.{depth_of, part_of, whole_of};
 
 use sip_vector::Depth;
@@ -35,6 +36,16 @@ impl Heard {
         match self {
             Heard::Whole(depth) => Some(depth),
             Heard::Nothing | Heard::Part(_) => None,
+        }
+    }
+
+    /// The depth of the opening, where one was heard.
+    pub(crate) fn opened(self) -> Option<Depth>
+        ensures { result ≡ opened self }
+    {
+        match self {
+            Heard::Nothing => None,
+            Heard::Part(depth) | Heard::Whole(depth) => Some(depth),
         }
     }
 

@@ -1,11 +1,13 @@
 //! The helper's side of a talk, message by message.
 
-ghost use Rattle.std.specs.Prelude.{◌≡◌, ◌<◌, ◌≤◌, Bool, ℕ, IsOk, IsTrue, OnErr, OnOk, ◌↔◌, false, true};
+ghost use Rattle.std.specs.Prelude.{◌≡◌, ◌<◌, ◌≤◌, Bool, ℕ, IsOk, IsTrue, MatchOption, OnErr, OnOk, None, Some, ◌↔◌, false, is_some, true};
 ghost use Rattle.sip_field.specs.Moduli.{m61_modulus};
 ghost use Rattle.sip_ports.specs.Ports.{HasCause, SendsWhole};
+ghost use Rattle.sip_vector.specs.Vectors.{contents};
 ghost use Rattle.sip_wire.specs.Spelling.{fits};
 ghost use Rattle.sip_wire.specs.declared.version.Version.TheVariants.{Two};
 ghost use Rattle.sip_wire.specs.declared.message.Message.TheVariants as messages;
+ghost use Rattle.sip_helper.specs.Shown.{opened, shown_vector};
 ghost use Rattle.sip_helper.specs.Turns.{after_answer, fresh, is_allowed, owed, owes, step};
 
 use crate::OutOfTurn;
@@ -14,7 +16,7 @@ use crate::heard::Heard;
 use crate::vectors::{Vectors, Weights, grown, settled};
 use arrayvec::ArrayVec;
 use sip_ports::{PortStop, Sink};
-use sip_vector::{Depth, Query, Update};
+use sip_vector::{Depth, Query, Side, Update, Vector};
 use sip_wire::{MOST_QUERIES, MOST_ROWS, Message, Version};
 use std::alloc::Global;
 use std::marker::Model;
@@ -201,6 +203,37 @@ impl HelperCore {
         ensures { result ≡ self.now.version }
     {
         self.version
+    }
+
+    /// The depth of the opening; `None` exactly where none was heard.
+    pub fn depth(&self) -> Option<Depth>
+        ensures { result ≡ opened self.now.heard }
+    {
+        self.heard.opened()
+    }
+
+    /// The vector of a side; `None` exactly where the stream has not ended, or memory was refused while it was heard.
+    pub fn vector(&self, side: Side) -> Option<&Vector>
+        ensures { MatchOption result (shown_vector self.now side ≡ None)
+            (λ v. shown_vector self.now side ≡ Some (contents v.now)) }
+    {
+        let Some(_) = self.heard.whole() else {
+            return None;
+        };
+        match &self.vectors {
+            Some(vectors) => Some(vectors.of_side(side)),
+            None => None,
+        }
+    }
+
+    /// Whether a query is open: it was asked, and neither its last reply nor a refusal was given.
+    pub fn query_open(&self) -> bool
+        ensures { result ≡ is_some self.now.open_query }
+    {
+        match &self.asked {
+            Some(_) => true,
+            None => false,
+        }
     }
 
     /// Whether a reply is owed.

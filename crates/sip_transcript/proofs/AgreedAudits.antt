@@ -36,7 +36,7 @@ kept_whole task x bytes statuses.Accepted is keeps = keeps
 kept_whole task x bytes (statuses.Rejected query round reason) is keeps = keeps
 kept_whole task x bytes _ is keeps = absurd cc
 
-could_be_judged : (i : Inquiry) (x : Exchange) (before now : Counts) (status : Status) → IsTrue (is_verdict status) → CauseClause i x before now status → CanBeJudged i x
+pub could_be_judged : (i : Inquiry) (x : Exchange) (before now : Counts) (status : Status) → IsTrue (is_verdict status) → CauseClause i x before now status → CanBeJudged i x
 could_be_judged i x before now statuses.Accepted is cause = cause
 could_be_judged i x before now (statuses.Rejected query round reason) is cause = cause
 could_be_judged i x before now _ is cause = absurd cc

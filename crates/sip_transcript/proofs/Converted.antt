@@ -34,7 +34,7 @@ ask_two version depth ask is =
 asks_two : (version : Version) (depth : ℕ) (asks : List Ask) → All (IsAsk version depth) asks → All (IsAsk Two depth) asks
 asks_two version depth asks are = All-weaker (IsAsk version depth) (IsAsk Two depth) (λ ask is. ask_two version depth ask is) asks are
 
-replies_two : (version : Version) (ms : List Message) → All (IsReply version) ms → All (IsReply Two) ms
+pub replies_two : (version : Version) (ms : List Message) → All (IsReply version) ms → All (IsReply Two) ms
 replies_two version ms are = All-weaker (IsReply version) (IsReply Two) (λ m is. record {
   has_spelling = fits_two version m is.has_spelling;
   allowed = is.allowed;

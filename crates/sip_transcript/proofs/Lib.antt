@@ -20,3 +20,8 @@ pub mod RunVerdicts
 pub mod RunHeads
 pub mod AgreedAudits
 pub mod Converted
+pub mod Respelled
+pub mod RespelledRuns
+pub mod RespelledVerdicts
+pub mod AuditEnds
+pub mod AlikeAudits

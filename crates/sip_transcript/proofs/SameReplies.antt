@@ -18,19 +18,19 @@ run-cons R j rs s r more = refl
 
 -- ---- what is not whole yet
 
-ok_or_err : {X : Type 0} (r : Result X Reason)
+pub ok_or_err : {X : Type 0} (r : Result X Reason)
     → ((x : X) × (r ≡ Ok x)) ⊎ ((reason : Reason) × (r ≡ Err reason))
 ok_or_err (Ok x) = inl (x, refl)
 ok_or_err (Err reason) = inr (reason, refl)
 
-same_err : {X : Type 0} (a b : Reason) → ◌≡◌ {A = Result X Reason} (Err a) (Err b) → a ≡ b
+pub same_err : {X : Type 0} (a b : Reason) → ◌≡◌ {A = Result X Reason} (Err a) (Err b) → a ≡ b
 same_err a b e = cc
 
-ok_no_err : {X : Type 0} (x : X) (b : Reason) → ◌≡◌ {A = Result X Reason} (Ok x) (Err b) → ⊥
+pub ok_no_err : {X : Type 0} (x : X) (b : Reason) → ◌≡◌ {A = Result X Reason} (Ok x) (Err b) → ⊥
 ok_no_err x b e = cc
 
 -- whether more is to come
-is_closed : {X : Type 0} (r : Result X Reason)
+pub is_closed : {X : Type 0} (r : Result X Reason)
     → (r ≡ Err reasons.Closed) ⊎ (r ≢ Err reasons.Closed)
 is_closed (Ok x) = inr (λ e. ok_no_err x reasons.Closed e)
 is_closed (Err reason) = elim (closed_or_not reason) [
@@ -47,7 +47,7 @@ closed_less (Err reason) more g e = elim (closed_or_not reason) [
   | inr other ↦ absurd (other (same_err reason reasons.Closed (sym (g.stays reason refl other) ∙ e)))
 ]
 
-fewer_closed : {S : Type 0} (R : Rules S) (s : S) (front more : List ℕ)
+pub fewer_closed : {S : Type 0} (R : Rules S) (s : S) (front more : List ℕ)
     → read_reply R s (front ++ more) ≡ Err reasons.Closed → read_reply R s front ≡ Err reasons.Closed
 fewer_closed R s front [] e = ap (read_reply R s) (sym (append-nil front)) ∙ e
 fewer_closed R s front (c ∷ cs) e =
@@ -56,9 +56,9 @@ fewer_closed R s front (c ∷ cs) e =
 -- ---- one reply
 
 -- A reply, and what follows it. Where more is to come nothing follows; else more was to come before its last byte.
-record IsCutAt {X : Type 0} (read : List ℕ → Result X Reason) (reply behind : List ℕ) : Type 0 where
-  closed : read reply ≡ Err reasons.Closed → behind ≡ []
-  front : (front : List ℕ) (byte : ℕ) (more : List ℕ) → reply ≡ front ++ byte ∷ more
+pub record IsCutAt {X : Type 0} (read : List ℕ → Result X Reason) (reply behind : List ℕ) : Type 0 where
+  pub closed : read reply ≡ Err reasons.Closed → behind ≡ []
+  pub front : (front : List ℕ) (byte : ℕ) (more : List ℕ) → reply ≡ front ++ byte ∷ more
       → read reply ≢ Err reasons.Closed → read front ≡ Err reasons.Closed
 
 module _ {X : Type 0} (read : List ℕ → Result X Reason)
@@ -75,7 +75,7 @@ module _ {X : Type 0} (read : List ℕ → Result X Reason)
         let none : u ≡ [] = p.closed first in
         let some : u ≡ (c ∷ cs) ++ v = append_cancel_left r u ((c ∷ cs) ++ v) (e ∙ ap (λ (l : List ℕ). l ++ v) is ∙ append_assoc r (c ∷ cs) v) in cc
 
-    same_cut : (r u s v : List ℕ) → IsCutAt read r u → IsCutAt read s v → r ++ u ≡ s ++ v
+    pub same_cut : (r u s v : List ℕ) → IsCutAt read r u → IsCutAt read s v → r ++ u ≡ s ++ v
         → (r ≡ s) × (u ≡ v)
     same_cut r u s v p q e =
         let same : r ≡ s = elim (two_fronts r u s v e) [
@@ -104,22 +104,22 @@ pub record IsCut {S : Type 0} (R : Rules S) (n j : ℕ) (block : List ℕ) (s : 
   pub shortest : (fault : Fault) → run_from R j block s replies ≡ Err fault → fault.reason ≢ reasons.Closed
       → IsShortest (λ l f. run_from R j block s l ≡ Err f) replies
 
-run-nil : {S : Type 0} (R : Rules S) (j : ℕ) (block : List ℕ) (s : S) → run_from R j block s [] ≡ Ok s
+pub run-nil : {S : Type 0} (R : Rules S) (j : ℕ) (block : List ℕ) (s : S) → run_from R j block s [] ≡ Ok s
 unfolding run_from
 run-nil R j block s = refl
 
 module _ {S : Type 0} (R : Rules S) (n j : ℕ) (block : List ℕ) (s : S) where
   -- behind a whole reply the others are read
-  run_on : (h : List ℕ) (x : S) (hs : List (List ℕ)) → read_reply R s h ≡ Ok x
+  pub run_on : (h : List ℕ) (x : S) (hs : List (List ℕ)) → read_reply R s h ≡ Ok x
       → run_from R j block s (h ∷ hs) ≡ run_from R (j + 1) (drop 1 block) (learnt R block x) hs
   run_on h x hs is = run-cons R j block s h hs ∙ ap (λ (r : Result S Reason). in_round j r >>= λ t. run_from R (j + 1) (drop 1 block) (learnt R block t) hs) is
 
-  run_stops : (h : List ℕ) (reason : Reason) (hs : List (List ℕ)) → read_reply R s h ≡ Err reason
+  pub run_stops : (h : List ℕ) (reason : Reason) (hs : List (List ℕ)) → read_reply R s h ≡ Err reason
       → run_from R j block s (h ∷ hs) ≡ Err (record { round = j; reason = reason })
   run_stops h reason hs is = run-cons R j block s h hs ∙ ap (λ (r : Result S Reason). in_round j r >>= λ t. run_from R (j + 1) (drop 1 block) (learnt R block t) hs) is
 
   module _ (h : List ℕ) (hs : List (List ℕ)) (b : List ℕ) (cut : IsCut R n j block s (h ∷ hs) b) where
-    none_behind : (reason : Reason) → read_reply R s h ≡ Err reason → hs ≡ []
+    pub none_behind : (reason : Reason) → read_reply R s h ≡ Err reason → hs ≡ []
     none_behind reason is =
         let last = cut.last (record { round = j; reason = reason }) (run_stops h reason hs is) in
         nil_from_length hs (omega (arith, last))
@@ -143,13 +143,13 @@ module _ {S : Type 0} (R : Rules S) (n j : ℕ) (block : List ℕ) (s : S) where
               fewer_closed R s front last.0 (alone R j block s (front ++ last.0) t.0 t.1 ∙ ap (λ (r : Reason). Err r) t.2);
         }
 
-    first_cut : IsCutAt (read_reply R s) h (joined hs ++ b)
+    pub first_cut : IsCutAt (read_reply R s) h (joined hs ++ b)
     first_cut = elim (ok_or_err (read_reply R s h)) [
       | inl m ↦ whole_cut m.0 m.1
       | inr m ↦ fault_cut m.0 m.1
     ]
 
-    rest_cut : (x : S) → read_reply R s h ≡ Ok x → IsCut R n (j + 1) (drop 1 block) (learnt R block x) hs b
+    pub rest_cut : (x : S) → read_reply R s h ≡ Ok x → IsCut R n (j + 1) (drop 1 block) (learnt R block x) hs b
     rest_cut x is = let on = run_on h x hs is in record {
       few = let few = cut.few in omega (arith, few);
       all = λ t e. let all = cut.all t (on ∙ e) in omega (arith, all);

@@ -79,16 +79,16 @@ module _ {S : Type 0} (P : Protocol S) (block : List ℕ) (replies : List (List 
         );
       }
 
-  judged_cut : (o : Outcome) → P.unasked ≡ None → IsJudged P block replies o → Closes o behind → IsCut P.rules (length block) 0 block P.rules.start replies behind
+  pub judged_cut : (o : Outcome) → P.unasked ≡ None → IsJudged P block replies o → Closes o behind → IsCut P.rules (length block) 0 block P.rules.start replies behind
   judged_cut (Ok answer) is own closes = stated_cut answer (accepted_asked P block replies answer is own)
   judged_cut (Err fault) is own closes = faulty_cut fault own closes
 
-  judged_found : (o : Outcome) → P.unasked ≡ None → IsJudged P block replies o → verdict P block replies ≡ o
+  pub judged_found : (o : Outcome) → P.unasked ≡ None → IsJudged P block replies o → verdict P block replies ≡ o
   judged_found (Ok answer) is own = let stated = accepted_asked P block replies answer is own in stated.found
   judged_found (Err fault) is own = own.found
 
   -- where nothing is asked
-  judged_known : (o : Outcome) (known : Answer) → P.unasked ≡ Some known → IsJudged P block replies o → ([] ≡ replies) × (o ≡ Ok known)
+  pub judged_known : (o : Outcome) (known : Answer) → P.unasked ≡ Some known → IsJudged P block replies o → ([] ≡ replies) × (o ≡ Ok known)
   judged_known (Ok answer) known is own = let x = accepted_unasked P block replies answer known is own in (sym x.0, ap (λ (y : Answer). Ok y) x.1)
   judged_known (Err fault) known is own = absurd (let asked = own.asked in let both : None ≡ Some known = sym asked ∙ is in cc)
 
@@ -113,7 +113,7 @@ row_judged missing block ones others one other b a p q f g e = absurd p
 
 -- ---- all questions
 
-ok_or_fault : (o : Outcome) → ((answer : Answer) × (o ≡ Ok answer)) ⊎ ((fault : Fault) × (o ≡ Err fault))
+pub ok_or_fault : (o : Outcome) → ((answer : Answer) × (o ≡ Ok answer)) ⊎ ((fault : Fault) × (o ≡ Err fault))
 ok_or_fault (Ok answer) = inl (answer, refl)
 ok_or_fault (Err fault) = inr (fault, refl)
 
@@ -157,7 +157,7 @@ module _ (version : Version) (depth : ℕ) (stream : List Update) where
   AllClose [] behind = Unit {0}
   AllClose (x ∷ xs) behind = Closes x.outcome behind × AllClose xs behind
 
-  closes_on : (o : Outcome) (xs : List Judged) (behind : List ℕ) (rest : Type 0) → GoesOn o xs rest → Closes o behind → Closes o (replies_of xs ++ behind)
+  pub closes_on : (o : Outcome) (xs : List Judged) (behind : List ℕ) (rest : Type 0) → GoesOn o xs rest → Closes o behind → Closes o (replies_of xs ++ behind)
   closes_on (Ok answer) xs behind rest on closes = tt
   closes_on (Err fault) xs behind rest none closes = λ is. ap (λ (l : List Judged). replies_of l ++ behind) none ∙ closes is
 

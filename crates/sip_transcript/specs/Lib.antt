@@ -16,3 +16,4 @@ pub mod Pasts
 pub mod Auditing
 pub mod Replayed
 pub mod Agreements
+pub mod AlikeAudits

@@ -5,6 +5,7 @@ ghost use Rattle.std.specs.List.{flat_map};
 ghost use Rattle.sip_ports.specs.Ports.{HearsWhole, ReadsWhole, heard};
 ghost use Rattle.sip_ports.specs.declared.port.PortStop.{PortStop as AnyStop};
 ghost use Rattle.sip_ports.specs.declared.port.TalkEvent.{TalkEvent as AnyEvent};
+ghost use Rattle.sip_stream.specs.declared.form.Form.{Form as AnyForm};
 ghost use Rattle.sip_vector.specs.Answers.{Fits};
 ghost use Rattle.sip_vector.specs.declared.query.Query.{Query as AnyQuery};
 ghost use Rattle.sip_wire.specs.Spelling.{spelling};
@@ -19,6 +20,7 @@ ghost use Rattle.sip_verifier.specs.Moments.{Counts as AnyCounts};
 ghost use Rattle.sip_verifier.specs.declared.status.Status.{Status as AnyStatus};
 ghost use Rattle.sip_verifier.specs.declared.task.Task.{Task as AnyTask};
 ghost use Rattle.sip_transcript.specs.Agreements.{AuditAgrees, IsStored};
+ghost use Rattle.sip_transcript.specs.AlikeAudits.{ConvertAgrees, IsConverted, TellSame};
 ghost use Rattle.sip_transcript.specs.Auditing.{Audit, Audits};
 ghost use Rattle.sip_transcript.specs.Conversions.{in_version_2};
 ghost use Rattle.sip_transcript.specs.Examples.{head_by_hand, lines_by_hand, replies_by_hand};
@@ -90,6 +92,21 @@ pub fn audits_agree()
         (a : Audit) (earlier later : AnyCounts) (given : AnyStatus)
         → IsStored task x before now status a → Audits task.form a earlier later given
         → AuditAgrees x a status given }
+{}
+
+/// Converting a transcript does not change what it shows. Let one audit have a transcript that is
+/// whole, and another one the same in version 2, and let both read the same stream and keep their
+/// promises. Then they give the same status, but for the place of `BadTranscript`, and write the
+/// same lines, unless a port of one of them failed or memory ran out there.
+pub fn converted_audits_agree()
+    ensures whole { (form : AnyForm) (a b : Audit) (earlier later before now : AnyCounts)
+        (given other : AnyStatus)
+        → IsConverted a b → Audits form a earlier later given → Audits form b before now other
+        → ConvertAgrees a b given other }
+    ensures told { (form : AnyForm) (a b : Audit) (earlier later before now : AnyCounts)
+        (given other : AnyStatus)
+        → TellSame a b → Audits form a earlier later given → Audits form b before now other
+        → ConvertAgrees a b given other }
 {}
 
 /// The test of a query at a depth is whether it can be asked there.

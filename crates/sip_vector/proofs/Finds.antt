@@ -1,9 +1,9 @@
 -- Where lists of entries add something.
-use Rattle.std.proofs.Common.{◌≡◌, ◌≢◌, ℕ, zero, suc, ◌+◌, ◌-◌, ◌<◌, ◌≤◌, Bool, true, false, not, ◌&&◌, ltb, leb, filter, drop, List, [], ◌∷◌, length, get_or, take, map, Option, Some, None, slice_get, ℤ, pos, ◌+ℤ◌, nat_abs, refl, sym, ap, ◌∙◌, inl, inr, arith}
+use Rattle.std.proofs.Common.{◌≡◌, ◌≢◌, ℕ, zero, suc, ◌+◌, ◌-◌, ◌<◌, ◌≤◌, Bool, true, false, not, ◌&&◌, ltb, leb, filter, fold, drop, List, [], ◌∷◌, length, get_or, take, map, Option, Some, None, slice_get, ℤ, pos, ◌+ℤ◌, nat_abs, refl, sym, ap, ◌∙◌, inl, inr, arith}
 use Rattle.std.proofs.lemmas.Bool.{cases_lt}
 use Rattle.std.proofs.lemmas.Bool.Decides.{eqb_tells, leb_tells, nat_tests}
 use Rattle.std.proofs.lemmas.Int.{ints}
-use Rattle.std.proofs.lemmas.List.{take_more, length-take-le, length-drop}
+use Rattle.std.proofs.lemmas.List.{take_more}
 use Rattle.std.proofs.lemmas.List.Sorted.{IsPartitionedBy-ltb}
 use Rattle.std.specs.List.Sorted.{IsPartitionedBy, IsPartitionPoint, IsNonDecreasingBy}
 use Rattle.sip_vector.specs.declared.update.Entry.{Entry}
@@ -139,13 +139,21 @@ filter-dropped p q other (e ∷ es) (suc at) parts =
 from_below : (lo : ℕ) (e : Entry) → leb lo e.index ≡ not (ltb e.index lo)
 from_below lo e = grind (arith, nat_tests)
 
-pub count-is : (es : List Entry) (lo hi to from : ℕ) → to ≤ length es
+pub between-is : (es : List Entry) (lo hi to from : ℕ)
     → IsPartitionPoint (λ (e : Entry). leb e.index hi ≡ true) (λ e. leb e.index hi ≡ false) es to
     → IsPartitionPoint (λ (e : Entry). ltb e.index lo ≡ true) (λ e. ltb e.index lo ≡ false) (take to es) from
-    → to - from ≡ length (filter (λ (e : Entry). leb lo e.index && leb e.index hi) es)
-count-is es lo hi to from inside high low =
-    let all = filter-both (λ (e : Entry). leb lo e.index) (λ (e : Entry). leb e.index hi) es
+    → drop from (take to es) ≡ filter (λ (e : Entry). leb lo e.index && leb e.index hi) es
+between-is es lo hi to from high low =
+    sym (filter-both (λ (e : Entry). leb lo e.index) (λ (e : Entry). leb e.index hi) es
     ∙ ap (filter (λ (e : Entry). leb lo e.index)) (filter-taken (λ (e : Entry). leb e.index hi) es to high)
-    ∙ filter-dropped (λ (e : Entry). leb lo e.index) (λ (e : Entry). ltb e.index lo) (from_below lo) (take to es) from low in
-    let taken = length-take-le to es inside in
-    sym (ap length all ∙ length-drop from (take to es) ∙ ap (λ n. n - from) taken)
+    ∙ filter-dropped (λ (e : Entry). leb lo e.index) (λ (e : Entry). ltb e.index lo) (from_below lo) (take to es) from low)
+
+-- ---- the last of some entries
+
+-- the last entry of a list that is not empty, whatever came before
+pub last-of-some : (o : Option Entry) (es : List Entry) (n : ℕ) (d : Entry) → length es ≡ suc n → fold (λ (before : Option Entry) (e : Entry). Some e) o es ≡ Some (get_or es n d)
+last-of-some o [] n d is = cc
+last-of-some o (e ∷ []) zero d is = refl
+last-of-some o (e ∷ []) (suc n) d is = absurd (omega (arith, is))
+last-of-some o (e ∷ f ∷ es) zero d is = absurd (omega (arith, is))
+last-of-some o (e ∷ f ∷ es) (suc n) d is = last-of-some (Some e) (f ∷ es) n d (omega (arith, is))

@@ -1,5 +1,5 @@
 -- What a vector shows, and how it stands for one side of a stream.
-use Rattle.std.specs.Prelude.{ℕ, ◌+◌, ◌^◌, ℤ, pos, ◌+ℤ◌, nat_abs, Bool, not, ◌&&◌, List, replicate, filter, slice_set, slice_index_or, if◌then◌else◌}
+use Rattle.std.specs.Prelude.{ℕ, ◌+◌, ◌^◌, ℤ, pos, ◌+ℤ◌, nat_abs, Bool, not, ◌&&◌, List, Option, Some, None, replicate, filter, fold, slice_set, slice_index_or, if◌then◌else◌}
 use Rattle.sip_vector.specs.declared.update.Side.{Side}
 use Rattle.sip_vector.specs.declared.update.Update.{Update}
 use Rattle.sip_vector.specs.declared.update.Entry.{Entry}
@@ -64,6 +64,10 @@ nonzero_within lo hi numbers = filter (is_nonzero_within lo hi) (entries numbers
 -- all entries that are not 0
 abbrev pub nonzero : List ℤ → List Entry
 nonzero numbers = filter (λ e. not (is_zero e.value)) (entries numbers)
+
+-- the last of these entries
+abbrev pub last_of : List Entry → Option Entry
+last_of es = fold (λ (before : Option Entry) (e : Entry). Some e) None es
 
 -- the numbers of which these are the entries that are not 0
 abbrev pub numbers_of : ℕ → List (ℕ × ℤ) → List ℤ

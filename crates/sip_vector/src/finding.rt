@@ -4,7 +4,7 @@ ghost use Rattle.std.specs.Prelude.{◌≡◌, ℕ, ◌^◌, ◌<◌, ◌≤◌,
 ghost use Rattle.sip_vector.specs.Answers.{is_within};
 ghost use Rattle.sip_vector.specs.Sparse.{IsSparse};
 ghost use Rattle.sip_vector.specs.inside.Gathered.{as_pair, abs_sum, sum_at, IsBare, IsFirstFrom, IsFirstOf, IsListOf};
-ghost use Rattle.sip_vector.specs.Vectors.{SideVector};
+ghost use Rattle.sip_vector.specs.Vectors.{SideVector, last_of};
 ghost use Rattle.sip_vector.specs.Streams.{most_weight};
 
 use crate::Entry;
@@ -74,15 +74,35 @@ pub(crate) fn next_of(entries: &[Entry], from: u64, end: u64) -> u64
     next
 }
 
+// The entries of a rising list from `lo` to `hi`. O(log m).
+pub(crate) fn between(list: &[Entry], lo: u64, hi: u64) -> &[Entry]
+    ensures { (n : ℕ) → IsSparse (pos 0) 0 n (map as_pair list.now)
+        → result.now ≡ filter (λ e. is_within lo hi e.index) list.now }
+{
+    let to = list.partition_point(|entry| entry.index <= hi);
+    let below = &list[..to];
+    let from = below.partition_point(|entry| entry.index < lo);
+    &below[from..]
+}
+
 // How many entries of a rising list are from `lo` to `hi`. O(log m).
 pub(crate) fn count_between(list: &[Entry], lo: u64, hi: u64) -> u64
     ensures { (n : ℕ) → IsSparse (pos 0) 0 n (map as_pair list.now)
         → result ≡ length (filter (λ e. is_within lo hi e.index) list.now) }
 {
-    let to = list.partition_point(|entry| entry.index <= hi);
-    let below = &list[..to];
-    let from = below.partition_point(|entry| entry.index < lo);
-    (to - from) as u64
+    between(list, lo, hi).len() as u64
+}
+
+// The last entry of a rising list from `lo` to `hi`. O(log m).
+pub(crate) fn last_between(list: &[Entry], lo: u64, hi: u64) -> Option<Entry>
+    ensures { (n : ℕ) → IsSparse (pos 0) 0 n (map as_pair list.now)
+        → result ≡ last_of (filter (λ e. is_within lo hi e.index) list.now) }
+{
+    let entries = between(list, lo, hi);
+    if entries.is_empty() {
+        return None;
+    }
+    Some(entries[entries.len() - 1])
 }
 
 // The first entry of a rising list from `from` to `hi`. O(log m).

@@ -2,11 +2,12 @@
 
 ghost use Rattle.std.specs.Prelude.{ℕ, ◌≡◌, ◌+◌, ◌^◌, ◌<◌, ◌≤◌, ◌↔◌, pos, ◌≤ℤ◌, nat_abs, length, sum_by, All, slice_get, IfOk, IfSome, IsSome, OnOk, OnErr, IsTrue, true, false};
 ghost use Rattle.sip_vector.specs.Streams.{int_sum, most_weight};
-ghost use Rattle.sip_vector.specs.Vectors.{contents, number_at, zero_vector, with_added, nonzero, nonzero_within};
+ghost use Rattle.sip_vector.specs.Vectors.{contents, number_at, zero_vector, with_added, nonzero, nonzero_within, last_of};
 ghost use Rattle.sip_vector.specs.inside.Gathered.{IsListOf, IsFirstOf};
 
 use crate::finding::{
-    count_between, first_within, has_no_negative, next_in_list, next_of, sum_of, value_in,
+    count_between, first_within, has_no_negative, last_between, next_in_list, next_of, sum_of,
+    value_in,
 };
 use crate::merging::settled;
 use crate::{Depth, Entry};
@@ -289,6 +290,38 @@ impl Vector {
             at = entry.index + 1;
         }
         count
+    }
+
+    /// The last entry that is not 0 at an index from `lo` to `to`. `None` exactly where there is
+    /// none. O(log m) where nothing is pending, and else a walk over the entries from `lo` on, each
+    /// of them by a `next_entry`; without memory.
+    pub fn last_entry(&self, lo: u64, to: u64) -> Option<Entry>
+        requires order { lo ≤ to }
+        requires within { to < 2 ^ self.now.depth }
+        ensures { result ≡ last_of (nonzero_within lo to self.now.numbers) }
+    {
+        if let Some(list) = self.settled_list() {
+            return last_between(list, lo, to);
+        }
+        self.last_by_walk(lo, to)
+    }
+
+    // The same by a walk over the entries.
+    fn last_by_walk(&self, lo: u64, to: u64) -> Option<Entry>
+        requires order { lo ≤ to }
+        requires within { to < 2 ^ self.now.depth }
+        ensures { result ≡ last_of (nonzero_within lo to self.now.numbers) }
+    {
+        let mut last = None;
+        let mut at = lo;
+        while let Some(entry) = self.next_entry(at, to) {
+            last = Some(entry);
+            if entry.index == to {
+                return last;
+            }
+            at = entry.index + 1;
+        }
+        last
     }
 
     // The first number that is not 0, from index to index at which something was added.

@@ -1,8 +1,9 @@
-use Rattle.std.proofs.Common.{ltb, leb, take, rules, tests}
+use Rattle.std.proofs.Common.{◌∙◌, ltb, leb, take, rules, tests}
+use Rattle.std.proofs.lemmas.List.{take_rest}
 use Rattle.std.proofs.lemmas.List.Sorted.{IsPartitionPoint-from_clause, IsPartitionedBy-leb, IsPartitionedBy-ltb, IsNonDecreasingBy-take}
 use Rattle.sip_vector.specs.declared.update.Entry.{Entry}
-use Rattle.sip_vector.proofs.Finds.{never-falls, count-is}
-use Rattle.sip_vector.proofs.finding.count_between.Goals as goal
+use Rattle.sip_vector.proofs.Finds.{never-falls, between-is}
+use Rattle.sip_vector.proofs.finding.between.Goals as goal
 
 pub returns : goal.returns
 returns c n sparse =
@@ -11,4 +12,5 @@ returns c n sparse =
     let to = c.partition_point-to.result in
     let high = IsPartitionPoint-from_clause (λ e. leb e.index c.args.hi) list to c.partition_point-to.ensures.partitioned (IsPartitionedBy-leb (λ (e : Entry). e.index) list c.args.hi up) (λ a r f called. search (rules, tests)) in
     let low = IsPartitionPoint-from_clause (λ e. ltb e.index c.args.lo) (take to list) c.partition_point-from.result c.partition_point-from.ensures.partitioned (IsPartitionedBy-ltb (λ (e : Entry). e.index) (take to list) c.args.lo (IsNonDecreasingBy-take (λ (e : Entry). e.index) to list up)) (λ a r f called. search (rules, tests)) in
-    count-is list c.args.lo c.args.hi to c.partition_point-from.result c.partition_point-to.ensures.bound high low
+    take_rest (take to list) c.partition_point-from.result
+    ∙ between-is list c.args.lo c.args.hi to c.partition_point-from.result high low
