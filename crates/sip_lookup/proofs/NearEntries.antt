@@ -7,7 +7,7 @@ use Rattle.std.proofs.lemmas.Bool.{cases_Bool, and_parts}
 use Rattle.std.proofs.lemmas.Bool.Decides.{leb_tells}
 use Rattle.sip_vector.specs.declared.update.Entry.{Entry}
 use Rattle.sip_vector.specs.Answers.{is_zero}
-use Rattle.sip_vector.specs.Vectors.{nonzero_within, number_at}
+use Rattle.sip_vector.specs.Vectors.{last_of, nonzero_within, number_at}
 use Rattle.sip_vector.specs.inside.Gathered.{IsFirstOf}
 use Rattle.sip_vector.proofs.Walks.{next-is, nonzero_within-next, nonzero_within-last}
 use Rattle.sip_replies.proofs.SameEntries.{same_entries}
@@ -15,7 +15,6 @@ use Rattle.sip_subvec.specs.AcceptsSub.{stated_value}
 use Rattle.sip_subvec.proofs.HonestEntries.{value_stated}
 use Rattle.sip_lookup.specs.declared.lookup.Lookup.{Lookup}
 use Rattle.sip_lookup.specs.declared.lookup.Lookup.TheVariants.{Index, Pred, Succ}
-use Rattle.sip_lookup.specs.Last.{last_of}
 use Rattle.sip_lookup.specs.Lookups.{Looked, value, nearest, item_of, near, is_same_answer, is_possible, range_of, are_alone, stated_answer}
 
 le_from : (a b : ℕ) → leb a b ≡ true → a ≤ b

@@ -1,4 +1,3 @@
-pub mod Last
 pub mod Lookups
 pub mod Frames
 pub mod AcceptsLook

@@ -5,10 +5,9 @@ use Rattle.std.specs.Option.{option_map}
 use Rattle.std.specs.Ordering.{int_eq}
 use Rattle.std.specs.Cmp.Lexicographic.{pointwise}
 use Rattle.sip_vector.specs.declared.update.Entry.{Entry}
-use Rattle.sip_vector.specs.Vectors.{nonzero_within, number_at}
+use Rattle.sip_vector.specs.Vectors.{last_of, nonzero_within, number_at}
 use Rattle.sip_replies.specs.SameEntries.{is_same_entry}
 use Rattle.sip_subvec.specs.AcceptsSub.{stated_value}
-use Rattle.sip_lookup.specs.Last.{last_of}
 use Rattle.sip_lookup.specs.declared.lookup.Lookup.{Lookup}
 use Rattle.sip_lookup.specs.declared.lookup.Lookup.TheVariants.{Index, Pred, Succ}
 
