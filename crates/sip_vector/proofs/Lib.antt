@@ -1,5 +1,6 @@
 pub mod Dense
 pub mod Merges
+pub mod Waits
 pub mod Gathers
 pub mod Finds
 pub mod Folds

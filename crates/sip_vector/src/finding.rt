@@ -8,6 +8,7 @@ ghost use Rattle.sip_vector.specs.Vectors.{SideVector, last_of};
 ghost use Rattle.sip_vector.specs.Streams.{most_weight};
 
 use crate::Entry;
+use crate::waiting::Waiting;
 
 // The first entry of a rising list at `from` or after it. O(log m).
 pub(crate) fn first_from(list: &[Entry], from: u64) -> Option<Entry>
@@ -42,13 +43,14 @@ pub(crate) fn next_in_list(list: &[Entry], from: u64, end: u64) -> u64
     }
 }
 
-// What entries add at an index.
-pub(crate) fn sum_of(entries: &[Entry], index: u64) -> i64
+// What waiting entries add at an index.
+pub(crate) fn sum_of(entries: &[Waiting], index: u64) -> i64
     requires { abs_sum entries.now ≤ most_weight }
     ensures { result ≡ sum_at entries.now index }
 {
     let mut sum = 0;
-    for entry in entries {
+    for waiting in entries {
+        let entry = waiting.entry();
         if entry.index != index {
             continue;
         }
@@ -57,19 +59,20 @@ pub(crate) fn sum_of(entries: &[Entry], index: u64) -> i64
     sum
 }
 
-// The lowest index of the entries from `from` on, or `end` where that is lower.
-pub(crate) fn next_of(entries: &[Entry], from: u64, end: u64) -> u64
+// The lowest index of the waiting entries from `from` on, or `end` where that is lower.
+pub(crate) fn next_of(entries: &[Waiting], from: u64, end: u64) -> u64
     requires { from ≤ end }
     ensures from { from ≤ result }
     ensures end { result ≤ end }
     ensures bare { IsBare entries.now from result }
 {
     let mut next = end;
-    for entry in entries {
-        if entry.index < from || next <= entry.index {
+    for waiting in entries {
+        let index = waiting.index();
+        if index < from || next <= index {
             continue;
         }
-        next = entry.index;
+        next = index;
     }
     next
 }

@@ -57,6 +57,7 @@ mod side;
 mod threshold;
 mod update;
 mod vector;
+mod waiting;
 
 pub use depth::{CAP, Depth};
 pub use level::{Level, Spot};

@@ -7,25 +7,27 @@ ghost use Rattle.sip_vector.specs.inside.Gathered.{as_pair, abs_sum, with_last, 
 ghost use Rattle.sip_vector.specs.Streams.{most_weight};
 
 use crate::Entry;
+use crate::waiting::Waiting;
 use sip_field::OutOfMemory;
 use std::alloc::Global;
 
 // The entry with the lower index at the front of the two lists, and the lists without it.
 fn take_lower<'a>(
     list: &'a [Entry],
-    added: &'a [Entry],
-) -> Option<(Entry, &'a [Entry], &'a [Entry])>
+    added: &'a [Waiting],
+) -> Option<(Entry, &'a [Entry], &'a [Waiting])>
     ensures { MatchOption result ((list.now ≡ []) × (added.now ≡ []))
         (λ r. IsTaken list.now added.now r.0 r.1.now r.2.now) }
 {
     match (list, added) {
         ([], []) => None,
         ([first, rest @ ..], []) => Some((*first, rest, added)),
-        ([], [first, rest @ ..]) => Some((*first, list, rest)),
+        ([], [first, rest @ ..]) => Some((first.entry(), list, rest)),
         ([first, ..], [other, ..]) => {
+            let other = other.entry();
             // Which list is next is as good as random: a branch would be guessed wrongly for every other entry.
             let is_listed = first.index <= other.index;
-            let entry = if is_listed { *first } else { *other };
+            let entry = if is_listed { *first } else { other };
             let count = usize::from(is_listed);
             Some((entry, &list[count..], &added[1 - count..]))
         }
@@ -46,7 +48,7 @@ pub(crate) fn put(out: &mut Vec<Entry>, entry: Entry) -> Result<(), OutOfMemory>
 pub(crate) fn merged(
     alloc: Global,
     list: &[Entry],
-    added: &[Entry],
+    added: &[Waiting],
 ) -> Result<Vec<Entry>, OutOfMemory>
     requires { abs_sum list.now + abs_sum added.now ≤ most_weight }
     ensures merged { IfOk result (λ out. (n : ℕ) → 0 < n → IsRising 0 n list.now
@@ -77,7 +79,7 @@ pub(crate) fn merged(
 pub(crate) fn settled(
     alloc: Global,
     list: &[Entry],
-    pending: &mut Vec<Entry>,
+    pending: &mut Vec<Waiting>,
 ) -> Result<Vec<Entry>, OutOfMemory>
     requires { abs_sum list.now + abs_sum pending.old.items ≤ most_weight }
     ensures permutation { IsPermutation pending.old.items pending.new.items }
@@ -87,6 +89,6 @@ pub(crate) fn settled(
     ensures light { IfOk result (λ out. abs_sum out.items
         ≤ abs_sum list.now + abs_sum pending.old.items) }
 {
-    pending.sort_unstable_by_key(|entry| entry.index);
+    pending.sort_unstable_by_key(|waiting| waiting.index());
     merged(alloc, list, pending)
 }

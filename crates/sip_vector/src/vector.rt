@@ -10,6 +10,7 @@ use crate::finding::{
     value_in,
 };
 use crate::merging::settled;
+use crate::waiting::{Waiting, wait};
 use crate::{Depth, Entry};
 use sip_field::OutOfMemory;
 use std::alloc::Global;
@@ -17,7 +18,7 @@ use std::marker::Model;
 
 // As many additions may wait in any vector, which take 4 MiB. In one with a longer list as many may
 // wait as the list has entries, so that a merge is paid by the additions before it.
-const MOST_PENDING: usize = 1 << 18;
+const MOST_PENDING: usize = 1 << 19;
 
 /// The vector that one side's updates add up to: `2^depth` numbers.
 ///
@@ -27,13 +28,13 @@ const MOST_PENDING: usize = 1 << 18;
 /// Only the entries that are not 0 take memory, as a list that rises, and the additions that are
 /// pending, in the order in which they came. Every call is right while additions are pending, and
 /// quick where none is, as after `settle`. In the costs below m is the length of the list and p the
-/// number of additions that are pending: none after `settle`, and else at most 2^18 or m, whichever
+/// number of additions that are pending: none after `settle`, and else at most 2^19 or m, whichever
 /// is more.
 #[derive(Drop)]
 pub struct Vector {
     depth: Depth,
     list: Vec<Entry>,
-    pending: Vec<Entry>,
+    pending: Vec<Waiting>,
     total: i64,
     weight: u64,
 }
@@ -93,11 +94,9 @@ impl Vector {
         ensures pending { OnOk result (self.new.is_settled ≡ false) }
         ensures err { OnErr result (self.new ≡ self.old) }
     {
-        let entry = Entry {
-            index,
-            value: delta,
-        };
-        self.pending.push(entry)?;
+        // The proof wants the bound of the depth.
+        let _ = self.depth.get();
+        wait(&mut self.pending, index, delta)?;
         self.total += delta;
         self.weight += delta.unsigned_abs();
         Ok(())

@@ -56,6 +56,14 @@ pub record IsMerged (n : ℕ) (list added merged : List Entry) : Type 0 where
   pub sparse : IsSparse (pos 0) 0 n (map as_pair merged)
   pub sums : (k : ℕ) → sum_at merged k ≡ sum_at list k +ℤ sum_at added k
 
+-- entries to which one more is added, as one or as several that add up to it
+pub record IsAdded (index : ℕ) (delta : ℤ) (before after : List Entry) : Type 0 where
+  pub sums : (k : ℕ) → sum_at after k
+      ≡ sum_at before k +ℤ value_at (record { index = index; value = delta }) k
+  pub light : abs_sum after ≤ abs_sum before + nat_abs delta
+  pub within : (n : ℕ) → index < n → All (λ e. e.index < n) before → All (λ e. e.index < n) after
+  pub some : 0 < length after
+
 -- the numbers of a vector with this list and these pending entries
 abbrev pub gathered : ℕ → List Entry → List Entry → List ℤ
 gathered depth list pending = raised (numbers_of depth (map as_pair list)) pending
