@@ -1,18 +1,14 @@
 -- The lower one is taken of the list that it stands in front of.
-use Rattle.std.proofs.Common.{◌≡◌, ◌∙◌, ◌-◌, ◌<◌, ◌≤◌, List, [], ◌∷◌, arith, drop, get_or, length, pos, refl, rules, take}
+use Rattle.std.proofs.Common.{◌≡◌, ◌∙◌, ◌-◌, ◌<◌, ◌≤◌, List, [], ◌∷◌, arith, drop, get_or, length, pos, rules, take}
 use Rattle.std.proofs.lemmas.List.{length-drop, take_all}
 use Rattle.sip_vector.specs.declared.update.Entry.{Entry}
 use Rattle.sip_vector.specs.inside.Gathered.{IsTaken}
+use Rattle.sip_vector.proofs.Finds.{get_or-any}
 use Rattle.sip_vector.proofs.merging.take_lower.Goals as goal
 use Rattle.sip_vector.proofs.merging.take_lower.Goals.{then-is_listed, else-is_listed}
 
 none : Entry
 none = record { index = 0; value = pos 0 }
-
--- the first of some entries, whatever stands for it where there are none
-first_of : (entries : List Entry) (e : Entry) → 1 ≤ length entries → get_or entries 0 e ≡ get_or entries 0 none
-first_of [] e some = absurd (omega (arith, some))
-first_of (x ∷ xs) e some = refl
 
 -- all that is left behind some entries
 left_at : (n : _) (entries : _) → take (length entries - n) (drop n entries) ≡ drop {A = Entry} n entries
@@ -47,7 +43,7 @@ returns-after-is_listed c =
     let added = c.args.added.now in
     let some : 1 ≤ length list = search rules in
     let others : 1 ≤ length added = search rules in
-    let front : c.entry-other.result ≡ get_or added 0 none = c.entry-other.ensures ∙ c.other-item.is ∙ first_of added c.other-item.result others in
+    let front : c.entry-other.result ≡ get_or added 0 none = c.entry-other.ensures ∙ c.other-item.is ∙ get_or-any added 0 c.other-item.result none others in
     elim c.if-is_listed.branch [
       | then-is_listed w ↦
           let count : c.from-count.result ≡ 1 = search rules in
