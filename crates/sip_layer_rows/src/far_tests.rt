@@ -10,7 +10,7 @@ use std::test::Fail;
 const ITEMS: u64 = 1 << Depth::MOST;
 
 // More than two merges want, of which the second is of two long lists.
-const ADDITIONS: u64 = 600_000;
+const ADDITIONS: u64 = 1_100_000;
 
 // The item of an addition, far from those of the additions before it. The factor is odd, so that
 // each has an item of its own.

@@ -26,7 +26,6 @@ impl Pair {
     }
 
     // Adds -3 to 3 to one of the numbers, by the linear congruential generator of Knuth's MMIX.
-    // Where memory is refused the vector must be as it was, and take the addition then.
     fn add(&mut self, rt: &impl Abort) -> Result<(), Fail> {
         self.state = self
             .state
@@ -34,6 +33,11 @@ impl Pair {
             .wrapping_add(1_442_695_040_888_963_407);
         let index = self.state >> 61;
         let delta = (self.state >> 32) as i64 % 4;
+        self.add_at(rt, index, delta)
+    }
+
+    // Where memory is refused the vector must be as it was, and take the addition then.
+    fn add_at(&mut self, rt: &impl Abort, index: u64, delta: i64) -> Result<(), Fail> {
         if !added(&mut self.vector, index, delta)? {
             self.shows(rt);
             expect(rt, 0, &[added(&mut self.vector, index, delta)?]);
@@ -128,10 +132,34 @@ impl Pair {
 fn want_of_memory_leaves_a_vector_as_it_was(rt: HostRuntime) -> Result<(), Fail> {
     let mut pair = Pair::new(rt.alloc())?;
     // More than may wait: one of them begins with a merge.
-    for _ in 0..270_000 {
+    for _ in 0..530_000 {
         pair.add(&rt)?;
     }
     pair.shows(&rt);
+    pair.settle(&rt)?;
+    pair.shows(&rt);
+    pair.lends(&rt)
+}
+
+// Deltas about the greatest that waits in one word, and far from it.
+const DELTAS: [i64; 8] = [
+    32_767,
+    32_768,
+    -32_767,
+    -32_768,
+    -32_769,
+    65_535,
+    536_870_912,
+    -400_000_000,
+];
+
+#[test]
+fn a_large_delta_is_added_whole_or_not_at_all(rt: HostRuntime) -> Result<(), Fail> {
+    let mut pair = Pair::new(rt.alloc())?;
+    for (index, delta) in DELTAS.iter().enumerate() {
+        pair.add_at(&rt, index as u64, *delta)?;
+        pair.shows(&rt);
+    }
     pair.settle(&rt)?;
     pair.shows(&rt);
     pair.lends(&rt)

@@ -29,12 +29,12 @@
 //! # Cost
 //!
 //! In these m is the length of the list of entries, or of nodes, that are not 0, and p the number
-//! of additions to a vector that are pending: none after `Vector::settle`, and else at most 2^18 or
-//! m, whichever is more.
+//! of additions to a vector that are pending: none after `Vector::settle`, and else at most 2^19 or
+//! m, whichever is more. A large addition counts as several (see [`Vector`]).
 //!
 //! | Call | Time | Memory |
 //! |---|---|---|
-//! | `Vector::add` | O(log p) over many calls | one entry; once in a while as `settle` |
+//! | `Vector::add` | O(log p) over many calls | half of an entry; once in a while as `settle` |
 //! | `Vector::settle` | O(m + p log p) | as many entries as m + p |
 //! | `Vector::get` | O(log m + p) | none |
 //! | `Vector::entries_with_pending` | O(m + p log p) | as many entries as m + p |

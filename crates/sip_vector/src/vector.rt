@@ -29,7 +29,9 @@ const MOST_PENDING: usize = 1 << 19;
 /// pending, in the order in which they came. Every call is right while additions are pending, and
 /// quick where none is, as after `settle`. In the costs below m is the length of the list and p the
 /// number of additions that are pending: none after `settle`, and else at most 2^19 or m, whichever
-/// is more.
+/// is more. An addition whose delta is above 2^15 - 1, or below -(2^15 - 1), counts as one for each
+/// 2^15 - 1 of it and one for what is left. The weight lets these be about 2^15 in all, and a merge
+/// comes after such an addition, not within it.
 #[derive(Drop)]
 pub struct Vector {
     depth: Depth,
@@ -72,7 +74,8 @@ impl Vector {
     }
 
     /// Adds `delta` to the entry at `index`. Want of memory leaves the vector as it was. O(log p)
-    /// over many calls; one call in many merges what is pending.
+    /// over many calls, for each addition that this one counts as; one call in many merges what is
+    /// pending.
     pub fn add(&mut self, index: u64, delta: i64) -> Result<(), OutOfMemory>
         requires within { index < 2 ^ self.old.depth }
         requires light { self.old.weight + nat_abs delta ≤ most_weight }

@@ -12,6 +12,7 @@ use std::marker::Model;
 
 // An index has 48 bits, so 16 are left for a value, which is kept above the least of them.
 const VALUES: u64 = 1 << 16;
+
 const OFFSET: i64 = 1 << 15;
 
 // The greatest value of a word. A greater one waits in several words.
@@ -85,12 +86,7 @@ fn part_of(delta: i64) -> i64
 }
 
 // Lets an addition wait, a large one as several. Want of memory leaves those before as they were.
-// The weights of a side let 2^15 words be more than there are additions, and no more.
-pub(crate) fn wait(
-    pending: &mut Vec<Waiting>,
-    index: u64,
-    delta: i64,
-) -> Result<(), OutOfMemory>
+pub(crate) fn wait(pending: &mut Vec<Waiting>, index: u64, delta: i64) -> Result<(), OutOfMemory>
     requires within { index < 2 ^ most_depth }
     requires light { nat_abs delta ≤ most_weight }
     ensures ok { OnOk result (IsAdded index delta pending.old.items pending.new.items) }
