@@ -1,5 +1,5 @@
 -- Where lists of entries add something.
-use Rattle.std.proofs.Common.{◌≡◌, ◌≢◌, ℕ, zero, suc, ◌+◌, ◌-◌, ◌<◌, ◌≤◌, Bool, true, false, not, ◌&&◌, ltb, leb, filter, fold, drop, List, [], ◌∷◌, length, get_or, take, map, Option, Some, None, slice_get, ℤ, pos, ◌+ℤ◌, nat_abs, refl, sym, ap, ◌∙◌, inl, inr, arith}
+use Rattle.std.proofs.Common.{◌≡◌, ◌≢◌, ℕ, zero, suc, ◌+◌, ◌<◌, ◌≤◌, Bool, true, false, not, ◌&&◌, ltb, leb, filter, fold, drop, List, [], ◌∷◌, length, get_or, take, map, Option, Some, None, slice_get, ℤ, pos, ◌+ℤ◌, nat_abs, refl, sym, ap, ◌∙◌, inl, inr, arith}
 use Rattle.std.proofs.lemmas.Bool.{cases_lt}
 use Rattle.std.proofs.lemmas.Bool.Decides.{eqb_tells, leb_tells, nat_tests}
 use Rattle.std.proofs.lemmas.Int.{ints}

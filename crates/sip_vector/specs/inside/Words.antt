@@ -1,5 +1,5 @@
 -- Entries in one word: the index above 16 bits, and the value more 2^15 in them.
-use Rattle.std.specs.Prelude.{ℕ, ◌+◌, ◌-◌, ◌*◌, ◌/◌, ◌%◌, ◌^◌, ℤ, pos, ◌+ℤ◌, ◌-ℤ◌, nat_abs}
+use Rattle.std.specs.Prelude.{ℕ, ◌+◌, ◌-◌, ◌*◌, ◌/◌, ◌%◌, ◌^◌, pos, ◌+ℤ◌, ◌-ℤ◌, nat_abs}
 use Rattle.sip_vector.specs.declared.update.Entry.{Entry}
 
 -- how many values a word can have

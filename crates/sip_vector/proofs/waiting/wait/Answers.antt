@@ -1,4 +1,4 @@
-use Rattle.std.proofs.Common.{◌≡◌, ◌+◌, ◌<◌, ◌≤◌, ◌-ℤ◌, ◌∷◌, [], ◌++◌, length, pos, nat_abs, to_z, w64, sym, ap, ◌∙◌, arith}
+use Rattle.std.proofs.Common.{◌≡◌, ◌≤◌, ◌-ℤ◌, ◌∷◌, [], ◌++◌, pos, nat_abs, to_z, w64, sym, ap, ◌∙◌, arith}
 use Rattle.std.proofs.lemmas.List.{length-append}
 use Rattle.sip_vector.specs.Streams.{most_weight}
 use Rattle.sip_vector.specs.declared.update.Entry.{Entry}

@@ -1,4 +1,4 @@
-use Rattle.std.proofs.Common.{◌≡◌, ◌^◌, ◌+◌, ◌<◌, ◌≤◌, ◌+ℤ◌, nat_abs, refl, sym, subst, arith}
+use Rattle.std.proofs.Common.{◌^◌, ◌+◌, ◌<◌, ◌≤◌, ◌+ℤ◌, nat_abs, refl, sym, subst, arith}
 use Rattle.std.proofs.Math.Nat.{pow-le-pow_right}
 use Rattle.sip_vector.specs.Vectors.{StoredVector}
 use Rattle.sip_vector.specs.Streams.{most_weight}
