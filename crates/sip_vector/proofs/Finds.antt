@@ -13,7 +13,8 @@ use Rattle.sip_vector.proofs.Filters.{filter-both}
 use Rattle.sip_vector.proofs.Merges.{sum_at-append, abs_sum-append, IsRising-sparse}
 
 -- an entry that is there, whatever stands for one that is not
-pub get_or-any : (es : List Entry) (i : ℕ) (d e : Entry) → i < length es → get_or es i d ≡ get_or es i e
+pub get_or-any : (es : List Entry) (i : ℕ) (d e : Entry) → i < length es
+    → get_or es i d ≡ get_or es i e
 get_or-any [] i d e lt = absurd (omega (arith, lt))
 get_or-any (x ∷ xs) zero d e lt = refl
 get_or-any (x ∷ xs) (suc i) d e lt = get_or-any xs i d e (omega (arith, lt))

@@ -9,16 +9,19 @@ use Rattle.sip_vector.specs.inside.Gathered.{value_at, sum_at, abs_sum, gathered
 use Rattle.sip_vector.proofs.Gathers.{same_gathered, gathered-push, IsGathered-push}
 use Rattle.sip_vector.proofs.Merges.{sum_at-append, abs_sum-append, value_at-both}
 
--- so much of an addition is left, and `after` has the rest of it behind those that were there before
+-- so much of an addition is left, and `after` has the rest of it behind those before
 pub record IsPartOf (index : ℕ) (delta left : ℤ) (before after : List Entry) : Type 0 where
-  pub sums : (k : ℕ) → sum_at after k +ℤ value_at (record { index = index; value = left }) k ≡ sum_at before k +ℤ value_at (record { index = index; value = delta }) k
+  pub sums : (k : ℕ) → sum_at after k +ℤ value_at (record { index = index; value = left }) k
+      ≡ sum_at before k +ℤ value_at (record { index = index; value = delta }) k
   pub light : abs_sum after + nat_abs left ≤ abs_sum before + nat_abs delta
-  pub within : (n : ℕ) → index < n → All (λ (e : Entry). e.index < n) before → All (λ (e : Entry). e.index < n) after
+  pub within : (n : ℕ) → index < n → All (λ (e : Entry). e.index < n) before
+      → All (λ (e : Entry). e.index < n) after
   pub longer : length before ≤ length after
   pub kept : take (length before) after ≡ before
   pub least : nat_abs left ≤ nat_abs delta
 
-pub part-init : (index : ℕ) (delta : ℤ) (before : List Entry) → take (length before) before ≡ before → IsPartOf index delta delta before before
+pub part-init : (index : ℕ) (delta : ℤ) (before : List Entry)
+    → take (length before) before ≡ before → IsPartOf index delta delta before before
 part-init index delta before all = record {
   sums = λ k. refl;
   light = omega arith;
@@ -34,25 +37,32 @@ parted left part = omega (arith, ints)
 regrouped : (s v a b d : ℤ) → s +ℤ v ≡ d → v ≡ a +ℤ b → (s +ℤ (a +ℤ pos 0)) +ℤ b ≡ d
 regrouped s v a b d e f = omega (arith, ints, e, f)
 
-module _ (index : ℕ) (delta left part : ℤ) (before after : List Entry) (so_far : IsPartOf index delta left before after) where
+module _ (index : ℕ) (delta left part : ℤ) (before after : List Entry)
+    (so_far : IsPartOf index delta left before after) where
   abbrev piece : Entry
   piece = record { index = index; value = part }
 
-  pub part-more : nat_abs left ≡ nat_abs part + nat_abs (left -ℤ part) → IsPartOf index delta (left -ℤ part) before (after ++ piece ∷ [])
+  pub part-more : nat_abs left ≡ nat_abs part + nat_abs (left -ℤ part)
+      → IsPartOf index delta (left -ℤ part) before (after ++ piece ∷ [])
   part-more split = record {
     sums = λ k.
-        let both : value_at (record { index = index; value = left }) k ≡ value_at piece k +ℤ value_at (record { index = index; value = left -ℤ part }) k =
-        ap (λ z. value_at (record { index = index; value = z }) k) (sym (parted left part)) ∙ value_at-both index part (left -ℤ part) k in
+        let whole = value_at (record { index = index; value = left }) k in
+        let rest = value_at (record { index = index; value = left -ℤ part }) k in
+        let both : whole ≡ value_at piece k +ℤ rest =
+        ap (λ z. value_at (record { index = index; value = z }) k) (sym (parted left part))
+        ∙ value_at-both index part (left -ℤ part) k in
         rw (sum_at-append after (piece ∷ []) k)
-        (regrouped (sum_at after k) (value_at (record { index = index; value = left }) k) (value_at piece k) (value_at (record { index = index; value = left -ℤ part }) k) _ (so_far.sums k) both);
+        (regrouped (sum_at after k) whole (value_at piece k) rest _ (so_far.sums k) both);
     light = omega (arith, split, so_far.light, abs_sum-append after (piece ∷ []));
-    within = λ n below inside. All-push (λ (e : Entry). e.index < n) after piece (so_far.within n below inside) below;
+    within = λ n below inside.
+        All-push (λ (e : Entry). e.index < n) after piece (so_far.within n below inside) below;
     longer = omega (arith, so_far.longer, length-append after (piece ∷ []));
     kept = take-append-le (length before) after (piece ∷ []) so_far.longer ∙ so_far.kept;
     least = omega (arith, split, so_far.least);
   }
 
-value_at-none : (index : ℕ) (left : ℤ) (k : ℕ) → left ≡ pos 0 → value_at (record { index = index; value = left }) k ≡ pos 0
+value_at-none : (index : ℕ) (left : ℤ) (k : ℕ) → left ≡ pos 0
+    → value_at (record { index = index; value = left }) k ≡ pos 0
 value_at-none index left k none = rw none (if_same (eqb index k))
   where
     if_same : (b : Bool) → (if b then pos 0 else pos 0) ≡ pos 0
@@ -62,7 +72,9 @@ value_at-none index left k none = rw none (if_same (eqb index k))
 without : (s v d : ℤ) → s +ℤ v ≡ d → v ≡ pos 0 → s ≡ d
 without s v d e f = omega (arith, ints, e, f)
 
-pub part-done : (index : ℕ) (delta left : ℤ) (before after : List Entry) → IsPartOf index delta left before after → left ≡ pos 0 → 0 < length after → IsAdded index delta before after
+pub part-done : (index : ℕ) (delta left : ℤ) (before after : List Entry)
+    → IsPartOf index delta left before after → left ≡ pos 0 → 0 < length after
+    → IsAdded index delta before after
 part-done index delta left before after so_far none some = record {
   sums = λ k. without _ _ _ (so_far.sums k) (value_at-none index left k none);
   light = omega (arith, so_far.light);
@@ -75,21 +87,29 @@ part-done index delta left before after so_far none some = record {
 same_at : (l a b v : ℤ) → a ≡ b +ℤ v → l +ℤ a ≡ l +ℤ (b +ℤ (v +ℤ pos 0))
 same_at l a b v e = omega (arith, ints, e)
 
-module _ (depth : ℕ) (list pending : List Entry) (total : ℤ) (weight : ℕ) (is : IsGathered depth list pending total weight)
-    (index : ℕ) (delta : ℤ) (below : index < 2 ^ depth) (light : weight + nat_abs delta ≤ most_weight)
+module _ (depth : ℕ) (list pending : List Entry) (total : ℤ) (weight : ℕ)
+    (is : IsGathered depth list pending total weight)
+    (index : ℕ) (delta : ℤ) (below : index < 2 ^ depth)
+    (light : weight + nat_abs delta ≤ most_weight)
     (after : List Entry) (added : IsAdded index delta pending after) where
   abbrev addition : Entry
   addition = record { index = index; value = delta }
 
   as_pushed : gathered depth list after ≡ gathered depth list (pending ++ addition ∷ [])
-  as_pushed = same_gathered depth list (pending ++ addition ∷ []) list after is.sparse is.sparse (λ k.
-      ap (λ z. sum_at list k +ℤ z) (added.sums k) ∙ refl_at k)
+  as_pushed =
+      same_gathered depth list (pending ++ addition ∷ []) list after is.sparse is.sparse same
     where
-      refl_at : (k : ℕ) → sum_at list k +ℤ (sum_at pending k +ℤ value_at addition k) ≡ sum_at list k +ℤ sum_at (pending ++ addition ∷ []) k
-      refl_at k = rw (sum_at-append pending (addition ∷ []) k) (same_at (sum_at list k) (sum_at pending k +ℤ value_at addition k) (sum_at pending k) (value_at addition k) refl)
+      same : (k : ℕ) → sum_at list k +ℤ sum_at after k
+          ≡ sum_at list k +ℤ sum_at (pending ++ addition ∷ []) k
+      same k = rw (sum_at-append pending (addition ∷ []) k)
+          (same_at (sum_at list k) (sum_at after k) (sum_at pending k) (value_at addition k)
+          (added.sums k))
 
-  pub gathered-added : gathered depth list after ≡ set (gathered depth list pending) index (get_or (gathered depth list pending) index (pos 0) +ℤ delta)
-  gathered-added = as_pushed ∙ gathered-push depth list pending total weight is index delta below light
+  pub gathered-added : gathered depth list after
+      ≡ set (gathered depth list pending) index
+      (get_or (gathered depth list pending) index (pos 0) +ℤ delta)
+  gathered-added =
+      as_pushed ∙ gathered-push depth list pending total weight is index delta below light
 
   pub IsGathered-added : IsGathered depth list after (total +ℤ delta) (weight + nat_abs delta)
   IsGathered-added =

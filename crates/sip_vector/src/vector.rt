@@ -29,9 +29,9 @@ const MOST_PENDING: usize = 1 << 19;
 /// pending, in the order in which they came. Every call is right while additions are pending, and
 /// quick where none is, as after `settle`. In the costs below m is the length of the list and p the
 /// number of additions that are pending: none after `settle`, and else at most 2^19 or m, whichever
-/// is more. An addition whose delta is above 2^15 - 1, or below -(2^15 - 1), counts as one for each
-/// 2^15 - 1 of it and one for what is left. The weight lets these be about 2^15 in all, and a merge
-/// comes after such an addition, not within it.
+/// is more. An addition of more than 2^15 - 1, or of less than -(2^15 - 1), counts as one for each
+/// 2^15 - 1 of it and one for what is left: the weight lets these be about 2^15 more in all. A
+/// merge comes before such an addition or after it.
 #[derive(Drop)]
 pub struct Vector {
     depth: Depth,

@@ -18,8 +18,8 @@ const OFFSET: i64 = 1 << 15;
 // The greatest value of a word. A greater one waits in several words.
 const MOST_PART: i64 = OFFSET - 1;
 
-/// An entry with an index below 2^48 and a value from -2^15 to 2^15 - 1, in one word: half of what an
-/// entry takes, and a sort of so little is quicker.
+/// An entry with an index below 2^48 and a value from -2^15 to 2^15 - 1, in one word: half of what
+/// an entry takes, and a sort of so little is quicker.
 #[derive(Clone, Copy)]
 pub(crate) struct Waiting {
     word: u64,

@@ -61,7 +61,8 @@ pub record IsAdded (index : ℕ) (delta : ℤ) (before after : List Entry) : Typ
   pub sums : (k : ℕ) → sum_at after k
       ≡ sum_at before k +ℤ value_at (record { index = index; value = delta }) k
   pub light : abs_sum after ≤ abs_sum before + nat_abs delta
-  pub within : (n : ℕ) → index < n → All (λ e. e.index < n) before → All (λ e. e.index < n) after
+  pub within : (n : ℕ) → index < n → All (λ e. e.index < n) before
+      → All (λ e. e.index < n) after
   pub some : 0 < length after
 
 -- the numbers of a vector with this list and these pending entries

@@ -14,7 +14,9 @@ loop-waiting-preserved-then-index-from c =
     let es = c.args.entries.now in
     let i = c.loop-waiting.waiting-index in
     let d : Entry = record { index = 0; value = pos 0 } in
-    let here : c.index-index.result ≡ (get_or es i d).index = c.index-index.ensures ∙ ap (λ e. e.index) (c.waiting-item.is ∙ get_or-any es i c.waiting-item.result d c.loop-waiting-test.true) in
+    let there = get_or-any es i c.waiting-item.result d c.loop-waiting-test.true in
+    let here : c.index-index.result ≡ (get_or es i d).index =
+    c.index-index.ensures ∙ ap (λ e. e.index) (c.waiting-item.is ∙ there) in
     let outside : c.args.from ≤ (get_or es i d).index → c.loop-waiting.next ≤ (get_or es i d).index = λ le.
     elim c.then-index-from.branch [
       | then-index-from-via-then-index-from w ↦ absurd (omega (arith, w.if-index-from.true, le, here))
@@ -31,7 +33,9 @@ loop-waiting-preserved c =
     let es = c.args.entries.now in
     let i = c.loop-waiting.waiting-index in
     let d : Entry = record { index = 0; value = pos 0 } in
-    let here : c.index-index.result ≡ (get_or es i d).index = c.index-index.ensures ∙ ap (λ e. e.index) (c.waiting-item.is ∙ get_or-any es i c.waiting-item.result d c.loop-waiting-test.true) in
+    let there = get_or-any es i c.waiting-item.result d c.loop-waiting-test.true in
+    let here : c.index-index.result ≡ (get_or es i d).index =
+    c.index-index.ensures ∙ ap (λ e. e.index) (c.waiting-item.is ∙ there) in
     rw here (record {
       from = rw here at c.if-index-from.false;
       end = omega (arith, c.if-next-index.false, c.loop-waiting.invariant.end, here);

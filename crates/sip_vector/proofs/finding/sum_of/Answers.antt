@@ -22,9 +22,13 @@ loop-waiting-preserved-then-entry-index c =
     let es = c.args.entries.now in
     let i = c.loop-waiting.waiting-index in
     let d : Entry = record { index = 0; value = pos 0 } in
-    let here : c.entry-entry.result ≡ get_or es i d = c.entry-entry.ensures ∙ c.waiting-item.is ∙ get_or-any es i c.waiting-item.result d c.loop-waiting-test.true in
+    let there = get_or-any es i c.waiting-item.result d c.loop-waiting-test.true in
+    let here : c.entry-entry.result ≡ get_or es i d =
+    c.entry-entry.ensures ∙ c.waiting-item.is ∙ there in
     record {
-      sum = same_sum _ _ _ (value_at-other (get_or es i d) c.args.index (rw here at c.if-entry-index.true)) c.loop-waiting.invariant.sum ∙ sym (sum_at-take_more es i d c.loop-waiting-test.true c.args.index);
+      sum = same_sum _ _ _
+          (value_at-other (get_or es i d) c.args.index (rw here at c.if-entry-index.true))
+          c.loop-waiting.invariant.sum ∙ sym (sum_at-take_more es i d c.loop-waiting-test.true c.args.index);
       light = omega (arith, c.loop-waiting.invariant.light, abs_sum-take_more es i d c.loop-waiting-test.true);
     }
 
@@ -33,7 +37,9 @@ overflow_add-sum c =
     let es = c.args.entries.now in
     let i = c.loop-waiting.waiting-index in
     let d : Entry = record { index = 0; value = pos 0 } in
-    let here : c.entry-entry.result ≡ get_or es i d = c.entry-entry.ensures ∙ c.waiting-item.is ∙ get_or-any es i c.waiting-item.result d c.loop-waiting-test.true in
+    let there = get_or-any es i c.waiting-item.result d c.loop-waiting-test.true in
+    let here : c.entry-entry.result ≡ get_or es i d =
+    c.entry-entry.ensures ∙ c.waiting-item.is ∙ there in
     let all = abs_sum-at es i d c.loop-waiting-test.true in
     let room = c.requires in
     rw (here, same_z (get_or es i d).value (omega (arith, all, room)))
@@ -44,13 +50,16 @@ loop-waiting-preserved c =
     let es = c.args.entries.now in
     let i = c.loop-waiting.waiting-index in
     let d : Entry = record { index = 0; value = pos 0 } in
-    let here : c.entry-entry.result ≡ get_or es i d = c.entry-entry.ensures ∙ c.waiting-item.is ∙ get_or-any es i c.waiting-item.result d c.loop-waiting-test.true in
+    let there = get_or-any es i c.waiting-item.result d c.loop-waiting-test.true in
+    let here : c.entry-entry.result ≡ get_or es i d =
+    c.entry-entry.ensures ∙ c.waiting-item.is ∙ there in
     let all = abs_sum-at es i d c.loop-waiting-test.true in
     let room = c.requires in
     let sum = to_z w64 c.loop-waiting.sum-bits in
     let more = nat_abs-add-le sum (get_or es i d).value in
     let value : (get_or es i d).value ≡ _ = sym (value_at-here (get_or es i d) c.args.index (rw here at c.if-entry-index.false)) in
-    rw (here, same_z (get_or es i d).value (omega (arith, all, room)), same_z (sum +ℤ (get_or es i d).value) (omega (arith, more, c.loop-waiting.invariant.light, all, room)))
+    rw (here, same_z (get_or es i d).value (omega (arith, all, room)),
+      same_z (sum +ℤ (get_or es i d).value) (omega (arith, more, c.loop-waiting.invariant.light, all, room)))
     (record {
       sum = ap (λ z. z +ℤ (get_or es i d).value) c.loop-waiting.invariant.sum ∙ ap (λ z. sum_at (take i es) c.args.index +ℤ z) value ∙ sym (sum_at-take_more es i d c.loop-waiting-test.true c.args.index);
       light = omega (arith, more, c.loop-waiting.invariant.light, abs_sum-take_more es i d c.loop-waiting-test.true);

@@ -43,7 +43,9 @@ returns-after-is_listed c =
     let added = c.args.added.now in
     let some : 1 ≤ length list = search rules in
     let others : 1 ≤ length added = search rules in
-    let front : c.entry-other.result ≡ get_or added 0 none = c.entry-other.ensures ∙ c.other-item.is ∙ get_or-any added 0 c.other-item.result none others in
+    let there = get_or-any added 0 c.other-item.result none others in
+    let front : c.entry-other.result ≡ get_or added 0 none =
+    c.entry-other.ensures ∙ c.other-item.is ∙ there in
     elim c.if-is_listed.branch [
       | then-is_listed w ↦
           let count : c.from-count.result ≡ 1 = search rules in
