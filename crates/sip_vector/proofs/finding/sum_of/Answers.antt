@@ -58,8 +58,11 @@ loop-waiting-preserved c =
     let sum = to_z w64 c.loop-waiting.sum-bits in
     let more = nat_abs-add-le sum (get_or es i d).value in
     let value : (get_or es i d).value ≡ _ = sym (value_at-here (get_or es i d) c.args.index (rw here at c.if-entry-index.false)) in
-    rw (here, same_z (get_or es i d).value (omega (arith, all, room)),
-      same_z (sum +ℤ (get_or es i d).value) (omega (arith, more, c.loop-waiting.invariant.light, all, room)))
+    rw (
+      here,
+      same_z (get_or es i d).value (omega (arith, all, room)),
+      same_z (sum +ℤ (get_or es i d).value) (omega (arith, more, c.loop-waiting.invariant.light, all, room)),
+    )
     (record {
       sum = ap (λ z. z +ℤ (get_or es i d).value) c.loop-waiting.invariant.sum ∙ ap (λ z. sum_at (take i es) c.args.index +ℤ z) value ∙ sym (sum_at-take_more es i d c.loop-waiting-test.true c.args.index);
       light = omega (arith, more, c.loop-waiting.invariant.light, abs_sum-take_more es i d c.loop-waiting-test.true);
