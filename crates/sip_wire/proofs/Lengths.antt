@@ -78,8 +78,8 @@ counted_mark most layout n some h =
 -- a length of coefficients is that of their degree
 power_mark : (degree n : ℕ) → (power_shape degree).has_length n ≡ true → HasMark (power_shape degree) n
 power_mark degree n h =
-    let both = and_parts (nat_le degree most_degree) (n == 8 * suc degree) h in
-    let total : n ≡ 0 + size (repeat (suc degree) (element ∷ [])) = omega (arith, eqb-true n (8 * suc degree) both.1, size_repeat (suc degree) (element ∷ [])) in
+    let both = and_parts (nat_le degree most_degree) (n == 8 * (degree + 1)) h in
+    let total : n ≡ 0 + size (repeat (suc degree) (element ∷ [])) = omega (arith, eqb-true n (8 * (degree + 1)) both.1, size_repeat (suc degree) (element ∷ [])) in
     record { mark = 0; is_mark = and_from _ _ both.0 refl; long = total }
 
 -- so for each kind

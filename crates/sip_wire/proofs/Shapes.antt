@@ -117,11 +117,11 @@ power_is degree = record {
   mark_room = λ m h. let e = power_mark degree m h in omega (arith, e.1);
   lengths = λ m h.
       let e = power_mark degree m h in
-      let total : 0 + size (repeat (suc degree) (element ∷ [])) ≡ 8 * suc degree = omega (arith, size_repeat (suc degree) (element ∷ [])) in
+      let total : 0 + size (repeat (suc degree) (element ∷ [])) ≡ 8 * (degree + 1) = omega (arith, size_repeat (suc degree) (element ∷ [])) in
       and_from _ _ (le-leb degree most_degree e.0) (eq-eqb _ _ total);
   short = λ n h.
-      let both = and_parts (nat_le degree most_degree) (n == 8 * suc degree) h in
-      omega (arith, leb-true degree most_degree both.0, eqb-true n (8 * suc degree) both.1);
+      let both = and_parts (nat_le degree most_degree) (n == 8 * (degree + 1)) h in
+      omega (arith, leb-true degree most_degree both.0, eqb-true n (8 * (degree + 1)) both.1);
 }
 
 -- each kind's
@@ -192,7 +192,7 @@ body_back s body mark ns fits stands =
     rw (stands.its_mark, stands.its_numbers) (fit, whole)
 
 -- and both tests leave no fault
-no_fault_in : (s : Shape) (body : List ℕ) → mark_fits s (mark_in s body) (length body) ≡ true → (s.in_order (mark_in s body) (said_in s body) && all_hold (s.fields (mark_in s body)) (said_in s body)) ≡ true → body_fault s body ≡ None
+pub no_fault_in : (s : Shape) (body : List ℕ) → mark_fits s (mark_in s body) (length body) ≡ true → (s.in_order (mark_in s body) (said_in s body) && all_hold (s.fields (mark_in s body)) (said_in s body)) ≡ true → body_fault s body ≡ None
 unfolding body_fault in_bytes
 no_fault_in s body a b = rw (a, b) refl
 

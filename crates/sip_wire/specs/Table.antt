@@ -322,7 +322,7 @@ power_shape degree = record {
   is_mark = λ n. nat_le degree most_degree && (n == 0);
   fields = λ _. repeat (suc degree) (element ∷ []);
   in_order = λ _ _. true;
-  has_length = λ n. nat_le degree most_degree && (n == 8 * suc degree);
+  has_length = λ n. nat_le degree most_degree && (n == 8 * (degree + 1));
 }
 
 -- what bodies of each kind look like in a version

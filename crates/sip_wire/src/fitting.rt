@@ -34,7 +34,7 @@ pub fn is_found(flag: u8, index: u64) -> bool
 }
 
 /// The degree of a power of these coefficients.
-fn degree_of(coefficients: &ArrayVec<u64, MOST_COEFFICIENTS>) -> u8
+pub fn degree_of(coefficients: &ArrayVec<u64, MOST_COEFFICIENTS>) -> u8
     ensures { result ≡ length coefficients.now.items - 1 }
 {
     coefficients.len().saturating_sub(1) as u8

@@ -9,6 +9,7 @@ ghost use Rattle.sip_wire.specs.Table.{size, most_rows, shape, query_shape, sibl
 ghost use Rattle.sip_wire.specs.Spelling.{flag, present, body_in, body_of, fits, fits_shape, kind_of, mark_of, query_code, query_numbers};
 
 use crate::Version;
+use crate::fitting::degree_of;
 use crate::message::{Leaf, Message, Node};
 use crate::numbers::{Bytes, put_index, put_u8, put_u32, put_u64};
 use crate::row::{Row, number_of};
@@ -63,7 +64,7 @@ pub fn body_len(version: Version, message: &Message) -> usize
         Message::Refuse { .. } => 1,
         Message::AskLook { .. } | Message::Found { .. } => 9,
         Message::AskMoment { .. } => 2,
-        Message::Power(coefficients) => 8 * coefficients.len(),
+        Message::Power(coefficients) => 8 * (degree_of(coefficients) as usize + 1),
     }
 }
 
