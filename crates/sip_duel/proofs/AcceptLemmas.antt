@@ -95,6 +95,8 @@ ends_in reasons.LightParent = inr (λ e. cc, refl)
 ends_in reasons.Sum = inr (λ e. cc, refl)
 ends_in reasons.Total = inr (λ e. cc, refl)
 ends_in reasons.Root = inr (λ e. cc, refl)
+ends_in reasons.BadFound = inr (λ e. cc, refl)
+ends_in reasons.NotAlone = inr (λ e. cc, refl)
 
 shallow_of : (v : Version) (depth : ℕ) (qs : List Query) → 0 < length qs → All (Speaks v depth) qs → depth ≤ deepest v
 shallow_of v depth [] some all = absurd (omega (arith, some))

@@ -162,6 +162,11 @@ stepped_version s refused (messages.Leaves ls) = refl
 stepped_version s refused (messages.Nodes ns) = refl
 stepped_version s refused messages.LevelEnd = refl
 stepped_version s refused (messages.Refuse code) = refl
+stepped_version s refused (messages.AskLook code item) = refl
+stepped_version s refused (messages.Found flag index) = refl
+stepped_version s refused messages.End = refl
+stepped_version s refused (messages.AskMoment side degree) = refl
+stepped_version s refused (messages.Power v) = refl
 
 -- a spelling that was taken is a message to the helper
 took_message : (version : Version) (bytes : List ℕ) (m : Message) → Took version ToHelper bytes m → IsMessage version m

@@ -119,6 +119,11 @@ allowed_settled s (messages.Leaves ls) behind may = absurd cc
 allowed_settled s (messages.Nodes ns) behind may = absurd cc
 allowed_settled s messages.LevelEnd behind may = absurd cc
 allowed_settled s (messages.Refuse code) behind may = absurd cc
+allowed_settled s (messages.AskLook code item) behind may = absurd cc
+allowed_settled s (messages.Found flag index) behind may = absurd cc
+allowed_settled s messages.End behind may = absurd cc
+allowed_settled s (messages.AskMoment side degree) behind may = absurd cc
+allowed_settled s (messages.Power v) behind may = absurd cc
 
 -- ---- turns
 
@@ -187,6 +192,11 @@ behind_heard s (messages.Leaves ls) refused behind may = behind
 behind_heard s (messages.Nodes ns) refused behind may = behind
 behind_heard s messages.LevelEnd refused behind may = behind
 behind_heard s (messages.Refuse code) refused behind may = behind
+behind_heard s (messages.AskLook code item) refused behind may = behind
+behind_heard s (messages.Found flag index) refused behind may = behind
+behind_heard s messages.End refused behind may = behind
+behind_heard s (messages.AskMoment side degree) refused behind may = behind
+behind_heard s (messages.Power v) refused behind may = behind
 
 open_before : (depth : ℕ) (vectors : Option Vectors) (q : Option OpenQuery) (o : OpenQuery) → option_and_then (after_reply depth vectors) q ≡ Some o → (p : OpenQuery) × (q ≡ Some p)
 open_before depth vectors None o e = absurd cc

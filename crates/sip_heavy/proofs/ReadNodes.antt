@@ -132,6 +132,11 @@ module _ (version : Version) (p : ℕ) (q : Asked) where
   by_message next rest s t more (messages.Poly a b c) e others = absurd cc
   by_message next rest s t more (messages.Entries v) e others = absurd cc
   by_message next rest s t more (messages.Siblings left right) e others = absurd cc
+  by_message next rest s t more (messages.AskLook code item) e others = absurd cc
+  by_message next rest s t more (messages.Found flag index) e others = absurd cc
+  by_message next rest s t more messages.End e others = absurd cc
+  by_message next rest s t more (messages.AskMoment side degree) e others = absurd cc
+  by_message next rest s t more (messages.Power v) e others = absurd cc
 
   by_frame : (next : HeavyState → List ℕ → Result HeavyState Reason) (nodes : List ℕ → List Node) (s t : HeavyState) (r : Result (Message × List ℕ) WireFault) → frame_says R next s r ≡ Ok t
       → ((u : HeavyState) (rest : List ℕ) → u.level ≡ s.level → next u rest ≡ Ok t → Reads q u (nodes rest) t) → Reads q s (in_frame nodes r) t

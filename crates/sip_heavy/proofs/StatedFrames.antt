@@ -42,6 +42,11 @@ frame_range first (messages.Claim claim) stands = absurd cc
 frame_range first (messages.Poly a b c) stands = absurd cc
 frame_range first (messages.Entries v) stands = absurd cc
 frame_range first (messages.Siblings left right) stands = absurd cc
+frame_range first (messages.AskLook code item) stands = absurd cc
+frame_range first (messages.Found flag index) stands = absurd cc
+frame_range first messages.End stands = absurd cc
+frame_range first (messages.AskMoment side degree) stands = absurd cc
+frame_range first (messages.Power v) stands = absurd cc
 
 abbrev place_in : Bool → Place
 place_in first = if first then places.Leaves else places.Nodes
@@ -62,6 +67,11 @@ frame_allowed first (messages.Claim claim) stands = absurd cc
 frame_allowed first (messages.Poly a b c) stands = absurd cc
 frame_allowed first (messages.Entries v) stands = absurd cc
 frame_allowed first (messages.Siblings left right) stands = absurd cc
+frame_allowed first (messages.AskLook code item) stands = absurd cc
+frame_allowed first (messages.Found flag index) stands = absurd cc
+frame_allowed first messages.End stands = absurd cc
+frame_allowed first (messages.AskMoment side degree) stands = absurd cc
+frame_allowed first (messages.Power v) stands = absurd cc
 
 -- its step is that of its nodes
 pub frame_step : (q : Asked) (s : HeavyState) (m : Message) → stands_in (s.level == 0) m ≡ true → heavy_step q s m ≡ nodes_step q s (nodes_of m)
@@ -79,6 +89,11 @@ frame_step q s (messages.Claim claim) stands = absurd cc
 frame_step q s (messages.Poly a b c) stands = absurd cc
 frame_step q s (messages.Entries v) stands = absurd cc
 frame_step q s (messages.Siblings left right) stands = absurd cc
+frame_step q s (messages.AskLook code item) stands = absurd cc
+frame_step q s (messages.Found flag index) stands = absurd cc
+frame_step q s messages.End stands = absurd cc
+frame_step q s (messages.AskMoment side degree) stands = absurd cc
+frame_step q s (messages.Power v) stands = absurd cc
 
 -- a state with these nodes received
 abbrev pub with_received : HeavyState → List Node → HeavyState

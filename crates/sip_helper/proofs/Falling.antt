@@ -136,6 +136,11 @@ step_left s memory (messages.Leaves _) deep fit allowed going next = absurd cc
 step_left s memory (messages.Nodes _) deep fit allowed going next = absurd cc
 step_left s memory messages.LevelEnd deep fit allowed going next = absurd cc
 step_left s memory (messages.Refuse _) deep fit allowed going next = absurd cc
+step_left s memory (messages.AskLook code item) deep fit allowed going next = absurd cc
+step_left s memory (messages.Found flag index) deep fit allowed going next = absurd cc
+step_left s memory messages.End deep fit allowed going next = absurd cc
+step_left s memory (messages.AskMoment side degree) deep fit allowed going next = absurd cc
+step_left s memory (messages.Power v) deep fit allowed going next = absurd cc
 
 -- a turn that is no farewell leaves fewer turns
 pub turn_left : (s : HelperState) (t : Turn) → IsTurn s t → depth_of s.heard ≤ deepest s.version → s.done ≡ false → (after_turn s t).done ≡ false → 1 + turns_left (after_turn s t) ≤ turns_left s

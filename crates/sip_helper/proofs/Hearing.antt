@@ -126,6 +126,11 @@ others_out s (messages.Leaves _) a b c d e f = refl
 others_out s (messages.Nodes _) a b c d e f = refl
 others_out s messages.LevelEnd a b c d e f = refl
 others_out s (messages.Refuse _) a b c d e f = refl
+others_out s (messages.AskLook code item) a b c d e f = refl
+others_out s (messages.Found flag index) a b c d e f = refl
+others_out s messages.End a b c d e f = refl
+others_out s (messages.AskMoment side degree) a b c d e f = refl
+others_out s (messages.Power v) a b c d e f = refl
 
 -- the open query changed, and still stands
 pub kept_with : (version : Version) (heard : Heard) (weights : Weights) (vectors : Option Vectors) (queries : ℕ) (asked : Option Asked) (old new : Asked)

@@ -59,6 +59,11 @@ deep_step s memory (messages.Leaves _) fit deep = deep
 deep_step s memory (messages.Nodes _) fit deep = deep
 deep_step s memory messages.LevelEnd fit deep = deep
 deep_step s memory (messages.Refuse _) fit deep = deep
+deep_step s memory (messages.AskLook code item) fit deep = deep
+deep_step s memory (messages.Found flag index) fit deep = deep
+deep_step s memory messages.End fit deep = deep
+deep_step s memory (messages.AskMoment side degree) fit deep = deep
+deep_step s memory (messages.Power v) fit deep = deep
 
 live_step : (s : HelperState) (memory : Bool) (m : Message) → (step s memory m).spent ≡ s.spent
 live_step s memory (messages.Open _ _) = refl
@@ -75,6 +80,11 @@ live_step s memory (messages.Leaves _) = refl
 live_step s memory (messages.Nodes _) = refl
 live_step s memory messages.LevelEnd = refl
 live_step s memory (messages.Refuse _) = refl
+live_step s memory (messages.AskLook code item) = refl
+live_step s memory (messages.Found flag index) = refl
+live_step s memory messages.End = refl
+live_step s memory (messages.AskMoment side degree) = refl
+live_step s memory (messages.Power v) = refl
 
 -- ---- how far a talk is
 

@@ -141,6 +141,11 @@ only_bye s memory (messages.Leaves _) going done = absurd (both_ways s.done goin
 only_bye s memory (messages.Nodes _) going done = absurd (both_ways s.done going done)
 only_bye s memory messages.LevelEnd going done = absurd (both_ways s.done going done)
 only_bye s memory (messages.Refuse _) going done = absurd (both_ways s.done going done)
+only_bye s memory (messages.AskLook code item) going done = absurd (both_ways s.done going done)
+only_bye s memory (messages.Found flag index) going done = absurd (both_ways s.done going done)
+only_bye s memory messages.End going done = absurd (both_ways s.done going done)
+only_bye s memory (messages.AskMoment side degree) going done = absurd (both_ways s.done going done)
+only_bye s memory (messages.Power v) going done = absurd (both_ways s.done going done)
 
 stays : (s : HelperState) (q : Option OpenQuery) → s.open_query ≡ q → option_and_then (after_reply (depth_of s.heard) s.vectors) q ≡ q → after_answer s ≡ s
 stays s q is e = ap (λ (x : Option OpenQuery). record s { open_query = x }) (ap (option_and_then (after_reply (depth_of s.heard) s.vectors)) is ∙ e ∙ sym is)

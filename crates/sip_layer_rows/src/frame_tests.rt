@@ -1,7 +1,10 @@
 ghost use Rattle.std.specs.Prelude.{◌≤◌};
 
 use crate::facts::expect;
-use crate::frames::{FAULTS, FRAMES, NUMBERS, WIDE_FAULTS, WIDE_FRAMES, WIDE_NUMBERS};
+use crate::frames::{
+    ASKED_FAULTS, ASKED_FRAMES, ASKED_NUMBERS, FAULTS, FRAMES, NUMBERS, WIDE_FAULTS, WIDE_FRAMES,
+    WIDE_NUMBERS,
+};
 use sip_ports::{MemoryLink, MemorySink};
 use sip_wire::{Frame, Message, Place, Version, WireFault, decode, encode, frame_length, read};
 use std::alloc::Global;
@@ -132,7 +135,9 @@ fn frames_hold(
 fn frames_are_decoded_and_encoded_again(rt: HostRuntime) -> Result<(), Fail> {
     let alloc = rt.alloc();
     frames_hold(&rt, alloc, Version::One, &FRAMES)?;
-    frames_hold(&rt, alloc, Version::Two, &WIDE_FRAMES)
+    frames_hold(&rt, alloc, Version::Two, &WIDE_FRAMES)?;
+    frames_hold(&rt, alloc, Version::One, &ASKED_FRAMES)?;
+    frames_hold(&rt, alloc, Version::Two, &ASKED_FRAMES)
 }
 
 fn faults_hold(
@@ -158,7 +163,9 @@ fn faults_hold(
 fn faults_are_the_first(rt: HostRuntime) -> Result<(), Fail> {
     let alloc = rt.alloc();
     faults_hold(&rt, alloc, Version::One, &FAULTS)?;
-    faults_hold(&rt, alloc, Version::Two, &WIDE_FAULTS)
+    faults_hold(&rt, alloc, Version::Two, &WIDE_FAULTS)?;
+    faults_hold(&rt, alloc, Version::One, &ASKED_FAULTS)?;
+    faults_hold(&rt, alloc, Version::Two, &ASKED_FAULTS)
 }
 
 // The frame of these parts.
@@ -194,7 +201,9 @@ fn numbers_hold(
 fn numbers_are_in_range(rt: HostRuntime) -> Result<(), Fail> {
     let alloc = rt.alloc();
     numbers_hold(&rt, alloc, Version::One, &NUMBERS)?;
-    numbers_hold(&rt, alloc, Version::Two, &WIDE_NUMBERS)
+    numbers_hold(&rt, alloc, Version::Two, &WIDE_NUMBERS)?;
+    numbers_hold(&rt, alloc, Version::One, &ASKED_NUMBERS)?;
+    numbers_hold(&rt, alloc, Version::Two, &ASKED_NUMBERS)
 }
 
 // After a failing call the frame shows what came, and the next call goes on behind it.

@@ -353,3 +353,79 @@ pub(crate) const WIDE_NUMBERS: [(Place, &[u8], u64, usize); 14] = [
         0,
     ),
 ];
+
+/// Frames of the talks about lookups and moments, which are the same in both versions: what is
+/// asked, whatever it is, what is found, and powers of degree 3 and 8.
+pub(crate) const ASKED_FRAMES: [(Place, &[u8]); 12] = [
+    (Place::AskedLook, b"\x21\0\x09\x03\0\0\0\0\0\0\0\x01"),
+    (
+        Place::AskedLook,
+        b"\x21\0\x09\0\xff\xff\xff\xff\xff\xff\xff\xff",
+    ),
+    (Place::AskedLook, b"\x23\0\0"),
+    (Place::Found, b"\x22\0\x09\x01\0\0\0\0\0\0\0\x02"),
+    (Place::Found, b"\x22\0\x09\0\0\0\0\0\0\0\0\0"),
+    (Place::Found, b"\x18\0\x01\x01"),
+    (Place::AskedMoment, b"\x24\0\x02\0\x03"),
+    (Place::AskedMoment, b"\x24\0\x02\xff\0"),
+    (Place::AskedMoment, b"\x23\0\0"),
+    (
+        Place::Power { degree: 3 },
+        b"\x25\0\x20\0\0\0\0\0\0\0\x98\x1f\xff\xff\xff\xff\xff\xfe\x82\0\0\0\0\0\0\x01\x41\x1f\xff\xff\xff\xff\xff\xff\xa4",
+    ),
+    (
+        Place::Power { degree: 8 },
+        b"\x25\0\x48\0\0\0\0\0\0\0\x01\0\0\0\0\0\0\0\x02\0\0\0\0\0\0\0\x03\0\0\0\0\0\0\0\x04\0\0\0\0\0\0\0\x05\0\0\0\0\0\0\0\x06\0\0\0\0\0\0\0\x07\0\0\0\0\0\0\0\x08\0\0\0\0\0\0\0\x09",
+    ),
+    (Place::Power { degree: 3 }, b"\x18\0\x01\x04"),
+];
+
+/// Bytes that are no frame in these talks, and their fault, in both versions.
+pub(crate) const ASKED_FAULTS: [(Place, &[u8], WireFault, usize); 12] = [
+    (Place::Found, b"\x22\0", WireFault::Closed, 2),
+    (Place::Found, b"\x21\0\x09", WireFault::BadKind, 3),
+    (Place::Found, b"\x22\0\x08", WireFault::BadLength, 3),
+    (Place::Found, b"\x22\0\x09\x01\0", WireFault::Closed, 5),
+    (
+        Place::Power { degree: 3 },
+        b"\x12\0\x18",
+        WireFault::BadKind,
+        3,
+    ),
+    (
+        Place::Power { degree: 3 },
+        b"\x25\0\x28",
+        WireFault::BadLength,
+        3,
+    ),
+    (
+        Place::Power { degree: 4 },
+        b"\x25\0\x20",
+        WireFault::BadLength,
+        3,
+    ),
+    (
+        Place::Power { degree: 9 },
+        b"\x25\0\x50",
+        WireFault::BadLength,
+        3,
+    ),
+    (Place::AskedLook, b"\x24\0\x02", WireFault::BadKind, 3),
+    (Place::AskedMoment, b"\x18\0\x01", WireFault::BadKind, 3),
+    (Place::ToHelper, b"\x23\0\0", WireFault::BadKind, 3),
+    (Place::ToVerifier, b"\x25\0\x20", WireFault::BadKind, 3),
+];
+
+/// Frames of these talks with a number that its field may not hold, in both versions: a flag above
+/// 1, a place where none was found, and coefficients that are no elements.
+pub(crate) const ASKED_NUMBERS: [(Place, &[u8], u64, usize); 4] = [
+    (Place::Found, b"\x22\0\x09\x02", 0, 0),
+    (Place::Found, b"\x22\0\x09\0", 1, 0),
+    (Place::Power { degree: 3 }, b"\x25\0\x20", P, 24),
+    (
+        Place::Power { degree: 3 },
+        b"\x25\0\x20\0\0\0\0\0\0\0\0\0\0\0\0\0\0\0\0\0\0\0\0\0\0\0\0",
+        P,
+        0,
+    ),
+];

@@ -1,13 +1,11 @@
 -- A strategy has wrong answers to a lookup accepted at no more vectors of challenges than it has
 -- wrong entries of the interval that its first reply names.
-use Rattle.std.proofs.Common.{◌≡◌, ℕ, ◌*◌, ◌-◌, ◌/◌, ◌<◌, ◌≤◌, ◌^◌, All, Bool, true, false, not, ◌&&◌, List, [], ◌∷◌, length, drop, ℤ, nat_abs, Option, Some, None, Result, Ok, Err, refl, sym, ap, ◌∙◌, inl, inr, arith, if◌then◌else◌}
-use Rattle.std.specs.Prelude.{nat_lt, nat_le, ◌==◌, slice_index}
-use Rattle.byteorder.specs.Endian.{big_number}
+use Rattle.std.proofs.Common.{◌≡◌, ℕ, ◌*◌, ◌-◌, ◌/◌, ◌<◌, ◌≤◌, ◌^◌, All, Bool, true, false, not, ◌&&◌, List, [], ◌∷◌, length, drop, ℤ, nat_abs, Option, Some, None, Result, Ok, Err, refl, sym, ap, ◌∙◌, inl, inr, arith}
 use Rattle.std.proofs.lemmas.Bool.{cases_Bool, and_parts, and_from, both_ways, not-true, not_from_false, false_from_ne_true}
 use Rattle.std.proofs.lemmas.List.Elements.{All-drop}
 use Rattle.sip_field.specs.Moduli.{m61_modulus}
 use Rattle.sip_field.specs.LawProofs.Primes.{m61_prime}
-use Rattle.sip_vector.specs.Steps.{◌>>=◌, needs}
+use Rattle.sip_vector.specs.Steps.{◌>>=◌}
 use Rattle.sip_vector.specs.Trees.{root}
 use Rattle.sip_vector.specs.Vectors.{nonzero_within}
 use Rattle.sip_counts.specs.Strategies.{Strategy, IsOfBytes, replies, before, all_there, is_wrong, takes_wrong}
@@ -16,8 +14,12 @@ use Rattle.sip_counts.proofs.Talks.{replies-more}
 use Rattle.sip_wire.specs.declared.kind.Place.TheVariants as places
 use Rattle.sip_wire.specs.declared.message.Reason.{Reason}
 use Rattle.sip_wire.specs.declared.message.Reason.TheVariants as reasons
-use Rattle.sip_wire.specs.Spelling.{length_in}
-use Rattle.sip_replies.specs.Replies.{read_one}
+use Rattle.sip_wire.specs.declared.message.Message.{Message}
+use Rattle.sip_wire.specs.declared.message.WireFault.{WireFault}
+use Rattle.sip_wire.specs.Reading.{read_frame}
+use Rattle.sip_wire.specs.Spelling.{asked}
+use Rattle.sip_wire.proofs.ReadingLaws.{read_frame-rest}
+use Rattle.sip_replies.specs.Replies.{reasoned}
 use Rattle.sip_wire.specs.declared.version.Version.{Version}
 use Rattle.sip_replies.proofs.Passing.{same_ok}
 use Rattle.sip_replies.proofs.SameEntries.{same_entries}
@@ -25,35 +27,27 @@ use Rattle.sip_subvec.specs.Counting.{accepts_sub, said}
 use Rattle.sip_subvec.specs.Counting as sub
 use Rattle.sip_subvec.proofs.FewFooled.{few_fooled_bytes}
 use Rattle.sip_lookup.specs.declared.lookup.Lookup.{Lookup}
-use Rattle.sip_lookup.specs.Frames.{read_found, refuse_kind, found_kind, is_place, place_of, refusal}
+use Rattle.sip_lookup.specs.Frames.{found_in, read_found}
 use Rattle.sip_lookup.specs.Lookups.{item_of, near, is_same_answer, is_possible, range_of, are_alone, stated_answer}
 use Rattle.sip_lookup.specs.AcceptsLook.{Parts, parts, said_within, accepts_parts, of_parts, accepts_look, is_right, fooled_look}
 use Rattle.sip_lookup.proofs.NearEntries.{range_fits, alone_is_near, same_answer}
 
 -- ---- what follows a Found
 
--- where all tests pass, it is what stands behind them
-behind_tests : {X : Type 0} (short refuses kind size whole place : Bool) (reason : Reason) (y x : X)
-    → ◌≡◌ {A = Result X Reason} (if short then Err reasons.Closed else if refuses then Err reason else (needs kind reasons.BadKind >>= λ _. (needs size reasons.BadLength >>= λ _. (needs whole reasons.Closed >>= λ _. (needs place reasons.BadNumber >>= λ _. Ok y))))) (Ok x)
-    → y ≡ x
-behind_tests true refuses kind size whole place reason y x h = absurd cc
-behind_tests false true kind size whole place reason y x h = absurd cc
-behind_tests false false false size whole place reason y x h = absurd cc
-behind_tests false false true false whole place reason y x h = absurd cc
-behind_tests false false true true false place reason y x h = absurd cc
-behind_tests false false true true true false reason y x h = absurd cc
-behind_tests false false true true true true reason y x h = same_ok {E = Reason} y x h
+-- a place, and what follows it
+by_place : (place : Result (Option ℕ) Reason) (rest : List ℕ) (x : Option ℕ × List ℕ) → (place >>= λ found. Ok (found, rest)) ≡ Ok x → x.1 ≡ rest
+by_place (Err reason) rest x h = absurd cc
+by_place (Ok found) rest x h = ap (λ (y : Option ℕ × List ℕ). y.1) (sym (same_ok {E = Reason} (found, rest) x h))
 
--- it is the bytes behind the first twelve
-read_rest : (version : Version) (bytes : List ℕ) (x : Option ℕ × List ℕ) → read_found version bytes ≡ Ok x → x.1 ≡ drop 12 bytes
+-- it is what stands behind the frame
+read_rest : (version : Version) (bytes : List ℕ) (x : Option ℕ × List ℕ) → read_found version bytes ≡ Ok x → x.1 ≡ drop (asked version places.Found bytes) bytes
 unfolding read_found
-read_rest version bytes x h =
-    let kind = slice_index bytes 0 in
-    let flag = slice_index bytes 3 in
-    let number = big_number 8 (drop 4 bytes) in
-    let all = behind_tests (nat_lt (length bytes) 3) (kind == refuse_kind) (kind == found_kind) (length_in bytes == 9) (nat_le 12 (length bytes)) (is_place flag number)
-    (refusal (read_one version places.Siblings bytes)) (place_of flag number, drop 12 bytes) x h in
-    ap (λ (y : Option ℕ × List ℕ). y.1) (sym all)
+read_rest version bytes x h = by_frame (read_frame version places.Found bytes) refl h
+  where
+    by_frame : (r : Result (Message × List ℕ) WireFault) → read_frame version places.Found bytes ≡ r
+        → (reasoned r >>= λ frame. (found_in frame.0 >>= λ place. Ok (place, frame.1))) ≡ Ok x → x.1 ≡ drop (asked version places.Found bytes) bytes
+    by_frame (Err fault) is e = absurd cc
+    by_frame (Ok (m, rest)) is e = by_place (found_in m) rest x e ∙ (read_frame-rest version places.Found bytes m rest is).1
 
 -- the strategy whose first reply is this, and whose others are the same
 abbrev pub behind : Strategy → List ℕ → Strategy
@@ -171,7 +165,7 @@ module _ (version : Version) (d : ℕ) (numbers : List ℤ) (l : Lookup) (len : 
     some_fooled : (first : List ℕ) (x : Option ℕ × List ℕ) → strategy [] ≡ Some first → read_found version first ≡ Ok x → is_possible d l x.0 ≡ true → fooled_look version d numbers l strategy ≤ d * m61_modulus ^ (d - 1)
     some_fooled first x is read possible =
         let fits = range_fits d l x.0 item possible in
-        let rest : All (λ b. b < 256) x.1 = rw (read_rest version first x read) (All-drop (λ b. b < 256) 12 first (bytes [] first is)) in
+        let rest : All (λ b. b < 256) x.1 = rw (read_rest version first x read) (All-drop (λ b. b < 256) (asked version places.Found first) first (bytes [] first is)) in
         let few = few_fooled_bytes version d (lo x.0) (hi x.0) numbers (behind strategy x.1) m61_prime len fits.0 fits.1 small (behind_bytes strategy x.1 bytes rest) in
         let grows = counted-grows m61_modulus (takes_wrong (accepts_look version d numbers l) (is_right version d numbers l) strategy) (takes_wrong (takes_sub x.0) (right_sub x.0) (behind strategy x.1)) d (λ r size below h.
         let o = opened strategy r h in

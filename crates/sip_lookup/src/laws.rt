@@ -4,12 +4,14 @@
 
 ghost use Rattle.std.specs.Prelude.{◌≡◌, [], ◌∷◌, ◌++◌, Ok, Err, Some, None, true, false, pos, replicate};
 ghost use Rattle.sip_vector.specs.Examples.{four};
+ghost use Rattle.sip_wire.specs.declared.message.Message.TheVariants as messages;
 ghost use Rattle.sip_wire.specs.declared.message.Reason.TheVariants as reasons;
+ghost use Rattle.sip_wire.specs.Spelling.{spelling};
 ghost use Rattle.sip_wire.specs.declared.version.Version.TheVariants.{One, Two};
 ghost use Rattle.sip_lookup.specs.declared.lookup.Lookup.TheVariants as lookups;
 ghost use Rattle.sip_lookup.specs.AcceptsLook.{accepts_look, is_right};
 ghost use Rattle.sip_lookup.specs.Examples.{entry, found_and_proved};
-ghost use Rattle.sip_lookup.specs.Frames.{ask_bytes, end_bytes, found_bytes, read_found};
+ghost use Rattle.sip_lookup.specs.Frames.{ask_message, found_message, read_found};
 ghost use Rattle.sip_lookup.specs.Lookups.{are_alone, honest_found, is_possible, near, nearest, range_of, value};
 
 /// The answers to lookups in (3, 0, 5, 1), and in four zeros.
@@ -49,18 +51,18 @@ pub fn bad_places_by_hand()
 
 /// The frames of a lookup of the nearest entry at 1 or above it.
 pub fn frames_by_hand()
-    ensures ask { ask_bytes (lookups.Succ 1)
+    ensures ask { spelling One (ask_message (lookups.Succ 1))
         ≡ 0x21 ∷ 0x00 ∷ 0x09 ∷ 0x03 ∷ replicate 7 0 ++ 0x01 ∷ [] }
-    ensures found { found_bytes (Some 2)
+    ensures found { spelling Two (found_message (Some 2))
         ≡ 0x22 ∷ 0x00 ∷ 0x09 ∷ 0x01 ∷ replicate 7 0 ++ 0x02 ∷ [] }
-    ensures none { found_bytes None ≡ 0x22 ∷ 0x00 ∷ 0x09 ∷ replicate 9 0 }
-    ensures end { end_bytes ≡ 0x23 ∷ 0x00 ∷ 0x00 ∷ [] }
+    ensures none { spelling One (found_message None) ≡ 0x22 ∷ 0x00 ∷ 0x09 ∷ replicate 9 0 }
+    ensures end { spelling One messages.End ≡ 0x23 ∷ 0x00 ∷ 0x00 ∷ [] }
 {}
 
 /// A Found is read with what follows it, or has this first fault.
 pub fn found_frames_by_hand()
-    ensures some { read_found One (found_bytes (Some 2) ++ 7 ∷ []) ≡ Ok (Some 2, 7 ∷ []) }
-    ensures none { read_found Two (found_bytes None) ≡ Ok (None, []) }
+    ensures some { read_found One (spelling One (found_message (Some 2)) ++ 7 ∷ []) ≡ Ok (Some 2, 7 ∷ []) }
+    ensures none { read_found Two (spelling Two (found_message None)) ≡ Ok (None, []) }
     ensures closed { read_found One (0x22 ∷ 0x00 ∷ []) ≡ Err reasons.Closed }
     ensures cut { read_found One (0x22 ∷ 0x00 ∷ 0x09 ∷ 0x01 ∷ replicate 7 0)
         ≡ Err reasons.Closed }

@@ -9,7 +9,7 @@
 //! | file of `specs/` | what it defines |
 //! |---|---|
 //! | `Lookups` | the answer to a lookup, the place that an honest helper finds, and its interval |
-//! | `Frames` | the spelling of Ask, Found and End, and how a Found is read |
+//! | `Frames` | the messages Ask and Found, and how a Found is read |
 //! | `AcceptsLook` | when replies are accepted, and at how many challenges wrong ones are |
 //!
 //! [`laws`] works out examples of each. [`counting`] has the theorem on helpers that lie: at most

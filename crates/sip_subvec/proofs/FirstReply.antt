@@ -99,6 +99,11 @@ module _ (version : Version) (lo hi : ℕ) (Keeps : List Entry → Type 0) (Fine
   by_message next before bytes rest t goes_on fine keeps (messages.Leaves v) is h = absurd (cc)
   by_message next before bytes rest t goes_on fine keeps (messages.Nodes v) is h = absurd (cc)
   by_message next before bytes rest t goes_on fine keeps messages.LevelEnd is h = absurd (cc)
+  by_message next before bytes rest t goes_on fine keeps (messages.AskLook code item) is h = absurd (cc)
+  by_message next before bytes rest t goes_on fine keeps (messages.Found flag index) is h = absurd (cc)
+  by_message next before bytes rest t goes_on fine keeps messages.End is h = absurd (cc)
+  by_message next before bytes rest t goes_on fine keeps (messages.AskMoment side degree) is h = absurd (cc)
+  by_message next before bytes rest t goes_on fine keeps (messages.Power v) is h = absurd (cc)
 
   by_frame : (next : Stated → List ℕ → Result Stated Reason) (before : List Entry) (bytes : List ℕ)
       (t : Stated) → GoesOn next t → Fine bytes → Keeps before

@@ -81,6 +81,11 @@ module _ (lo hi : ℕ) (es : List Entry) (x : Siblings) (xs : List Siblings) whe
   step f rest (messages.Leaves v) = refl
   step f rest (messages.Nodes v) = refl
   step f rest messages.LevelEnd = refl
+  step f rest (messages.AskLook code item) = refl
+  step f rest (messages.Found flag index) = refl
+  step f rest messages.End = refl
+  step f rest (messages.AskMoment side degree) = refl
+  step f rest (messages.Power v) = refl
 
   -- one frame
   frame : (version : Version) (f : Stated → List ℕ → Result Stated Reason)
@@ -122,6 +127,11 @@ message_asked lo hi rest (messages.Poly a b c) s h = absurd (cc)
 message_asked lo hi rest (messages.Leaves v) s h = absurd (cc)
 message_asked lo hi rest (messages.Nodes v) s h = absurd (cc)
 message_asked lo hi rest messages.LevelEnd s h = absurd (cc)
+message_asked lo hi rest (messages.AskLook code item) s h = absurd (cc)
+message_asked lo hi rest (messages.Found flag index) s h = absurd (cc)
+message_asked lo hi rest messages.End s h = absurd (cc)
+message_asked lo hi rest (messages.AskMoment side degree) s h = absurd (cc)
+message_asked lo hi rest (messages.Power v) s h = absurd (cc)
 
 frame_asked : (lo hi : ℕ) (r : Result (Message × List ℕ) WireFault) (s : Siblings)
     → frame_says lo hi r ≡ Ok s → are_asked lo hi s ≡ true

@@ -100,6 +100,11 @@ module _ (version : Version) (p : ℕ) where
     by_message next rest (messages.Leaves v) t h = absurd (cc)
     by_message next rest (messages.Nodes v) t h = absurd (cc)
     by_message next rest messages.LevelEnd t h = absurd (cc)
+    by_message next rest (messages.AskLook code item) t h = absurd (cc)
+    by_message next rest (messages.Found flag index) t h = absurd (cc)
+    by_message next rest messages.End t h = absurd (cc)
+    by_message next rest (messages.AskMoment side degree) t h = absurd (cc)
+    by_message next rest (messages.Power v) t h = absurd (cc)
 
     by_frame : (next : Next) (r : Result (Message × List ℕ) WireFault) (t : SumState) → frame_says R next (known claim expected last) r ≡ Ok t → Adds p claim expected (frame_polynomial r) t
     unfolding frame_polynomial
@@ -130,6 +135,11 @@ module _ (version : Version) (p : ℕ) where
   first_message rest (messages.Leaves v) t h = absurd (cc)
   first_message rest (messages.Nodes v) t h = absurd (cc)
   first_message rest messages.LevelEnd t h = absurd (cc)
+  first_message rest (messages.AskLook code item) t h = absurd (cc)
+  first_message rest (messages.Found flag index) t h = absurd (cc)
+  first_message rest messages.End t h = absurd (cc)
+  first_message rest (messages.AskMoment side degree) t h = absurd (cc)
+  first_message rest (messages.Power v) t h = absurd (cc)
 
   first_frame : (r : Result (Message × List ℕ) WireFault) (t : SumState) → frame_says R (read_reply R) R.start r ≡ Ok t → Adds p (frame_claim r) (residue p (frame_claim r)) (polynomial_in version (behind r)) t
   unfolding frame_claim behind

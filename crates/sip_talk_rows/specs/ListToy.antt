@@ -104,6 +104,11 @@ list_tests asked s (messages.Entries v) reason e = kind reason e
 list_tests asked s (messages.Siblings left right) reason e = kind reason e
 list_tests asked s (messages.Leaves v) reason e = kind reason e
 list_tests asked s (messages.Nodes v) reason e = kind reason e
+list_tests asked s (messages.AskLook code item) reason e = kind reason e
+list_tests asked s (messages.Found flag index) reason e = kind reason e
+list_tests asked s messages.End reason e = kind reason e
+list_tests asked s (messages.AskMoment side degree) reason e = kind reason e
+list_tests asked s (messages.Power v) reason e = kind reason e
 
 open_ended : (is : Bool) (said : List Entry) (reason : Reason) → list_ended is said ≡ Err reason
     → reason ≢ reasons.Closed

@@ -128,6 +128,11 @@ sum_tests asked s (messages.Siblings left right) reason e = kind {X = More × Su
 sum_tests asked s (messages.Leaves v) reason e = kind {X = More × SumState} reason e
 sum_tests asked s (messages.Nodes v) reason e = kind {X = More × SumState} reason e
 sum_tests asked s messages.LevelEnd reason e = kind {X = More × SumState} reason e
+sum_tests asked s (messages.AskLook code item) reason e = kind {X = More × SumState} reason e
+sum_tests asked s (messages.Found flag index) reason e = kind {X = More × SumState} reason e
+sum_tests asked s messages.End reason e = kind {X = More × SumState} reason e
+sum_tests asked s (messages.AskMoment side degree) reason e = kind {X = More × SumState} reason e
+sum_tests asked s (messages.Power v) reason e = kind {X = More × SumState} reason e
 
 open_ended : (claim : Option ℤ) (is : Bool) (reason : Reason) → sum_ended claim is ≡ Err reason
     → reason ≢ reasons.Closed

@@ -115,7 +115,7 @@ nothing_behind (x ∷ xs) ys e = nothing_behind xs ys (ap (drop 1) e)
 -- a frame to a verifier has room in the longest
 pub asked-short : (version : Version) (place : Place) (bytes : List ℕ) → asked version place bytes ≤ longest_frame
 unfolding asked
-asked-short version place bytes = by_kind (kind_at (slice_index bytes 0))
+asked-short version place bytes = by_kind (kind_at place (slice_index bytes 0))
   where
     by_kind : (kind : Option Kind) → asked_by version place kind bytes ≤ longest_frame
     by_kind None = omega arith
@@ -199,6 +199,20 @@ no_query kinds.LevelEnd mark ns other = refl
 no_query kinds.Refuse mark [] other = refl
 no_query kinds.Refuse mark (a ∷ []) other = refl
 no_query kinds.Refuse mark (a ∷ b ∷ ns) other = refl
+no_query kinds.AskLook mark [] other = refl
+no_query kinds.AskLook mark (a ∷ []) other = refl
+no_query kinds.AskLook mark (a ∷ b ∷ []) other = refl
+no_query kinds.AskLook mark (a ∷ b ∷ d ∷ ns) other = refl
+no_query kinds.Found mark [] other = refl
+no_query kinds.Found mark (a ∷ []) other = refl
+no_query kinds.Found mark (a ∷ b ∷ []) other = refl
+no_query kinds.Found mark (a ∷ b ∷ d ∷ ns) other = refl
+no_query kinds.End mark ns other = refl
+no_query kinds.AskMoment mark [] other = refl
+no_query kinds.AskMoment mark (a ∷ []) other = refl
+no_query kinds.AskMoment mark (a ∷ b ∷ []) other = refl
+no_query kinds.AskMoment mark (a ∷ b ∷ d ∷ ns) other = refl
+no_query (kinds.Power degree) mark ns other = refl
 
 -- a frame of another kind asks nothing
 no_query_of : (version : Version) (depth : ℕ) (kind : Option Kind) (fault : Option WireFault) (frame rest : List ℕ) → (kind ≡ Some kinds.Query → ⊥) → by_read version depth (read_of version kind fault frame rest) ≡ None
@@ -226,8 +240,8 @@ pub query-long : (version : Version) (depth : ℕ) (bytes : List ℕ) → longes
 unfolding read_frame asked
 query-long version depth bytes long =
     let n = asked version ToHelper bytes in
-    no_query_of version depth (kind_at (slice_index bytes 0)) (frame_fault version ToHelper (take n bytes)) (take n bytes) (drop n bytes)
-    (λ is. let short = short_query version (kind_at (slice_index bytes 0)) bytes is in omega arith)
+    no_query_of version depth (kind_at ToHelper (slice_index bytes 0)) (frame_fault version ToHelper (take n bytes)) (take n bytes) (drop n bytes)
+    (λ is. let short = short_query version (kind_at ToHelper (slice_index bytes 0)) bytes is in omega arith)
 
 -- the query that reading a frame at hand gave, if it gave one that fits
 abbrev pub asked_of : ℕ → Result Message WireFault → Option Query
@@ -268,6 +282,11 @@ query_of-message (messages.Leaves v) query e = absurd cc
 query_of-message (messages.Nodes v) query e = absurd cc
 query_of-message messages.LevelEnd query e = absurd cc
 query_of-message (messages.Refuse code) query e = absurd cc
+query_of-message (messages.AskLook code item) query e = absurd cc
+query_of-message (messages.Found flag index) query e = absurd cc
+query_of-message messages.End query e = absurd cc
+query_of-message (messages.AskMoment side degree) query e = absurd cc
+query_of-message (messages.Power v) query e = absurd cc
 
 -- a frame that asks a query that fits
 pub asks-query : (version : Version) (depth : ℕ) (frame : List ℕ) (m : Message) (query : Query) → Took version ToHelper frame m → query_of m ≡ Some query → Fits depth query → Took version ToHelper frame (messages.Query query) × Fits depth query

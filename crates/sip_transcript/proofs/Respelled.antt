@@ -6,6 +6,7 @@ use Rattle.std.proofs.lemmas.List.{append_cancel_left}
 use Rattle.std.proofs.lemmas.List.Concat.{flat_map-cons}
 use Rattle.sip_wire.specs.declared.kind.Kind.{Kind}
 use Rattle.sip_wire.specs.declared.kind.Place.{Place}
+use Rattle.sip_wire.specs.declared.kind.Place.TheVariants.{ToVerifier}
 use Rattle.sip_wire.specs.declared.message.Message.{Message}
 use Rattle.sip_wire.specs.declared.message.Message.TheVariants as messages
 use Rattle.sip_wire.specs.declared.message.Reason.{Reason}
@@ -17,7 +18,7 @@ use Rattle.sip_wire.specs.Reading.{read_frame, read_of}
 use Rattle.sip_wire.specs.Spelling.{asked, asked_by, body_of, frame_fault, in_bytes, kind_fault, kind_of, spelling}
 use Rattle.sip_wire.specs.Table.{allows, byte_of, kind_at}
 use Rattle.sip_wire.proofs.ReadingLaws.{asked-least, asked-spelling, length-spelling, read_frame-closed, read_frame-short, read_frame-spelling}
-use Rattle.sip_wire.proofs.Whole.{kind_again, past_length}
+use Rattle.sip_wire.proofs.Whole.{heard_again, past_length}
 use Rattle.sip_replies.specs.declared.check.More.{More}
 use Rattle.sip_replies.specs.declared.check.More.TheVariants as mores
 use Rattle.sip_replies.specs.Protocols.{Rules}
@@ -74,16 +75,17 @@ stray-fault : (v : Version) (place : Place) (kind : Kind) (bytes : List ℕ) →
 unfolding kind_fault
 stray-fault v place kind bytes barred = rw barred refl
 
-stray-frame : (v : Version) (place : Place) (kind : Kind) (y z : ℕ) (more : List ℕ) → allows place kind ≡ false → read_frame v place (byte_of kind ∷ y ∷ z ∷ more) ≡ Err faults.BadKind
+stray-frame : (v : Version) (place : Place) (kind : Kind) (y z : ℕ) (more : List ℕ) → allows ToVerifier kind ≡ true → allows place kind ≡ false → read_frame v place (byte_of kind ∷ y ∷ z ∷ more) ≡ Err faults.BadKind
 unfolding read_frame asked
-stray-frame v place kind y z more barred =
+stray-frame v place kind y z more heard barred =
+    let again = heard_again place kind heard in
     let bytes = byte_of kind ∷ y ∷ z ∷ more in
     let frame = byte_of kind ∷ y ∷ z ∷ [] in
-    let three : asked v place bytes ≡ 3 = ap (λ (o : Option Kind). asked_by v place o bytes) (kind_again kind) ∙ stray-asked v place kind bytes barred in
+    let three : asked v place bytes ≡ 3 = ap (λ (o : Option Kind). asked_by v place o bytes) again ∙ stray-asked v place kind bytes barred in
     let fault : frame_fault v place frame ≡ Some faults.BadKind =
-    past_length v place frame (omega arith) ∙ ap (λ (o : Option Kind). kind_fault v place o frame) (kind_again kind) ∙ stray-fault v place kind frame barred in
-    ap (λ (n : ℕ). read_of v (kind_at (slice_index bytes 0)) (frame_fault v place (take n bytes)) (take n bytes) (drop n bytes)) three
-    ∙ ap (λ (o : Option WireFault). read_of v (kind_at (slice_index bytes 0)) o frame more) fault
+    past_length v place frame (omega arith) ∙ ap (λ (o : Option Kind). kind_fault v place o frame) again ∙ stray-fault v place kind frame barred in
+    ap (λ (n : ℕ). read_of v (kind_at place (slice_index bytes 0)) (frame_fault v place (take n bytes)) (take n bytes) (drop n bytes)) three
+    ∙ ap (λ (o : Option WireFault). read_of v (kind_at place (slice_index bytes 0)) o frame more) fault
 
 -- ---- messages that are replies in two versions
 
@@ -135,7 +137,7 @@ module _ {S : Type 0} (R : Rules S) (s : S) (m : Message) (is : IsReply R.versio
   -- one that may not is a fault at its third byte
   read_stray : allows (R.place s) (kind_of m) ≡ false → (y z : ℕ) (more : List ℕ) → read_reply R s (byte_of (kind_of m) ∷ y ∷ z ∷ more) ≡ Err reasons.BadKind
   read_stray barred y z more =
-      read_reply-fault R s (byte_of (kind_of m) ∷ y ∷ z ∷ more) faults.BadKind (stray-frame R.version (R.place s) (kind_of m) y z more barred)
+      read_reply-fault R s (byte_of (kind_of m) ∷ y ∷ z ∷ more) faults.BadKind (stray-frame R.version (R.place s) (kind_of m) y z more is.allowed barred)
 
 -- fewer than three bytes are no whole reply
 read_few : {S : Type 0} (R : Rules S) (s : S) (bytes : List ℕ) → length bytes ≤ 2 → read_reply R s bytes ≡ Err reasons.Closed

@@ -51,6 +51,11 @@ message_name (messages.Leaves _) = codes "Leaves"
 message_name (messages.Nodes _) = codes "Nodes"
 message_name messages.LevelEnd = codes "LevelEnd"
 message_name (messages.Refuse _) = codes "Refuse"
+message_name (messages.AskLook _ _) = codes "AskLook"
+message_name (messages.Found _ _) = codes "Found"
+message_name messages.End = codes "End"
+message_name (messages.AskMoment _ _) = codes "AskMoment"
+message_name (messages.Power _) = codes "Power"
 
 -- a body in hexadecimal, and a dash for none
 abbrev pub body_text : List ℕ → List ℕ

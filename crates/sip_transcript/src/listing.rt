@@ -110,6 +110,11 @@ fn name(message: &Message) -> &'static str
         Message::Nodes(_) => "Nodes",
         Message::LevelEnd => "LevelEnd",
         Message::Refuse { .. } => "Refuse",
+        Message::AskLook { .. } => "AskLook",
+        Message::Found { .. } => "Found",
+        Message::End => "End",
+        Message::AskMoment { .. } => "AskMoment",
+        Message::Power(_) => "Power",
     }
 }
 

@@ -70,6 +70,11 @@ module _ (version : Version) (lo hi : ℕ) where
   heard_entries kinds.Leaves a = absurd cc
   heard_entries kinds.Nodes a = absurd cc
   heard_entries kinds.LevelEnd a = absurd cc
+  heard_entries kinds.AskLook a = absurd cc
+  heard_entries kinds.Found a = absurd cc
+  heard_entries kinds.End a = absurd cc
+  heard_entries kinds.AskMoment a = absurd cc
+  heard_entries (kinds.Power degree) a = absurd cc
 
   heard_siblings : (kind : Kind) → allows places.Siblings kind ≡ true → allows places.ToVerifier kind ≡ true
   heard_siblings kinds.Siblings a = refl
@@ -86,6 +91,11 @@ module _ (version : Version) (lo hi : ℕ) where
   heard_siblings kinds.Leaves a = absurd cc
   heard_siblings kinds.Nodes a = absurd cc
   heard_siblings kinds.LevelEnd a = absurd cc
+  heard_siblings kinds.AskLook a = absurd cc
+  heard_siblings kinds.Found a = absurd cc
+  heard_siblings kinds.End a = absurd cc
+  heard_siblings kinds.AskMoment a = absurd cc
+  heard_siblings (kinds.Power degree) a = absurd cc
 
   heard_sub : (xs : List Siblings) (kind : Kind) → allows (place_of xs) kind ≡ true → allows places.ToVerifier kind ≡ true
   heard_sub [] kind a = heard_entries kind a
@@ -126,6 +136,11 @@ module _ (version : Version) (lo hi : ℕ) where
   due es xs t (messages.Leaves v) bytes rest h read e = absurd cc
   due es xs t (messages.Nodes v) bytes rest h read e = absurd cc
   due es xs t messages.LevelEnd bytes rest h read e = absurd cc
+  due es xs t (messages.AskLook code item) bytes rest h read e = absurd cc
+  due es xs t (messages.Found flag index) bytes rest h read e = absurd cc
+  due es xs t messages.End bytes rest h read e = absurd cc
+  due es xs t (messages.AskMoment side degree) bytes rest h read e = absurd cc
+  due es xs t (messages.Power v) bytes rest h read e = absurd cc
 
   none_left : (xs : List Siblings) (x : Siblings) (count : ℕ) → left_of version lo hi (xs ++ x ∷ []) count ≤ 0
   none_left [] x count = omega arith
@@ -157,6 +172,11 @@ module _ (version : Version) (lo hi : ℕ) where
   complete es xs t (messages.Leaves v) bytes rest h read e = absurd cc
   complete es xs t (messages.Nodes v) bytes rest h read e = absurd cc
   complete es xs t messages.LevelEnd bytes rest h read e = absurd cc
+  complete es xs t (messages.AskLook code item) bytes rest h read e = absurd cc
+  complete es xs t (messages.Found flag index) bytes rest h read e = absurd cc
+  complete es xs t messages.End bytes rest h read e = absurd cc
+  complete es xs t (messages.AskMoment side degree) bytes rest h read e = absurd cc
+  complete es xs t (messages.Power v) bytes rest h read e = absurd cc
 
   cut : (xs : List Siblings) (bytes : List ℕ) (fault : WireFault) → read_frame version (place_of xs) bytes ≡ Err fault → reason_of fault ≡ reasons.Closed
       → length bytes < rows_frame (entry_fields version) most_rows

@@ -114,6 +114,11 @@ made_marked version kinds.Leaves mark ns a is e = record { its_kind = refl; its_
 made_marked version kinds.Nodes mark ns a is e = record { its_kind = refl; its_mark = nodes_count mark ns (e ∙ fields_count mark (node_fields version)) }
 made_marked version kinds.LevelEnd mark ns a is e = unmarked kinds.LevelEnd mark _ is (record { its_kind = refl; its_mark = refl })
 made_marked version kinds.Refuse mark ns a is e = unmarked kinds.Refuse mark _ is (refuse_made ns e)
+made_marked version kinds.AskLook mark ns a is e = absurd cc
+made_marked version kinds.Found mark ns a is e = absurd cc
+made_marked version kinds.End mark ns a is e = absurd cc
+made_marked version kinds.AskMoment mark ns a is e = absurd cc
+made_marked version (kinds.Power degree) mark ns a is e = absurd cc
 
 -- ---- a frame, whole or not
 
@@ -137,7 +142,7 @@ record Tested (version : Version) (place : Place) (kind : Kind) (frame : List �
 -- a frame that is whole has the fault of its body, or one of its kind and length
 by_tests : (version : Version) (place : Place) (kind : Kind) (frame : List ℕ) (a b c : Bool)
     → allows place kind ≡ a → (shape version kind).has_length (length_in frame) ≡ b → nat_lt (length frame) (3 + length_in frame) ≡ c
-    → (asked version place frame ≡ length frame) → kind_at (slice_index frame 0) ≡ Some kind
+    → (asked version place frame ≡ length frame) → kind_at place (slice_index frame 0) ≡ Some kind
     → ((f : WireFault) × IsOfBytes f × (kind_fault version place (Some kind) frame ≡ Some f)) ⊎ Tested version place kind frame
 unfolding kind_fault
 by_tests version place kind frame false b c ea eb ec n k = inl (faults.BadKind, tt, rw ea refl)
@@ -151,7 +156,7 @@ by_tests version place kind frame true true false ea eb ec n k = inr (record { a
 -- a whole frame, of a kind that may stand at its place, has the fault of its body
 record IsWhole (version : Version) (place : Place) (bytes frame : List ℕ) : Type 0 where
   kind : Kind
-  its_kind : kind_at (slice_index bytes 0) ≡ Some kind
+  its_kind : kind_at place (slice_index bytes 0) ≡ Some kind
   allowed : allows place kind ≡ true
   same : frame_fault version place frame ≡ body_fault (shape version kind) (drop 3 frame)
 
@@ -179,11 +184,11 @@ module _ (version : Version) (place : Place) (bytes : List ℕ) (enough : asked 
   same_byte : slice_index frame 0 ≡ slice_index bytes 0
   same_byte = sym (first_of frame (drop (asked version place bytes) bytes) three) ∙ ap (λ (b : List ℕ). slice_index b 0) front
 
-  by_kind : (kind : Option Kind) → kind_at (slice_index bytes 0) ≡ kind → IsDecided version place bytes frame
+  by_kind : (kind : Option Kind) → kind_at place (slice_index bytes 0) ≡ kind → IsDecided version place bytes frame
   unfolding kind_fault
-  by_kind None k = inl (faults.BadKind, tt, past_length version place frame three ∙ ap (λ (o : Option Kind). kind_fault version place o frame) (ap kind_at same_byte ∙ k))
+  by_kind None k = inl (faults.BadKind, tt, past_length version place frame three ∙ ap (λ (o : Option Kind). kind_fault version place o frame) (ap (kind_at place) same_byte ∙ k))
   by_kind (Some kind) k =
-      let at_front : kind_at (slice_index frame 0) ≡ Some kind = ap kind_at same_byte ∙ k in
+      let at_front : kind_at place (slice_index frame 0) ≡ Some kind = ap (kind_at place) same_byte ∙ k in
       let by_head : frame_fault version place frame ≡ kind_fault version place (Some kind) frame = past_length version place frame three ∙ ap (λ (o : Option Kind). kind_fault version place o frame) at_front in
       elim (by_tests version place kind frame (allows place kind) ((shape version kind).has_length (length_in frame)) (nat_lt (length frame) (3 + length_in frame)) refl refl refl same_asked at_front) [
         | inl x ↦ inl (x.0, x.1, by_head ∙ x.2)
@@ -191,7 +196,7 @@ module _ (version : Version) (place : Place) (bytes : List ℕ) (enough : asked 
       ]
 
   decided : IsDecided version place bytes frame
-  decided = by_kind (kind_at (slice_index bytes 0)) refl
+  decided = by_kind (kind_at place (slice_index bytes 0)) refl
 
 -- ---- a frame that is not whole
 
@@ -208,7 +213,7 @@ of_whole : (version : Version) (s : Shape) (kind : Kind) (f : WireFault) (frame 
 of_whole version s kind f frame after body (Some g) is e = subst IsOfBytes (same_err {A = Message × List ℕ} g f e) (of_body s body g (sym is))
 of_whole version s kind f frame after body None is e = absurd cc
 
-read_at : (version : Version) (place : Place) (bytes : List ℕ) (f : WireFault) (kind : Option Kind) → kind_at (slice_index bytes 0) ≡ kind → read_frame version place bytes ≡ Err f
+read_at : (version : Version) (place : Place) (bytes : List ℕ) (f : WireFault) (kind : Option Kind) → kind_at place (slice_index bytes 0) ≡ kind → read_frame version place bytes ≡ Err f
     → read_of version kind (frame_fault version place (take (asked version place bytes) bytes)) (take (asked version place bytes) bytes) (drop (asked version place bytes) bytes) ≡ Err f
 unfolding read_frame
 read_at version place bytes f kind k e = ap (λ (o : Option Kind). read_of version o (frame_fault version place (take (asked version place bytes) bytes)) (take (asked version place bytes) bytes) (drop (asked version place bytes) bytes)) (sym k) ∙ e
@@ -219,7 +224,7 @@ by_order version place bytes f true o e = inl (grind (arith, nat_tests))
 by_order version place bytes f false o e =
     let enough : asked version place bytes ≤ length bytes = grind (arith, nat_tests) in
     elim (decided version place bytes enough) [
-      | inl x ↦ inr (subst IsOfBytes (err_of version (kind_at (slice_index bytes 0)) x.0 f _ _ _ x.2 (read_at version place bytes f (kind_at (slice_index bytes 0)) refl e)) x.1)
+      | inl x ↦ inr (subst IsOfBytes (err_of version (kind_at place (slice_index bytes 0)) x.0 f _ _ _ x.2 (read_at version place bytes f (kind_at place (slice_index bytes 0)) refl e)) x.1)
       | inr w ↦ inr (of_whole version (shape version w.kind) w.kind f _ _ _ _ w.same (read_at version place bytes f (Some w.kind) w.its_kind e))
     ]
 
@@ -261,7 +266,7 @@ of_mark version place bytes kind mark m rest a is size_is h = record {
 module _ (version : Version) (place : Place) (bytes : List ℕ) (m : Message) (rest : List ℕ) (heard : (kind : Kind) → allows place kind ≡ true → allows places.ToVerifier kind ≡ true) where
   whole_size : (enough : asked version place bytes ≤ length bytes) → rest ≡ drop (asked version place bytes) bytes
       → frame_fault version place (take (asked version place bytes) bytes) ≡ None
-      → Says version (kind_at (slice_index bytes 0)) (take (asked version place bytes) bytes) m
+      → Says version (kind_at place (slice_index bytes 0)) (take (asked version place bytes) bytes) m
       → IsWhole version place bytes (take (asked version place bytes) bytes) → Sized version place bytes m rest
   whole_size enough ends none r w =
       let s = shape version w.kind in
@@ -279,7 +284,7 @@ module _ (version : Version) (place : Place) (bytes : List ℕ) (m : Message) (r
   unfolding read_frame
   read_frame-size e =
       let ends = read_frame-rest version place bytes m rest e in
-      let r = says version (kind_at (slice_index bytes 0)) (frame_fault version place (take (asked version place bytes) bytes)) (take (asked version place bytes) bytes) (drop (asked version place bytes) bytes) m rest e in
+      let r = says version (kind_at place (slice_index bytes 0)) (frame_fault version place (take (asked version place bytes) bytes)) (take (asked version place bytes) bytes) (drop (asked version place bytes) bytes) m rest e in
       elim (decided version place bytes ends.0) [
         | inl x ↦ absurd (let both : Some x.0 ≡ None = sym x.2 ∙ r.0 in cc)
         | inr w ↦ whole_size ends.0 ends.1 r.0 r.1 w
@@ -310,4 +315,4 @@ asked_kind version place bytes n (Some kind) least most = asked_some version pla
 -- no frame asks for more
 pub asked-most : (version : Version) (place : Place) (bytes : List ℕ) (n : ℕ) → 3 ≤ n → IsMost version place n → asked version place bytes ≤ n
 unfolding asked
-asked-most version place bytes n least most = asked_kind version place bytes n (kind_at (slice_index bytes 0)) least most
+asked-most version place bytes n least most = asked_kind version place bytes n (kind_at place (slice_index bytes 0)) least most

@@ -85,6 +85,11 @@ heard_leaves kinds.Poly a = absurd cc
 heard_leaves kinds.Entries a = absurd cc
 heard_leaves kinds.Siblings a = absurd cc
 heard_leaves kinds.Nodes a = absurd cc
+heard_leaves kinds.AskLook a = absurd cc
+heard_leaves kinds.Found a = absurd cc
+heard_leaves kinds.End a = absurd cc
+heard_leaves kinds.AskMoment a = absurd cc
+heard_leaves (kinds.Power degree) a = absurd cc
 
 heard_nodes : (kind : Kind) → allows places.Nodes kind ≡ true → allows places.ToVerifier kind ≡ true
 heard_nodes kinds.Nodes a = refl
@@ -101,6 +106,11 @@ heard_nodes kinds.Poly a = absurd cc
 heard_nodes kinds.Entries a = absurd cc
 heard_nodes kinds.Siblings a = absurd cc
 heard_nodes kinds.Leaves a = absurd cc
+heard_nodes kinds.AskLook a = absurd cc
+heard_nodes kinds.Found a = absurd cc
+heard_nodes kinds.End a = absurd cc
+heard_nodes kinds.AskMoment a = absurd cc
+heard_nodes (kinds.Power degree) a = absurd cc
 
 heard_at : (first : Bool) (kind : Kind) → allows (place_at first) kind ≡ true → allows places.ToVerifier kind ≡ true
 heard_at true kind a = heard_leaves kind a
@@ -159,6 +169,11 @@ module _ (version : Version) (p : ℕ) (q : Asked) where
   due first s t (messages.Poly a b c) bytes rest f h read e = absurd cc
   due first s t (messages.Entries v) bytes rest f h read e = absurd cc
   due first s t (messages.Siblings l r) bytes rest f h read e = absurd cc
+  due first s t (messages.AskLook code item) bytes rest f h read e = absurd cc
+  due first s t (messages.Found flag index) bytes rest f h read e = absurd cc
+  due first s t messages.End bytes rest f h read e = absurd cc
+  due first s t (messages.AskMoment side degree) bytes rest f h read e = absurd cc
+  due first s t (messages.Power v) bytes rest f h read e = absurd cc
 
   -- a level's end completes it, and of the next level nothing was received
   complete : (first : Bool) (s t : HeavyState) (m : Message) (bytes rest : List ℕ)
@@ -184,6 +199,11 @@ module _ (version : Version) (p : ℕ) (q : Asked) where
   complete first s t (messages.Poly a b c) bytes rest read e = absurd cc
   complete first s t (messages.Entries v) bytes rest read e = absurd cc
   complete first s t (messages.Siblings l r) bytes rest read e = absurd cc
+  complete first s t (messages.AskLook code item) bytes rest read e = absurd cc
+  complete first s t (messages.Found flag index) bytes rest read e = absurd cc
+  complete first s t messages.End bytes rest read e = absurd cc
+  complete first s t (messages.AskMoment side degree) bytes rest read e = absurd cc
+  complete first s t (messages.Power v) bytes rest read e = absurd cc
 
   cut : (first : Bool) (bytes : List ℕ) (fault : WireFault) → read_frame version (place_at first) bytes ≡ Err fault → reason_of fault ≡ reasons.Closed
       → length bytes < rows_frame (leaf_fields version) most_rows

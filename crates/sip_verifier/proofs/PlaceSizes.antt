@@ -80,6 +80,11 @@ at_entries version kinds.Nodes mark a is = absurd cc
 at_entries version kinds.LevelEnd mark a is = absurd cc
 at_entries One kinds.Refuse mark a is = omega arith
 at_entries Two kinds.Refuse mark a is = omega arith
+at_entries version kinds.AskLook mark a is = absurd cc
+at_entries version kinds.Found mark a is = absurd cc
+at_entries version kinds.End mark a is = absurd cc
+at_entries version kinds.AskMoment mark a is = absurd cc
+at_entries version (kinds.Power degree) mark a is = absurd cc
 
 -- at the place of siblings alone
 pub at_siblings : (version : Version) → IsMost version places.Siblings 20
@@ -97,6 +102,11 @@ at_siblings version kinds.Leaves mark a is = absurd cc
 at_siblings version kinds.Nodes mark a is = absurd cc
 at_siblings version kinds.LevelEnd mark a is = absurd cc
 at_siblings version kinds.Refuse mark a is = omega arith
+at_siblings version kinds.AskLook mark a is = absurd cc
+at_siblings version kinds.Found mark a is = absurd cc
+at_siblings version kinds.End mark a is = absurd cc
+at_siblings version kinds.AskMoment mark a is = absurd cc
+at_siblings version (kinds.Power degree) mark a is = absurd cc
 
 -- of a claim
 pub at_claim : (version : Version) → IsMost version places.Claim 11
@@ -114,6 +124,11 @@ at_claim version kinds.Leaves mark a is = absurd cc
 at_claim version kinds.Nodes mark a is = absurd cc
 at_claim version kinds.LevelEnd mark a is = absurd cc
 at_claim version kinds.Refuse mark a is = omega arith
+at_claim version kinds.AskLook mark a is = absurd cc
+at_claim version kinds.Found mark a is = absurd cc
+at_claim version kinds.End mark a is = absurd cc
+at_claim version kinds.AskMoment mark a is = absurd cc
+at_claim version (kinds.Power degree) mark a is = absurd cc
 
 -- of a polynomial
 pub at_poly : (version : Version) → IsMost version places.Poly 27
@@ -131,6 +146,11 @@ at_poly version kinds.Leaves mark a is = absurd cc
 at_poly version kinds.Nodes mark a is = absurd cc
 at_poly version kinds.LevelEnd mark a is = absurd cc
 at_poly version kinds.Refuse mark a is = omega arith
+at_poly version kinds.AskLook mark a is = absurd cc
+at_poly version kinds.Found mark a is = absurd cc
+at_poly version kinds.End mark a is = absurd cc
+at_poly version kinds.AskMoment mark a is = absurd cc
+at_poly version (kinds.Power degree) mark a is = absurd cc
 
 -- of leaves and of nodes none is longer than one of leaves in full
 pub at_leaves : (version : Version) → IsMost version places.Leaves (5 + 512 * size (leaf_fields version))
@@ -149,6 +169,11 @@ at_leaves version kinds.Nodes mark a is = absurd cc
 at_leaves version kinds.LevelEnd mark a is = omega arith
 at_leaves One kinds.Refuse mark a is = omega arith
 at_leaves Two kinds.Refuse mark a is = omega arith
+at_leaves version kinds.AskLook mark a is = absurd cc
+at_leaves version kinds.Found mark a is = absurd cc
+at_leaves version kinds.End mark a is = absurd cc
+at_leaves version kinds.AskMoment mark a is = absurd cc
+at_leaves version (kinds.Power degree) mark a is = absurd cc
 
 pub at_nodes : (version : Version) → IsMost version places.Nodes (5 + 512 * size (leaf_fields version))
 at_nodes version kinds.Open mark a is = absurd cc
@@ -166,3 +191,8 @@ at_nodes version kinds.Nodes mark a is = omega (arith, (nodes_most version mark 
 at_nodes version kinds.LevelEnd mark a is = omega arith
 at_nodes One kinds.Refuse mark a is = omega arith
 at_nodes Two kinds.Refuse mark a is = omega arith
+at_nodes version kinds.AskLook mark a is = absurd cc
+at_nodes version kinds.Found mark a is = absurd cc
+at_nodes version kinds.End mark a is = absurd cc
+at_nodes version kinds.AskMoment mark a is = absurd cc
+at_nodes version (kinds.Power degree) mark a is = absurd cc

@@ -51,6 +51,11 @@ heard_claim kinds.Siblings a = absurd cc
 heard_claim kinds.Leaves a = absurd cc
 heard_claim kinds.Nodes a = absurd cc
 heard_claim kinds.LevelEnd a = absurd cc
+heard_claim kinds.AskLook a = absurd cc
+heard_claim kinds.Found a = absurd cc
+heard_claim kinds.End a = absurd cc
+heard_claim kinds.AskMoment a = absurd cc
+heard_claim (kinds.Power degree) a = absurd cc
 
 heard_poly : (kind : Kind) → allows places.Poly kind ≡ true → allows places.ToVerifier kind ≡ true
 heard_poly kinds.Poly a = refl
@@ -67,6 +72,11 @@ heard_poly kinds.Siblings a = absurd cc
 heard_poly kinds.Leaves a = absurd cc
 heard_poly kinds.Nodes a = absurd cc
 heard_poly kinds.LevelEnd a = absurd cc
+heard_poly kinds.AskLook a = absurd cc
+heard_poly kinds.Found a = absurd cc
+heard_poly kinds.End a = absurd cc
+heard_poly kinds.AskMoment a = absurd cc
+heard_poly (kinds.Power degree) a = absurd cc
 
 module _ (version : Version) (p : ℕ) where
   abbrev state : Option ℤ → ℕ → Coefficients → SumState
@@ -97,6 +107,11 @@ module _ (version : Version) (p : ℕ) where
   due c expected last t (messages.Leaves v) bytes rest read e = absurd cc
   due c expected last t (messages.Nodes v) bytes rest read e = absurd cc
   due c expected last t messages.LevelEnd bytes rest read e = absurd cc
+  due c expected last t (messages.AskLook code item) bytes rest read e = absurd cc
+  due c expected last t (messages.Found flag index) bytes rest read e = absurd cc
+  due c expected last t messages.End bytes rest read e = absurd cc
+  due c expected last t (messages.AskMoment side degree) bytes rest read e = absurd cc
+  due c expected last t (messages.Power v) bytes rest read e = absurd cc
 
   -- a polynomial completes, and then no claim comes
   complete : (c : Option ℤ) (expected : ℕ) (last : Coefficients) (t : SumState) (m : Message) (bytes rest : List ℕ)
@@ -122,6 +137,11 @@ module _ (version : Version) (p : ℕ) where
   complete c expected last t (messages.Leaves v) bytes rest read e = absurd cc
   complete c expected last t (messages.Nodes v) bytes rest read e = absurd cc
   complete c expected last t messages.LevelEnd bytes rest read e = absurd cc
+  complete c expected last t (messages.AskLook code item) bytes rest read e = absurd cc
+  complete c expected last t (messages.Found flag index) bytes rest read e = absurd cc
+  complete c expected last t messages.End bytes rest read e = absurd cc
+  complete c expected last t (messages.AskMoment side degree) bytes rest read e = absurd cc
+  complete c expected last t (messages.Power v) bytes rest read e = absurd cc
 
   cut : (c : Option ℤ) (bytes : List ℕ) (fault : WireFault) → read_frame version (place_at c) bytes ≡ Err fault → reason_of fault ≡ reasons.Closed → length bytes < 27
   cut None bytes fault e closed = omega (arith, cut_most version places.Claim bytes fault 11 (omega arith) (at_claim version) e closed)

@@ -59,6 +59,8 @@ reason_name reasons.LightParent = codes "LightParent"
 reason_name reasons.Sum = codes "Sum"
 reason_name reasons.Total = codes "Total"
 reason_name reasons.Root = codes "Root"
+reason_name reasons.BadFound = codes "BadFound"
+reason_name reasons.NotAlone = codes "NotAlone"
 
 -- the line of a rejection: the query's number, the round and the reason of the fault, a line feed
 abbrev pub rejection : ℕ → ℕ → Reason → List ℕ

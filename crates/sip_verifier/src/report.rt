@@ -182,6 +182,8 @@ fn put_reason(gathered: &mut ArrayVec<u8, ROOM>, reason: Reason)
         Reason::Sum => put(gathered, b"Sum"),
         Reason::Total => put(gathered, b"Total"),
         Reason::Root => put(gathered, b"Root"),
+        Reason::BadFound => put(gathered, b"BadFound"),
+        Reason::NotAlone => put(gathered, b"NotAlone"),
     }
 }
 

@@ -166,7 +166,7 @@ came_all version place old mid new before now none head got kind len r empty cam
     let fault : frame_fault version place got ≡ body_fault (shape version kind) (drop 3 got) = ap (frame_fault version place) then.longer ∙ whole_fault version place head then.more kind len came.whole is total ∙ ap (λ (b : List ℕ). body_fault (shape version kind) (drop 3 b)) (sym then.longer) in
     let seen = same_head version place head then.more kind len came.whole is in
     let len_is : length got ≡ 3 + length_in got = then.whole ∙ ap (λ (n : ℕ). 3 + n) (sym seen.1 ∙ ap length_in (sym then.longer)) in
-    let k : kind_at (slice_index got 0) ≡ Some kind = ap (λ (b : List ℕ). kind_at (slice_index b 0)) then.longer ∙ seen.0 in
+    let k : kind_at place (slice_index got 0) ≡ Some kind = ap (λ (b : List ℕ). kind_at place (slice_index b 0)) then.longer ∙ seen.0 in
     let heard = joined old mid new head got then.more [] (came_whole old mid none head 3 empty came) then.heard then.longer in
     read_it version place old new before now got kind r (subst (GoesOn old new) (append-nil (ins got)) heard) (then.whole ∙ sym (asked_for version place head got kind len then.more came.whole is then.longer)) fault
     (λ m same stands. spelled_back version place got kind m bytes len_is k is.allowed same stands) read

@@ -1,14 +1,14 @@
 -- The lengths of a kind are those that its marks give, and no other.
-use Rattle.std.proofs.Common.{◌≡◌, ℕ, ◌+◌, ◌*◌, ◌-◌, ◌%◌, ◌/◌, ◌<◌, ◌≤◌, Bool, true, ◌&&◌, nat_le, ◌==◌, List, [], ◌∷◌, refl, sym, ap, ◌∙◌, arith, inl, inr}
+use Rattle.std.proofs.Common.{◌≡◌, ℕ, suc, ◌+◌, ◌*◌, ◌-◌, ◌%◌, ◌/◌, ◌<◌, ◌≤◌, Bool, true, ◌&&◌, nat_le, ◌==◌, List, [], ◌∷◌, refl, sym, ap, ◌∙◌, arith, inl, inr}
 use Rattle.std.specs.List.{list_any}
-use Rattle.std.proofs.lemmas.Bool.{and_parts, or_cases, or_left, or_right, leb-true, eqb-true, eq-eqb}
+use Rattle.std.proofs.lemmas.Bool.{and_from, and_parts, or_cases, or_left, or_right, leb-true, eqb-true, eq-eqb}
 use Rattle.std.proofs.lemmas.Bool.Decides.{nat_tests}
 use Rattle.std.proofs.Math.Nat.{le_of_mul-le-mul_left}
 use Rattle.sip_wire.specs.declared.kind.Kind.{Kind}
 use Rattle.sip_wire.specs.declared.kind.Kind.TheVariants as kinds
 use Rattle.sip_wire.specs.declared.version.Version.{Version}
 use Rattle.sip_wire.specs.declared.version.Version.TheVariants.{One, Two}
-use Rattle.sip_wire.specs.Table.{Field, Shape, size, ordered, plain, marked, counted, query_fields, sibling_fields, query_codes, sibling_flags, ends_in_order, shape, IsLengthOfMark}
+use Rattle.sip_wire.specs.Table.{Field, Shape, size, ordered, plain, marked, counted, query_fields, sibling_fields, query_codes, sibling_flags, ends_in_order, element, repeat, power_shape, most_degree, shape, IsLengthOfMark}
 use Rattle.sip_wire.proofs.Counting.{size_repeat}
 use Rattle.sip_wire.proofs.Shapes.{is_shape}
 
@@ -75,6 +75,13 @@ counted_mark most layout n some h =
     let x = count_of most c n some (leb-true _ _ b.0) (leb-true _ _ b.1) (eqb-true _ _ a.1) in
     record { mark = x.0; is_mark = in_range x.0 most x.1 x.2; long = x.3 ∙ ap (λ (m : ℕ). 2 + m) (sym (size_repeat x.0 layout)) }
 
+-- a length of coefficients is that of their degree
+power_mark : (degree n : ℕ) → (power_shape degree).has_length n ≡ true → HasMark (power_shape degree) n
+power_mark degree n h =
+    let both = and_parts (nat_le degree most_degree) (n == 8 * (degree + 1)) h in
+    let total : n ≡ 0 + size (repeat (suc degree) (element ∷ [])) = omega (arith, eqb-true n (8 * (degree + 1)) both.1, size_repeat (suc degree) (element ∷ [])) in
+    record { mark = 0; is_mark = and_from _ _ both.0 refl; long = total }
+
 -- so for each kind
 by_kind : (version : Version) (kind : Kind) (n : ℕ) → (shape version kind).has_length n ≡ true → HasMark (shape version kind) n
 by_kind version kinds.Open n h = ordered_mark _ _ n h
@@ -95,6 +102,11 @@ by_kind One kinds.Nodes n h = counted_mark _ _ n (omega arith) h
 by_kind Two kinds.Nodes n h = counted_mark _ _ n (omega arith) h
 by_kind version kinds.LevelEnd n h = plain_mark _ n h
 by_kind version kinds.Refuse n h = plain_mark _ n h
+by_kind version kinds.AskLook n h = plain_mark _ n h
+by_kind version kinds.Found n h = ordered_mark _ _ n h
+by_kind version kinds.End n h = plain_mark _ n h
+by_kind version kinds.AskMoment n h = plain_mark _ n h
+by_kind version (kinds.Power degree) n h = power_mark degree n h
 
 -- a length that a kind has is that of a mark
 pub length_of_mark : (version : Version) (kind : Kind) (n : ℕ) → (shape version kind).has_length n ≡ true → IsLengthOfMark version kind n

@@ -20,4 +20,5 @@ pub mod EntryValues
 pub mod SiblingElements
 pub mod SmallNumbers
 pub mod Wider
+pub mod Powers
 pub mod AtHand

@@ -1,6 +1,6 @@
 -- A message that is made of a kind, a mark and numbers that fit has that kind, that mark and those
 -- numbers.
-use Rattle.std.proofs.Common.{◌≡◌, ℕ, zero, suc, ◌<◌, ◌≤◌, ◌^◌, true, ◌&&◌, nat_lt, nat_le, List, [], ◌∷◌, ◌++◌, length, length-append, subst, All, FitsSigned, refl, sym, ◌∙◌, arith}
+use Rattle.std.proofs.Common.{◌≡◌, ◌==◌, ap, ℕ, zero, suc, ◌-◌, ◌<◌, ◌≤◌, ◌^◌, true, ◌&&◌, nat_lt, nat_le, List, [], ◌∷◌, ◌++◌, length, length-append, subst, All, FitsSigned, refl, sym, ◌∙◌, arith}
 use Rattle.std.specs.Int.{w64, cast_signed, cast_unsigned}
 use Rattle.std.specs.List.{flat_map}
 use Rattle.std.proofs.lemmas.Int.{ints, of_z-to_z}
@@ -15,11 +15,12 @@ use Rattle.sip_wire.specs.declared.kind.Kind.{Kind}
 use Rattle.sip_wire.specs.declared.kind.Kind.TheVariants as kinds
 use Rattle.sip_wire.specs.declared.version.Version.{Version}
 use Rattle.sip_wire.specs.declared.version.Version.TheVariants.{One, Two}
-use Rattle.sip_wire.specs.Table.{Field, side, repeat, shape, update_fields, entry_fields, leaf_fields, node_fields, query_fields, sibling_fields, query_shape, siblings_shape}
+use Rattle.sip_wire.specs.Table.{Field, side, repeat, shape, update_fields, entry_fields, leaf_fields, node_fields, query_fields, sibling_fields, query_shape, siblings_shape, element, most_degree}
 use Rattle.sip_wire.specs.Spelling.{has_room, all_hold, fits_shape, kind_of, mark_of, numbers, side_number, update_numbers, entry_numbers, leaf_numbers, node_numbers, query_code, query_numbers}
 use Rattle.sip_wire.specs.Values.{InRange, side_at, updates_from, entries_from, leaves_from, nodes_from, query_from, message_from}
 use Rattle.sip_wire.proofs.EntryValues.{value_range}
 use Rattle.sip_wire.proofs.Shapes.{FitsAll, fit_parts}
+use Rattle.sip_wire.proofs.Same.{coefficients_back}
 
 -- what is made of a kind, a mark and numbers has them, and its signed numbers are values of their
 -- type
@@ -232,6 +233,18 @@ siblings_again (suc (suc (suc (suc flags)))) ns is room = absurd (let le = flags
 claim_again : (n : ℕ) → n < 256 ^ 8 → Made kinds.Claim 0 (n ∷ [])
 claim_again n lt = record { its_kind = refl; its_mark = refl; its_numbers = rw (signed_again n lt) refl; in_range = fits_signed n lt }
 
+-- as many fields as rows
+repeat_length : (k : ℕ) (f : Field) → length (repeat k (f ∷ [])) ≡ k
+repeat_length zero f = refl
+repeat_length (suc k) f = ap suc (repeat_length k f)
+
+-- a power is made again
+power_again : (degree : ℕ) (ns : List ℕ) → has_room (repeat (suc degree) (element ∷ [])) ns ≡ true → Made (kinds.Power degree) 0 ns
+power_again degree ns room =
+    let many : length ns ≡ suc degree = one_each (repeat (suc degree) (element ∷ [])) ns room ∙ repeat_length (suc degree) element in
+    let same : length ns - 1 ≡ degree = omega (arith, many) in
+    record { its_kind = ap kinds.Power same; its_mark = refl; its_numbers = coefficients_back ns; in_range = tt }
+
 -- the mark of a kind without one
 unmarked : (kind : Kind) (mark : ℕ) (ns : List ℕ) → mark ≡ 0 → Made kind 0 ns → Made kind mark ns
 unmarked kind mark ns e made = rw e made
@@ -255,6 +268,11 @@ by_kind version kinds.Leaves mark ns fit = let x = leaves_again version mark ns 
 by_kind version kinds.Nodes mark ns fit = let x = nodes_again version mark ns fit.room in record { its_kind = refl; its_mark = x.its_count; its_numbers = x.its_numbers; in_range = tt }
 by_kind version kinds.LevelEnd mark ns fit = unmarked kinds.LevelEnd mark ns (eqb-true mark 0 fit.is_mark) (rw (no_rows ns fit.room) (record { its_kind = refl; its_mark = refl; its_numbers = refl; in_range = tt }))
 by_kind version kinds.Refuse mark ns fit = let x = one ns (one_each _ ns fit.room) in unmarked kinds.Refuse mark ns (eqb-true mark 0 fit.is_mark) (rw x.1 (record { its_kind = refl; its_mark = refl; its_numbers = refl; in_range = tt }))
+by_kind version kinds.AskLook mark ns fit = let x = two ns (one_each _ ns fit.room) in unmarked kinds.AskLook mark ns (eqb-true mark 0 fit.is_mark) (rw x.2 (record { its_kind = refl; its_mark = refl; its_numbers = refl; in_range = tt }))
+by_kind version kinds.Found mark ns fit = let x = two ns (one_each _ ns fit.room) in unmarked kinds.Found mark ns (eqb-true mark 0 fit.is_mark) (rw x.2 (record { its_kind = refl; its_mark = refl; its_numbers = refl; in_range = tt }))
+by_kind version kinds.End mark ns fit = unmarked kinds.End mark ns (eqb-true mark 0 fit.is_mark) (rw (no_rows ns fit.room) (record { its_kind = refl; its_mark = refl; its_numbers = refl; in_range = tt }))
+by_kind version kinds.AskMoment mark ns fit = let x = two ns (one_each _ ns fit.room) in unmarked kinds.AskMoment mark ns (eqb-true mark 0 fit.is_mark) (rw x.2 (record { its_kind = refl; its_mark = refl; its_numbers = refl; in_range = tt }))
+by_kind version (kinds.Power degree) mark ns fit = unmarked (kinds.Power degree) mark ns (eqb-true mark 0 (and_parts (nat_le degree most_degree) (mark == 0) fit.is_mark).1) (power_again degree ns fit.room)
 
 -- what is made of a mark and numbers that fit has them
 pub made : (version : Version) (kind : Kind) (mark : ℕ) (ns : List ℕ) → fits_shape (shape version kind) mark ns ≡ true → Made kind mark ns

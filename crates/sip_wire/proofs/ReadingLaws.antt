@@ -33,7 +33,7 @@ asked_by-least version place (Some kind) bytes = by_test (allows place kind && (
 -- a frame has three bytes at least
 pub asked-least : (version : Version) (place : Place) (bytes : List ℕ) → 3 ≤ asked version place bytes
 unfolding asked
-asked-least version place bytes = asked_by-least version place (kind_at (slice_index bytes 0)) bytes
+asked-least version place bytes = asked_by-least version place (kind_at place (slice_index bytes 0)) bytes
 
 -- kind, length and body
 pub length-spelling : (version : Version) (m : Message) → length (spelling version m) ≡ 3 + length (body_of version m)
@@ -48,7 +48,7 @@ asked-spelling version place m rest fit allowed =
     let count : length_in (spelling version m ++ rest) ≡ length (body_of version m) = stated version m rest fit in
     let long = body_length s (mark_of m) (numbers m) fit in
     let has : s.has_length (length_in (spelling version m ++ rest)) ≡ true = rw (count, long) ((is_shape version (kind_of m)).lengths (mark_of m) (mark_of_fit s (mark_of m) (numbers m) fit)) in
-    let kind : kind_at (slice_index (spelling version m ++ rest) 0) ≡ Some (kind_of m) = ap kind_at (first version m rest) ∙ kind_again (kind_of m) in
+    let kind : kind_at place (slice_index (spelling version m ++ rest) 0) ≡ Some (kind_of m) = ap (kind_at place) (first version m rest) ∙ kind_again place (kind_of m) allowed in
     asked_whole version place (spelling version m ++ rest) (kind_of m) kind allowed has ∙ omega (arith, count, length-spelling version m)
 
 -- what is asked depends on the kind and the length alone
@@ -62,7 +62,7 @@ unfolding asked
 asked-append version place [] more le = absurd (omega arith)
 asked-append version place (x ∷ []) more le = absurd (omega arith)
 asked-append version place (x ∷ y ∷ []) more le = absurd (omega arith)
-asked-append version place (x ∷ y ∷ z ∷ front) more le = by_length version place (kind_at x) (x ∷ y ∷ z ∷ front ++ more) (x ∷ y ∷ z ∷ front) refl
+asked-append version place (x ∷ y ∷ z ∷ front) more le = by_length version place (kind_at place x) (x ∷ y ∷ z ∷ front ++ more) (x ∷ y ∷ z ∷ front) refl
 
 -- ---- a frame that isn't whole
 
@@ -82,7 +82,7 @@ unfolding asked
 frame_fault-closed version place bytes lt =
     elim (cases_lt (length bytes) 3) [
       | inl short ↦ no_head version place bytes short
-      | inr le ↦ past_length version place bytes le ∙ by_kind version place (kind_at (slice_index bytes 0)) bytes lt le
+      | inr le ↦ past_length version place bytes le ∙ by_kind version place (kind_at place (slice_index bytes 0)) bytes lt le
     ]
 
 -- The fault of bytes of which a frame takes all is what reading answers; Closed too, where it is
@@ -92,8 +92,8 @@ unfolding read_frame
 read_frame-fault version place bytes f fault le =
     let n = asked version place bytes in
     let all : take n bytes ≡ bytes = take_all n bytes le in
-    ap (λ (b : List ℕ). read_of version (kind_at (slice_index bytes 0)) (frame_fault version place b) b (drop n bytes)) all
-    ∙ ap (λ (o : Option WireFault). read_of version (kind_at (slice_index bytes 0)) o bytes (drop n bytes)) fault
+    ap (λ (b : List ℕ). read_of version (kind_at place (slice_index bytes 0)) (frame_fault version place b) b (drop n bytes)) all
+    ∙ ap (λ (o : Option WireFault). read_of version (kind_at place (slice_index bytes 0)) o bytes (drop n bytes)) fault
 
 -- fewer bytes than asked for are no whole frame
 pub read_frame-closed : (version : Version) (place : Place) (bytes : List ℕ) → length bytes < asked version place bytes → read_frame version place bytes ≡ Err faults.Closed
@@ -126,11 +126,11 @@ read_frame-spelling version place m rest fit allowed range =
     let len : n ≡ length (spelling version m) = asked-spelling version place m rest fit allowed in
     let front : take n (spelling version m ++ rest) ≡ spelling version m = take_at (spelling version m) rest n (sym len) in
     let behind_it : drop n (spelling version m ++ rest) ≡ rest = drop_at (spelling version m) rest n (sym len) in
-    let kind : kind_at (slice_index (spelling version m ++ rest) 0) ≡ Some (kind_of m) = ap kind_at (first version m rest) ∙ kind_again (kind_of m) in
+    let kind : kind_at place (slice_index (spelling version m ++ rest) 0) ≡ Some (kind_of m) = ap (kind_at place) (first version m rest) ∙ kind_again place (kind_of m) allowed in
     let stands = body_again s (mark_of m) (numbers m) (is_shape version (kind_of m)) fit in
     let body : drop 3 (spelling version m) ≡ body_of version m = refl in
     let said : said_by version (kind_of m) (body_of version m) ≡ m = ap (λ (k : ℕ). message_from (kind_of m) k (said_in s (body_of version m))) (sym stands.its_mark) ∙ ap (λ (ns : List ℕ). message_from (kind_of m) (mark_of m) ns) (sym stands.its_numbers) ∙ message_back m range in
-    ap (λ (b : List ℕ). read_of version (kind_at (slice_index (spelling version m ++ rest) 0)) (frame_fault version place b) b (drop n (spelling version m ++ rest))) front
+    ap (λ (b : List ℕ). read_of version (kind_at place (slice_index (spelling version m ++ rest) 0)) (frame_fault version place b) b (drop n (spelling version m ++ rest))) front
     ∙ ap (λ (o : Option Kind). read_of version o (frame_fault version place (spelling version m)) (spelling version m) (drop n (spelling version m ++ rest))) kind
     ∙ ap (λ (o : Option WireFault). read_of version (Some (kind_of m)) o (spelling version m) (drop n (spelling version m ++ rest))) (no_fault version place m fit allowed)
     ∙ ap (λ (x : Message). answer (x, drop n (spelling version m ++ rest))) said
@@ -152,7 +152,7 @@ unfolding read_frame
 read_frame-rest version place bytes m rest e =
     elim (cases_lt (length bytes) (asked version place bytes)) [
       | inl lt ↦ absurd (let closed = read_frame-closed version place bytes lt in let both : Err faults.Closed ≡ Ok (m, rest) = sym closed ∙ e in cc)
-      | inr le ↦ (le, rest_of version (kind_at (slice_index bytes 0)) (frame_fault version place (take (asked version place bytes) bytes)) (take (asked version place bytes) bytes) (drop (asked version place bytes) bytes) m rest e)
+      | inr le ↦ (le, rest_of version (kind_at place (slice_index bytes 0)) (frame_fault version place (take (asked version place bytes) bytes)) (take (asked version place bytes) bytes) (drop (asked version place bytes) bytes) m rest e)
     ]
 
 -- what follows a message is at least three bytes shorter
@@ -185,7 +185,7 @@ unfolding read_frame
 read_frame-followed version place bytes more le =
     let n = asked version place bytes in
     let three : 3 ≤ length bytes = omega (arith, asked-least version place bytes) in
-    let again = read_of-followed version (kind_at (slice_index bytes 0)) (frame_fault version place (take n bytes)) (take n bytes) (drop n bytes) more in
+    let again = read_of-followed version (kind_at place (slice_index bytes 0)) (frame_fault version place (take n bytes)) (take n bytes) (drop n bytes) more in
     rw (asked-append version place bytes more three, first_of bytes more three, take-append-le n bytes more le, drop-append-le n bytes more le) again
 
 -- a frame that is whole is read the same, whatever follows it

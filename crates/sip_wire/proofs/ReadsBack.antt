@@ -60,7 +60,7 @@ passes version place kind frame e =
     record { allowed = x.0; has_length = x.1; whole = not_less (length frame) (3 + length_in frame) x.2; no_fault = x.3 }
 
 -- a whole frame, with what it says
-of_frame : (version : Version) (place : Place) (frame : List ℕ) (kind : Kind) (m : Message) → IsBytes frame → length frame ≡ 3 + length_in frame → kind_at (slice_index frame 0) ≡ Some kind → Passes version place kind frame → m ≡ said_by version kind (drop 3 frame)
+of_frame : (version : Version) (place : Place) (frame : List ℕ) (kind : Kind) (m : Message) → IsBytes frame → length frame ≡ 3 + length_in frame → kind_at place (slice_index frame 0) ≡ Some kind → Passes version place kind frame → m ≡ said_by version kind (drop 3 frame)
     → IsTrue (fits version m) × IsTrue (allows place (kind_of m)) × (frame ≡ spelling version m) × InRange m
 of_frame version place frame kind m bytes len k passed said =
     let s = shape version kind in
@@ -81,13 +81,13 @@ read_frame-message version place bytes m rest fit e =
     let frame = take n bytes in
     let after = drop n bytes in
     let ends = read_frame-rest version place bytes m rest e in
-    let r = reads version (kind_at (slice_index bytes 0)) (frame_fault version place frame) frame after m rest e in
+    let r = reads version (kind_at place (slice_index bytes 0)) (frame_fault version place frame) frame after m rest e in
     let least = asked-least version place bytes in
     let len : length frame ≡ n = length-take-le n bytes ends.0 in
     let three : 3 ≤ length frame = omega arith in
     let whole : frame ++ after ≡ bytes = take-append-drop n bytes in
     let byte : slice_index frame 0 ≡ slice_index bytes 0 = sym (first_of frame after three) ∙ ap (λ (b : List ℕ). slice_index b 0) whole in
-    let kind : kind_at (slice_index frame 0) ≡ Some r.is = ap kind_at byte ∙ r.its_kind in
+    let kind : kind_at place (slice_index frame 0) ≡ Some r.is = ap (kind_at place) byte ∙ r.its_kind in
     let passed = passes version place r.is frame (sym (past_length version place frame three ∙ ap (λ (o : Option Kind). kind_fault version place o frame) kind) ∙ r.no_fault) in
     let size : asked version place frame ≡ 3 + length_in frame = asked_whole version place frame r.is kind passed.allowed passed.has_length in
     let same : asked version place bytes ≡ asked version place frame = ap (asked version place) (sym whole) ∙ asked-append version place frame after three in

@@ -15,7 +15,7 @@ use Rattle.sip_wire.specs.declared.message.Node.{Node}
 use Rattle.sip_wire.specs.declared.message.Message.{Message}
 use Rattle.sip_wire.specs.declared.message.Message.TheVariants as messages
 use Rattle.sip_wire.specs.declared.kind.Kind.{Kind}
-use Rattle.sip_wire.specs.Spelling.{kind_of, mark_of, numbers, side_number, update_numbers, entry_numbers, leaf_numbers, node_numbers, query_code, query_numbers, flag, present}
+use Rattle.sip_wire.specs.Spelling.{kind_of, mark_of, numbers, side_number, update_numbers, entry_numbers, leaf_numbers, node_numbers, coefficient_numbers, query_code, query_numbers, flag, present}
 use Rattle.sip_wire.specs.Values.{InRange, side_at, updates_from, entries_from, leaves_from, nodes_from, query_from, siblings_from, message_from}
 
 -- a side is that of its number
@@ -38,6 +38,11 @@ leaves_back (l ∷ ls) = rw (leaves_back ls) refl
 nodes_back : (ns : List Node) → nodes_from (length ns) (flat_map node_numbers ns) ≡ ns
 nodes_back [] = refl
 nodes_back (n ∷ ns) = rw (nodes_back ns) refl
+
+-- coefficients are their numbers
+pub coefficients_back : (cs : List ℕ) → flat_map coefficient_numbers cs ≡ cs
+coefficients_back [] = refl
+coefficients_back (c ∷ cs) = rw (coefficients_back cs) refl
 
 -- entries are those of their numbers
 entries_back : (es : List Entry) → All (λ (e : Entry). FitsSigned w64 e.value) es → entries_from (length es) (flat_map entry_numbers es) ≡ es
@@ -76,6 +81,11 @@ message_back (messages.Leaves v) fit = ap (λ (ls : List Leaf). messages.Leaves 
 message_back (messages.Nodes v) fit = ap (λ (ns : List Node). messages.Nodes (record { items = ns })) (nodes_back v.items)
 message_back messages.LevelEnd fit = refl
 message_back (messages.Refuse code) fit = refl
+message_back (messages.AskLook code item) fit = refl
+message_back (messages.Found flag index) fit = refl
+message_back messages.End fit = refl
+message_back (messages.AskMoment side degree) fit = refl
+message_back (messages.Power v) fit = ap (λ (cs : List ℕ). messages.Power (record { items = cs })) (coefficients_back v.items)
 
 -- messages with the same kind, mark and numbers are the same
 pub same_message : (m n : Message) → InRange m → InRange n → kind_of m ≡ kind_of n → mark_of m ≡ mark_of n → numbers m ≡ numbers n → m ≡ n

@@ -1,5 +1,5 @@
 -- What holds of the shapes in the table, and the two directions of a body.
-use Rattle.std.proofs.Common.{◌≡◌, ℕ, zero, suc, ◌+◌, ◌*◌, ◌-◌, ◌%◌, ◌^◌, ◌<◌, ◌≤◌, Bool, true, false, not, ◌&&◌, cond, nat_le, ◌==◌, Some, None, List, length, take, drop, refl, sym, ap, ◌∙◌, arith, length-append, length-drop}
+use Rattle.std.proofs.Common.{◌≡◌, ℕ, zero, suc, ◌+◌, ◌*◌, ◌-◌, ◌%◌, ◌^◌, ◌<◌, ◌≤◌, Bool, true, false, not, ◌&&◌, cond, nat_le, ◌==◌, Some, None, List, [], ◌∷◌, length, take, drop, refl, sym, ap, ◌∙◌, arith, length-append, length-drop}
 use Rattle.std.proofs.lemmas.Bool.{and_from, and_parts, leb-true, le-leb, eqb-true, eq-eqb}
 use Rattle.std.proofs.lemmas.Bool.Decides.{nat_tests}
 use Rattle.std.proofs.lemmas.List.{drop_at, take-append-drop}
@@ -12,7 +12,7 @@ use Rattle.sip_wire.specs.declared.message.WireFault.{WireFault}
 use Rattle.sip_wire.specs.declared.message.WireFault.TheVariants as faults
 use Rattle.sip_wire.specs.declared.version.Version.{Version}
 use Rattle.sip_wire.specs.declared.version.Version.TheVariants.{One, Two}
-use Rattle.sip_wire.specs.Table.{Field, Shape, size, repeat, ordered, plain, counted, query_shape, siblings_shape, query_fields, sibling_fields, longest_body, shape}
+use Rattle.sip_wire.specs.Table.{Field, Shape, size, repeat, ordered, plain, counted, query_shape, siblings_shape, query_fields, sibling_fields, element, power_shape, most_degree, longest_body, shape}
 use Rattle.sip_wire.specs.Spelling.{in_bytes, spelled, has_room, all_hold, fits_shape, body_in, mark_in, mark_fits, said_in, body_fault, Stands}
 use Rattle.sip_wire.proofs.Bytes.{IsBytes, IsBytes-drop, bytes_back}
 use Rattle.sip_wire.proofs.Fields.{fields_back, fields_room, fields_size, fields_again}
@@ -107,6 +107,23 @@ siblings_is = record {
   short = λ n h. grind (arith, nat_tests);
 }
 
+-- a degree that there is, and no mark
+power_mark : (degree m : ℕ) → (power_shape degree).is_mark m ≡ true → (degree ≤ most_degree) × (m ≡ 0)
+power_mark degree m h = let both = and_parts (nat_le degree most_degree) (m == 0) h in (leb-true degree most_degree both.0, eqb-true m 0 both.1)
+
+-- coefficients
+power_is : (degree : ℕ) → IsShape (power_shape degree)
+power_is degree = record {
+  mark_room = λ m h. let e = power_mark degree m h in omega (arith, e.1);
+  lengths = λ m h.
+      let e = power_mark degree m h in
+      let total : 0 + size (repeat (suc degree) (element ∷ [])) ≡ 8 * (degree + 1) = omega (arith, size_repeat (suc degree) (element ∷ [])) in
+      and_from _ _ (le-leb degree most_degree e.0) (eq-eqb _ _ total);
+  short = λ n h.
+      let both = and_parts (nat_le degree most_degree) (n == 8 * (degree + 1)) h in
+      omega (arith, leb-true degree most_degree both.0, eqb-true n (8 * (degree + 1)) both.1);
+}
+
 -- each kind's
 pub is_shape : (version : Version) (kind : Kind) → IsShape (shape version kind)
 is_shape version kinds.Open = ordered_shape _ _ (omega arith)
@@ -127,6 +144,11 @@ is_shape One kinds.Nodes = counted_shape _ _ (omega arith) (omega arith) (omega 
 is_shape Two kinds.Nodes = counted_shape _ _ (omega arith) (omega arith) (omega arith)
 is_shape version kinds.LevelEnd = plain_shape _ (omega arith)
 is_shape version kinds.Refuse = plain_shape _ (omega arith)
+is_shape version kinds.AskLook = plain_shape _ (omega arith)
+is_shape version kinds.Found = ordered_shape _ _ (omega arith)
+is_shape version kinds.End = plain_shape _ (omega arith)
+is_shape version kinds.AskMoment = plain_shape _ (omega arith)
+is_shape version (kinds.Power degree) = power_is degree
 
 -- ---- what fits a shape
 
@@ -170,7 +192,7 @@ body_back s body mark ns fits stands =
     rw (stands.its_mark, stands.its_numbers) (fit, whole)
 
 -- and both tests leave no fault
-no_fault_in : (s : Shape) (body : List ℕ) → mark_fits s (mark_in s body) (length body) ≡ true → (s.in_order (mark_in s body) (said_in s body) && all_hold (s.fields (mark_in s body)) (said_in s body)) ≡ true → body_fault s body ≡ None
+pub no_fault_in : (s : Shape) (body : List ℕ) → mark_fits s (mark_in s body) (length body) ≡ true → (s.in_order (mark_in s body) (said_in s body) && all_hold (s.fields (mark_in s body)) (said_in s body)) ≡ true → body_fault s body ≡ None
 unfolding body_fault in_bytes
 no_fault_in s body a b = rw (a, b) refl
 

@@ -125,6 +125,11 @@ shape_wider kinds.Leaves = rows_wider most_rows (leaf_fields One) (leaf_fields T
 shape_wider kinds.Nodes = rows_wider most_nodes (node_fields One) (node_fields Two) (index_wider _ _ (same_fields _))
 shape_wider kinds.LevelEnd = same_shape (shape One kinds.LevelEnd)
 shape_wider kinds.Refuse = same_shape (shape One kinds.Refuse)
+shape_wider kinds.AskLook = same_shape (shape One kinds.AskLook)
+shape_wider kinds.Found = same_shape (shape One kinds.Found)
+shape_wider kinds.End = same_shape (shape One kinds.End)
+shape_wider kinds.AskMoment = same_shape (shape One kinds.AskMoment)
+shape_wider (kinds.Power degree) = same_shape (shape One (kinds.Power degree))
 
 -- a message with a spelling has one in version 2
 pub fits_two : (version : Version) (m : Message) → IsTrue (fits version m) → IsTrue (fits Two m)

@@ -21,7 +21,7 @@ IsBytes bytes = (i : ℕ) → slice_index bytes i < 256
 -- the head of a frame that may stand at a place
 pub record Head (version : Version) (place : Place) (bytes : List ℕ) (kind : Kind)
     (len : ℕ) : Type 0 where
-  pub its_kind : kind_at (slice_index bytes 0) ≡ Some kind
+  pub its_kind : kind_at place (slice_index bytes 0) ≡ Some kind
   pub allowed : IsTrue (allows place kind)
   pub its_length : len ≡ length_in bytes
   pub short : len ≤ longest_body

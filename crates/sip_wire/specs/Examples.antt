@@ -1,11 +1,14 @@
 -- A whole talk by hand: the vector (3, 0, 5, 1) of depth 2, the query for items 1 to 2, the
 -- challenges 2 and 10; then the replies to the queries for the second moment and for the items of
--- count 4 at least, over the same vector.
-use Rattle.std.specs.Prelude.{◌≡◌, ℕ, pos, IsTrue, List, [], ◌∷◌, ◌++◌, Some, None, Ok}
+-- count 4 at least, over the same vector; and the frames of the lookup of the nearest entry at item
+-- 1 or above it, and of the third moment.
+use Rattle.std.specs.Prelude.{◌≡◌, ℕ, pos, IsTrue, List, [], ◌∷◌, ◌++◌, Some, None, Ok, Err}
 use Rattle.sip_vector.specs.declared.update.Side.TheVariants.{First}
 use Rattle.sip_vector.specs.declared.query.Query.TheVariants as queries
 use Rattle.sip_wire.specs.declared.message.Message.{Message}
 use Rattle.sip_wire.specs.declared.message.Message.TheVariants as messages
+use Rattle.sip_wire.specs.declared.message.WireFault.{WireFault}
+use Rattle.sip_wire.specs.declared.message.WireFault.TheVariants as faults
 use Rattle.sip_wire.specs.declared.kind.Place.{Place}
 use Rattle.sip_wire.specs.declared.kind.Place.TheVariants as places
 use Rattle.sip_wire.specs.declared.version.Version.{Version}
@@ -88,4 +91,94 @@ heavy_replies =
     (0x16 ∷ 0 ∷ 0x16 ∷ 0 ∷ 1 ∷ 0 ∷ 0 ∷ 0 ∷ 0 ∷ 0 ∷ 0 ∷ 0 ∷ 0 ∷ 0 ∷ 0 ∷ 0 ∷ 9 ∷ 0 ∷ 0 ∷ 0 ∷ 0 ∷ 0
     ∷ 0 ∷ 0 ∷ 3 ∷ [])
     ∷ example places.Nodes messages.LevelEnd (0x17 ∷ 0 ∷ 0 ∷ [])
+    ∷ []
+
+-- a lookup: what is asked, what is found, and the end
+abbrev pub look_frames : List Example
+look_frames =
+    example places.AskedLook (messages.AskLook 3 1) (0x21 ∷ 0 ∷ 9 ∷ 3 ∷ 0 ∷ 0 ∷ 0 ∷ 0 ∷ 0 ∷ 0 ∷ 0 ∷ 1 ∷ [])
+    ∷ example places.Found (messages.Found 1 2) (0x22 ∷ 0 ∷ 9 ∷ 1 ∷ 0 ∷ 0 ∷ 0 ∷ 0 ∷ 0 ∷ 0 ∷ 0 ∷ 2 ∷ [])
+    ∷ example places.Found (messages.Found 0 0) (0x22 ∷ 0 ∷ 9 ∷ 0 ∷ 0 ∷ 0 ∷ 0 ∷ 0 ∷ 0 ∷ 0 ∷ 0 ∷ 0 ∷ [])
+    ∷ example places.Found (messages.Refuse 1) (0x18 ∷ 0 ∷ 1 ∷ 1 ∷ [])
+    ∷ example places.AskedLook messages.End (0x23 ∷ 0 ∷ 0 ∷ [])
+    ∷ []
+
+-- a third moment: what is asked, the claim and both polynomials, and the end
+abbrev pub power_frames : List Example
+power_frames =
+    example places.AskedMoment (messages.AskMoment 0 3) (0x24 ∷ 0 ∷ 2 ∷ 0 ∷ 3 ∷ [])
+    ∷ example places.Claim (messages.Claim (pos 153)) (0x11 ∷ 0 ∷ 8 ∷ 0 ∷ 0 ∷ 0 ∷ 0 ∷ 0 ∷ 0 ∷ 0 ∷ 0x99 ∷ [])
+    ∷ example (places.Power 3) (messages.Power (record { items = 152 ∷ 2305843009213693570 ∷ 321 ∷ 2305843009213693860 ∷ [] }))
+    (0x25 ∷ 0 ∷ 0x20 ∷ 0 ∷ 0 ∷ 0 ∷ 0 ∷ 0 ∷ 0 ∷ 0 ∷ 0x98 ∷ 0x1f ∷ 0xff ∷ 0xff ∷ 0xff ∷ 0xff ∷ 0xff ∷ 0xfe ∷ 0x82 ∷ 0 ∷ 0 ∷ 0 ∷ 0 ∷ 0 ∷ 0 ∷ 1 ∷ 0x41 ∷ 0x1f ∷ 0xff ∷ 0xff ∷ 0xff ∷ 0xff ∷ 0xff ∷ 0xff ∷ 0xa4 ∷ [])
+    ∷ example (places.Power 3) (messages.Power (record { items = 2305843009213693924 ∷ 0 ∷ 0 ∷ 0 ∷ [] }))
+    (0x25 ∷ 0 ∷ 0x20 ∷ 0x1f ∷ 0xff ∷ 0xff ∷ 0xff ∷ 0xff ∷ 0xff ∷ 0xff ∷ 0xe4 ∷ 0 ∷ 0 ∷ 0 ∷ 0 ∷ 0 ∷ 0 ∷ 0 ∷ 0 ∷ 0 ∷ 0 ∷ 0 ∷ 0 ∷ 0 ∷ 0 ∷ 0 ∷ 0 ∷ 0 ∷ 0 ∷ 0 ∷ 0 ∷ 0 ∷ 0 ∷ 0 ∷ 0 ∷ [])
+    ∷ example (places.Power 3) (messages.Refuse 1) (0x18 ∷ 0 ∷ 1 ∷ 1 ∷ [])
+    ∷ example places.AskedMoment messages.End (0x23 ∷ 0 ∷ 0 ∷ [])
+    ∷ []
+
+-- what is asked may be any number: whether it may be asked is no matter of spelling
+abbrev pub any_asks : List Example
+any_asks =
+    example places.AskedLook (messages.AskLook 0 18446744073709551615)
+    (0x21 ∷ 0 ∷ 9 ∷ 0 ∷ 0xff ∷ 0xff ∷ 0xff ∷ 0xff ∷ 0xff ∷ 0xff ∷ 0xff ∷ 0xff ∷ [])
+    ∷ example places.AskedMoment (messages.AskMoment 255 9) (0x24 ∷ 0 ∷ 2 ∷ 0xff ∷ 9 ∷ [])
+    ∷ []
+
+-- a place, bytes there that are no frame, and their fault
+pub record Faulty : Type 0 where
+  pub place : Place
+  pub frame : List ℕ
+  pub fault : WireFault
+
+-- a fault by its parts
+abbrev pub faulty : Place → List ℕ → WireFault → Faulty
+faulty place frame fault = record { place = place; frame = frame; fault = fault }
+
+-- all have their faults
+abbrev pub HaveFaults : Version → List Faulty → Type 0
+HaveFaults version [] = Unit {0}
+HaveFaults version (r ∷ rows) =
+    (read_frame version r.place r.frame ≡ Err r.fault) × HaveFaults version rows
+
+-- each fault where a Found is awaited
+abbrev pub found_faults : List Faulty
+found_faults = faulty places.Found (0x22 ∷ 0 ∷ []) faults.Closed
+    ∷ faulty places.Found (0x22 ∷ 0 ∷ 9 ∷ 1 ∷ 0 ∷ 0 ∷ 0 ∷ 0 ∷ 0 ∷ 0 ∷ 0 ∷ []) faults.Closed
+    ∷ faulty places.Found (0x21 ∷ 0 ∷ 9 ∷ []) faults.BadKind
+    ∷ faulty places.Found (0x14 ∷ 0 ∷ 1 ∷ []) faults.BadKind
+    ∷ faulty places.Found (0x22 ∷ 0 ∷ 8 ∷ []) faults.BadLength
+    ∷ faulty places.Found (0x22 ∷ 0 ∷ 9 ∷ 2 ∷ 0 ∷ 0 ∷ 0 ∷ 0 ∷ 0 ∷ 0 ∷ 0 ∷ 0 ∷ []) faults.BadNumber
+    ∷ faulty places.Found (0x22 ∷ 0 ∷ 9 ∷ 0 ∷ 0 ∷ 0 ∷ 0 ∷ 0 ∷ 0 ∷ 0 ∷ 0 ∷ 1 ∷ []) faults.BadNumber
+    ∷ faulty places.Found (0x18 ∷ 0 ∷ 9 ∷ []) faults.BadLength
+    ∷ faulty places.Found (0x18 ∷ 0 ∷ 1 ∷ 5 ∷ []) faults.BadNumber
+    ∷ []
+
+-- each fault where a power is awaited; one of another degree has another length
+abbrev pub power_faults : List Faulty
+power_faults = faulty (places.Power 3) (0x25 ∷ 0 ∷ []) faults.Closed
+    ∷ faulty (places.Power 3) (0x25 ∷ 0 ∷ 0x20 ∷ 0 ∷ []) faults.Closed
+    ∷ faulty (places.Power 3) (0x12 ∷ 0 ∷ 0x18 ∷ []) faults.BadKind
+    ∷ faulty (places.Power 3) (0x25 ∷ 0 ∷ 0x18 ∷ []) faults.BadLength
+    ∷ faulty (places.Power 3) (0x25 ∷ 0 ∷ 0x28 ∷ []) faults.BadLength
+    ∷ faulty (places.Power 9) (0x25 ∷ 0 ∷ 0x50 ∷ []) faults.BadLength
+    ∷ faulty (places.Power 3)
+    (0x25 ∷ 0 ∷ 0x20 ∷ 0 ∷ 0 ∷ 0 ∷ 0 ∷ 0 ∷ 0 ∷ 0 ∷ 0x98 ∷ 0x1f ∷ 0xff ∷ 0xff ∷ 0xff ∷ 0xff ∷ 0xff ∷ 0xfe ∷ 0x82 ∷ 0 ∷ 0 ∷ 0 ∷ 0 ∷ 0 ∷ 0 ∷ 1 ∷ 0x41 ∷ 0x1f ∷ 0xff ∷ 0xff ∷ 0xff ∷ 0xff ∷ 0xff ∷ 0xff ∷ 0xff ∷ []) faults.BadNumber
+    ∷ faulty (places.Power 3) (0x18 ∷ 0 ∷ 1 ∷ 5 ∷ []) faults.BadNumber
+    ∷ []
+
+-- where lookups or moments are asked no other frame may stand, nor may these stand elsewhere
+abbrev pub stray_frames : List Faulty
+stray_frames = faulty places.AskedLook (0x24 ∷ 0 ∷ 2 ∷ []) faults.BadKind
+    ∷ faulty places.AskedLook (0x06 ∷ 0 ∷ 0 ∷ []) faults.BadKind
+    ∷ faulty places.AskedLook (0x18 ∷ 0 ∷ 1 ∷ []) faults.BadKind
+    ∷ faulty places.AskedLook (0x21 ∷ 0 ∷ 8 ∷ []) faults.BadLength
+    ∷ faulty places.AskedLook (0x23 ∷ 0 ∷ 1 ∷ []) faults.BadLength
+    ∷ faulty places.AskedMoment (0x21 ∷ 0 ∷ 9 ∷ []) faults.BadKind
+    ∷ faulty places.AskedMoment (0x24 ∷ 0 ∷ 1 ∷ []) faults.BadLength
+    ∷ faulty places.ToHelper (0x21 ∷ 0 ∷ 9 ∷ []) faults.BadKind
+    ∷ faulty places.ToHelper (0x23 ∷ 0 ∷ 0 ∷ []) faults.BadKind
+    ∷ faulty places.ToHelper (0x24 ∷ 0 ∷ 2 ∷ []) faults.BadKind
+    ∷ faulty places.ToVerifier (0x22 ∷ 0 ∷ 9 ∷ []) faults.BadKind
+    ∷ faulty places.ToVerifier (0x25 ∷ 0 ∷ 0x20 ∷ []) faults.BadKind
+    ∷ faulty places.Poly (0x25 ∷ 0 ∷ 8 ∷ []) faults.BadKind
     ∷ []

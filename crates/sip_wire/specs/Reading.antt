@@ -27,5 +27,5 @@ read_of version None None frame rest = Err faults.BadKind
 unfoldable pub read_frame : Version → Place → List ℕ → Result (Message × List ℕ) WireFault
 read_frame version place bytes =
     let n = asked version place bytes in
-    read_of version (kind_at (slice_index bytes 0)) (frame_fault version place (take n bytes))
+    read_of version (kind_at place (slice_index bytes 0)) (frame_fault version place (take n bytes))
     (take n bytes) (drop n bytes)

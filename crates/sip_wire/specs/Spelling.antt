@@ -1,5 +1,5 @@
 -- The one spelling of a message, and which fault comes where bytes are none.
-use Rattle.std.specs.Prelude.{◌≡◌, ℕ, ◌+◌, ◌^◌, Bool, true, false, not, ◌&&◌, ◌==◌, nat_lt, List, [], ◌∷◌, ◌++◌, length, drop, slice_index, Option, Some, None, Result, MatchResult, All, if◌then◌else◌}
+use Rattle.std.specs.Prelude.{◌≡◌, ℕ, ◌+◌, ◌-◌, ◌^◌, Bool, true, false, not, ◌&&◌, ◌==◌, nat_lt, List, [], ◌∷◌, ◌++◌, length, drop, slice_index, Option, Some, None, Result, MatchResult, All, if◌then◌else◌}
 use Rattle.std.specs.List.{flat_map}
 use Rattle.std.specs.Int.{w64, cast_unsigned}
 use Rattle.byteorder.specs.Endian.{big_number, big_bytes}
@@ -41,6 +41,9 @@ leaf_numbers l = l.item ∷ l.count ∷ []
 abbrev pub node_numbers : Node → List ℕ
 node_numbers n = n.index ∷ n.hash ∷ n.count ∷ []
 
+abbrev pub coefficient_numbers : ℕ → List ℕ
+coefficient_numbers c = c ∷ []
+
 -- the code of a query
 abbrev pub query_code : Query → ℕ
 query_code (queries.Sub _ _) = 1
@@ -69,7 +72,7 @@ abbrev pub present : Option ℕ → List ℕ
 present None = []
 present (Some n) = n ∷ []
 
--- the kind of a message
+-- the kind of a message; a power of as many coefficients is of one degree less
 abbrev pub kind_of : Message → Kind
 kind_of (messages.Open _ _) = kinds.Open
 kind_of (messages.Updates _) = kinds.Updates
@@ -85,6 +88,11 @@ kind_of (messages.Leaves _) = kinds.Leaves
 kind_of (messages.Nodes _) = kinds.Nodes
 kind_of messages.LevelEnd = kinds.LevelEnd
 kind_of (messages.Refuse _) = kinds.Refuse
+kind_of (messages.AskLook _ _) = kinds.AskLook
+kind_of (messages.Found _ _) = kinds.Found
+kind_of messages.End = kinds.End
+kind_of (messages.AskMoment _ _) = kinds.AskMoment
+kind_of (messages.Power v) = kinds.Power (length v.items - 1)
 
 -- the count, the code or the flags
 abbrev pub mark_of : Message → ℕ
@@ -109,6 +117,10 @@ numbers (messages.Siblings left right) = present left ++ present right
 numbers (messages.Leaves v) = flat_map leaf_numbers v.items
 numbers (messages.Nodes v) = flat_map node_numbers v.items
 numbers (messages.Refuse code) = code ∷ []
+numbers (messages.AskLook code item) = code ∷ item ∷ []
+numbers (messages.Found flag index) = flag ∷ index ∷ []
+numbers (messages.AskMoment side degree) = side ∷ degree ∷ []
+numbers (messages.Power v) = flat_map coefficient_numbers v.items
 numbers _ = []
 
 -- ---- fields as bytes
@@ -238,7 +250,7 @@ kind_fault version place (Some kind) bytes =
 unfoldable pub frame_fault : Version → Place → List ℕ → Option WireFault
 frame_fault version place bytes =
     if nat_lt (length bytes) 3 then Some faults.Closed
-    else kind_fault version place (kind_at (slice_index bytes 0)) bytes
+    else kind_fault version place (kind_at place (slice_index bytes 0)) bytes
 
 -- how many bytes a frame has that begins so: three, and the body where kind and length pass
 abbrev pub asked_by : Version → Place → Option Kind → List ℕ → ℕ
@@ -249,4 +261,4 @@ asked_by version place (Some kind) bytes =
 
 -- the same, by the byte in front
 unfoldable pub asked : Version → Place → List ℕ → ℕ
-asked version place bytes = asked_by version place (kind_at (slice_index bytes 0)) bytes
+asked version place bytes = asked_by version place (kind_at place (slice_index bytes 0)) bytes

@@ -29,17 +29,29 @@ byte_of kinds.Leaves = 0x15
 byte_of kinds.Nodes = 0x16
 byte_of kinds.LevelEnd = 0x17
 byte_of kinds.Refuse = 0x18
+byte_of kinds.AskLook = 0x21
+byte_of kinds.Found = 0x22
+byte_of kinds.End = 0x23
+byte_of kinds.AskMoment = 0x24
+byte_of (kinds.Power degree) = 0x25
 
--- each kind
-abbrev pub all_kinds : List Kind
-all_kinds =
+-- each kind, and of the powers that of one degree
+abbrev pub all_kinds : ℕ → List Kind
+all_kinds degree =
     kinds.Open ∷ kinds.Updates ∷ kinds.EndStream ∷ kinds.Query ∷ kinds.Reveal ∷ kinds.Bye
     ∷ kinds.Claim ∷ kinds.Poly ∷ kinds.Entries ∷ kinds.Siblings ∷ kinds.Leaves ∷ kinds.Nodes
-    ∷ kinds.LevelEnd ∷ kinds.Refuse ∷ []
+    ∷ kinds.LevelEnd ∷ kinds.Refuse ∷ kinds.AskLook ∷ kinds.Found ∷ kinds.End ∷ kinds.AskMoment
+    ∷ kinds.Power degree ∷ []
 
--- the kind that a byte stands for
-abbrev pub kind_at : ℕ → Option Kind
-kind_at byte = find (λ kind. byte == byte_of kind) all_kinds
+-- the degree of the power that is awaited at a place, where one is
+abbrev pub degree_at : Place → ℕ
+degree_at (places.Power degree) = degree
+degree_at _ = 0
+
+-- The kind that a byte stands for at a place. The byte of a power does not say its degree: the
+-- place does.
+abbrev pub kind_at : Place → ℕ → Option Kind
+kind_at place byte = find (λ kind. byte == byte_of kind) (all_kinds (degree_at place))
 
 -- which kinds may stand at a place
 abbrev pub allows : Place → Kind → Bool
@@ -56,7 +68,18 @@ allows places.ToVerifier kinds.EndStream = false
 allows places.ToVerifier kinds.Query = false
 allows places.ToVerifier kinds.Reveal = false
 allows places.ToVerifier kinds.Bye = false
+allows places.ToVerifier kinds.AskLook = false
+allows places.ToVerifier kinds.Found = false
+allows places.ToVerifier kinds.End = false
+allows places.ToVerifier kinds.AskMoment = false
+allows places.ToVerifier (kinds.Power degree) = false
 allows places.ToVerifier _ = true
+allows places.AskedLook kinds.AskLook = true
+allows places.AskedLook kinds.End = true
+allows places.AskedLook _ = false
+allows places.AskedMoment kinds.AskMoment = true
+allows places.AskedMoment kinds.End = true
+allows places.AskedMoment _ = false
 allows places.Entries kinds.Entries = true
 allows places.Entries kinds.Siblings = true
 allows places.Siblings kinds.Siblings = true
@@ -66,6 +89,8 @@ allows places.Leaves kinds.Leaves = true
 allows places.Leaves kinds.LevelEnd = true
 allows places.Nodes kinds.Nodes = true
 allows places.Nodes kinds.LevelEnd = true
+allows places.Found kinds.Found = true
+allows (places.Power awaited) (kinds.Power degree) = degree == awaited
 allows _ kinds.Refuse = true
 allows _ _ = false
 
@@ -86,6 +111,10 @@ most_rows = 512
 -- how many nodes it has at most
 abbrev pub most_nodes : ℕ
 most_nodes = 256
+
+-- the greatest degree of a power
+abbrev pub most_degree : ℕ
+most_degree = 8
 
 -- the greatest absolute value of a claim and of an entry
 abbrev pub most_claim : ℕ
@@ -126,9 +155,13 @@ field width holds = record { width = width; holds = holds }
 abbrev pub ranging : ℕ → ℕ → ℕ → Field
 ranging width least most = field width (λ n. nat_le least n && nat_le n most)
 
+-- any number that has room
+abbrev pub any_number : ℕ → Field
+any_number width = field width (λ _. true)
+
 -- an item, or the index of an entry or a node
 abbrev pub index : Version → Field
-index version = field (index_width version) (λ _. true)
+index version = any_number (index_width version)
 
 -- 0 or 1
 abbrev pub side : Field
@@ -141,6 +174,18 @@ element = field 8 is_element
 -- an opening: the number of a version, and a depth
 abbrev pub opening_fields : List Field
 opening_fields = ranging 1 1 2 ∷ ranging 1 1 most_depth ∷ []
+
+-- the code of a lookup, and its item; which of them may be asked is not said here
+abbrev pub look_fields : List Field
+look_fields = any_number 1 ∷ any_number 8 ∷ []
+
+-- whether a place was found, and which
+abbrev pub found_fields : List Field
+found_fields = ranging 1 0 1 ∷ any_number 8 ∷ []
+
+-- the side and the degree of a moment; which of them may be asked is not said here
+abbrev pub moment_fields : List Field
+moment_fields = any_number 1 ∷ any_number 1 ∷ []
 
 -- a record of the stream: its side, its item and its delta
 abbrev pub update_fields : Version → List Field
@@ -265,6 +310,21 @@ query_shape version = marked (query_codes version) (query_fields version) ends_i
 abbrev pub siblings_shape : Shape
 siblings_shape = marked sibling_flags sibling_fields (λ _ _. true)
 
+-- a place is 0 where none was found
+abbrev pub found_in_order : List ℕ → Bool
+found_in_order (zero ∷ index ∷ []) = index == 0
+found_in_order _ = true
+
+-- the coefficients of a power, of one more than its degree, and of no higher one than there is
+abbrev pub power_shape : ℕ → Shape
+power_shape degree = record {
+  mark_width = 0;
+  is_mark = λ n. nat_le degree most_degree && (n == 0);
+  fields = λ _. repeat (suc degree) (element ∷ []);
+  in_order = λ _ _. true;
+  has_length = λ n. nat_le degree most_degree && (n == 8 * (degree + 1));
+}
+
 -- what bodies of each kind look like in a version
 abbrev pub shape : Version → Kind → Shape
 shape version kinds.Open = ordered opening_fields opens
@@ -281,6 +341,11 @@ shape version kinds.Leaves = counted most_rows (leaf_fields version)
 shape version kinds.Nodes = counted most_nodes (node_fields version)
 shape version kinds.LevelEnd = plain []
 shape version kinds.Refuse = plain (ranging 1 1 most_refusal ∷ [])
+shape version kinds.AskLook = plain look_fields
+shape version kinds.Found = ordered found_fields found_in_order
+shape version kinds.End = plain []
+shape version kinds.AskMoment = plain moment_fields
+shape version (kinds.Power degree) = power_shape degree
 
 -- a body of this kind is so long with some mark
 pub record IsLengthOfMark (version : Version) (kind : Kind) (n : ℕ) : Type 0 where

@@ -84,4 +84,9 @@ message_from kinds.Leaves n ns = messages.Leaves (record { items = leaves_from n
 message_from kinds.Nodes n ns = messages.Nodes (record { items = nodes_from n ns })
 message_from kinds.LevelEnd _ _ = messages.LevelEnd
 message_from kinds.Refuse _ (code ∷ []) = messages.Refuse code
+message_from kinds.AskLook _ (code ∷ item ∷ []) = messages.AskLook code item
+message_from kinds.Found _ (flag ∷ index ∷ []) = messages.Found flag index
+message_from kinds.End _ _ = messages.End
+message_from kinds.AskMoment _ (side ∷ degree ∷ []) = messages.AskMoment side degree
+message_from (kinds.Power _) _ ns = messages.Power (record { items = ns })
 message_from _ _ _ = messages.Bye

@@ -26,7 +26,7 @@ pub(crate) fn head_of(
     requires { 3 ≤ length bytes.now }
     ensures { FindsHead version place bytes.now result }
 {
-    let Some(kind) = Kind::of(bytes[0]) else {
+    let Some(kind) = Kind::of(place, bytes[0]) else {
         return Err(WireFault::BadKind);
     };
     if !place.allows(kind) {

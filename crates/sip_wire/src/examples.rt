@@ -3,8 +3,8 @@
 
 ghost use Rattle.std.specs.Prelude.{◌≡◌, ℕ, List, [], ◌∷◌, ◌++◌};
 ghost use Rattle.sip_vector.specs.declared.query.Query.TheVariants as queries;
-ghost use Rattle.sip_wire.specs.declared.version.Version.TheVariants.{One};
-ghost use Rattle.sip_wire.specs.Examples.{AreSpelled, sent, items_replies, moment_replies, heavy_replies};
+ghost use Rattle.sip_wire.specs.declared.version.Version.TheVariants.{One, Two};
+ghost use Rattle.sip_wire.specs.Examples.{AreSpelled, HaveFaults, any_asks, found_faults, heavy_replies, items_replies, look_frames, moment_replies, power_faults, power_frames, sent, stray_frames};
 ghost use Rattle.sip_wire.specs.Transcript.{transcript};
 
 /// What the verifier sends in the worked talk is spelled by its bytes, and read back off them.
@@ -25,6 +25,31 @@ pub fn moment_replies_are_spelled()
 /// So are the replies to a query for heavy items.
 pub fn heavy_replies_are_spelled()
     ensures { (rest : List ℕ) → AreSpelled One heavy_replies rest }
+{}
+
+/// What is asked of a lookup and what is found is spelled by its bytes, and read back off them, in
+/// both versions.
+pub fn look_frames_are_spelled()
+    ensures one { (rest : List ℕ) → AreSpelled One look_frames rest }
+    ensures two { (rest : List ℕ) → AreSpelled Two look_frames rest }
+{}
+
+/// So is what is asked of a moment, and each polynomial.
+pub fn power_frames_are_spelled()
+    ensures one { (rest : List ℕ) → AreSpelled One power_frames rest }
+    ensures two { (rest : List ℕ) → AreSpelled Two power_frames rest }
+{}
+
+/// So is whatever is asked, also what no helper answers.
+pub fn any_asks_are_spelled()
+    ensures { (rest : List ℕ) → AreSpelled One any_asks rest }
+{}
+
+/// The faults where a Found is awaited, where a power is, and where frames may not stand.
+pub fn faults_of_looks_and_powers()
+    ensures found { HaveFaults One found_faults }
+    ensures power { HaveFaults Two power_faults }
+    ensures stray { HaveFaults One stray_frames }
 {}
 
 /// The transcript of the worked talk: its head, the query and both challenges, and then the

@@ -1,15 +1,17 @@
 //! Whether a message has a spelling.
 #![tactic(auto, unfolding(crate::specs::Spelling::fits, crate::specs::Spelling::has_room, crate::specs::Spelling::all_hold))]
 
-ghost use Rattle.std.specs.Prelude.{◌≡◌, ◌&&◌, [], ◌∷◌};
-ghost use Rattle.sip_wire.specs.Table.{query_shape, opening_fields, opens};
+ghost use Rattle.std.specs.Prelude.{◌≡◌, ◌-◌, ◌&&◌, [], ◌∷◌, length};
+ghost use Rattle.sip_wire.specs.declared.message.Message.TheVariants as messages;
+ghost use Rattle.sip_wire.specs.Table.{query_shape, opening_fields, opens, found_fields, found_in_order};
 ghost use Rattle.sip_wire.specs.Spelling.{all_hold, fits, fits_shape, kind_of, query_code, query_numbers};
 
 use crate::Version;
 use crate::kind::Kind;
-use crate::message::{MOST_REFUSAL, Message};
+use crate::message::{MOST_COEFFICIENTS, MOST_REFUSAL, Message};
 use crate::numbers::{is_element, is_small};
 use crate::rows::rows_fit;
+use arrayvec::ArrayVec;
 use sip_vector::Query;
 
 /// Whether there is a version of this number, and it goes to this depth.
@@ -21,6 +23,27 @@ pub fn is_opening(version: u8, depth: u8) -> bool
         Some(version) => 1 <= depth && depth <= version.deepest(),
         None => false,
     }
+}
+
+/// Whether the flag of a place and its index are those of one that was found, or of none.
+pub fn is_found(flag: u8, index: u64) -> bool
+    ensures { result ≡ (found_in_order (flag ∷ index ∷ []) && all_hold found_fields
+        (flag ∷ index ∷ [])) }
+{
+    flag == 1 || (flag == 0 && index == 0)
+}
+
+/// The degree of a power of these coefficients.
+pub fn degree_of(coefficients: &ArrayVec<u64, MOST_COEFFICIENTS>) -> u8
+    ensures { result ≡ length coefficients.now.items - 1 }
+{
+    coefficients.len().saturating_sub(1) as u8
+}
+
+fn power_fits(version: Version, coefficients: &ArrayVec<u64, MOST_COEFFICIENTS>) -> bool
+    ensures { result ≡ fits version (messages.Power coefficients.now) }
+{
+    !coefficients.is_empty() && rows_fit(version, coefficients)
 }
 
 fn query_fits(version: Version, query: Query) -> bool
@@ -57,6 +80,13 @@ impl Message {
             Message::Nodes(_) => Kind::Nodes,
             Message::LevelEnd => Kind::LevelEnd,
             Message::Refuse { .. } => Kind::Refuse,
+            Message::AskLook { .. } => Kind::AskLook,
+            Message::Found { .. } => Kind::Found,
+            Message::End => Kind::End,
+            Message::AskMoment { .. } => Kind::AskMoment,
+            Message::Power(coefficients) => Kind::Power {
+                degree: degree_of(coefficients),
+            },
         }
     }
 
@@ -68,7 +98,7 @@ impl Message {
         match self {
             Message::Open { version, depth } => is_opening(*version, *depth),
             Message::Updates(rows) => !rows.is_empty() && rows_fit(version, rows),
-            Message::EndStream | Message::Bye | Message::LevelEnd => true,
+            Message::EndStream | Message::Bye | Message::LevelEnd | Message::End => true,
             Message::Query(query) => query_fits(version, *query),
             Message::Reveal { challenge } => is_element(*challenge),
             Message::Claim { value } => is_small(value.cast_unsigned()),
@@ -80,6 +110,17 @@ impl Message {
             Message::Leaves(rows) => !rows.is_empty() && rows_fit(version, rows),
             Message::Nodes(rows) => !rows.is_empty() && rows_fit(version, rows),
             Message::Refuse { code } => 1 <= *code && *code <= MOST_REFUSAL,
+            // Each number that a message can have has room in its field.
+            Message::AskLook { code, item } => {
+                let (_code, _item) = (*code, *item);
+                true
+            }
+            Message::AskMoment { side, degree } => {
+                let (_side, _degree) = (*side, *degree);
+                true
+            }
+            Message::Found { flag, index } => is_found(*flag, *index),
+            Message::Power(coefficients) => power_fits(version, coefficients),
         }
     }
 }

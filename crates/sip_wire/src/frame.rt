@@ -129,7 +129,7 @@ impl Frame {
     {
         self.has_rows = matches!(
             kind,
-            Kind::Updates | Kind::Entries | Kind::Leaves | Kind::Nodes
+            Kind::Updates | Kind::Entries | Kind::Leaves | Kind::Nodes | Kind::Power { .. }
         );
         let bytes = &self.buffer[..self.taken];
         if self.has_rows {

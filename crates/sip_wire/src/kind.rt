@@ -1,10 +1,10 @@
 //! The kinds of message, and where each may stand. A refusal may stand wherever a reply is awaited.
 
 ghost use Rattle.std.specs.Prelude.{◌≡◌, ◌<◌, ◌≤◌, ◌^◌, ◌+◌, IsTrue, ◌*◌, ◌-◌, ◌%◌, ◌==◌, ◌&&◌, nat_le};
-ghost use Rattle.sip_wire.specs.Table.{byte_of, kind_at, allows, shape, query_shape, longest_body};
+ghost use Rattle.sip_wire.specs.Table.{byte_of, degree_at, kind_at, allows, shape, query_shape, longest_body};
 
 use crate::Version;
-use crate::message::{Leaf, MOST_NODES, MOST_ROWS, Node};
+use crate::message::{Leaf, MOST_DEGREE, MOST_NODES, MOST_ROWS, Node};
 use crate::row::Row;
 use sip_vector::{Entry, Update};
 
@@ -25,6 +25,11 @@ pub enum Kind {
     Nodes,
     LevelEnd,
     Refuse,
+    AskLook,
+    Found,
+    End,
+    AskMoment,
+    Power { degree: u8 },
 }
 
 /// Where a message is awaited, and so which kinds may stand there.
@@ -46,6 +51,14 @@ pub enum Place {
     Leaves,
     /// Nodes, and the end of their level.
     Nodes,
+    /// What is asked behind the stream, where a helper answers lookups.
+    AskedLook,
+    /// The place of a lookup's answer.
+    Found,
+    /// What is asked behind the stream, where a helper answers moments.
+    AskedMoment,
+    /// A round polynomial of this degree, which is 8 at the most.
+    Power { degree: u8 },
 }
 
 impl Kind {
@@ -68,12 +81,17 @@ impl Kind {
             Kind::Nodes => 0x16,
             Kind::LevelEnd => 0x17,
             Kind::Refuse => 0x18,
+            Kind::AskLook => 0x21,
+            Kind::Found => 0x22,
+            Kind::End => 0x23,
+            Kind::AskMoment => 0x24,
+            Kind::Power { .. } => 0x25,
         }
     }
 
-    /// The kind that a byte stands for.
-    pub fn of(byte: u8) -> Option<Kind>
-        ensures { result ≡ kind_at byte }
+    /// The kind that a byte stands for at a place, which says of which degree a power is.
+    pub fn of(place: Place, byte: u8) -> Option<Kind>
+        ensures { result ≡ kind_at place byte }
     {
         Some(match byte {
             0x01 => Kind::Open,
@@ -90,6 +108,13 @@ impl Kind {
             0x16 => Kind::Nodes,
             0x17 => Kind::LevelEnd,
             0x18 => Kind::Refuse,
+            0x21 => Kind::AskLook,
+            0x22 => Kind::Found,
+            0x23 => Kind::End,
+            0x24 => Kind::AskMoment,
+            0x25 => Kind::Power {
+                degree: place.degree(),
+            },
             _ => return None,
         })
     }
@@ -110,7 +135,12 @@ impl Kind {
             Kind::Siblings => length == 1 || length == 9 || length == 17,
             Kind::Nodes => is_counted(length, MOST_NODES, Node::size(version)),
             Kind::Refuse => length == 1,
-            Kind::EndStream | Kind::Bye | Kind::LevelEnd => length == 0,
+            Kind::AskLook | Kind::Found => length == 9,
+            Kind::AskMoment => length == 2,
+            Kind::Power { degree } => {
+                degree <= MOST_DEGREE && length == 8 * (degree as usize + 1)
+            }
+            Kind::EndStream | Kind::Bye | Kind::LevelEnd | Kind::End => length == 0,
         }
     }
 }
@@ -140,6 +170,16 @@ fn is_counted(length: usize, most: usize, row: usize) -> bool
 }
 
 impl Place {
+    /// The degree of the power that is awaited here, where one is, and else 0.
+    fn degree(self) -> u8
+        ensures { result ≡ degree_at self }
+    {
+        match self {
+            Place::Power { degree } => degree,
+            _ => 0,
+        }
+    }
+
     /// Whether a message of this kind may stand here.
     pub fn allows(self, kind: Kind) -> bool
         ensures { result ≡ allows self kind }
@@ -171,6 +211,11 @@ impl Place {
             (Place::Poly, Kind::Poly | Kind::Refuse) => true,
             (Place::Leaves, Kind::Leaves | Kind::LevelEnd | Kind::Refuse) => true,
             (Place::Nodes, Kind::Nodes | Kind::LevelEnd | Kind::Refuse) => true,
+            (Place::AskedLook, Kind::AskLook | Kind::End) => true,
+            (Place::Found, Kind::Found | Kind::Refuse) => true,
+            (Place::AskedMoment, Kind::AskMoment | Kind::End) => true,
+            (Place::Power { .. }, Kind::Refuse) => true,
+            (Place::Power { degree: awaited }, Kind::Power { degree }) => degree == awaited,
             _ => false,
         }
     }

@@ -23,7 +23,8 @@
 //!   over a slice, a query and a challenge.
 //! - No spelling begins another, a spelling is read as its message whatever follows, and what is
 //!   read is spelled in front of the bytes ([`laws`]).
-//! - The frames of a whole talk by hand are the spellings of their messages ([`examples`]).
+//! - The frames of a whole talk by hand are the spellings of their messages, and so are those of a
+//!   lookup and of a moment, with each of their faults ([`examples`]).
 //!
 //! # The definitions to read
 //!
@@ -63,6 +64,9 @@ pub use decoding::{decode, decode_within};
 pub use encoding::{encode, encode_query, encode_reveal, encode_updates};
 pub use frame::{Frame, LONGEST_FRAME};
 pub use kind::Place;
-pub use message::{Leaf, MOST_NODES, MOST_QUERIES, MOST_ROWS, Message, Node, Reason, WireFault};
+pub use message::{
+    Leaf, MOST_COEFFICIENTS, MOST_DEGREE, MOST_NODES, MOST_QUERIES, MOST_ROWS, Message, Node,
+    Reason, WireFault,
+};
 pub use transcript::{put_ask, put_head};
 pub use version::Version;

@@ -13,6 +13,12 @@ pub const MOST_ROWS: usize = 512;
 /// How many nodes a frame has at most.
 pub const MOST_NODES: usize = 256;
 
+/// The greatest degree of a power.
+pub const MOST_DEGREE: u8 = 8;
+
+/// How many coefficients a power has at most.
+pub const MOST_COEFFICIENTS: usize = 9;
+
 /// The greatest code of a refusal; the least is 1.
 pub const MOST_REFUSAL: u8 = 4;
 
@@ -36,7 +42,8 @@ pub struct Node {
     pub count: u64,
 }
 
-/// What one frame says. The first six go to the helper, and the others come from it.
+/// What one frame says. The first six go to the helper, and those up to the refusal come from it.
+/// The last five are of the talks about lookups and moments.
 #[derive(Drop)]
 pub enum Message {
     /// The talk begins, in a version and over 2^depth items.
@@ -83,6 +90,28 @@ pub enum Message {
     Refuse {
         code: u8,
     },
+    /// A lookup is asked at an item: its code is 1 for the item itself, 2 for the nearest entry up to
+    /// it and 3 for the nearest from it on. Any number has a spelling here.
+    AskLook {
+        code: u8,
+        item: u64,
+    },
+    /// The place of a lookup's answer: flag 1 and its index, or flag 0 and 0 where there is none.
+    Found {
+        flag: u8,
+        index: u64,
+    },
+    /// No more lookups or moments are asked.
+    End,
+    /// The moment of a side, 0 or 1, of a degree from 3 to 8 is asked. Any number has a spelling
+    /// here.
+    AskMoment {
+        side: u8,
+        degree: u8,
+    },
+    /// A round polynomial of a moment, its coefficients from c0 on, by elements of the field. There
+    /// is one more of them than the degree, which the place says.
+    Power(ArrayVec<u64, MOST_COEFFICIENTS>),
 }
 
 /// Why no message was received, the faults of the bytes in the order in which they are tested.
@@ -152,4 +181,8 @@ pub enum Reason {
     Total,
     /// The value at the end is not the verifier's own.
     Root,
+    /// The place that was found is none that answers the lookup.
+    BadFound,
+    /// The entries are not the one at the place that was found alone.
+    NotAlone,
 }

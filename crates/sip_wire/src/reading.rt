@@ -10,12 +10,12 @@ ghost use Rattle.sip_wire.specs.Filling.{filled};
 ghost use Rattle.sip_wire.specs.Spelling.{ReadsBody, ReadsQuery, mark_fits};
 
 use crate::Version;
-use crate::fitting::is_opening;
+use crate::fitting::{is_found, is_opening};
 use crate::kind::Kind;
-use crate::message::{MOST_REFUSAL, Message, WireFault};
+use crate::message::{MOST_COEFFICIENTS, MOST_REFUSAL, Message, WireFault};
 use crate::numbers::{is_element, is_small, take_index, take_u8, take_u32, take_u64};
 use crate::row::side_of;
-use crate::rows::fill_counted;
+use crate::rows::{fill_counted, fill_rows};
 use arrayvec::ArrayVec;
 use sip_vector::Query;
 
@@ -392,6 +392,82 @@ fn read_nodes(version: Version, body: &[u8], message: &mut Message) -> Result<()
     }
 }
 
+fn read_ask_look(version: Version, body: &[u8], message: &mut Message) -> Result<(), WireFault>
+    requires { length body.now ≡ 9 }
+    ensures { ReadsBody version kinds.AskLook body.now (filled message.new result) }
+{
+    let (code, rest) = take_u8(body);
+    let (item, _) = take_u64(rest);
+    *message = Message::AskLook { code, item };
+    Ok(())
+}
+
+fn read_found(version: Version, body: &[u8], message: &mut Message) -> Result<(), WireFault>
+    requires { length body.now ≡ 9 }
+    ensures { ReadsBody version kinds.Found body.now (filled message.new result) }
+{
+    let (flag, rest) = take_u8(body);
+    let (index, _) = take_u64(rest);
+    if !is_found(flag, index) {
+        return Err(WireFault::BadNumber);
+    }
+    *message = Message::Found { flag, index };
+    Ok(())
+}
+
+fn read_ask_moment(version: Version, body: &[u8], message: &mut Message) -> Result<(), WireFault>
+    requires { length body.now ≡ 2 }
+    ensures { ReadsBody version kinds.AskMoment body.now (filled message.new result) }
+{
+    let (side, rest) = take_u8(body);
+    let (degree, _) = take_u8(rest);
+    *message = Message::AskMoment { side, degree };
+    Ok(())
+}
+
+#[inline(never)]
+fn begin_power(message: &mut Message)
+    ensures { message.new ≡ messages.Power (record { items = [] }) }
+{
+    *message = Message::Power(ArrayVec::new());
+}
+
+/// Reads the coefficients of a power of this degree, in place of those before.
+fn fill_coefficients(
+    version: Version,
+    degree: u8,
+    body: &[u8],
+    coefficients: &mut ArrayVec<u64, MOST_COEFFICIENTS>,
+) -> Result<(), WireFault>
+    requires { IsTrue ((shape version (kinds.Power degree)).has_length (length body.now)) }
+    ensures { ReadsBody version (kinds.Power degree) body.now
+        (filled (messages.Power coefficients.new) result) }
+{
+    match fill_rows(version, degree as usize + 1, body, coefficients) {
+        Some(()) => Ok(()),
+        None => Err(WireFault::BadNumber),
+    }
+}
+
+fn read_power(
+    version: Version,
+    degree: u8,
+    body: &[u8],
+    message: &mut Message,
+) -> Result<(), WireFault>
+    requires { IsTrue ((shape version (kinds.Power degree)).has_length (length body.now)) }
+    ensures { ReadsBody version (kinds.Power degree) body.now (filled message.new result) }
+{
+    if let Message::Power(coefficients) = message {
+        return fill_coefficients(version, degree, body, coefficients);
+    }
+    begin_power(message);
+    match message {
+        Message::Power(coefficients) => fill_coefficients(version, degree, body, coefficients),
+        _ => unreachable!(),
+    }
+}
+
 /// Reads the message of a body that is as long as its kind has it. After a fault `message` is any.
 pub fn read_body(
     version: Version,
@@ -426,5 +502,13 @@ pub fn read_body(
             Ok(())
         }
         Kind::Refuse => read_refuse(version, body, message),
+        Kind::AskLook => read_ask_look(version, body, message),
+        Kind::Found => read_found(version, body, message),
+        Kind::End => {
+            *message = Message::End;
+            Ok(())
+        }
+        Kind::AskMoment => read_ask_moment(version, body, message),
+        Kind::Power { degree } => read_power(version, degree, body, message),
     }
 }

@@ -1,12 +1,12 @@
-//! A row of numbers: an update, an entry, a leaf or a node.
+//! A row of numbers: an update, an entry, a leaf, a node or a coefficient.
 #![tactic(auto, using(std::proofs::lemmas::Grind::common_steps), unfolding(crate::specs::Spelling::numbers_in, crate::specs::Spelling::all_hold, crate::specs::Spelling::has_room, crate::specs::Spelling::spelled))]
 
-ghost use Rattle.std.specs.Prelude.{◌≡◌, ◌≤◌, refl, ◌^◌, ◌<◌, ◌+◌, ◌++◌, ◌&&◌, ℕ, List, true, false, length, drop, IfSome, IfNone, FitsSigned, ⊤};
+ghost use Rattle.std.specs.Prelude.{◌≡◌, ◌≤◌, refl, ◌^◌, ◌<◌, ◌+◌, ◌++◌, ◌&&◌, ℕ, List, [], ◌∷◌, true, false, length, drop, IfSome, IfNone, FitsSigned, ⊤};
 ghost use Rattle.std.specs.Int.{w64};
 ghost use Rattle.arrayvec.specs.ArrayVec.{array_vec_len};
 ghost use Rattle.sip_wire.specs.declared.version.Version.{Version as AnyVersion};
-ghost use Rattle.sip_wire.specs.Table.{Field, size, longest_frame, update_fields, entry_fields, leaf_fields, node_fields};
-ghost use Rattle.sip_wire.specs.Spelling.{numbers_in, all_hold, has_room, spelled, side_number, update_numbers, entry_numbers, leaf_numbers, node_numbers};
+ghost use Rattle.sip_wire.specs.Table.{Field, size, longest_frame, update_fields, entry_fields, leaf_fields, node_fields, element};
+ghost use Rattle.sip_wire.specs.Spelling.{numbers_in, all_hold, has_room, spelled, side_number, update_numbers, entry_numbers, leaf_numbers, node_numbers, coefficient_numbers};
 
 use crate::Version;
 use crate::message::{Leaf, Node};
@@ -224,5 +224,36 @@ impl Row for Node {
         put_index(version, out, self.index);
         put_u64(out, self.hash);
         put_u64(out, self.count);
+    }
+}
+
+/// A coefficient, which is an element of the field.
+impl Row for u64 {
+    ghost layout = { λ _. element ∷ [] };
+
+    ghost said = { coefficient_numbers };
+
+    ghost in_range = { λ _. ⊤ };
+
+    ghost one_each = { λ v x. refl };
+
+    fn size(_version: Version) -> usize {
+        8
+    }
+
+    fn take(_version: Version, bytes: &[u8]) -> Option<(Self, &[u8])> {
+        let (coefficient, rest) = take_u64(bytes);
+        if !is_element(coefficient) {
+            return None;
+        }
+        Some((coefficient, rest))
+    }
+
+    fn fits(&self, _version: Version) -> bool {
+        is_element(*self)
+    }
+
+    fn put(&self, _version: Version, out: &mut Bytes) {
+        put_u64(out, *self);
     }
 }

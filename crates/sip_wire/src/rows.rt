@@ -30,7 +30,7 @@ fn make_rows<T: Row + Drop, const CAP: usize>(rows: &mut ArrayVec<T, CAP>, count
 }
 
 /// So many rows, if each number is one that its field may hold. They lie where the rows before lay.
-fn fill_rows<T: Row + Drop, const CAP: usize>(
+pub fn fill_rows<T: Row + Drop, const CAP: usize>(
     version: Version,
     count: usize,
     bytes: &[u8],
@@ -71,7 +71,7 @@ pub fn rows_fit<T: Row>(version: Version, rows: &[T]) -> bool
 }
 
 /// Appends the rows' bytes.
-fn put_rows<T: Row>(version: Version, rows: &[T], out: &mut Bytes)
+pub fn put_rows<T: Row>(version: Version, rows: &[T], out: &mut Bytes)
     requires fits { rooms T.said (T.layout version) rows.now ≡ true }
     requires room { array_vec_len out.old + size (over (T.layout version) rows.now)
         ≤ longest_frame }

@@ -9,10 +9,11 @@ ghost use Rattle.sip_wire.specs.Table.{size, most_rows, shape, query_shape, sibl
 ghost use Rattle.sip_wire.specs.Spelling.{flag, present, body_in, body_of, fits, fits_shape, kind_of, mark_of, query_code, query_numbers};
 
 use crate::Version;
+use crate::fitting::degree_of;
 use crate::message::{Leaf, Message, Node};
 use crate::numbers::{Bytes, put_index, put_u8, put_u32, put_u64};
 use crate::row::{Row, number_of};
-use crate::rows::put_counted;
+use crate::rows::{put_counted, put_rows};
 use arrayvec::ArrayVec;
 use sip_vector::{Entry, Query, Update};
 
@@ -48,7 +49,7 @@ pub fn body_len(version: Version, message: &Message) -> usize
     match message {
         Message::Open { .. } => 2,
         Message::Updates(rows) => 2 + Update::size(version) * rows.len(),
-        Message::EndStream | Message::Bye | Message::LevelEnd => 0,
+        Message::EndStream | Message::Bye | Message::LevelEnd | Message::End => 0,
         Message::Query(query) => query_len(version, *query),
         Message::Reveal { .. } | Message::Claim { .. } => 8,
         Message::Poly { .. } => 24,
@@ -61,6 +62,9 @@ pub fn body_len(version: Version, message: &Message) -> usize
         Message::Leaves(rows) => 2 + Leaf::size(version) * rows.len(),
         Message::Nodes(rows) => 2 + Node::size(version) * rows.len(),
         Message::Refuse { .. } => 1,
+        Message::AskLook { .. } | Message::Found { .. } => 9,
+        Message::AskMoment { .. } => 2,
+        Message::Power(coefficients) => 8 * (degree_of(coefficients) as usize + 1),
     }
 }
 
@@ -153,7 +157,7 @@ pub fn put_body(version: Version, message: &Message, out: &mut Bytes)
             put_u8(out, *depth);
         }
         Message::Updates(rows) => put_counted(version, rows, out),
-        Message::EndStream | Message::Bye | Message::LevelEnd => {}
+        Message::EndStream | Message::Bye | Message::LevelEnd | Message::End => {}
         Message::Query(query) => put_query(version, *query, out),
         Message::Reveal { challenge } => put_u64(out, *challenge),
         Message::Claim { value } => put_u64(out, value.cast_unsigned()),
@@ -167,5 +171,18 @@ pub fn put_body(version: Version, message: &Message, out: &mut Bytes)
         Message::Leaves(rows) => put_counted(version, rows, out),
         Message::Nodes(rows) => put_counted(version, rows, out),
         Message::Refuse { code } => put_u8(out, *code),
+        Message::AskLook { code, item } => {
+            put_u8(out, *code);
+            put_u64(out, *item);
+        }
+        Message::Found { flag, index } => {
+            put_u8(out, *flag);
+            put_u64(out, *index);
+        }
+        Message::AskMoment { side, degree } => {
+            put_u8(out, *side);
+            put_u8(out, *degree);
+        }
+        Message::Power(coefficients) => put_rows(version, coefficients, out),
     }
 }

@@ -93,6 +93,11 @@ heavy_tests asked s (messages.Claim value) = wrong_kind {X = More × HeavyState}
 heavy_tests asked s (messages.Poly c0 c1 c2) = wrong_kind {X = More × HeavyState}
 heavy_tests asked s (messages.Entries v) = wrong_kind {X = More × HeavyState}
 heavy_tests asked s (messages.Siblings left right) = wrong_kind {X = More × HeavyState}
+heavy_tests asked s (messages.AskLook code item) = wrong_kind {X = More × HeavyState}
+heavy_tests asked s (messages.Found flag index) = wrong_kind {X = More × HeavyState}
+heavy_tests asked s messages.End = wrong_kind {X = More × HeavyState}
+heavy_tests asked s (messages.AskMoment side degree) = wrong_kind {X = More × HeavyState}
+heavy_tests asked s (messages.Power v) = wrong_kind {X = More × HeavyState}
 
 -- ---- the tests behind the last reply
 

@@ -83,6 +83,11 @@ sub_tests asked s (messages.Poly a b c) reason e = wrong_kind {X = More × State
 sub_tests asked s (messages.Leaves v) reason e = wrong_kind {X = More × Stated} reason e
 sub_tests asked s (messages.Nodes v) reason e = wrong_kind {X = More × Stated} reason e
 sub_tests asked s messages.LevelEnd reason e = wrong_kind {X = More × Stated} reason e
+sub_tests asked s (messages.AskLook code item) reason e = wrong_kind {X = More × Stated} reason e
+sub_tests asked s (messages.Found flag index) reason e = wrong_kind {X = More × Stated} reason e
+sub_tests asked s messages.End reason e = wrong_kind {X = More × Stated} reason e
+sub_tests asked s (messages.AskMoment side degree) reason e = wrong_kind {X = More × Stated} reason e
+sub_tests asked s (messages.Power v) reason e = wrong_kind {X = More × Stated} reason e
 
 -- ---- the test behind the last reply
 

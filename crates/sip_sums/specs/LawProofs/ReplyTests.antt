@@ -52,6 +52,11 @@ sum_tests asked s (messages.Query q) reason e = wrong_kind {X = More × SumState
 sum_tests asked s (messages.Reveal r) reason e = wrong_kind {X = More × SumState} reason e
 sum_tests asked s messages.Bye reason e = wrong_kind {X = More × SumState} reason e
 sum_tests asked s (messages.Entries v) reason e = wrong_kind {X = More × SumState} reason e
+sum_tests asked s (messages.AskLook code item) reason e = wrong_kind {X = More × SumState} reason e
+sum_tests asked s (messages.Found flag index) reason e = wrong_kind {X = More × SumState} reason e
+sum_tests asked s messages.End reason e = wrong_kind {X = More × SumState} reason e
+sum_tests asked s (messages.AskMoment side degree) reason e = wrong_kind {X = More × SumState} reason e
+sum_tests asked s (messages.Power v) reason e = wrong_kind {X = More × SumState} reason e
 sum_tests asked s (messages.Siblings left right) reason e =
     wrong_kind {X = More × SumState} reason e
 sum_tests asked s (messages.Leaves v) reason e = wrong_kind {X = More × SumState} reason e
