@@ -51,3 +51,5 @@ mod SumSizes
 mod NodeSizes
 mod ShortTalks
 mod SeatLevels
+mod SeatsShown
+mod RootAsked
