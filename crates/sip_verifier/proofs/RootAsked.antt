@@ -1,5 +1,6 @@
 -- A sub-vector that is asked for by a root which stands for the stream.
 use Rattle.std.proofs.Common.{◌≡◌, ◌^◌, ◌<◌, ◌≤◌, ℕ, Option, Result, List, [], ◌∷◌, length, take, refl, subst}
+use Rattle.std.specs.Prelude.{IsTrue}
 use Rattle.sip_field.specs.Moduli.{m61_modulus}
 use Rattle.sip_ports.specs.declared.port.TalkEvent.{TalkEvent}
 use Rattle.sip_replies.specs.declared.asking.AskStop.{AskStop}
@@ -12,7 +13,12 @@ use Rattle.sip_vector.specs.declared.update.Entry.{Entry}
 use Rattle.sip_vector.specs.declared.update.Side.TheVariants.{First}
 use Rattle.sip_vector.specs.declared.update.Update.{Update}
 use Rattle.sip_vector.specs.Streams.{IsLegal, vector}
+use Rattle.sip_wire.specs.declared.message.Message.TheVariants as messages
 use Rattle.sip_wire.specs.declared.version.Version.{Version}
+use Rattle.sip_wire.specs.declared.version.Version.TheVariants.{One, Two}
+use Rattle.sip_wire.specs.Spelling.{fits}
+use Rattle.sip_wire.specs.Versions.{deepest, speaks}
+use Rattle.sip_wire.proofs.Asking.{query-fits}
 use Rattle.sip_verifier.specs.declared.session.SessionFault.{SessionFault}
 use Rattle.sip_verifier.specs.declared.session.Verdict.{Verdict}
 use Rattle.sip_verifier.specs.Asking.{AnswersCount, Asks}
@@ -23,6 +29,17 @@ use Rattle.sip_verifier.proofs.AnswersCounted.{answers_count}
 use Rattle.sip_verifier.proofs.SeatAsked.{sub_asks}
 use Rattle.sip_verifier.proofs.SeatLevels.{seat_levels}
 use Rattle.sip_verifier.proofs.ShortTalks.{asks_short}
+
+-- a sub-vector has a code in each version
+has_code : (version : Version) (lo hi : ℕ) → IsTrue (speaks version (Sub lo hi))
+has_code One lo hi = refl
+has_code Two lo hi = refl
+
+-- and a spelling, where the interval fits a depth of the version
+pub interval_fits : (version : Version) (depth lo hi : ℕ) → lo ≤ hi → hi < 2 ^ depth → depth ≤ deepest version
+    → IsTrue (fits version (messages.Query (Sub lo hi)))
+interval_fits version depth lo hi order within shallow =
+    query-fits version depth (Sub lo hi) (record { shallow = shallow; has_code = has_code version lo hi }) (order, within)
 
 module _ (version : Version) (lo hi : ℕ) (block : List ℕ) (value : ℕ) (depth : ℕ) (stream : List Update)
     (stands : RootStandsFor m61_modulus block value (vector depth stream First)) where

@@ -15,30 +15,23 @@ ghost use Rattle.sip_verifier.specs.Keeping.{KeepsReplies};
 ghost use Rattle.sip_verifier.specs.ReplyBound.{ReplyBound};
 
 use crate::asking::{found_in, verdict_of};
+use crate::seat::most_pairs;
 use crate::session::{SessionFault, Verdict};
 use sip_field::M61;
 use sip_ports::{Link, Sink};
 use sip_replies::ask;
-use sip_subvec::{MOST_ENTRIES, SubAsking};
+use sip_subvec::SubAsking;
 use sip_tree::Root;
 use sip_vector::{CAP, Entry, Query};
 use sip_wire::{Frame, Version};
-
-/// How many entries the answer for an interval may have: one for each item, or 65,536 if those are more.
-pub(crate) fn most_pairs(lo: u64, hi: u64) -> usize
-    requires { lo ≤ hi }
-    ensures { result ≡ most_answer lo hi }
-{
-    ((hi - lo).min(MOST_ENTRIES - 1) + 1) as usize
-}
 
 /// Asks for the entries from `lo` to `hi`, both included, of the vector that has this root, takes the replies and judges them, as
 /// [`Session::ask`](crate::Session::ask) does for a query of a session. After [`Verdict::Pairs`] the pairs of the answer are in
 /// `entries`, rising, and after any other answer none are.
 ///
 /// The depth is the number of the root's challenges: at most 32 in version 1, and 48 in version 2. No memory is taken: `entries` has
-/// room for the longest answer, one for each item of the interval, or 65,536 if those are more. The time is linear in the replies,
-/// and in that room. The challenges are revealed in order, so a root is asked once.
+/// room for the longest answer, one for each item of the interval, or 65,536 if those are more, and keeps it. The time is linear in
+/// the replies and in that room. A root is asked once: the other end knows all but one of its challenges from then on.
 ///
 /// # Errors
 ///
