@@ -51,5 +51,4 @@ mod SumSizes
 mod NodeSizes
 mod ShortTalks
 mod SeatLevels
-mod SeatsShown
 mod RootAsked

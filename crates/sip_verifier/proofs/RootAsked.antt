@@ -41,10 +41,16 @@ pub interval_fits : (version : Version) (depth lo hi : ℕ) → lo ≤ hi → hi
 interval_fits version depth lo hi order within shallow =
     query-fits version depth (Sub lo hi) (record { shallow = shallow; has_code = has_code version lo hi }) (order, within)
 
+-- what the general talk did for it, at this block
+abbrev pub RootAnswers : Version → ℕ → ℕ → List ℕ → ℕ → List ℕ → Option (List TalkEvent) → Option (List TalkEvent)
+    → Option (List TalkEvent) → Option (List TalkEvent) → List Entry → Result Said AskStop → Type 0
+RootAnswers version lo hi block value at old new before now places result =
+    Answers (sub_protocol (sub_asked version m61_modulus value lo hi block)) (Sub lo hi) at old new before now places result
+
 module _ (version : Version) (lo hi : ℕ) (block : List ℕ) (value : ℕ) (depth : ℕ) (stream : List Update)
     (stands : RootStandsFor m61_modulus block value (vector depth stream First)) where
   -- the seat of such a query
-  seated : Seated
+  abbrev seated : Seated
   seated = record { query = Sub lo hi; block = block; running = root_is value }
 
   -- it has a challenge for each level
@@ -53,7 +59,7 @@ module _ (version : Version) (lo hi : ℕ) (block : List ℕ) (value : ℕ) (dep
 
   -- what was asked and answered
   pub root_asks : (old new before now : Option (List TalkEvent)) (places : List Entry) (result : Result Said AskStop)
-      → Answers (sub_protocol (sub_asked version m61_modulus value lo hi block)) (Sub lo hi) block old new before now places result
+      → RootAnswers version lo hi block value block old new before now places result
       → Asks version depth stream (Sub lo hi) block old new (take (found_in (length places) result) places) (verdict_of result)
   root_asks old new before now places result answers =
       sub_asks version depth stream seated lo hi value block block old new before now places result refl refl refl refl stands answers
