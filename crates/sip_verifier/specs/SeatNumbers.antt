@@ -11,7 +11,7 @@ use Rattle.sip_vector.specs.declared.update.Side.{Side}
 use Rattle.sip_vector.specs.declared.update.Side.TheVariants.{First}
 use Rattle.sip_vector.specs.declared.update.Update.{Update}
 use Rattle.sip_vector.specs.Streams.{vector}
-use Rattle.sip_verifier.specs.QuerySeats.{RunningNumbers, Seated, point_is, root_is}
+use Rattle.sip_verifier.specs.QuerySeats.{RunningNumbers, Seated}
 use Rattle.sip_verifier.specs.Seats.{AreSeats, Seating}
 
 -- ---- which seats keep one

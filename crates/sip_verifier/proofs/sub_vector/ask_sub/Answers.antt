@@ -3,7 +3,6 @@ use Rattle.std.proofs.Common.{rules, ◌≡◌, ◌≤◌, ℕ, List, length, ta
 use Rattle.std.proofs.lemmas.List.{take_at}
 use Rattle.sip_vector.specs.declared.update.Entry.{Entry}
 use Rattle.sip_subvec.specs.Asking.{most_answer}
-use Rattle.sip_vector.specs.declared.query.Query.TheVariants.{Sub}
 use Rattle.sip_verifier.specs.inside.Judging.{found_in}
 use Rattle.sip_verifier.proofs.KeptReplies.{replies_kept}
 use Rattle.sip_verifier.proofs.RootAsked.{RootAnswers, interval_fits, root_asks, root_counts, root_short}
