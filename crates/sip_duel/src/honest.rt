@@ -130,7 +130,7 @@ impl Helper for Honest {
             }
             Standing::Stray => {
                 self.standing = Standing::Over;
-                refuse(self.core.version(), out)
+                refuse(self.core.spoken(), out)
             }
             Standing::Over => Ok(More::Ended),
         }

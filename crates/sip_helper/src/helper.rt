@@ -3,11 +3,12 @@
 ghost use Rattle.std.specs.Prelude.{◌≡◌, ◌<◌, ◌≤◌, Bool, ℕ, IsOk, IsTrue, MatchOption, OnErr, OnOk, None, Some, ◌↔◌, false, is_some, true};
 ghost use Rattle.sip_field.specs.Moduli.{m61_modulus};
 ghost use Rattle.sip_ports.specs.Ports.{HasCause, SendsWhole};
+ghost use Rattle.sip_vector.specs.Streams.{most_weight};
 ghost use Rattle.sip_vector.specs.Vectors.{contents};
 ghost use Rattle.sip_wire.specs.Spelling.{fits};
 ghost use Rattle.sip_wire.specs.declared.version.Version.TheVariants.{Two};
 ghost use Rattle.sip_wire.specs.declared.message.Message.TheVariants as messages;
-ghost use Rattle.sip_helper.specs.Shown.{opened, shown_vector};
+ghost use Rattle.sip_helper.specs.Shown.{opened, opened_version, shown_vector, weight_of};
 ghost use Rattle.sip_helper.specs.Turns.{after_answer, fresh, is_allowed, owed, owes, step};
 
 use crate::OutOfTurn;
@@ -199,10 +200,18 @@ impl HelperCore {
     }
 
     /// The version of the frames that are heard and answered: that of the opening, and version 1 before it.
-    pub fn version(&self) -> Version
+    pub fn spoken(&self) -> Version
         ensures { result ≡ self.now.version }
     {
         self.version
+    }
+
+    /// The version of the opening; `None` exactly where none was heard.
+    pub fn version(&self) -> Option<Version>
+        ensures { result ≡ opened_version self.now }
+    {
+        let _depth = self.heard.opened()?;
+        Some(self.version)
     }
 
     /// The depth of the opening; `None` exactly where none was heard.
@@ -210,6 +219,19 @@ impl HelperCore {
         ensures { result ≡ opened self.now.heard }
     {
         self.heard.opened()
+    }
+
+    /// The weight of a side so far, at most 2^30 - 1: the sum of the absolute deltas that were heard, also where memory was
+    /// refused and no vector is kept. It is 0 before an opening.
+    pub fn weight(&self, side: Side) -> u64
+        ensures side { result ≡ weight_of self.now.weights side }
+        ensures most { result ≤ most_weight }
+        ensures none { opened self.now.heard ≡ None → result ≡ 0 }
+    {
+        match side {
+            Side::First => self.weights.first,
+            Side::Second => self.weights.second,
+        }
     }
 
     /// The vector of a side; `None` exactly where the stream has not ended, or memory was refused while it was heard.

@@ -45,7 +45,7 @@ fn take_turn<L: Link>(
     ensures lasts { Lasts L.faults L.wants L.is_sure link.old link.new }
 {
     // A frame is read, and refused, in the version of the talk up to it.
-    let version = core.version();
+    let version = core.spoken();
     if let Err(fault) = decode_within(link, Place::ToHelper, version, frame) {
         return Err(HelpStatus::of_fault(fault, offset));
     }

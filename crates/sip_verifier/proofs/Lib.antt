@@ -51,3 +51,4 @@ mod SumSizes
 mod NodeSizes
 mod ShortTalks
 mod SeatLevels
+mod RootAsked

@@ -17,6 +17,7 @@ pub mod Tasks
 pub mod QuerySeats
 pub mod Widths
 pub mod Seats
+pub mod SeatNumbers
 pub mod Feeding
 pub mod Gathering
 pub mod Sittings

@@ -19,6 +19,7 @@
 //! | `Statuses` | which statuses a run may answer, and which count of faults each needs to have risen |
 //! | `Promises`, `RunClause` | the six clauses together, and all that a run keeps |
 //! | `QuerySeats`, `Seats`, `NextSeat` | which streams the running numbers stand for, and which of them is next |
+//! | `SeatNumbers` | the running number that a seat shows |
 //! | `Widths` | the first query whose answer may be too wide |
 //! | `Feeding` | what is still to send of a stream |
 //! | `Transcripts` | the head of a transcript |
@@ -32,6 +33,10 @@
 //! [`conclude`]. It carries the six clauses, as one `RunClause`. The first four are said of an
 //! `Inquiry`: so [`follow`] and [`conclude`], over seats with challenges that are given
 //! ([`Seats::given`]), keep them for a run that is stored.
+//!
+//! A caller that finds out its queries only while it talks has the roots and the extensions of the
+//! seats one by one ([`Seats::root`], [`Seats::point`]), and [`ask_sub`] asks for a sub-vector by
+//! such a root, with the contract of [`Session::ask`].
 #![tactic(auto)]
 
 mod asking;
@@ -45,9 +50,11 @@ pub mod laws;
 mod points;
 mod report;
 mod seat;
+mod seat_numbers;
 mod seats;
 mod session;
 mod status;
+mod sub_vector;
 mod task;
 
 pub use checking::{check_stream, conclude};
@@ -57,4 +64,5 @@ pub use report::query_word;
 pub use seats::Seats;
 pub use session::{Session, SessionFault, SessionStart, Verdict};
 pub use status::{Port, Status};
+pub use sub_vector::ask_sub;
 pub use task::Task;

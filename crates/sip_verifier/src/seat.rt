@@ -9,6 +9,7 @@ ghost use Rattle.sip_vector.specs.Answers.{Fits};
 ghost use Rattle.sip_vector.specs.Limits.{most_depth};
 ghost use Rattle.sip_vector.specs.Streams.{most_weight};
 ghost use Rattle.sip_heavy.specs.Protocol.{count_of};
+ghost use Rattle.sip_subvec.specs.Asking.{most_answer};
 ghost use Rattle.sip_verifier.specs.inside.Judging.{most_nodes, most_places};
 ghost use Rattle.sip_verifier.specs.Widths.{is_wide_seat};
 ghost use Rattle.sip_verifier.specs.Tasks.{CanBeAsked};
@@ -88,6 +89,14 @@ fn concerns(query: &Query, side: Side) -> bool
         Query::Heavy { side: own, .. } | Query::Share { side: own, .. } => side == *own,
         Query::Inner => true,
     }
+}
+
+/// How many entries the answer for an interval may have: one for each item, or 65,536 if those are more.
+pub(crate) fn most_pairs(lo: u64, hi: u64) -> usize
+    requires { lo ≤ hi }
+    ensures { result ≡ most_answer lo hi }
+{
+    ((hi - lo).min(MOST_ENTRIES - 1) + 1) as usize
 }
 
 // How many nodes a level of the replies may have, of a total with this threshold.
@@ -179,7 +188,7 @@ impl QuerySeat {
         ensures { most_places self.now.query self.now.running ≤ result }
     {
         match &self.query {
-            Query::Sub { lo, hi } => (hi.saturating_sub(*lo).min(MOST_ENTRIES - 1) + 1) as usize,
+            Query::Sub { lo, hi } => most_pairs(*lo, *hi),
             _ => self.most_nodes(),
         }
     }
