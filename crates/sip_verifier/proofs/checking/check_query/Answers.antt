@@ -1,5 +1,5 @@
 -- A line that could not be written whole, that of a rejection, and the line of an answer.
-use Rattle.std.proofs.Common.{refl, Err, rules, ◌≡◌, w64, to_z, of_z, FitsSigned}
+use Rattle.std.proofs.Common.{refl, rules, ◌≡◌, w64, to_z, of_z, FitsSigned}
 use Rattle.std.proofs.lemmas.Int.{to_z-of_z}
 use Rattle.std.proofs.lemmas.Result.{err_from_is_err_and}
 use Rattle.sip_verifier.proofs.KeptQueries.{fault_kept, line_kept, rejection_kept}
