@@ -16,7 +16,7 @@ use Rattle.sip_replies.specs.Talks.{ending}
 use Rattle.sip_replies.specs.Replies.{MayEnd}
 use Rattle.sip_replies.specs.Asking.{AreFrames, KeepsFrames, KeepsPart, HasFault, IsPart, IsUnkept, Takes}
 use Rattle.sip_replies.proofs.Ends.{last_of, snoc_same, no_snoc}
-use Rattle.sip_replies.proofs.Framed.{AreFrames-append}
+use Rattle.sip_replies.proofs.Framed.{AreFrames-append, AreFrames-none}
 
 -- these bytes of a reply came and were kept; the rest is read by `rest`, and no byte less ends the
 -- reply or shows a fault
@@ -40,7 +40,7 @@ Begun-none read old before = record {
 -- which is no frame
 pub frames-none : {X : Type 0} (version : Version) (read : List ℕ → Result X Reason) (old before : Option (List TalkEvent)) → AreFrames version (Begun-none read old before).bytes
 unfolding Begun-none
-frames-none version read old before = ([], refl)
+frames-none version read old before = AreFrames-none version
 
 module _ {X : Type 0} (read : List ℕ → Result X Reason) (old mid new before during now : Option (List TalkEvent)) (rest : List ℕ → Result X Reason) (begun : Begun read old mid before during rest) (got : List ℕ) where
   -- what was heard of the reply, with the bytes that came now

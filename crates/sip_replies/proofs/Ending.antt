@@ -25,6 +25,7 @@ use Rattle.sip_replies.specs.Replies.{Fault, in_round, joined, run, verdict}
 use Rattle.sip_replies.specs.Checks.{answered, answer_of}
 use Rattle.sip_replies.specs.Talks.{ending, sent, asked}
 use Rattle.sip_replies.specs.Asking.{stop_of_port, IsAnswered, IsRejected, IsInterrupted, Answers}
+use Rattle.sip_replies.proofs.Framed.{AreFrames-none}
 use Rattle.sip_replies.proofs.Reading.{no_frame, read_reply-nil}
 use Rattle.sip_replies.proofs.Running.{run-none, run-fault}
 use Rattle.sip_replies.proofs.Hearing.{before_sent, heard-asked}
@@ -50,7 +51,7 @@ module _ {S : Type 0} (P : Protocol S) (due : P.unasked ≡ None) (query : Query
               ∙ ap outs (sym (take-append-drop n m))
               ∙ map-append Out (take n m) (drop n m),
         );
-        kept = record { whole = []; part = []; split = heard-outs (take n m); frames = ([], refl); cut = (places.Entries, no_frame P.rules.version places.Entries); kept = GoesOn-refl before };
+        kept = record { whole = []; part = []; split = heard-outs (take n m); frames = AreFrames-none P.rules.version; cut = (places.Entries, no_frame P.rules.version places.Entries); kept = GoesOn-refl before };
         unfinished = record { few = omega arith; passes = λ fault e. absurd (let is = run-none P.rules block in cc) };
         missing = inl some;
       }
@@ -102,6 +103,7 @@ module _ {S : Type 0} (P : Protocol S) (due : P.unasked ≡ None) (query : Query
     replies = going.replies;
     talk = rw due going.talk;
     kept = going.kept;
+    frames = going.frames;
     accepted = rw due (record {
       all = omega (arith, going.counted, all);
       found = verdict-passed P block going.replies _ (Ok (answer_of places said)) going.passed (sym ended ∙ ap (answered places) is);
@@ -129,5 +131,6 @@ IsAnswered-unasked P query block old before answer known = record {
   replies = [];
   talk = rw known (GoesOn-refl old);
   kept = GoesOn-refl before;
+  frames = AreFrames-none P.rules.version;
   accepted = rw known (refl, refl);
 }

@@ -1,5 +1,5 @@
 -- Receiving one frame and keeping its bytes.
-use Rattle.std.proofs.Common.{◌≡◌, ◌≢◌, ℕ, inl, inr, Option, Result, Ok, Err, List, [], ◌∷◌, ◌++◌, ◌<◌, length, take, drop, refl, sym, ap, subst, ◌∙◌, append-nil}
+use Rattle.std.proofs.Common.{◌≡◌, ◌≢◌, ℕ, inl, inr, Option, Result, Ok, Err, List, [], ◌∷◌, ◌++◌, ◌<◌, length, take, drop, refl, sym, ap, subst, append-nil}
 use Rattle.std.specs.Prelude.{IsErrAnd, MatchResult}
 use Rattle.std.proofs.lemmas.List.{take-append-drop}
 use Rattle.sip_ports.specs.declared.port.PortStop.{PortStop}
@@ -16,10 +16,10 @@ use Rattle.sip_wire.specs.declared.version.Version.{Version}
 use Rattle.sip_wire.specs.Faults.{ended_by}
 use Rattle.sip_wire.specs.Decoding.{Decodes, Fails, Took}
 use Rattle.sip_wire.specs.Reading.{read_frame}
-use Rattle.sip_wire.specs.Spelling.{spelling}
 use Rattle.sip_replies.specs.declared.taking.ReplyStop.{ReplyStop}
 use Rattle.sip_replies.specs.Replies.{MayEnd, reasoned, read_one}
 use Rattle.sip_replies.specs.Asking.{Came, stop_of_keeper, KeepsPart, IsPart, IsUnkept, Shows, Takes, filled}
+use Rattle.sip_replies.proofs.Framed.{AreFrames-none, AreFrames-one}
 
 module _ (version : Version) (place : Place) (old new before now : Option (List TalkEvent)) (rose risen : ℕ) (got : List ℕ) where
   -- where the end of the link was found the frame is not whole
@@ -51,7 +51,7 @@ module _ (version : Version) (place : Place) (old new before now : Option (List 
             bytes = got;
             heard = subst (λ (events : List TalkEvent). GoesOn old new events) (append-nil (ins got)) heard;
             kept = kept;
-            frames = (m ∷ [], took.spelled ∙ sym (append-nil (spelling version m)));
+            frames = AreFrames-one version m got took.has_spelling took.spelled;
             says = ap reasoned took.read;
             shortest = shortest;
           },
@@ -81,7 +81,7 @@ module _ (version : Version) (place : Place) (old new before : Option (List Talk
   stopped heard closed = record {
     bytes = got;
     heard = subst (λ (events : List TalkEvent). GoesOn old new events) (append-nil (ins got)) heard;
-    kept = record { whole = []; part = got; split = refl; frames = ([], refl); cut = (place, closed); kept = GoesOn-refl before };
+    kept = record { whole = []; part = got; split = refl; frames = AreFrames-none version; cut = (place, closed); kept = GoesOn-refl before };
     says = ap reasoned closed;
   }
 

@@ -23,7 +23,7 @@ use Rattle.sip_replies.specs.Replies.{Fault, MayEnd, in_round, joined, learnt, r
 use Rattle.sip_replies.specs.Talks.{ending, sent, asked}
 use Rattle.sip_replies.specs.Asking.{AreFrames, KeepsFrames, KeepsPart, stop_in_round, Came, HasFault, IsPart, IsUnkept, Takes, IsRejected, IsInterrupted, IsUnrecorded, Answers}
 use Rattle.sip_replies.proofs.Ends.{snoc_same}
-use Rattle.sip_replies.proofs.Framed.{AreFrames-append}
+use Rattle.sip_replies.proofs.Framed.{AreFrames-append, AreFrames-none}
 use Rattle.sip_replies.proofs.Running.{run-none, run-fault, run-whole}
 use Rattle.sip_replies.proofs.Hearing.{heard-asked}
 use Rattle.sip_replies.proofs.Saying.{joined-snoc, sent-one, asked-snoc}
@@ -61,7 +61,7 @@ Ready-first P query block old mid before talk some = record {
   said = sent P.rules.version (messages.Query query ∷ []);
   talk = subst (GoesOn old mid) (sym (sent-one P.rules.version (messages.Query query))) talk;
   kept = GoesOn-refl before;
-  frames = ([], refl);
+  frames = AreFrames-none P.rules.version;
   order = λ bytes. refl;
   passed = run-none P.rules block;
   few = some;

@@ -1,6 +1,6 @@
 -- What the calls did that ask: what was said on the link, and what was written to the keeper of
 -- what is received.
-use Rattle.std.specs.Prelude.{◌≡◌, ◌≢◌, ℕ, List, [], ◌∷◌, ◌++◌, flat_map, Option, None, Result, Ok, Err, IsTrue}
+use Rattle.std.specs.Prelude.{◌≡◌, ◌≢◌, All, ℕ, List, [], ◌∷◌, ◌++◌, flat_map, Option, None, Result, Ok, Err, IsTrue}
 use Rattle.sip_ports.specs.declared.port.PortStop.{PortStop}
 use Rattle.sip_ports.specs.declared.port.PortStop.TheVariants as ports
 use Rattle.sip_ports.specs.declared.port.TalkEvent.{TalkEvent}
@@ -63,9 +63,11 @@ filled x (Err stop) = Err stop
 abbrev pub KeepsPart : Option (List TalkEvent) → Option (List TalkEvent) → List ℕ → Type 0
 KeepsPart before now bytes = (part : List ℕ) × IsPrefix part bytes × GoesOn before now (outs part)
 
--- whole frames, one behind another
-abbrev pub AreFrames : Version → List ℕ → Type 0
-AreFrames version bytes = (ms : List Message) × (bytes ≡ flat_map (spelling version) ms)
+-- whole frames, one behind another: the spellings of messages that have one
+pub record AreFrames (version : Version) (bytes : List ℕ) : Type 0 where
+  pub messages : List Message
+  pub have_spellings : All (λ m. IsTrue (fits version m)) messages
+  pub spelled : bytes ≡ flat_map (spelling version) messages
 
 -- These bytes came: whole frames, which were kept, and behind them less than a frame, of which
 -- nothing was kept.
@@ -139,11 +141,12 @@ pub record Shows (version : Version) (m : Message) (said : Message × List ℕ) 
 
 module _ {S : Type 0} (P : Protocol S) (query : Query) (block : List ℕ)
     (old new before now : Option (List TalkEvent)) where
-  -- all replies came and are accepted; where the answer was known nothing was said
+  -- all replies came, in whole frames, and are accepted; where the answer was known nothing was said
   pub record IsAnswered (answer : Answer) : Type 0 where
     pub replies : List (List ℕ)
     pub talk : GoesOn old new (asked_unless P.unasked P.rules.version query block replies)
     pub kept : GoesOn before now (outs (joined replies))
+    pub frames : AreFrames P.rules.version (joined replies)
     pub accepted : IsAccepted P block replies answer
 
   -- the replies that came have this first fault

@@ -58,6 +58,8 @@ impl Depth {
 
 /// The depth 1.
 impl Default for Depth {
+    ghost is_default = { λ d. d ≡ 1 };
+
     fn default() -> Depth {
         Depth { levels: 1 }
     }

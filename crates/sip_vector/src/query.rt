@@ -62,6 +62,10 @@ impl Query {
 
 /// The inner product.
 impl Default for Query {
+    ghost use Rattle.sip_vector.specs.declared.query.Query.TheVariants as queries;
+
+    ghost is_default = { λ q. q ≡ queries.Inner };
+
     fn default() -> Query {
         Query::Inner
     }

@@ -12,14 +12,14 @@ use Rattle.sip_replies.specs.declared.asking.AskStop.{AskStop}
 use Rattle.sip_replies.specs.declared.asking.AskStop.TheVariants as stops
 use Rattle.sip_replies.specs.declared.check.Said.{Said}
 use Rattle.sip_replies.specs.declared.check.Said.TheVariants as saids
-use Rattle.sip_replies.specs.Asking.{KeepsPart, IsAnswered, IsRejected, IsInterrupted, IsUnrecorded, Answers}
+use Rattle.sip_replies.specs.Asking.{AreFrames, KeepsPart, IsAnswered, IsRejected, IsInterrupted, IsUnrecorded, Answers}
 use Rattle.sip_replies.specs.Checks.{answer_of}
 use Rattle.sip_replies.specs.Protocols.{Protocol}
 use Rattle.sip_replies.specs.Replies.{MayEnd, joined}
 use Rattle.sip_replies.specs.Talks.{asked, asked_unless, ending}
 use Rattle.sip_replies.proofs.Hearing.{heard-asked}
 use Rattle.sip_verifier.specs.inside.Judging.{verdict_of}
-use Rattle.sip_verifier.specs.Keeping.{AllIsKept, FrontIsKept, KeepsReplies}
+use Rattle.sip_verifier.specs.Keeping.{AllIsKept, FramesAreKept, FrontIsKept, KeepsReplies, WholeIsKept}
 use Rattle.sip_verifier.proofs.HeardTalks.{heard_accepted}
 
 -- no byte is heard where the link ends
@@ -41,12 +41,15 @@ module _ {S : Type 0} (P : Protocol S) (query : Query) (block : List ℕ) (old n
       ∙ append-nil (heard (asked P.rules.version query block replies))
       ∙ heard-asked P.rules.version query block replies few
 
-  answered_kept : (answer : Answer) → IsAnswered P query block old new before now answer → AllIsKept old new before now
-  answered_kept answer a = record {
-    said = asked_unless P.unasked P.rules.version query block a.replies;
-    talk = a.talk;
-    wrote = subst (λ (l : List ℕ). GoesOn before now (outs l)) (sym (heard_accepted P query block a.replies answer P.unasked a.accepted)) a.kept;
-  }
+  answered_kept : (answer : Answer) → IsAnswered P query block old new before now answer → WholeIsKept old new before now P.rules.version
+  answered_kept answer a =
+      let came = sym (heard_accepted P query block a.replies answer P.unasked a.accepted) in
+      record {
+        said = asked_unless P.unasked P.rules.version query block a.replies;
+        talk = a.talk;
+        frames = subst (AreFrames P.rules.version) came a.frames;
+        wrote = subst (λ (l : List ℕ). GoesOn before now (outs l)) came a.kept;
+      }
 
   rejected_kept : (round : ℕ) (reason : Reason) → IsRejected P query block old new before now round reason → AllIsKept old new before now
   rejected_kept round reason r = record {
@@ -55,8 +58,12 @@ module _ {S : Type 0} (P : Protocol S) (query : Query) (block : List ℕ) (old n
     wrote = subst (λ (l : List ℕ). GoesOn before now (outs l)) (sym (heard_to_end r.replies (ending reason) (omega (arith, r.faulty.taken)) (heard-ending reason))) r.kept;
   }
 
-  interrupted_kept : IsInterrupted P query block old new before now → FrontIsKept old new before now
-  interrupted_kept i = record { said = i.said; talk = i.talk; wrote = (i.kept.whole, (i.kept.part, i.kept.split), i.kept.kept) }
+  interrupted_kept : IsInterrupted P query block old new before now → FramesAreKept old new before now P.rules.version
+  interrupted_kept i = record { said = i.said; talk = i.talk; wrote = i.kept }
+
+  -- and so a front
+  interrupted_front : IsInterrupted P query block old new before now → FrontIsKept old new before now
+  interrupted_front i = record { said = i.said; talk = i.talk; wrote = (i.kept.whole, (i.kept.part, i.kept.split), i.kept.kept) }
 
   unrecorded_kept : IsUnrecorded P query block old new before now → FrontIsKept old new before now
   unrecorded_kept u =
@@ -67,11 +74,11 @@ module _ {S : Type 0} (P : Protocol S) (query : Query) (block : List ℕ) (old n
         wrote = subst (KeepsPart before now) (sym (heard_to_end u.replies u.ended few (heard-ended u.ended u.unjudged.may_end))) u.kept;
       }
 
-  pub replies_kept : (places : List Entry) (result : Result Said AskStop) → Answers P query block old new before now places result → KeepsReplies old new before now (verdict_of result)
+  pub replies_kept : (places : List Entry) (result : Result Said AskStop) → Answers P query block old new before now places result → KeepsReplies old new before now P.rules.version (verdict_of result)
   replies_kept places (Ok (saids.Number n)) a = answered_kept (number n) a
   replies_kept places (Ok (saids.Pairs found)) a = answered_kept (answer_of places (saids.Pairs found)) a
   replies_kept places (Err (stops.Rejected round reason)) a = rejected_kept round reason a
   replies_kept places (Err stops.PeerFault) a = interrupted_kept a
   replies_kept places (Err stops.KeepFault) a = unrecorded_kept a
-  replies_kept places (Err stops.OutOfMemory) a = interrupted_kept a
+  replies_kept places (Err stops.OutOfMemory) a = interrupted_front a
   replies_kept places (Err stops.KeepOutOfMemory) a = unrecorded_kept a

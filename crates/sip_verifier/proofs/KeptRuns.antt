@@ -5,6 +5,10 @@ use Rattle.sip_ports.specs.declared.port.TalkEvent.{TalkEvent}
 use Rattle.sip_ports.specs.Ports.{GoesOn, heard, outs}
 use Rattle.sip_ports.proofs.TalkLemmas.{GoesOn-refl, GoesOn-trans, heard-append, outs-append}
 use Rattle.sip_replies.specs.Talks.{IsPrefix}
+use Rattle.sip_wire.specs.declared.kind.Place.TheVariants as places
+use Rattle.sip_wire.specs.declared.version.Version.{Version}
+use Rattle.sip_replies.proofs.Framed.{AreFrames-none}
+use Rattle.sip_replies.proofs.Reading.{no_frame}
 use Rattle.sip_verifier.specs.declared.session.SessionStart.{SessionStart}
 use Rattle.sip_verifier.specs.declared.session.SessionStart.TheVariants as starts
 use Rattle.sip_verifier.specs.declared.status.Port.TheVariants as ports
@@ -15,8 +19,8 @@ use Rattle.sip_verifier.specs.Exchanges.{Appends, Exchange}
 use Rattle.sip_verifier.specs.Inquiries.{inquiry_of}
 use Rattle.sip_verifier.specs.Gathering.{Refuses, IsCut}
 use Rattle.sip_verifier.specs.inside.Ending.{status_of_start}
-use Rattle.sip_verifier.specs.Keeping.{HeadIsKept, HeadIsCut, KeepsHead, AllIsKept, FrontIsKept, KeepsTalk}
-use Rattle.sip_verifier.specs.KeepClause.{IsTranscript, HasHead, IsCutTranscript, Keeps}
+use Rattle.sip_verifier.specs.Keeping.{HeadIsKept, HeadIsCut, KeepsHead, AllIsKept, FramesAreKept, FrontIsKept, KeepsTalk}
+use Rattle.sip_verifier.specs.KeepClause.{IsTranscript, HasFrames, IsCutTranscript, Keeps}
 use Rattle.sip_verifier.specs.Seats.{Seating}
 use Rattle.sip_verifier.specs.Statuses.{stops_asking}
 use Rattle.sip_verifier.specs.Talks.{stream_sent, whole_frames}
@@ -26,6 +30,7 @@ use Rattle.sip_verifier.specs.Transcripts.{asks_of, head_of, transcript_of}
 use Rattle.sip_verifier.specs.Questions.{updates}
 use Rattle.sip_verifier.proofs.HeardTalks.{heard-opening, heard-stream}
 use Rattle.sip_verifier.specs.Concluding.{Reports, status_of}
+use Rattle.sip_verifier.proofs.KeptQueries.{all_of_whole}
 use Rattle.sip_verifier.proofs.RunTalks.{Adds, Moves, said_is, nothing_new, written_is, front_before}
 
 -- ---- fronts of what is heard
@@ -74,23 +79,25 @@ module _ (task : Task) (seed : List ℕ) (before now : Option (List TalkEvent)) 
   head_moves (Err statuses.OutOfMemory) (inr cut) = (cut.wrote.0, cut.wrote.2)
   head_moves (Err _) k = (whole k.challenges, k.wrote)
 
-module _ (old new before now : Option (List TalkEvent)) where
-  pub replies_move : (r : Result (Unit {0}) Status) → KeepsTalk old new before now r → Reports before now
+module _ (version : Version) (old new before now : Option (List TalkEvent)) where
+  pub replies_move : (r : Result (Unit {0}) Status) → KeepsTalk old new before now version r → Reports before now
   replies_move (Ok u) k = (heard k.said, k.wrote)
   replies_move (Err (statuses.Rejected query round reason)) k = (heard k.said, k.wrote)
   replies_move (Err (statuses.WriteFault ports.First)) k = (k.wrote.0, k.wrote.2)
   replies_move (Err (statuses.WriteFault ports.Second)) k = (k.wrote.0, k.wrote.2)
   replies_move (Err (statuses.WriteFault ports.Report)) k = (heard k.said, k.wrote)
   replies_move (Err (statuses.WriteFault ports.Keep)) k = (k.wrote.0, k.wrote.2)
+  replies_move (Err statuses.PeerFault) k = (k.wrote.whole, k.wrote.kept)
   replies_move (Err _) k = (k.wrote.0, k.wrote.2)
 
-  pub talk_moves : (r : Result (Unit {0}) Status) → KeepsTalk old new before now r → Moves old new
+  pub talk_moves : (r : Result (Unit {0}) Status) → KeepsTalk old new before now version r → Moves old new
   talk_moves (Ok u) k = (k.said, k.talk)
   talk_moves (Err (statuses.Rejected query round reason)) k = (k.said, k.talk)
   talk_moves (Err (statuses.WriteFault ports.First)) k = (k.said, k.talk)
   talk_moves (Err (statuses.WriteFault ports.Second)) k = (k.said, k.talk)
   talk_moves (Err (statuses.WriteFault ports.Report)) k = (k.said, k.talk)
   talk_moves (Err (statuses.WriteFault ports.Keep)) k = (k.said, k.talk)
+  talk_moves (Err statuses.PeerFault) k = (k.said, k.talk)
   talk_moves (Err _) k = (k.said, k.talk)
 
 -- both, one behind the other
@@ -128,12 +135,15 @@ module _ (task : Task) (x : Exchange) where
       all = sym (append-nil (head k.challenges)) ∙ ap (λ (l : List ℕ). head k.challenges ++ l) (sym silent);
     }
 
-    head_received : (k : HeadIsKept task x.seed before now) → HasHead task x (head k.challenges)
-    head_received k = record {
+    head_frames : (k : HeadIsKept task x.seed before now) → HasFrames task x (head k.challenges)
+    head_frames k = record {
       challenges = k.challenges;
       drawn = k.draws;
-      received = [];
-      front = (heard x.talk, refl);
+      whole = [];
+      part = [];
+      split = silent;
+      frames = AreFrames-none (version_of task);
+      cut = (places.Entries, no_frame (version_of task) places.Entries);
       all = sym (append-nil (head k.challenges));
     }
 
@@ -164,7 +174,7 @@ module _ (task : Task) (x : Exchange) where
     gather_kept (statuses.WriteFault ports.Report) refuses k = absurd refuses
     gather_kept (statuses.WriteFault ports.Keep) (seed, same) k =
         (k.wrote.0, k.wrote.2, head_cut (ap heard (nothing_new old new x.talk same told)) before now k)
-    gather_kept statuses.PeerFault (seed, cut) k = (head k.challenges, k.wrote, head_received (cut_silent cut) before now k)
+    gather_kept statuses.PeerFault (seed, cut) k = (head k.challenges, k.wrote, head_frames (cut_silent cut) before now k)
     gather_kept statuses.OutOfMemory refuses (inl same) = ([], (same_moves before now same).1, inl refl)
     gather_kept statuses.OutOfMemory (inl same) (inr k) =
         (k.wrote.0, k.wrote.2, inr (head_cut (ap heard (nothing_new old new x.talk same told)) before now k))
@@ -197,20 +207,31 @@ module _ (task : Task) (x : Exchange) where
       front_heard : IsPrefix f.wrote.0 (heard x.talk)
       front_heard = subst (IsPrefix f.wrote.0) (sym (heard_is f.said f.talk)) f.wrote.1
 
-      front_kept : HasHead task x (transcript_of task k.challenges f.wrote.0)
-      front_kept = record { challenges = k.challenges; drawn = k.draws; received = f.wrote.0; front = front_heard; all = refl }
-
       front_cut : IsCutTranscript task x (transcript_of task k.challenges f.wrote.0)
       front_cut = record { challenges = k.challenges; drawn = k.draws; front = behind (head k.challenges) f.wrote.0 (heard x.talk) front_heard }
 
+    frames_kept : (f : FramesAreKept t1 t2 k1 k2 (version_of task)) → HasFrames task x (transcript_of task k.challenges f.wrote.whole)
+    frames_kept f = record {
+      challenges = k.challenges;
+      drawn = k.draws;
+      whole = f.wrote.whole;
+      part = f.wrote.part;
+      split = heard_is f.said f.talk ∙ f.wrote.split;
+      frames = f.wrote.frames;
+      cut = f.wrote.cut;
+      all = refl;
+    }
+
     -- what came of the queries
-    pub asked_kept : (r : Result (Unit {0}) Status) → IfErr r (λ status. IsTrue (stops_asking status)) → KeepsTalk t1 t2 k1 k2 r → KeptSo task x (status_of r) k0 k2
-    asked_kept (Ok u) is a = (transcript_of task k.challenges (heard a.said), wrote_more (heard a.said) a.wrote, all_kept a)
+    pub asked_kept : (r : Result (Unit {0}) Status) → IfErr r (λ status. IsTrue (stops_asking status)) → KeepsTalk t1 t2 k1 k2 (version_of task) r → KeptSo task x (status_of r) k0 k2
+    asked_kept (Ok u) is w =
+        let a = all_of_whole t1 t2 k1 k2 (version_of task) w in
+        (transcript_of task k.challenges (heard a.said), wrote_more (heard a.said) a.wrote, all_kept a)
     asked_kept (Err (statuses.Rejected query round reason)) is a = (transcript_of task k.challenges (heard a.said), wrote_more (heard a.said) a.wrote, all_kept a)
     asked_kept (Err (statuses.WriteFault ports.First)) is f = absurd (let no = is in cc)
     asked_kept (Err (statuses.WriteFault ports.Second)) is f = absurd (let no = is in cc)
     asked_kept (Err (statuses.WriteFault ports.Report)) is a = (transcript_of task k.challenges (heard a.said), wrote_more (heard a.said) a.wrote, all_kept a)
     asked_kept (Err (statuses.WriteFault ports.Keep)) is f = (transcript_of task k.challenges f.wrote.0, wrote_more f.wrote.0 f.wrote.2, front_cut f)
-    asked_kept (Err statuses.PeerFault) is f = (transcript_of task k.challenges f.wrote.0, wrote_more f.wrote.0 f.wrote.2, front_kept f)
+    asked_kept (Err statuses.PeerFault) is f = (transcript_of task k.challenges f.wrote.whole, wrote_more f.wrote.whole f.wrote.kept, frames_kept f)
     asked_kept (Err statuses.OutOfMemory) is f = (transcript_of task k.challenges f.wrote.0, wrote_more f.wrote.0 f.wrote.2, inr (front_cut f))
     asked_kept (Err _) is f = absurd (let no = is in cc)

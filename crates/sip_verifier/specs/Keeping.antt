@@ -2,9 +2,12 @@
 use Rattle.std.specs.Prelude.{◌≡◌, ◌⊎◌, ℕ, List, Option, Some, Result, Ok, Err}
 use Rattle.sip_ports.specs.declared.port.TalkEvent.{TalkEvent}
 use Rattle.sip_ports.specs.Ports.{GoesOn, heard, outs}
-use Rattle.sip_replies.specs.Asking.{KeepsPart}
+use Rattle.sip_replies.specs.Asking.{AreFrames, KeepsFrames, KeepsPart}
+use Rattle.sip_wire.specs.declared.version.Version.{Version}
 use Rattle.sip_verifier.specs.declared.session.SessionFault.{SessionFault}
+use Rattle.sip_verifier.specs.declared.session.SessionFault.TheVariants as faults
 use Rattle.sip_verifier.specs.declared.session.Verdict.{Verdict}
+use Rattle.sip_verifier.specs.declared.session.Verdict.TheVariants as verdicts
 use Rattle.sip_verifier.specs.declared.status.Port.TheVariants as ports
 use Rattle.sip_verifier.specs.declared.status.Status.{Status}
 use Rattle.sip_verifier.specs.declared.status.Status.TheVariants as statuses
@@ -57,14 +60,31 @@ module _ (old new before now : Option (List TalkEvent)) where
     pub talk : GoesOn old new said
     pub wrote : KeepsPart before now (heard said)
 
-  -- what a call kept that asks
-  abbrev pub KeepsReplies : Result Verdict SessionFault → Type 0
-  KeepsReplies (Ok verdict) = AllIsKept
-  KeepsReplies (Err fault) = FrontIsKept
+  module _ (version : Version) where
+    -- all was kept that was heard, and it was whole frames
+    pub record WholeIsKept : Type 0 where
+      pub said : List TalkEvent
+      pub talk : GoesOn old new said
+      pub frames : AreFrames version (heard said)
+      pub wrote : GoesOn before now (outs (heard said))
 
-  -- what a call kept that asks all queries
-  abbrev pub KeepsTalk : Result (Unit {0}) Status → Type 0
-  KeepsTalk (Ok _) = AllIsKept
-  KeepsTalk (Err (statuses.Rejected query round reason)) = AllIsKept
-  KeepsTalk (Err (statuses.WriteFault ports.Report)) = AllIsKept
-  KeepsTalk (Err _) = FrontIsKept
+    -- the frames were kept that were heard whole, and nothing of one that was not
+    pub record FramesAreKept : Type 0 where
+      pub said : List TalkEvent
+      pub talk : GoesOn old new said
+      pub wrote : KeepsFrames version before now (heard said)
+
+    -- what a call kept that asks
+    abbrev pub KeepsReplies : Result Verdict SessionFault → Type 0
+    KeepsReplies (Ok (verdicts.Rejected round reason)) = AllIsKept
+    KeepsReplies (Ok _) = WholeIsKept
+    KeepsReplies (Err faults.PeerFault) = FramesAreKept
+    KeepsReplies (Err _) = FrontIsKept
+
+    -- what a call kept that asks all queries
+    abbrev pub KeepsTalk : Result (Unit {0}) Status → Type 0
+    KeepsTalk (Ok _) = WholeIsKept
+    KeepsTalk (Err (statuses.Rejected query round reason)) = AllIsKept
+    KeepsTalk (Err (statuses.WriteFault ports.Report)) = AllIsKept
+    KeepsTalk (Err statuses.PeerFault) = FramesAreKept
+    KeepsTalk (Err _) = FrontIsKept

@@ -56,7 +56,7 @@ pub(crate) fn ask_seat<L: Link, C: Sink>(
     ensures cause { result ≡ Err AskStop.PeerFault → Rose (L.faults link.old) (L.faults link.new) }
     ensures memory { result ≡ Err AskStop.OutOfMemory → Rose (L.wants link.old) (L.wants link.new) }
     ensures kept { KeepsReplies (L.talk link.old) (L.talk link.new) (C.talk keep.old)
-        (C.talk keep.new) (verdict_of result) }
+        (C.talk keep.new) version (verdict_of result) }
     ensures keep_lasts { Lasts C.faults C.wants C.is_sure keep.old keep.new }
     ensures keep_cause { result ≡ Err AskStop.KeepFault
         → Rose (C.faults keep.old) (C.faults keep.new) }
@@ -129,7 +129,7 @@ fn ask_heavy<L: Link, C: Sink>(
     ensures cause { result ≡ Err AskStop.PeerFault → Rose (L.faults link.old) (L.faults link.new) }
     ensures memory { result ≡ Err AskStop.OutOfMemory → Rose (L.wants link.old) (L.wants link.new) }
     ensures kept { KeepsReplies (L.talk link.old) (L.talk link.new) (C.talk keep.old)
-        (C.talk keep.new) (verdict_of result) }
+        (C.talk keep.new) version (verdict_of result) }
     ensures keep_lasts { Lasts C.faults C.wants C.is_sure keep.old keep.new }
     ensures keep_cause { result ≡ Err AskStop.KeepFault
         → Rose (C.faults keep.old) (C.faults keep.new) }
@@ -169,7 +169,7 @@ fn ask_sum<L: Link, C: Sink>(
     ensures cause { result ≡ Err AskStop.PeerFault → Rose (L.faults link.old) (L.faults link.new) }
     ensures memory { result ≡ Err AskStop.OutOfMemory → Rose (L.wants link.old) (L.wants link.new) }
     ensures kept { KeepsReplies (L.talk link.old) (L.talk link.new) (C.talk keep.old)
-        (C.talk keep.new) (verdict_of result) }
+        (C.talk keep.new) version (verdict_of result) }
     ensures keep_lasts { Lasts C.faults C.wants C.is_sure keep.old keep.new }
     ensures keep_cause { result ≡ Err AskStop.KeepFault
         → Rose (C.faults keep.old) (C.faults keep.new) }

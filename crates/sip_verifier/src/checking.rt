@@ -49,7 +49,7 @@ fn check_query<L: Link, K: Sink, C: Sink>(
         → Checks session.old.version session.old.depth stream query.now seat.block number
         (L.talk peer.old) (L.talk peer.new) (K.talk report.old) (K.talk report.new) result }
     ensures kept { KeepsTalk (L.talk peer.old) (L.talk peer.new) (C.talk keep.old) (C.talk keep.new)
-        result }
+        session.old.version result }
     ensures next { session.new.left ≡ drop 1 session.old.left }
     ensures version { session.new.version ≡ session.old.version }
     ensures depth { session.new.depth ≡ session.old.depth }
@@ -96,7 +96,7 @@ fn check_all<L: Link, K: Sink, C: Sink>(
         (map (λ seat. seat.block) session.old.left)
         (L.talk peer.old) (L.talk peer.new) (K.talk report.old) (K.talk report.new) result }
     ensures kept { KeepsTalk (L.talk peer.old) (L.talk peer.new) (C.talk keep.old) (C.talk keep.new)
-        result }
+        session.old.version result }
     ensures fault { (first firsts second seconds : ℕ) → Stops stops_asking
         (counts first second (L.faults peer.old) (K.faults report.old) (C.faults keep.old))
         (counts firsts seconds (L.faults peer.new) (K.faults report.new) (C.faults keep.new))
@@ -151,7 +151,7 @@ fn say_bye<L: Link>(version: Version, peer: &mut L) -> Result<(), PortStop>
 /// Asks all queries of a session in order over a link to where its stream is kept, writes the line of each verdict to `report`, up
 /// to the first stop, and says farewell where all were accepted. It takes no memory; the time is linear in the replies.
 ///
-/// `keep` gets each frame's bytes as soon as they came, before they are judged.
+/// `keep` gets each frame's bytes as soon as they came, before they are judged; of a frame that the link's failure cut, it gets none.
 ///
 /// # Errors
 ///
@@ -173,7 +173,7 @@ pub fn conclude<L: Link, K: Sink, C: Sink>(
         (K.talk report.new)
         → FaultClause before now (status_of result) → Ended i x before now (status_of result) }
     ensures kept { KeepsTalk (L.talk peer.old) (L.talk peer.new) (C.talk keep.old) (C.talk keep.new)
-        result }
+        session.old.version result }
     ensures wrote { (stream : List AnyUpdate)
         → map (λ seat. seat.query) session.old.left ≡ queries.now
         → All (StandsFor session.old.depth stream) session.old.left
@@ -234,7 +234,7 @@ fn steps<A: Source, B: Source, L: Link, K: Sink, C: Sink>(
 /// stream; the time is linear in the stream and the replies, with at most `depth` multiplications for each record and query.
 ///
 /// `keep` gets the run's transcript: its head before anything is said, and each frame's bytes as soon as they came, before they are
-/// judged.
+/// judged; of a frame that the link's failure cut, it gets none.
 #[inline(never)]
 pub fn check_stream<A: Source, B: Source, L: Link, K: Sink, C: Sink>(
     alloc: Global,

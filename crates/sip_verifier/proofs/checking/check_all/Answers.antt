@@ -1,11 +1,13 @@
 -- Each query has its seat, and what came of it is added to what came of those before.
-use Rattle.std.proofs.Common.{◌≡◌, Err, List, length, refl, ap, drop, rules, arith, sym, ◌∙◌}
+use Rattle.std.proofs.Common.{◌≡◌, Err, List, length, refl, ap, subst, drop, rules, arith, sym, ◌∙◌}
 use Rattle.std.proofs.Math.Seq.{drop-cons}
 use Rattle.std.proofs.lemmas.List.{drop-drop}
 use Rattle.std.proofs.lemmas.Result.{err_from_is_err_and}
 use Rattle.sip_vector.specs.declared.query.Query.TheVariants.{Sub}
+use Rattle.sip_wire.specs.declared.version.Version.{Version}
+use Rattle.sip_verifier.specs.Keeping.{KeepsTalk}
 use Rattle.sip_verifier.specs.QuerySeats.{Seated}
-use Rattle.sip_verifier.proofs.KeptQueries.{all_then, kept_then, none_kept}
+use Rattle.sip_verifier.proofs.KeptQueries.{kept_then, none_kept, whole_then}
 use Rattle.sip_verifier.proofs.QueriesChecked.{none_passed, passed_more, ends_with, next_seat}
 use Rattle.sip_verifier.proofs.checking.check_all.Goals as goal
 
@@ -20,7 +22,7 @@ loop-query-init g c = record {
   peer = search rules;
   report = search rules;
   keep = search rules;
-  kept = none_kept _ _;
+  kept = none_kept c.args.session.now.version _ _;
 }
 
 pub returns-in_err-check_query-clause-checks : goal.returns-in_err-check_query-clause-checks
@@ -52,10 +54,13 @@ loop-query-preserved g c = record {
   peer = search rules;
   report = search rules;
   keep = search rules;
-  kept = all_then _ _ _ _ _ _ c.loop-query.invariant.kept (rw c.in_ok-check_query.was at c.check_query.ensures.kept);
+  kept = whole_then c.args.session.now.version _ _ _ _ _ _ c.loop-query.invariant.kept (rw (c.in_ok-check_query.was, c.loop-query.invariant.version) at c.check_query.ensures.kept);
 }
 
 pub returns-in_err-check_query-clause-kept : goal.returns-in_err-check_query-clause-kept
 returns-in_err-check_query-clause-kept g c =
     let p = err_from_is_err_and c.from_residual.result c.from_residual.ensures.1 in
-    rw (p.1, p.2) (kept_then _ _ _ _ _ _ c.loop-query.invariant.kept (Err c.in_err-check_query.field-0.0) (rw c.in_err-check_query.was at c.check_query.ensures.kept))
+    let stop = Err c.in_err-check_query.field-0.0 in
+    let kept = subst (λ (v : Version). KeepsTalk (g.L.Sink.talk c.loop-query.peer) (g.L.Sink.talk c.check_query.new.peer) (g.C.Sink.talk c.loop-query.keep) (g.C.Sink.talk c.check_query.new.keep) v stop) c.loop-query.invariant.version
+    (rw c.in_err-check_query.was at c.check_query.ensures.kept) in
+    rw (p.1, p.2) (kept_then c.args.session.now.version _ _ _ _ _ _ c.loop-query.invariant.kept stop kept)

@@ -4,7 +4,7 @@ use Rattle.std.specs.Prelude.{map, All}
 use Rattle.sip_ports.specs.Ports.{Lasts}
 use Rattle.sip_vector.specs.declared.update.Update.{Update}
 use Rattle.sip_verifier.specs.inside.Progress.{PassedBy}
-use Rattle.sip_verifier.specs.Keeping.{AllIsKept}
+use Rattle.sip_verifier.specs.Keeping.{WholeIsKept}
 use Rattle.sip_verifier.specs.QuerySeats.{Seated, StandsFor}
 use Rattle.sip_verifier.proofs.checking.check_all.Given as goal
 
@@ -20,5 +20,5 @@ invariant-loop-query g l = record {
   peer : Lasts g.L.Sink.faults g.L.Sink.wants g.L.Sink.is_sure l.fn.peer l.peer;
   report : Lasts g.K.Sink.faults g.K.Sink.wants g.K.Sink.is_sure l.fn.report l.report;
   keep : Lasts g.C.Sink.faults g.C.Sink.wants g.C.Sink.is_sure l.fn.keep l.keep;
-  kept : AllIsKept (g.L.Sink.talk l.fn.peer) (g.L.Sink.talk l.peer) (g.C.Sink.talk l.fn.keep) (g.C.Sink.talk l.keep);
+  kept : WholeIsKept (g.L.Sink.talk l.fn.peer) (g.L.Sink.talk l.peer) (g.C.Sink.talk l.fn.keep) (g.C.Sink.talk l.keep) l.fn.session.version;
 }

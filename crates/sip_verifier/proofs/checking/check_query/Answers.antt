@@ -1,8 +1,8 @@
 -- A line that could not be written whole, that of a rejection, and the line of an answer.
-use Rattle.std.proofs.Common.{refl, Err, rules, ◌≡◌, w64, to_z, of_z, FitsSigned}
+use Rattle.std.proofs.Common.{refl, rules, ◌≡◌, w64, to_z, of_z, FitsSigned}
 use Rattle.std.proofs.lemmas.Int.{to_z-of_z}
 use Rattle.std.proofs.lemmas.Result.{err_from_is_err_and}
-use Rattle.sip_verifier.proofs.KeptQueries.{fault_kept, line_kept}
+use Rattle.sip_verifier.proofs.KeptQueries.{fault_kept, line_kept, rejection_kept}
 use Rattle.sip_verifier.proofs.QueriesChecked.{fault_checked, line_checked, rejection_cut}
 use Rattle.sip_verifier.proofs.checking.check_query.Goals as goal
 
@@ -45,17 +45,17 @@ pub returns-in_err-on_report-in-Ok-Rejected-clause-kept :
     goal.returns-in_err-on_report-in-Ok-Rejected-clause-kept
 returns-in_err-on_report-in-Ok-Rejected-clause-kept g c =
     let p = err_from_is_err_and c.from_residual.result c.from_residual.ensures.1 in
-    rw (p.1, p.2) (line_kept _ _ _ _ c.write_rejection.result (Err c.in_err-on_report-in-Ok-Rejected.field-0.0) (rw c.in-Ok-Rejected.is at c.ask.ensures.kept) (rw c.in_err-on_report-in-Ok-Rejected.was at c.on_report-in-Ok-Rejected.ensures))
+    rw (p.1, p.2) (rejection_kept _ _ _ _ c.args.session.now.version c.write_rejection.result c.in_err-on_report-in-Ok-Rejected.field-0.0 (rw (c.in-Ok-Rejected.is, c.in-Ok-Rejected.field-0-is) at c.ask.ensures.kept) (rw c.in_err-on_report-in-Ok-Rejected.was at c.on_report-in-Ok-Rejected.ensures))
 
 pub returns-in_ok-on_report-in-Ok-Rejected-clause-kept :
     goal.returns-in_ok-on_report-in-Ok-Rejected-clause-kept
-returns-in_ok-on_report-in-Ok-Rejected-clause-kept g c = rw c.in-Ok-Rejected.is at c.ask.ensures.kept
+returns-in_ok-on_report-in-Ok-Rejected-clause-kept g c = rw (c.in-Ok-Rejected.is, c.in-Ok-Rejected.field-0-is) at c.ask.ensures.kept
 
 pub returns-in-Ok-Pairs-clause-kept : goal.returns-in-Ok-Pairs-clause-kept
-returns-in-Ok-Pairs-clause-kept g c = line_kept _ _ _ _ c.write_pairs.result c.on_report.result (rw c.in-Ok-Pairs.is at c.ask.ensures.kept) c.on_report.ensures
+returns-in-Ok-Pairs-clause-kept g c = line_kept _ _ _ _ c.args.session.now.version c.write_pairs.result c.on_report.result (rw (c.in-Ok-Pairs.is, c.in-Ok-Pairs.field-0-is) at c.ask.ensures.kept) c.on_report.ensures
 
 pub returns-in-Ok-Number-clause-kept : goal.returns-in-Ok-Number-clause-kept
-returns-in-Ok-Number-clause-kept g c = line_kept _ _ _ _ c.write_number.result c.on_report-in-Ok-Number.result (rw c.in-Ok-Number.is at c.ask.ensures.kept) c.on_report-in-Ok-Number.ensures
+returns-in-Ok-Number-clause-kept g c = line_kept _ _ _ _ c.args.session.now.version c.write_number.result c.on_report-in-Ok-Number.result (rw (c.in-Ok-Number.is, c.in-Ok-Number.field-0-is) at c.ask.ensures.kept) c.on_report-in-Ok-Number.ensures
 
 pub returns-in-Err-clause-kept : goal.returns-in-Err-clause-kept
-returns-in-Err-clause-kept g c = rw c.status_of_fault.ensures (fault_kept _ _ _ _ c.in-Err.fault (rw c.in-Err.is at c.ask.ensures.kept))
+returns-in-Err-clause-kept g c = rw c.status_of_fault.ensures (fault_kept _ _ _ _ c.args.session.now.version c.in-Err.fault (rw c.in-Err.is at c.ask.ensures.kept))

@@ -30,7 +30,7 @@ returns-clause-fault g c = λ first firsts second seconds.
     bye_stops _ _ c.say_bye.result c.on_link.result c.on_link.ensures (λ e. Rose-since _ _ _ c.check_all.ensures.peer.later (c.say_bye.ensures.cause.failed e))
 
 pub returns-clause-kept : goal.returns-clause-kept
-returns-clause-kept g c = bye_kept _ _ _ _ _ (rw c.in_ok-check_all.was at c.check_all.ensures.kept) c.say_bye.result c.on_link.result _ c.say_bye.ensures.talk c.on_link.ensures
+returns-clause-kept g c = bye_kept c.args.session.now.version _ _ _ _ _ (rw c.in_ok-check_all.was at c.check_all.ensures.kept) c.say_bye.result c.on_link.result _ c.say_bye.ensures.talk c.on_link.ensures
 
 pub returns-clause-wrote : goal.returns-clause-wrote
 returns-clause-wrote g c = λ stream same all.

@@ -1,11 +1,12 @@
 -- At each end of the steps the facts of the calls before it are handed to the lemma of that end.
-use Rattle.std.proofs.Common.{◌≡◌, ◌≤◌, [], sym, ◌∙◌, arith, rules, inl, inr}
+use Rattle.std.proofs.Common.{◌≡◌, ◌≤◌, [], sym, ap, ◌∙◌, arith, rules, inl, inr}
 use Rattle.sip_vector.specs.Limits.{most_depth}
 use Rattle.std.proofs.lemmas.Result.{err_from_is_err_and}
 use Rattle.sip_ports.proofs.TalkLemmas.{GoesOn-refl, GoesOn-trans}
 use Rattle.sip_verifier.specs.Draws.{blocks}
 use Rattle.sip_verifier.specs.Gathering.{legal}
 use Rattle.sip_verifier.specs.Inquiries.{inquiry_of}
+use Rattle.sip_verifier.specs.Sittings.{Sitting}
 use Rattle.sip_verifier.proofs.RunPromises.{kept, gathering_listed, asked_stops, start_caused, start_listed}
 use Rattle.sip_verifier.proofs.RunTalks.{tells, said_is, refuses_moves, nothing_reported, some_value}
 use Rattle.sip_verifier.proofs.StreamPromises.{after_gather, after_start, goes_behind}
@@ -62,6 +63,8 @@ pub returns-clause-keeps : goal.returns-clause-keeps
 returns-clause-keeps g c =
     let (seats, came, starts) = c.in_ok-session.ensures in
     let lent : c.deref_mut.result.now ≡ c.in_ok-session.session.value = search rules in
+    let speaks = ap (λ (s : Sitting). s.version) lent ∙ starts.0 ∙ c.version-version.ensures in
+    let talk_kept = rw speaks at c.conclude.ensures.kept in
     let stops = asked_stops _ _ _ _ _ _ _ _ _ _ _ _ c.conclude.result c.gather_into.ensures.peer.later c.gather_into.ensures.keep.later (c.conclude.ensures.fault _ _ _ _) in
     kept c.args.task.now c.requires (omega (arith, c.get-levels.ensures.same, c.get-levels.ensures.some)) (omega (arith, c.get-levels.ensures.same, c.get-levels.ensures.most))
     (λ x t.
@@ -69,7 +72,7 @@ returns-clause-keeps g c =
     c.conclude.ensures.ends (inquiry_of c.args.task.now x) x _ _ c.deref.ensures.0 (rw lent (goes_behind c.args.task.now x gathered starts c.version-version.ensures t.talk t.report (all_read t.unread gathered.passed.read))) stops.0)
     (λ x t.
     let gathered = rw came at c.gather_into.ensures.gathers x.stream x.seed t.stream t.seed in
-    asked_kept c.args.task.now x _ _ _ _ _ _ gathered.passed.talk t.talk (rw came at c.gather_into.ensures.kept x.seed t.seed) c.conclude.result stops.2 c.conclude.ensures.kept)
+    asked_kept c.args.task.now x _ _ _ _ _ _ gathered.passed.talk t.talk (rw came at c.gather_into.ensures.kept x.seed t.seed) c.conclude.result stops.2 talk_kept)
     (λ is.
     let bytes = some_value _ is.first in
     let seed = some_value _ is.second in
@@ -77,7 +80,7 @@ returns-clause-keeps g c =
     let behind = seats_left c.args.task.now.depth c.args.task.now.queries.items _ (legal c.args.task.now bytes.0) seats _ _ gathered.passed.stand starts in
     let wrote = c.conclude.ensures.wrote (legal c.args.task.now bytes.0) (rw lent (behind.0 ∙ sym c.deref.ensures.0)) (rw lent behind.1) in
     let head = head_moves c.args.task.now seed.0 _ _ c.gather_into.new.gathered (c.gather_into.ensures.kept seed.0 seed.1) in
-    let kept_to = both_move _ _ _ head (replies_move _ _ _ _ c.conclude.result c.conclude.ensures.kept) in
-    let went = talk_moves _ _ _ _ c.conclude.result c.conclude.ensures.kept in
+    let kept_to = both_move _ _ _ head (replies_move _ _ _ _ _ c.conclude.result talk_kept) in
+    let went = talk_moves _ _ _ _ _ c.conclude.result talk_kept in
     tells _ _ is c.gather_into.ensures.told _ (GoesOn-trans _ _ _ _ _ gathered.passed.talk went.1) wrote.0 wrote.1 kept_to.0 kept_to.1)
     stops.0 stops.1

@@ -3,7 +3,6 @@ use Rattle.std.proofs.Common.{arith, take, ◌≡◌, ◌<◌, ◌≤◌, [], �
 use Rattle.std.proofs.lemmas.Result.{err_from_is_err_and}
 use Rattle.std.proofs.lemmas.List.{length-take-le, nil_from_length}
 use Rattle.sip_ports.specs.Ports.{SendsWhole}
-use Rattle.sip_vector.specs.declared.update.Update.{Update}
 use Rattle.sip_verifier.specs.Feeding.{Waiting, due_at_end}
 use Rattle.sip_verifier.proofs.DueFrames.{due-none, due-some}
 use Rattle.sip_verifier.proofs.FramesFit.{end_fits}
