@@ -9,8 +9,9 @@ use std::test::Fail;
 
 const ITEMS: u64 = 1 << Depth::MOST;
 
-// More than two merges want, of which the second is of two long lists.
-const ADDITIONS: u64 = 1_100_000;
+// More than may wait: one of them begins with a merge, and what waits at the end is merged into a
+// long list.
+const ADDITIONS: u64 = 600_000;
 
 // The item of an addition, far from those of the additions before it. The factor is odd, so that
 // each has an item of its own.
