@@ -1,7 +1,7 @@
 -- Each talk is some joint strategy's: the one that gives its replies one after another.
-use Rattle.std.proofs.Common.{◌≡◌, ℕ, zero, suc, ◌+◌, ◌-◌, ◌<◌, ◌≤◌, Option, Some, None, List, [], ◌∷◌, ◌++◌, length, map, take, get_or, replicate, All, refl, sym, ap, subst, ◌∙◌, arith, append_assoc, length-map, length-append, length-replicate}
+use Rattle.std.proofs.Common.{◌≡◌, ℕ, zero, suc, ◌+◌, ◌-◌, ◌<◌, ◌≤◌, Option, Some, None, List, [], ◌∷◌, ◌++◌, length, map, take, get_or, replicate, All, refl, sym, ap, subst, ◌∙◌, arith, append_assoc}
 use Rattle.std.proofs.Math.Seq.{take-append_seam}
-use Rattle.std.proofs.lemmas.List.{get_or-append-add}
+use Rattle.std.proofs.lemmas.List.{get_or-append-add, length-append, length-map, length-replicate}
 use Rattle.std.proofs.lemmas.List.Elements.{All-append, All-head, All-map, All-nil, All-replicate, All-tail, All-weaker}
 use Rattle.sip_counts.specs.Joint.{after}
 use Rattle.sip_counts.specs.Strategies.{Strategy, IsOfBytes, replies}
@@ -89,8 +89,8 @@ table_of_bytes (q ∷ questions) all =
     let room = All-head HasRoom q questions all in
     All-append OfBytes (padded q) (table questions)
     (All-append OfBytes (map Some q.replies) (replicate (length q.block - length q.replies) None)
-    (All-map OfBytes Some q.replies (All-weaker (λ (reply : List ℕ). All (λ b. b < 256) reply) (λ (reply : List ℕ). OfBytes (Some reply)) q.replies room.bytes
-    (λ reply bytes other e. subst (λ (r : List ℕ). All (λ b. b < 256) r) (let same : reply ≡ other = cc in same) bytes)))
+    (All-map OfBytes Some q.replies (All-weaker (λ (reply : List ℕ). All (λ b. b < 256) reply) (λ (reply : List ℕ). OfBytes (Some reply))
+    (λ reply bytes other e. subst (λ (r : List ℕ). All (λ b. b < 256) r) (let same : reply ≡ other = cc in same) bytes) q.replies room.bytes))
     (All-replicate OfBytes (length q.block - length q.replies) None (λ reply e. absurd cc)))
     (table_of_bytes questions (All-tail HasRoom q questions all))
 

@@ -11,7 +11,7 @@ use Rattle.sip_vector.specs.Streams.{int_sum, vector, IsLegal, IsStrict}
 use Rattle.sip_vector.specs.Thresholds.{share_of}
 use Rattle.sip_vector.specs.Trees.{augroot}
 use Rattle.sip_replies.specs.Protocols.{Protocol}
-use Rattle.sip_replies.specs.Replies.{accepts}
+use Rattle.sip_replies.specs.Replies.{accepts, run_from}
 use Rattle.sip_replies.proofs.Unasked.{accepted_unasked}
 use Rattle.sip_wire.specs.declared.version.Version.{Version}
 use Rattle.sip_heavy.specs.Counting.{accepts_heavy, heavy_over, said}
@@ -21,6 +21,11 @@ use Rattle.sip_verifier.proofs.ShareAnswers.{share_answer}
 
 accepts_unasked : {S : Type 0} (P : Protocol S) (rs : List ℕ) (all : List (List ℕ)) (known : Answer) → P.unasked ≡ Some known → accepts P rs all ≡ true
 accepts_unasked P rs all known e = rw e refl
+
+-- no reply says no entry
+pub none_said : (version : Version) (p depth t : ℕ) (numbers : List ℤ) → said version p depth t numbers [] ≡ []
+unfolding run_from
+none_said version p depth t numbers = refl
 
 module _ (version : Version) (p depth n t : ℕ) (stream : List Update) (side : Side) (block : List ℕ)
     (sum : int_sum (vector depth stream side) ≡ pos n) (less : n < t) where

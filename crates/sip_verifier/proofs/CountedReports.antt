@@ -41,21 +41,18 @@ module _ (i : Inquiry) (x : Exchange) (can : All (CanBeAsked i.depth) i.queries)
       legal) (few_of queries (All-tail (CanBeAsked i.depth) q queries all))
 
   -- what was written of accepted questions
-  pub written_of : Done i x → List Written
+  abbrev pub written_of : Done i x → List Written
   written_of done = map (λ a. record { question = a.question; answer = a.answer }) done
 
   questions_same : (done : Done i x) → questions_written (written_of done) ≡ questions_of i x done
-  unfolding written_of
   questions_same [] = refl
   questions_same (a ∷ done) = ap (λ ts. a.question ∷ ts) (questions_same done)
 
   lines_same : (done : Done i x) → lines_written (written_of done) ≡ lines i x done
-  unfolding written_of
   lines_same [] = refl
   lines_same (a ∷ done) = ap (λ ls. line a.question.query a.answer ++ ls) (lines_same done)
 
   counted_of : (done : Done i x) → All (Fits i.depth) (map (λ (t : Question). t.query) (questions_of i x done)) → All (λ (w : Written). CountsFor i.version i.depth (updates i x) w.question w.answer) (written_of done)
-  unfolding written_of
   counted_of [] all = All-nil (λ (w : Written). CountsFor i.version i.depth (updates i x) w.question w.answer)
   counted_of (a ∷ done) all =
       All-cons (λ (w : Written). CountsFor i.version i.depth (updates i x) w.question w.answer) (record { question = a.question; answer = a.answer }) (written_of done)
@@ -95,6 +92,11 @@ module _ (i : Inquiry) (x : Exchange) (can : All (CanBeAsked i.depth) i.queries)
     report = subst (λ (ls : List ℕ). IsPrefix x.report (ls ++ r.rejected)) (sym (lines_same r.done)) r.report;
     counted = counted_of r.done (talk_fits (questions_of i x r.done) r.reached);
   }
+
+  -- with the lines of these questions
+  pub counts_lines : (r : Reported) → (counts_of r).lines ≡ written_of r.done
+  unfolding counts_of
+  counts_lines r = refl
 
   reported_of : (done : Done i x) → AreInTalk i x (questions_of i x done) → (rejected : List ℕ) → IsRejection rejected → IsPrefix x.report (lines i x done ++ rejected) → Reported
   reported_of done reached rejected is report = record { done = done; reached = reached; rejected = rejected; is_rejection = is; report = report }

@@ -1,10 +1,11 @@
 -- A report that keeps to the clause of verdicts is counted for all of its queries together.
-use Rattle.std.proofs.Common.{◌≡◌, ◌≢◌, ℕ, zero, suc, ◌+◌, ◌-◌, ◌*◌, ◌^◌, ◌<◌, ◌≤◌, Bool, true, false, ◌||◌, ℤ, pos, List, [], ◌∷◌, ◌++◌, length, map, take, drop, All, Option, Some, None, inl, inr, if◌then◌else◌, refl, sym, ap, subst, ◌∙◌, arith, length-map}
+use Rattle.std.proofs.Common.{◌≡◌, ◌≢◌, ℕ, zero, suc, ◌+◌, ◌-◌, ◌*◌, ◌^◌, ◌<◌, ◌≤◌, Bool, true, false, ◌||◌, ℤ, pos, List, [], ◌∷◌, ◌++◌, length, map, take, drop, All, Option, Some, None, inl, inr, if◌then◌else◌, refl, sym, ap, subst, ◌∙◌, arith}
 use Rattle.std.specs.Prelude.{nat_le, option_to_list, ◌≤ℤ◌}
 use Rattle.std.specs.List.{AllByRecursion}
 use Rattle.std.proofs.Math.Nat.{mul_comm}
 use Rattle.std.proofs.Math.Seq.{take-length}
 use Rattle.std.proofs.lemmas.Bool.{cases_Bool, leb-false}
+use Rattle.std.proofs.lemmas.List.{length-map}
 use Rattle.std.proofs.lemmas.List.Elements.{All-cons, All-nil, All-head, All-tail, All-weaker, recursion_from_All}
 use Rattle.sip_field.specs.Moduli.{m61_modulus}
 use Rattle.sip_ports.specs.declared.port.TalkEvent.{TalkEvent}
@@ -45,7 +46,7 @@ use Rattle.sip_verifier.specs.declared.status.Status.{Status}
 use Rattle.sip_verifier.specs.declared.task.Task.{Task}
 use Rattle.sip_verifier.proofs.Blocks.{challenges-below, length-challenges}
 use Rattle.sip_verifier.proofs.CountedQuestions.{few_wrong, question_counts}
-use Rattle.sip_verifier.proofs.CountedReports.{Reported, counts_of, reported, written_of}
+use Rattle.sip_verifier.proofs.CountedReports.{Reported, counts_lines, counts_of, reported, written_of}
 use Rattle.sip_verifier.proofs.ShareAnswers.{share_answer}
 use Rattle.sip_stream.proofs.LegalRecords.{records_legal}
 
@@ -211,8 +212,8 @@ module _ (i : Inquiry) (x : Exchange) (can : All (CanBeAsked i.depth) i.queries)
 
   misled_lines : (done : List (Accepted i.version i.depth (updates i x))) (challenges : List ℕ) → i.challenges ≡ Some challenges → (strategy : Strategy)
       → AreInTalk i x (map (λ (a : Accepted i.version i.depth (updates i x)). a.question) done)
-      → RepliesSo strategy [] (questions_written (map (λ (a : Accepted i.version i.depth (updates i x)). record { question = a.question; answer = a.answer }) done))
-      → All (IsMisledBy i x strategy challenges) (map (λ (a : Accepted i.version i.depth (updates i x)). record { question = a.question; answer = a.answer }) done)
+      → RepliesSo strategy [] (questions_written (written_of i x can done))
+      → All (IsMisledBy i x strategy challenges) (written_of i x can done)
   misled_lines done challenges is strategy (inl none) talk = no_lines i x done (IsMisledBy i x strategy challenges) none
   misled_lines done challenges is strategy (inr (next, rest, reached)) talk =
       let are = reached.are_questions in
@@ -223,15 +224,14 @@ module _ (i : Inquiry) (x : Exchange) (can : All (CanBeAsked i.depth) i.queries)
 
   -- both clauses hold of the same lines
   pub counted_jointly : (status : Status) → VerdictClause i x status → IsListed status → (count : CountClause i x) × JointClause i x count.lines
-  unfolding counts_of written_of
   counted_jointly status v is =
-      let r = reported i x can status v is in (
+      let r : Reported i x can = reported i x can status v is in (
         counts_of i x can r,
-        record {
+        subst (JointClause i x) (sym (counts_lines i x can r)) (record {
           few = few;
           vector = vector_is;
           counted = λ challenges drawn strategy talk. misled_lines r.done challenges drawn strategy r.reached talk;
-        },
+        }),
       )
 
 -- ---- a run of a task
