@@ -9,14 +9,12 @@ use Rattle.sip_vector.specs.declared.update.Update.{Update}
 use Rattle.sip_vector.specs.Answers.{Answer, answer, pairs}
 use Rattle.sip_vector.specs.Streams.{int_sum, vector, IsLegal, IsStrict}
 use Rattle.sip_vector.specs.Thresholds.{share_of}
-use Rattle.sip_vector.specs.Trees.{augroot}
 use Rattle.sip_replies.specs.Protocols.{Protocol}
 use Rattle.sip_replies.specs.Replies.{accepts, run_from}
-use Rattle.sip_replies.proofs.Unasked.{accepted_unasked}
 use Rattle.sip_wire.specs.declared.version.Version.{Version}
 use Rattle.sip_heavy.specs.Counting.{accepts_heavy, heavy_over, said}
 use Rattle.sip_heavy.specs.Protocol.{HeavyState, count_of}
-use Rattle.sip_heavy.proofs.HonestStreams.{none_asked}
+use Rattle.sip_verifier.proofs.JointReports.{none_heavy}
 use Rattle.sip_verifier.proofs.ShareAnswers.{share_answer}
 
 accepts_unasked : {S : Type 0} (P : Protocol S) (rs : List ℕ) (all : List (List ℕ)) (known : Answer) → P.unasked ≡ Some known → accepts P rs all ≡ true
@@ -41,14 +39,9 @@ module _ (version : Version) (p depth n t : ℕ) (stream : List Update) (side : 
   pub accepted : accepts_heavy version p depth t (vector depth stream side) block [] ≡ true
   accepted = accepts_unasked asks block [] (pairs []) unasked
 
-  pub none_heavy : IsStrict depth stream side → answer depth stream (Heavy side t) ≡ pairs []
-  none_heavy strict =
-      (accepted_unasked asks block [] (answer depth stream (Heavy side t)) (pairs []) unasked
-      (none_asked version p (augroot p (vector depth stream side) block).hash depth t n (vector depth stream side) block strict sum less)).1
-
 pub none_shared : (version : Version) (depth n num den : ℕ) (stream : List Update) (side : Side) → IsLegal depth stream → IsStrict depth stream side → 1 ≤ den
     → int_sum (vector depth stream side) ≡ pos n → n < share_of num den (pos n) → answer depth stream (Share side num den) ≡ pairs []
 none_shared version depth n num den stream side legal strict some sum less =
     share_answer depth stream side num den some legal strict
-    ∙ none_heavy version m61_modulus depth n (share_of num den (int_sum (vector depth stream side))) stream side [] sum
-    (subst (λ z. n < share_of num den z) (sym sum) less) strict
+    ∙ none_heavy version m61_modulus depth n (share_of num den (int_sum (vector depth stream side))) stream side [] strict sum
+    (subst (λ z. n < share_of num den z) (sym sum) less)

@@ -4,7 +4,7 @@ use Rattle.std.specs.Prelude.{nat_le, option_to_list, ◌≤ℤ◌}
 use Rattle.std.specs.List.{AllByRecursion}
 use Rattle.std.proofs.Math.Nat.{mul_comm}
 use Rattle.std.proofs.Math.Seq.{take-length}
-use Rattle.std.proofs.lemmas.Bool.{cases_Bool, leb-false}
+use Rattle.std.proofs.lemmas.Bool.{cases_Bool, leb-false, lt-leb, or_left, or_right}
 use Rattle.std.proofs.lemmas.List.{length-map}
 use Rattle.std.proofs.lemmas.List.Elements.{All-cons, All-nil, All-head, All-tail, All-weaker, recursion_from_All}
 use Rattle.sip_field.specs.Moduli.{m61_modulus}
@@ -13,12 +13,11 @@ use Rattle.sip_vector.specs.declared.query.Query.{Query}
 use Rattle.sip_vector.specs.declared.query.Query.TheVariants.{Sub, Range, F2, Inner, Heavy, Share}
 use Rattle.sip_vector.specs.declared.update.Side.{Side}
 use Rattle.sip_vector.specs.declared.update.Update.{Update}
-use Rattle.sip_vector.specs.Answers.{Answer, Fits, answer, pairs}
+use Rattle.sip_vector.specs.Answers.{Answer, Fits, answer, number, pairs}
 use Rattle.sip_vector.specs.Pieces.{pieces, cut}
 use Rattle.sip_vector.specs.Streams.{int_sum, vector, IsLegal, IsStrict}
 use Rattle.sip_vector.specs.Thresholds.{share_of}
 use Rattle.sip_vector.specs.Trees.{augroot}
-use Rattle.sip_counts.specs.Clauses.{FewAndCounted}
 use Rattle.sip_counts.specs.Joint.{Asked, after, is_misled, misled, bounds, IsBounded}
 use Rattle.sip_counts.specs.Strategies.{Strategy, IsOfBytes, replies, takes_wrong, fooled}
 use Rattle.sip_counts.proofs.Joint.{few_misled}
@@ -28,77 +27,39 @@ use Rattle.sip_replies.specs.Replies as general
 use Rattle.sip_replies.proofs.Unasked.{accepted_asked, accepted_unasked}
 use Rattle.sip_wire.specs.declared.version.Version.{Version}
 use Rattle.sip_heavy.specs.Counting.{heavy_over}
-use Rattle.sip_heavy.specs.Protocol.{HeavyState, count_of}
+use Rattle.sip_heavy.proofs.FewFooledByBytes as heavies
+use Rattle.sip_heavy.specs.Protocol.{HeavyState, count_of, heavy_asked}
 use Rattle.sip_heavy.proofs.FewFooledByBytes.{positive_is}
 use Rattle.sip_heavy.proofs.HonestStreams.{none_asked}
 use Rattle.sip_heavy.proofs.TrueLevels.{sum_positive}
-use Rattle.sip_verifier.specs.CountClause.{accepts_in, bound_of, AreInTalk, CountClause, CountsFor, FewFor, Written, questions_written}
+use Rattle.sip_verifier.specs.CountClause.{accepts_in, bound_of, AreInTalk, CountClause, Written, questions_written}
 use Rattle.sip_verifier.specs.Exchanges.{Exchange}
 use Rattle.sip_verifier.specs.Draws.{challenge_count, drawn}
 use Rattle.sip_verifier.specs.Inquiries.{Inquiry, inquiry_of}
 use Rattle.sip_verifier.specs.JointClause.{asked_by, all_asked, RepliesSo, CanBeCounted, IsJointVector, IsMisledBy, JointClause}
 use Rattle.sip_verifier.specs.Kinds.{Kind, KindRow, built, missing, kind_row, Holds, OfKind}
-use Rattle.sip_verifier.specs.Questions.{Question, Accepted, Accepts, Reached, updates}
+use Rattle.sip_verifier.specs.Questions.{Question, Accepted, Accepts, Done, Reached, questions_of, updates}
 use Rattle.sip_verifier.specs.Statuses.{IsListed}
 use Rattle.sip_verifier.specs.Tasks.{CanBeAsked, CanBeDone}
 use Rattle.sip_verifier.specs.VerdictClause.{VerdictClause}
 use Rattle.sip_verifier.specs.declared.status.Status.{Status}
 use Rattle.sip_verifier.specs.declared.task.Task.{Task}
 use Rattle.sip_verifier.proofs.Blocks.{challenges-below, length-challenges}
-use Rattle.sip_verifier.proofs.CountedQuestions.{few_wrong, question_counts}
+use Rattle.sip_verifier.proofs.CountedQuestions.{few_wrong, never_sum, question_counts}
 use Rattle.sip_verifier.proofs.CountedReports.{Reported, counts_lines, counts_of, reported, written_of}
-use Rattle.sip_verifier.proofs.ShareAnswers.{share_answer}
+use Rattle.sip_verifier.proofs.ShareAnswers.{share_answer, share_reached}
 use Rattle.sip_stream.proofs.LegalRecords.{records_legal}
 
 -- ---- one query
 
--- where nothing is asked for heavy entries, there are none
-none_heavy : (version : Version) (depth t : ℕ) (stream : List Update) (side : Side) (block : List ℕ) → IsStrict depth stream side
-    → nat_le t (count_of (int_sum (vector depth stream side))) ≡ false → answer depth stream (Heavy side t) ≡ pairs []
-none_heavy version depth t stream side block strict below =
-    let numbers = vector depth stream side in
-    let n = positive_is (int_sum numbers) (sum_positive numbers (recursion_from_All (λ a. pos 0 ≤ℤ a) numbers strict)) in
-    let count : count_of (int_sum numbers) ≡ n.0 = ap count_of n.1 in
-    let P : Protocol HeavyState = heavy_over version m61_modulus depth t numbers block in
+-- where the entries add up to less than is asked for, none is asked for
+pub none_heavy : (version : Version) (p depth n t : ℕ) (stream : List Update) (side : Side) (block : List ℕ) → IsStrict depth stream side
+    → int_sum (vector depth stream side) ≡ pos n → n < t → answer depth stream (Heavy side t) ≡ pairs []
+none_heavy version p depth n t stream side block strict sum less =
+    let P : Protocol HeavyState = heavy_over version p depth t (vector depth stream side) block in
+    let below : nat_le t (count_of (int_sum (vector depth stream side))) ≡ false = ap (λ z. nat_le t (count_of z)) sum ∙ lt-leb t n less in
     (accepted_unasked P block [] (answer depth stream (Heavy side t)) (pairs []) (ap (λ (b : Bool). if b then None else Some (pairs [])) below)
-    (none_asked version m61_modulus (augroot m61_modulus numbers block).hash depth t n.0 numbers block strict n.1
-    (let less = leb-false t (count_of (int_sum numbers)) below in omega (arith, less, count)))).1
-
--- a wrong answer about heavy entries that was accepted had a reply for each challenge
-heavy_whole : (version : Version) (depth t : ℕ) (stream : List Update) (side : Side) (block : List ℕ) (taken : List (List ℕ)) (written : Answer)
-    → IsStrict depth stream side → general.IsAccepted (heavy_over version m61_modulus depth t (vector depth stream side) block) block taken written
-    → written ≢ answer depth stream (Heavy side t) → length taken ≡ length block
-heavy_whole version depth t stream side block taken written strict accepted wrong =
-    let P : Protocol HeavyState = heavy_over version m61_modulus depth t (vector depth stream side) block in
-    elim (cases_Bool (nat_le t (count_of (int_sum (vector depth stream side))))) [
-      | inl reached ↦ (accepted_asked P block taken written (ap (λ (b : Bool). if b then None else Some (pairs [])) reached) accepted).all
-      | inr below ↦
-          let known = accepted_unasked P block taken written (pairs []) (ap (λ (b : Bool). if b then None else Some (pairs [])) below) accepted in
-          absurd (wrong (known.1 ∙ sym (none_heavy version depth t stream side block strict below)))
-    ]
-
--- so had one to each query
-whole : (version : Version) (depth : ℕ) (stream : List Update) (query : Query) (block : List ℕ) (taken : List (List ℕ)) (written : Answer)
-    → Fits depth query → IsLegal depth stream → Accepts version depth stream (record { query = query; block = block; replies = taken }) written
-    → OfKind version depth stream query (λ kind. kind.CanBeCounted) → written ≢ answer depth stream query → length taken ≡ length block
-whole version depth stream (Sub lo hi) block taken written fits legal accepted can wrong = accepted.all
-whole version depth stream (Range side lo hi) block taken written fits legal accepted can wrong = accepted.all
-whole version depth stream (F2 side) block taken written fits legal accepted can wrong = accepted.all
-whole version depth stream Inner block taken written fits legal accepted can wrong = accepted.all
-whole version depth stream (Heavy side t) block taken written fits legal accepted can wrong =
-    heavy_whole version depth t stream side block taken written can accepted wrong
-whole version depth stream (Share side num den) block taken written fits legal accepted can wrong =
-    let t : ℕ = share_of num den (int_sum (vector depth stream side)) in
-    heavy_whole version depth t stream side block taken written can accepted
-    (λ e. wrong (e ∙ sym (share_answer depth stream side num den (omega (arith, fits.0, fits.1)) legal can)))
-
--- an answer that counts at its own block, as a query of a list of queries
-row_takes : (row : KindRow) (depth : ℕ) (strategy : Strategy) (block : List ℕ) (taken : List (List ℕ)) (written right : Answer)
-    → Holds (λ kind. kind.CanBeCounted → FewAndCounted m61_modulus depth (bound_of depth kind) (accepts_in kind) kind.is_right block taken (Some written) right) row
-    → Holds (λ kind. kind.CanBeCounted) row → replies strategy block ≡ map Some taken → written ≢ right
-    → takes_wrong (asked_by accepts_in depth row).accepts (asked_by accepts_in depth row).is_right strategy block ≡ true
-row_takes (built kind) depth strategy block taken written right counts can talk wrong = (counts can).counts strategy written talk refl wrong
-row_takes missing depth strategy block taken written right counts can talk wrong = absurd counts
+    (none_asked version p (augroot p (vector depth stream side) block).hash depth t n (vector depth stream side) block strict sum less)).1
 
 -- no strategy has wrong answers to it accepted at more blocks than its bound
 row_bounded : (row : KindRow) (depth : ℕ)
@@ -108,19 +69,74 @@ row_bounded : (row : KindRow) (depth : ℕ)
 row_bounded (built kind) depth few can = few can
 row_bounded missing depth few can = absurd few
 
--- ---- queries in turn
-
-or_left : (a b : Bool) → a ≡ true → (a || b) ≡ true
-or_left true b is = refl
-or_left false b is = absurd cc
-
-or_right : (a b : Bool) → b ≡ true → (a || b) ≡ true
-or_right true b is = refl
-or_right false b is = is
-
 module _ (version : Version) (depth : ℕ) (stream : List Update) (legal : IsLegal depth stream) where
   abbrev Can : Query → Type 0
   Can query = OfKind version depth stream query (λ kind. kind.CanBeCounted)
+
+  -- the query as one of several
+  abbrev Row : Query → Asked
+  Row query = asked_by accepts_in depth (kind_row version depth stream query)
+
+  -- no entry is heavy where the total is below the threshold
+  below_none : (side : Side) (t : ℕ) (block : List ℕ) → IsStrict depth stream side → nat_le t (count_of (int_sum (vector depth stream side))) ≡ false
+      → answer depth stream (Heavy side t) ≡ pairs []
+  below_none side t block strict below =
+      let n = positive_is (int_sum (vector depth stream side)) (sum_positive (vector depth stream side) (recursion_from_All (λ a. pos 0 ≤ℤ a) (vector depth stream side) strict)) in
+      none_heavy version m61_modulus depth n.0 t stream side block strict n.1
+      (let less = leb-false t (count_of (int_sum (vector depth stream side))) below in omega (arith, less, ap count_of n.1))
+
+  -- by what a strategy replies at a block, and what was taken there and accepted
+  module _ (strategy : Strategy) (block : List ℕ) (taken : List (List ℕ)) (written : Answer)
+      (says : take (length taken) (replies strategy block) ≡ map Some taken) where
+    -- as many replies as there are challenges are all
+    all_said : length taken ≡ length block → replies strategy block ≡ map Some taken
+    all_said size = sym (ap (λ n. take n (replies strategy block)) (size ∙ sym (replies-length strategy block)) ∙ take-length (replies strategy block)) ∙ says
+
+    -- pairs that are not the heavy entries are taken
+    heavy_said : (side : Side) (t : ℕ) (answer_is : Answer) → general.IsAccepted (heavy_over version m61_modulus depth t (vector depth stream side) block) block taken answer_is
+        → replies strategy block ≡ map Some taken → answer_is ≢ answer depth stream (Heavy side t)
+        → takes_wrong (Row (Heavy side t)).accepts (Row (Heavy side t)).is_right strategy block ≡ true
+    heavy_said side t (number z) accepted all wrong = absurd
+        (never_sum (heavy_asked version m61_modulus (augroot m61_modulus (vector depth stream side) block).hash (int_sum (vector depth stream side)) depth t) block taken z accepted)
+    heavy_said side t (pairs entries) accepted all wrong =
+        heavies.written_counts version m61_modulus depth t (vector depth stream side) strategy block taken entries accepted all (λ right. wrong (ap pairs right))
+
+    -- so is another answer than this one, which is that of the entries where they were asked for, and empty where not
+    heavy_taken : (side : Side) (t : ℕ) (right : Answer) → (nat_le t (count_of (int_sum (vector depth stream side))) ≡ true → right ≡ answer depth stream (Heavy side t))
+        → (nat_le t (count_of (int_sum (vector depth stream side))) ≡ false → taken ≡ [] → right ≡ pairs [])
+        → general.IsAccepted (heavy_over version m61_modulus depth t (vector depth stream side) block) block taken written → written ≢ right
+        → takes_wrong (Row (Heavy side t)).accepts (Row (Heavy side t)).is_right strategy block ≡ true
+    heavy_taken side t right heavy none accepted wrong =
+        let P : Protocol HeavyState = heavy_over version m61_modulus depth t (vector depth stream side) block in
+        elim (cases_Bool (nat_le t (count_of (int_sum (vector depth stream side))))) [
+          | inl reached ↦
+              let all = all_said (accepted_asked P block taken written (ap (λ (b : Bool). if b then None else Some (pairs [])) reached) accepted).all in
+              heavy_said side t written accepted all (λ e. wrong (e ∙ sym (heavy reached)))
+          | inr below ↦
+              let known = accepted_unasked P block taken written (pairs []) (ap (λ (b : Bool). if b then None else Some (pairs [])) below) accepted in
+              absurd (wrong (known.1 ∙ sym (none below known.0)))
+        ]
+
+    -- a wrong answer to any query is taken
+    taken_wrongly : (query : Query) → Fits depth query → Accepts version depth stream (record { query = query; block = block; replies = taken }) written
+        → (taken ≡ [] → Can query) → written ≢ answer depth stream query → takes_wrong (Row query).accepts (Row query).is_right strategy block ≡ true
+    taken_wrongly (Sub lo hi) fits accepted can wrong =
+        (question_counts version depth stream (Sub lo hi) block taken written fits legal accepted tt).counts strategy written (all_said accepted.all) refl wrong
+    taken_wrongly (Range side lo hi) fits accepted can wrong =
+        (question_counts version depth stream (Range side lo hi) block taken written fits legal accepted tt).counts strategy written (all_said accepted.all) refl wrong
+    taken_wrongly (F2 side) fits accepted can wrong =
+        (question_counts version depth stream (F2 side) block taken written fits legal accepted tt).counts strategy written (all_said accepted.all) refl wrong
+    taken_wrongly Inner fits accepted can wrong =
+        (question_counts version depth stream Inner block taken written fits legal accepted tt).counts strategy written (all_said accepted.all) refl wrong
+    taken_wrongly (Heavy side t) fits accepted can wrong =
+        heavy_taken side t (answer depth stream (Heavy side t)) (λ reached. refl) (λ below nothing. below_none side t block (can nothing) below) accepted wrong
+    taken_wrongly (Share side num den) fits accepted can wrong =
+        let t : ℕ = share_of num den (int_sum (vector depth stream side)) in
+        let some : 1 ≤ den = omega (arith, fits.0, fits.1) in
+        heavy_taken side t (answer depth stream (Share side num den)) (share_reached depth stream side num den some legal)
+        (λ below nothing. share_answer depth stream side num den some legal (can nothing) ∙ below_none side t block (can nothing) below) accepted wrong
+
+  -- ---- queries in turn
 
   all_bounded : (queries : List Query) → All (CanBeAsked depth) queries → All Can queries
       → AllByRecursion (IsBounded m61_modulus depth) (all_asked version depth stream queries)
@@ -132,31 +148,22 @@ module _ (version : Version) (depth : ℕ) (stream : List Update) (legal : IsLeg
 
   module _ (strategy : Strategy) where
     abbrev Misled : List Query → List ℕ → List ℕ → Written → Type 0
-    Misled queries earlier v w = Can w.question.query → w.answer ≢ answer depth stream w.question.query
+    Misled queries earlier v w = (w.question.replies ≡ [] → Can w.question.query) → w.answer ≢ answer depth stream w.question.query
         → is_misled depth strategy (all_asked version depth stream queries) earlier v ≡ true
+
+    abbrev Answered : Type 0
+    Answered = List (Accepted version depth stream)
+
+    abbrev questions : Answered → List Question
+    questions done = map (λ a. a.question) done
 
     abbrev written_as : Accepted version depth stream → Written
     written_as a = record { question = a.question; answer = a.answer }
 
-    -- a wrong answer that was accepted is taken at its block, by what the strategy does behind the earlier ones
-    here : (a : Accepted version depth stream) (earlier : List ℕ) → Fits depth a.question.query
-        → take (length a.question.replies) (replies (after earlier strategy) a.question.block) ≡ map Some a.question.replies
-        → Can a.question.query → a.answer ≢ answer depth stream a.question.query
-        → takes_wrong (asked_by accepts_in depth (kind_row version depth stream a.question.query)).accepts
-        (asked_by accepts_in depth (kind_row version depth stream a.question.query)).is_right (after earlier strategy) a.question.block ≡ true
-    here a earlier fits talk can wrong =
-        let q = a.question in
-        let said = replies (after earlier strategy) q.block in
-        let size : length q.replies ≡ length said =
-        whole version depth stream q.query q.block q.replies a.answer fits legal a.accepts can wrong ∙ sym (replies-length (after earlier strategy) q.block) in
-        let all : said ≡ map Some q.replies = sym (ap (λ n. take n said) size ∙ take-length said) ∙ talk in
-        row_takes (kind_row version depth stream q.query) depth (after earlier strategy) q.block q.replies a.answer (answer depth stream q.query)
-        (question_counts version depth stream q.query q.block q.replies a.answer fits legal a.accepts) can all wrong
-
     -- accepted answers to the first queries, each at its own piece of the challenges
-    misled_by : (done : List (Accepted version depth stream)) (more : List Question) (queries : List Query) (earlier v : List ℕ) (n k : ℕ)
-        → map (λ (q : Question). q.query) (map (λ (a : Accepted version depth stream). a.question) done ++ more) ≡ take n queries
-        → map (λ (q : Question). q.block) (map (λ (a : Accepted version depth stream). a.question) done ++ more) ≡ take n (pieces depth k v)
+    misled_by : (done : Answered) (more : List Question) (queries : List Query) (earlier v : List ℕ) (n k : ℕ)
+        → map (λ (q : Question). q.query) (questions done ++ more) ≡ take n queries
+        → map (λ (q : Question). q.block) (questions done ++ more) ≡ take n (pieces depth k v)
         → All (Fits depth) queries
         → RepliesSo strategy earlier (questions_written (map written_as done))
         → All (Misled queries earlier v) (map written_as done)
@@ -168,9 +175,8 @@ module _ (version : Version) (depth : ℕ) (stream : List Update) (legal : IsLeg
     misled_by (a ∷ done) more (q ∷ queries) earlier v (suc n) (suc k) qs bs fits talk =
         let query : a.question.query ≡ q = cc in
         let block : a.question.block ≡ take depth v = cc in
-        let more_queries : map (λ (q : Question). q.query) (map (λ (a : Accepted version depth stream). a.question) done ++ more) ≡ take n queries = cc in
-        let more_blocks : map (λ (q : Question). q.block) (map (λ (a : Accepted version depth stream). a.question) done ++ more) ≡ take n (pieces depth k (drop depth v)) = cc in
-        let Row : Query → Asked = λ u. asked_by accepts_in depth (kind_row version depth stream u) in
+        let more_queries : map (λ (q : Question). q.query) (questions done ++ more) ≡ take n queries = cc in
+        let more_blocks : map (λ (q : Question). q.block) (questions done ++ more) ≡ take n (pieces depth k (drop depth v)) = cc in
         let first : List ℕ → Query → Bool = λ b u. takes_wrong (Row u).accepts (Row u).is_right (after earlier strategy) b in
         let others : Bool = is_misled depth strategy (all_asked version depth stream queries) (earlier ++ take depth v) (drop depth v) in
         let fit : Fits depth a.question.query = subst (Fits depth) (sym query) (All-head (Fits depth) q queries fits) in
@@ -178,7 +184,7 @@ module _ (version : Version) (depth : ℕ) (stream : List Update) (legal : IsLeg
         (subst (λ (b : List ℕ). RepliesSo strategy (earlier ++ b) (questions_written (map written_as done))) block talk.1) in
         All-cons (Misled (q ∷ queries) earlier v) (written_as a) (map written_as done)
         (λ can wrong. or_left (first (take depth v) q) others
-        (subst (λ (u : Query). first (take depth v) u ≡ true) query (subst (λ (b : List ℕ). first b a.question.query ≡ true) block (here a earlier fit talk.0 can wrong))))
+        (subst (λ (u : Query). first (take depth v) u ≡ true) query (subst (λ (b : List ℕ). first b a.question.query ≡ true) block (taken_wrongly (after earlier strategy) a.question.block a.question.replies a.answer talk.0 a.question.query fit a.accepts can wrong))))
         (All-weaker (Misled queries (earlier ++ take depth v) (drop depth v)) (Misled (q ∷ queries) earlier v)
         (λ w is can wrong. or_right (first (take depth v) q) others (is can wrong)) (map written_as done) rest)
 
@@ -187,9 +193,9 @@ module _ (version : Version) (depth : ℕ) (stream : List Update) (legal : IsLeg
 same_list : (xs ys : List ℕ) → Some xs ≡ Some ys → xs ≡ ys
 same_list xs ys e = cc
 
-no_lines : (i : Inquiry) (x : Exchange) (done : List (Accepted i.version i.depth (updates i x))) (P : Written → Type 0)
-    → map (λ (a : Accepted i.version i.depth (updates i x)). a.question) done ≡ []
-    → All P (map (λ (a : Accepted i.version i.depth (updates i x)). record { question = a.question; answer = a.answer }) done)
+no_lines : (i : Inquiry) (x : Exchange) (done : Done i x) (P : Written → Type 0)
+    → questions_of i x done ≡ []
+    → All P (map (λ a. record { question = a.question; answer = a.answer }) done)
 no_lines i x [] P e = All-nil P
 no_lines i x (a ∷ done) P e = absurd cc
 
@@ -210,16 +216,16 @@ module _ (i : Inquiry) (x : Exchange) (can : All (CanBeAsked i.depth) i.queries)
       subst (λ n. misled m61_modulus i.depth strategy asked ≤ bounds asked * m61_modulus ^ (n * i.depth - 1)) size
       (few_misled m61_modulus i.depth strategy asked some bytes (all_bounded i.version i.depth (updates i x) all_legal i.queries can counted))
 
-  misled_lines : (done : List (Accepted i.version i.depth (updates i x))) (challenges : List ℕ) → i.challenges ≡ Some challenges → (strategy : Strategy)
-      → AreInTalk i x (map (λ (a : Accepted i.version i.depth (updates i x)). a.question) done)
+  misled_lines : (done : Done i x) (challenges : List ℕ) → i.challenges ≡ Some challenges → (strategy : Strategy)
+      → AreInTalk i x (questions_of i x done)
       → RepliesSo strategy [] (questions_written (written_of i x can done))
       → All (IsMisledBy i x strategy challenges) (written_of i x can done)
   misled_lines done challenges is strategy (inl none) talk = no_lines i x done (IsMisledBy i x strategy challenges) none
   misled_lines done challenges is strategy (inr (next, rest, reached)) talk =
       let are = reached.are_questions in
       let same : are.challenges ≡ challenges = same_list are.challenges challenges (sym are.drawn ∙ is) in
-      let blocks = subst (λ (cs : List ℕ). map (λ (q : Question). q.block) (map (λ (a : Accepted i.version i.depth (updates i x)). a.question) done ++ option_to_list next)
-      ≡ take (length (map (λ (a : Accepted i.version i.depth (updates i x)). a.question) done ++ option_to_list next)) (cut i.depth cs)) same are.blocks in
+      let blocks = subst (λ (cs : List ℕ). map (λ (q : Question). q.block) (questions_of i x done ++ option_to_list next)
+      ≡ take (length (questions_of i x done ++ option_to_list next)) (cut i.depth cs)) same are.blocks in
       misled_by i.version i.depth (updates i x) all_legal strategy done (option_to_list next) i.queries [] challenges _ _ are.queries blocks fit talk
 
   -- both clauses hold of the same lines

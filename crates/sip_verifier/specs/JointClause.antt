@@ -63,11 +63,14 @@ module _ (i : Inquiry) (x : Exchange) where
     pub size : length challenges ≡ length i.queries * i.depth
     pub below : All (λ r. r < m61_modulus) challenges
 
-  -- if the answer that was written is not the right one, then at these challenges the strategy has
-  -- a wrong answer to some query accepted
+  -- If the answer that was written is not the right one, then at these challenges the strategy has
+  -- a wrong answer to some query accepted. Of a query that was not asked the count asks something of
+  -- the stream: where entries add up to less than a threshold that one of them reaches, no helper
+  -- has a part in the empty answer.
   abbrev pub IsMisledBy : Strategy → List ℕ → Written → Type 0
   IsMisledBy strategy challenges w =
-      CanBeCounted w.question.query → w.answer ≢ answer i.depth (updates i x) w.question.query
+      (w.question.replies ≡ [] → CanBeCounted w.question.query)
+      → w.answer ≢ answer i.depth (updates i x) w.question.query
       → is_misled i.depth strategy asked_here [] challenges ≡ true
 
   -- the lines of answers are these
