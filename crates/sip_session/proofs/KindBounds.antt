@@ -1,5 +1,5 @@
 -- Each kind of query has few vectors of challenges, modulo any prime.
-use Rattle.std.proofs.Common.{◌≡◌, ℕ, ◌*◌, ◌-◌, ◌^◌, ◌/◌, ◌<◌, ◌≤◌, List, [], ◌∷◌, length, map, All, Some, ℤ, pos, nat_abs, cond, refl, subst, arith}
+use Rattle.std.proofs.Common.{◌≡◌, ℕ, ◌*◌, ◌-◌, ◌^◌, ◌/◌, ◌<◌, ◌≤◌, List, [], ◌∷◌, length, All, pos, nat_abs, cond, refl, subst, arith}
 use Rattle.std.specs.List.{AllByRecursion}
 use Rattle.std.proofs.lemmas.List.{length-map}
 use Rattle.std.proofs.lemmas.List.Elements.{All-head, All-tail}
@@ -8,7 +8,6 @@ use Rattle.sip_field.specs.Moduli.{m61_modulus}
 use Rattle.sip_field.specs.Prime.{IsPrime}
 use Rattle.sip_vector.specs.declared.query.Query.{Query}
 use Rattle.sip_vector.specs.declared.query.Query.TheVariants.{Sub, Range, F2, Inner, Heavy, Share}
-use Rattle.sip_vector.specs.declared.update.Side.{Side}
 use Rattle.sip_vector.specs.declared.update.Side.TheVariants.{First, Second}
 use Rattle.sip_vector.specs.declared.update.Update.{Update}
 use Rattle.sip_vector.specs.Answers.{is_within}
@@ -24,13 +23,13 @@ use Rattle.sip_wire.specs.Table.{most_claim}
 use Rattle.sip_subvec.proofs.FewFooled as subs
 use Rattle.sip_subvec.proofs.WrittenAnswers.{vector-small}
 use Rattle.sip_sums.specs.AcceptsSum.{total}
-use Rattle.sip_sums.specs.Questions.{lists, lists_of}
+use Rattle.sip_sums.specs.Questions.{lists}
 use Rattle.sip_sums.proofs.FewFooled as sums
 use Rattle.sip_sums.proofs.LegalTotals.{legal_small}
 use Rattle.sip_heavy.proofs.FewFooledByBytes.{few_fooled_by_bytes}
 use Rattle.sip_heavy.proofs.LegalSums.{legal_sum}
 use Rattle.sip_verifier.specs.JointClause.{asked_by}
-use Rattle.sip_verifier.specs.Kinds.{KindRow, kind_row_over, Holds}
+use Rattle.sip_verifier.specs.Kinds.{kind_row_over, Holds}
 use Rattle.sip_session.specs.JointCounts.{asked_over, misled_over, CanBeCountedOver}
 
 -- ---- one query

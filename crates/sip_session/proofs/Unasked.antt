@@ -1,9 +1,9 @@
 -- Where a side's entries add up to less than is asked for, nothing is asked, and no entry is heavy.
-use Rattle.std.proofs.Common.{◌≡◌, ℕ, ◌<◌, ◌≤◌, Bool, true, false, if◌then◌else◌, Option, Some, None, List, [], ℤ, pos, refl, ap, sym, ◌∙◌, subst}
+use Rattle.std.proofs.Common.{◌≡◌, ℕ, ◌<◌, ◌≤◌, Bool, true, false, if◌then◌else◌, Some, None, List, [], ℤ, pos, refl, ap, sym, ◌∙◌, subst}
 use Rattle.std.specs.Prelude.{nat_le}
 use Rattle.std.proofs.lemmas.Bool.{lt-leb}
 use Rattle.sip_field.specs.Moduli.{m61_modulus}
-use Rattle.sip_vector.specs.declared.query.Query.TheVariants.{Heavy, Share}
+use Rattle.sip_vector.specs.declared.query.Query.TheVariants.{Share}
 use Rattle.sip_vector.specs.declared.update.Side.{Side}
 use Rattle.sip_vector.specs.declared.update.Update.{Update}
 use Rattle.sip_vector.specs.Answers.{Answer, answer, pairs}

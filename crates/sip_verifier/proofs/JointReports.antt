@@ -1,5 +1,5 @@
 -- A report that keeps to the clause of verdicts is counted for all of its queries together.
-use Rattle.std.proofs.Common.{◌≡◌, ◌≢◌, ℕ, zero, suc, ◌+◌, ◌-◌, ◌*◌, ◌^◌, ◌<◌, ◌≤◌, Bool, true, false, ◌||◌, ℤ, pos, List, [], ◌∷◌, ◌++◌, length, map, take, drop, All, Option, Some, None, inl, inr, if◌then◌else◌, refl, sym, ap, subst, ◌∙◌, arith}
+use Rattle.std.proofs.Common.{◌≡◌, ◌≢◌, ℕ, zero, suc, ◌-◌, ◌*◌, ◌^◌, ◌<◌, ◌≤◌, Bool, true, false, pos, List, [], ◌∷◌, ◌++◌, length, map, take, drop, All, Some, None, inl, inr, if◌then◌else◌, refl, sym, ap, subst, ◌∙◌, arith}
 use Rattle.std.specs.Prelude.{nat_le, option_to_list, ◌≤ℤ◌}
 use Rattle.std.specs.List.{AllByRecursion}
 use Rattle.std.proofs.Math.Nat.{mul_comm}
@@ -8,7 +8,6 @@ use Rattle.std.proofs.lemmas.Bool.{cases_Bool, leb-false, lt-leb, or_left, or_ri
 use Rattle.std.proofs.lemmas.List.{length-map}
 use Rattle.std.proofs.lemmas.List.Elements.{All-cons, All-nil, All-head, All-tail, All-weaker, recursion_from_All}
 use Rattle.sip_field.specs.Moduli.{m61_modulus}
-use Rattle.sip_ports.specs.declared.port.TalkEvent.{TalkEvent}
 use Rattle.sip_vector.specs.declared.query.Query.{Query}
 use Rattle.sip_vector.specs.declared.query.Query.TheVariants.{Sub, Range, F2, Inner, Heavy, Share}
 use Rattle.sip_vector.specs.declared.update.Side.{Side}
@@ -37,8 +36,8 @@ use Rattle.sip_verifier.specs.Exchanges.{Exchange}
 use Rattle.sip_verifier.specs.Draws.{challenge_count, drawn}
 use Rattle.sip_verifier.specs.Inquiries.{Inquiry, inquiry_of}
 use Rattle.sip_verifier.specs.JointClause.{asked_by, all_asked, RepliesSo, CanBeCounted, IsJointVector, IsMisledBy, JointClause}
-use Rattle.sip_verifier.specs.Kinds.{Kind, KindRow, built, missing, kind_row, Holds, OfKind}
-use Rattle.sip_verifier.specs.Questions.{Question, Accepted, Accepts, Done, Reached, questions_of, updates}
+use Rattle.sip_verifier.specs.Kinds.{KindRow, built, missing, kind_row, Holds, OfKind}
+use Rattle.sip_verifier.specs.Questions.{Question, Accepted, Accepts, Done, questions_of, updates}
 use Rattle.sip_verifier.specs.Statuses.{IsListed}
 use Rattle.sip_verifier.specs.Tasks.{CanBeAsked, CanBeDone}
 use Rattle.sip_verifier.specs.VerdictClause.{VerdictClause}

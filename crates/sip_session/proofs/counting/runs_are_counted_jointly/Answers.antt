@@ -1,4 +1,3 @@
-use Rattle.sip_verifier.specs.Inquiries.{inquiry_of}
 use Rattle.sip_verifier.proofs.JointReports.{task_counted}
 use Rattle.sip_session.proofs.counting.runs_are_counted_jointly.Goals as goal
 
