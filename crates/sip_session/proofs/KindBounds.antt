@@ -40,20 +40,24 @@ module _ (version : Version) (p depth : ℕ) (stream : List Update) (prime : IsP
 
   bounded : (query : Query) → CanBeCountedOver version p depth stream query → IsBounded p depth (Row query)
   bounded (Sub lo hi) can = λ strategy bytes.
-      let few = subs.few_fooled_small version p depth lo hi (vector depth stream First) strategy prime (length-vector depth stream First) can.0.0 can.0.1 can.1.1 in
+      let few = subs.few_fooled_small version p depth lo hi (vector depth stream First) strategy prime
+      (length-vector depth stream First) can.0.0 can.0.1 can.1.1 in
       let one : 1 * depth ≡ depth = omega arith in
       rw one few
   bounded (Range side lo hi) can = λ strategy bytes.
       sums.few_fooled_small version p depth (vector depth stream side) (ones depth lo hi) strategy prime (length-vector depth stream side)
       (length-map-range_with_len (λ i. cond (is_within lo hi i) (pos 1) (pos 0)) 0 (2 ^ depth)) can.1.1
   bounded (F2 side) can = λ strategy bytes.
-      sums.few_fooled_small version p depth (vector depth stream side) (vector depth stream side) strategy prime (length-vector depth stream side) (length-vector depth stream side) can.1.1
+      sums.few_fooled_small version p depth (vector depth stream side) (vector depth stream side) strategy prime
+      (length-vector depth stream side) (length-vector depth stream side) can.1.1
   bounded Inner can = λ strategy bytes.
-      sums.few_fooled_small version p depth (vector depth stream First) (vector depth stream Second) strategy prime (length-vector depth stream First) (length-vector depth stream Second) can.1.1
+      sums.few_fooled_small version p depth (vector depth stream First) (vector depth stream Second) strategy prime
+      (length-vector depth stream First) (length-vector depth stream Second) can.1.1
   bounded (Heavy side t) can = λ strategy bytes.
       few_fooled_by_bytes version p depth t (vector depth stream side) strategy prime (length-vector depth stream side) can.1.0 can.1.1
   bounded (Share side num den) can = λ strategy bytes.
-      few_fooled_by_bytes version p depth (share_of num den (int_sum (vector depth stream side))) (vector depth stream side) strategy prime (length-vector depth stream side) can.1.0 can.1.1
+      few_fooled_by_bytes version p depth (share_of num den (int_sum (vector depth stream side))) (vector depth stream side) strategy prime
+      (length-vector depth stream side) can.1.0 can.1.1
 
   -- ---- queries in turn
 
@@ -65,7 +69,8 @@ module _ (version : Version) (p depth : ℕ) (stream : List Update) (prime : IsP
     all_bounded queries (All-tail (CanBeCountedOver version p depth stream) q queries can),
   )
 
-  pub joint_bound : (queries : List Query) (strategy : Strategy) → 0 < depth → All (CanBeCountedOver version p depth stream) queries → IsOfBytes strategy
+  pub joint_bound : (queries : List Query) (strategy : Strategy) → 0 < depth
+      → All (CanBeCountedOver version p depth stream) queries → IsOfBytes strategy
       → misled_over version p depth stream queries strategy
       ≤ bounds (asked_over version p depth stream queries) * p ^ (length queries * depth - 1)
   joint_bound queries strategy some can bytes =

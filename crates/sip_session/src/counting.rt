@@ -1,5 +1,5 @@
-//! How many vectors of all challenges of a run a helper can win by. These functions do nothing: each
-//! contract is a fact that holds.
+//! How many vectors of all challenges of a run a helper can win by. These functions do nothing:
+//! each contract is a fact that holds.
 
 ghost use Rattle.std.specs.Prelude.{◌≡◌, ℕ, ◌*◌, ◌-◌, ◌^◌, ◌<◌, ◌≤◌, true, pos, List, [], length, map, All};
 ghost use Rattle.sip_field.specs.Moduli.{m61_modulus};
@@ -28,9 +28,9 @@ ghost use Rattle.sip_verifier.specs.Tasks.{CanBeDone};
 ghost use Rattle.sip_verifier.specs.VerdictClause.{VerdictClause};
 ghost use Rattle.sip_session.specs.JointCounts.{asked_over, misled_over, CanBeCountedOver, HasRoom};
 
-/// The joint bound. Over every prime modulus, for queries of any kinds in any order, a joint strategy
-/// has a wrong answer to some query accepted at no more than B·p^(N - 1) of the p^N vectors, N being
-/// the number of all challenges and B the sum of what the queries have one by one.
+/// The joint bound. Over every prime modulus, for queries of any kinds in any order, a joint
+/// strategy has a wrong answer to some query accepted at no more than B·p^(N - 1) of the p^N
+/// vectors, N being the number of all challenges and B the sum of what the queries have one by one.
 pub fn few_joint_vectors_mislead()
     ensures { (version : AnyVersion) (p depth : ℕ) (stream : List AnyUpdate)
         (queries : List AnyQuery) (strategy : Strategy) → IsPrime p → 0 < depth

@@ -10,22 +10,22 @@ ghost use Rattle.sip_session.specs.Examples.{guesses, one_of_each, stream, twice
 ghost use Rattle.sip_session.specs.JointCounts.{asked_over, misled_over};
 
 /// Modulo 31, for (3, 5) and the entries 0 to 0 asked for twice: the entry (0, 4) with the right
-/// sibling 4 is accepted where 4 + 4·r is 3 + 5·r, at one challenge. So 31 + 31 - 1 of the 961 joint
-/// vectors mislead; the bound is 62.
+/// sibling 4 is accepted where 4 + 4·r is 3 + 5·r, at one challenge. So 31 + 31 - 1 of the 961
+/// joint vectors mislead; the bound is 62.
 pub fn sixty_one_of_961()
     ensures misled { misled_over One 31 1 stream twice guesses ≡ 61 }
     ensures bound { bounds (asked_over One 31 1 stream twice) * 31 ^ (2 * 1 - 1) ≡ 62 }
 {}
 
-/// At depth 2 a query for entries adds 2 to the bound, one for a sum 4, and those for heavy entries and
-/// for a share 6 each.
+/// At depth 2 a query for entries adds 2 to the bound, one for a sum 4, and those for heavy entries
+/// and for a share 6 each.
 pub fn bounds_of_each_kind()
     ensures { bounds (asked_over One 31 2 stream one_of_each) ≡ 18 }
 {}
 
 /// The keys of two queries with the challenges 5 and 6, and 7 and 8, by what a strategy replies that
-/// repeats its key: none and 5, and then 5 and 6, and 5, 6 and 7. Of a query with one reply its first
-/// key alone is compared.
+/// repeats its key: none and 5, and then 5 and 6, and 5, 6 and 7. Of a query with one reply its
+/// first key alone is compared.
 pub fn keys_by_hand()
     ensures both { RepliesSo (λ v. Some v) [] (two_questions ([] ∷ (5 ∷ []) ∷ [])
         ((5 ∷ 6 ∷ []) ∷ (5 ∷ 6 ∷ 7 ∷ []) ∷ [])) }

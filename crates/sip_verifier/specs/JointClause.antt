@@ -1,14 +1,14 @@
 -- Joint counts.
 --
--- All queries of a run together. A joint helper may reply by all challenges that were revealed to it
--- so far, those of earlier queries too, and even by the last one of each earlier block, which is
--- never revealed: its key for reply j to query k is the first (k - 1)·d + j of the run's challenges,
+-- All queries of a run together. A joint helper may reply by all challenges that were revealed to
+-- it so far, those of earlier queries too, and even by the last one of each earlier block, which is
+-- never revealed: its key for reply j to query k is the first (k - 1)·d + j challenges of the run,
 -- d being the depth. However it replies, it has a wrong answer to some query accepted at no more
 -- than B·p^(N - 1) of the p^N vectors of challenges, N being the number of all challenges, p the
 -- modulus, and B the sum of what the queries have one by one: d, 2d or 3d. For heavy hitters the
 -- side may have no negative entry. Where a line of the report has another answer than the stream's
--- own, the run's challenges are such a vector, for every joint helper that replies at the run's keys
--- as the talk shows.
+-- own, the run's challenges are such a vector, for every joint helper that replies at the run's
+-- keys as the talk shows.
 use Rattle.std.specs.Prelude.{◌≡◌, ◌≢◌, ℕ, ◌*◌, ◌-◌, ◌^◌, ◌<◌, ◌≤◌, Bool, true, false, ⊤, List, [], ◌∷◌, ◌++◌, length, map, take, Some, All}
 use Rattle.sip_field.specs.Moduli.{m61_modulus}
 use Rattle.sip_vector.specs.declared.query.Query.{Query}
@@ -63,10 +63,10 @@ module _ (i : Inquiry) (x : Exchange) where
     pub size : length challenges ≡ length i.queries * i.depth
     pub below : All (λ r. r < m61_modulus) challenges
 
-  -- If the answer that was written is not the right one, then at these challenges the strategy has
-  -- a wrong answer to some query accepted. Of a query that was not asked the count asks something of
-  -- the stream: where entries add up to less than a threshold that one of them reaches, no helper
-  -- has a part in the empty answer.
+  -- Where the answer that was written is not the right one, the strategy has a wrong answer to some
+  -- query accepted at these challenges. Only where nothing was asked is something asked of the
+  -- stream: there the answer is the empty one, in which no helper has a part, and it is right on a
+  -- side without a negative entry.
   abbrev pub IsMisledBy : Strategy → List ℕ → Written → Type 0
   IsMisledBy strategy challenges w =
       (w.question.replies ≡ [] → CanBeCounted w.question.query)

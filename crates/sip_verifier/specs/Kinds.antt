@@ -1,5 +1,5 @@
--- The kinds of query, over any modulus: how the replies to one are read, when a helper that lies can
--- win, and what an honest one replies. A run computes modulo 2^61 - 1.
+-- The kinds of query, over any modulus: how the replies to one are read, when a helper that lies
+-- can win, and what an honest one replies. A run computes modulo 2^61 - 1.
 use Rattle.std.specs.Prelude.{◌≡◌, ◌<◌, ◌≤◌, ℕ, ◌-◌, ◌/◌, ℤ, nat_abs, Bool, false, nat_le, ⊤, List, [], length, All, if◌then◌else◌}
 use Rattle.sip_field.specs.Moduli.{m61_modulus}
 use Rattle.sip_vector.specs.declared.query.Query.{Query}

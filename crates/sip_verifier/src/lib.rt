@@ -30,8 +30,8 @@
 //! `specs/inside/` says what one private part of a run did. No promise rests on a reading of it.
 //!
 //! [`check_stream`] is a whole run: [`gather`], then a [`Session`] that asks the queries, by
-//! [`conclude`]. It carries the seven clauses, as one `RunClause`. All but the last two are said of an
-//! `Inquiry`: so [`follow`] and [`conclude`], over seats with challenges that are given
+//! [`conclude`]. It carries the seven clauses, as one `RunClause`. All but the last two are said of
+//! an `Inquiry`: so [`follow`] and [`conclude`], over seats with challenges that are given
 //! ([`Seats::given`]), keep them for a run that is stored.
 #![tactic(auto)]
 
