@@ -16,7 +16,7 @@ use Rattle.sip_verifier.specs.Promises.{Promises}
 use Rattle.sip_verifier.specs.RunClause.{RunClause}
 use Rattle.sip_verifier.specs.Tasks.{CanBeDone}
 use Rattle.sip_verifier.proofs.CompleteRuns.{completes}
-use Rattle.sip_verifier.proofs.CountedReports.{report_counts}
+use Rattle.sip_verifier.proofs.JointReports.{task_counted}
 use Rattle.sip_verifier.proofs.KeptRuns.{kept_is}
 use Rattle.sip_verifier.proofs.RunTalks.{nothing_reported, tells}
 use Rattle.sip_verifier.proofs.StreamPromises.{after_gather}
@@ -39,11 +39,13 @@ module _ (task : Task) (can : CanBeDone task) (some : 1 ≤ task.depth) (most : 
   unbegun_promises : (m : Moment) (x : Exchange) → Tells m m x → Promises task x m.faults m.faults statuses.OutOfMemory
   unbegun_promises m x t =
       let e = wanted m x t in
+      let counted = task_counted task x can some statuses.OutOfMemory e.verdict refl in
       record {
         verdict = e.verdict;
         talk = e.talk;
         cause = e.cause;
-        count = report_counts (inquiry_of task x) x can.asked statuses.OutOfMemory e.verdict refl;
+        count = counted.0;
+        joint = counted.1;
         complete = completes task x some most (λ i other less. (can.asked i other less).1) m.faults m.faults statuses.OutOfMemory e.verdict e.cause refl;
         kept = kept_is (Keeps task x statuses.OutOfMemory) m.keep m.keep [] x.kept (GoesOn-refl m.keep) t.kept (inl refl);
       }

@@ -24,7 +24,7 @@ use Rattle.sip_verifier.specs.Statuses.{FaultClause}
 -- `Is command` says which command it is
 pub record CommandClause (Is : Command → Type 0) (before now : Moment) (status : Status)
     : Type 0 where
-  -- `verify`: the six promises, on the exchange that the ports tell
+  -- `verify`: the seven promises, on the exchange that the ports tell
   pub verify : (task : Task) → Is (Verify task) → (x : Exchange) → Tells before now x
       → Promises task x before.faults now.faults status
   -- `play`: the same, whatever helper it names

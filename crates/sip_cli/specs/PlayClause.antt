@@ -1,6 +1,6 @@
 -- What `play` promises over the link to its own helper, which it makes for the run.
 --
--- It makes the six promises of `verify`. The link counts no fault, so no run ends by one. The
+-- It makes the seven promises of `verify`. The link counts no fault, so no run ends by one. The
 -- honest helper replies what the turns of a helper owe, and a good run against it is accepted.
 use Rattle.std.specs.Prelude.{◌≢◌, List}
 use Rattle.sip_duel.specs.Accepting.{DuelAccepts}

@@ -158,7 +158,7 @@ pub fn play_words<A: Source, B: Source, K: Sink, C: Sink>(
     report: &mut K,
     keep: &mut C,
 ) -> Option<Status>
-    // The six promises, over the talk of a link that counts no fault. So the run never ends by a
+    // The seven promises, over the talk of a link that counts no fault. So the run never ends by a
     // fault of the peer, and with the helper `honest` a good run is accepted.
     ensures played { MatchOption result
         ((task : AnyTask) (name : AnyName) → Spells words.now (Command.Play task name) → ⊥)

@@ -108,7 +108,7 @@ pub fn run<A: Source, B: Source, L: Link, K: Sink, C: Sink>(
     report: &mut K,
     keep: &mut C,
 ) -> Status
-    // Of `verify` and `play` the six promises, of `gen`, `lines` and `widen` the copy that the
+    // Of `verify` and `play` the seven promises, of `gen`, `lines` and `widen` the copy that the
     // report gets, of `help` the talk that it serves, of `audit` what a stored run is judged to be,
     // and of `show` and `convert` what the report gets of the transcript; and whatever the command,
     // its faults have their cause, and its status is one of its own.

@@ -41,7 +41,7 @@ pub fn run_in_memory(
     report: &mut MemorySink,
     keep: &mut MemorySink,
 ) -> Status
-    // What moved between the ports before and the ports after keeps the six promises of `verify`.
+    // What moved between the ports before and the ports after keeps the seven promises of `verify`.
     ensures promises { (task : Task) → Spells words.now (Verify task) → (x : Exchange)
         × Moves (held_by first.old second.old peer.old report.old keep.old)
         (held_by first.new second.new peer.new report.new keep.new) x

@@ -30,7 +30,7 @@ unfolding challenges_of
 none_drawn count seed short = let test : nat_lt (length seed) 32 ≡ true = grind (arith, nat_tests) in rw test refl
 
 -- and each is below the modulus
-challenges-below : (count : ℕ) (seed rs : List ℕ) → challenges_of count seed ≡ Some rs → All (λ r. r < m61_modulus) rs
+pub challenges-below : (count : ℕ) (seed rs : List ℕ) → challenges_of count seed ≡ Some rs → All (λ r. r < m61_modulus) rs
 unfolding challenges_of
 challenges-below count seed rs e = challenges-small count (take 32 seed) rs (long_enough (nat_lt (length seed) 32) _ rs e)
 

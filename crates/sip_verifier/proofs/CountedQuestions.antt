@@ -153,7 +153,7 @@ no_sum asked k z (Ok s) e = by_test (top_test asked.query asked.root s.known) e
     by_test (Ok x) is = absurd cc
     by_test (Err reason) is = absurd cc
 
-never_sum : (asked : HeavyAsked) (block : List ℕ) (taken : List (List ℕ)) (z : ℤ)
+pub never_sum : (asked : HeavyAsked) (block : List ℕ) (taken : List (List ℕ)) (z : ℤ)
     → general.IsAccepted (heavy_protocol asked) block taken (number z) → ⊥
 never_sum asked block taken z accepted = by_reach (reaches asked.query) accepted
   where

@@ -41,21 +41,18 @@ module _ (i : Inquiry) (x : Exchange) (can : All (CanBeAsked i.depth) i.queries)
       legal) (few_of queries (All-tail (CanBeAsked i.depth) q queries all))
 
   -- what was written of accepted questions
-  written_of : Done i x → List Written
+  abbrev pub written_of : Done i x → List Written
   written_of done = map (λ a. record { question = a.question; answer = a.answer }) done
 
   questions_same : (done : Done i x) → questions_written (written_of done) ≡ questions_of i x done
-  unfolding written_of
   questions_same [] = refl
   questions_same (a ∷ done) = ap (λ ts. a.question ∷ ts) (questions_same done)
 
   lines_same : (done : Done i x) → lines_written (written_of done) ≡ lines i x done
-  unfolding written_of
   lines_same [] = refl
   lines_same (a ∷ done) = ap (λ ls. line a.question.query a.answer ++ ls) (lines_same done)
 
   counted_of : (done : Done i x) → All (Fits i.depth) (map (λ (t : Question). t.query) (questions_of i x done)) → All (λ (w : Written). CountsFor i.version i.depth (updates i x) w.question w.answer) (written_of done)
-  unfolding written_of
   counted_of [] all = All-nil (λ (w : Written). CountsFor i.version i.depth (updates i x) w.question w.answer)
   counted_of (a ∷ done) all =
       All-cons (λ (w : Written). CountsFor i.version i.depth (updates i x) w.question w.answer) (record { question = a.question; answer = a.answer }) (written_of done)
@@ -75,75 +72,95 @@ module _ (i : Inquiry) (x : Exchange) (can : All (CanBeAsked i.depth) i.queries)
   talk_fits questions (inl none) = subst (λ (ts : List Question). All (Fits i.depth) (map (λ (t : Question). t.query) ts)) (sym none) (All-nil (Fits i.depth))
   talk_fits questions (inr (after, rest, reached)) = front_fits questions (option_to_list after) (all_fit (questions ++ option_to_list after) rest reached)
 
-  -- the clause, by the questions whose lines are written and what may follow them
-  clause_of : (done : Done i x) → AreInTalk i x (questions_of i x done) → (rejected : List ℕ) → IsRejection rejected → IsPrefix x.report (lines i x done ++ rejected) → CountClause i x
-  clause_of done reached rejected is report = record {
+  -- What was reported: the lines of accepted questions that the talk has, and perhaps a rejection's line
+  -- behind them.
+  pub record Reported : Type 0 where
+    pub done : Done i x
+    pub reached : AreInTalk i x (questions_of i x done)
+    pub rejected : List ℕ
+    pub is_rejection : IsRejection rejected
+    pub report : IsPrefix x.report (lines i x done ++ rejected)
+
+  -- that has the clause
+  pub counts_of : Reported → CountClause i x
+  counts_of r = record {
     few = few_of i.queries can;
-    lines = written_of done;
-    questions = subst (AreInTalk i x) (sym (questions_same done)) reached;
-    rejected = rejected;
-    is_rejection = is;
-    report = subst (λ (ls : List ℕ). IsPrefix x.report (ls ++ rejected)) (sym (lines_same done)) report;
-    counted = counted_of done (talk_fits (questions_of i x done) reached);
+    lines = written_of r.done;
+    questions = subst (AreInTalk i x) (sym (questions_same r.done)) r.reached;
+    rejected = r.rejected;
+    is_rejection = r.is_rejection;
+    report = subst (λ (ls : List ℕ). IsPrefix x.report (ls ++ r.rejected)) (sym (lines_same r.done)) r.report;
+    counted = counted_of r.done (talk_fits (questions_of i x r.done) r.reached);
   }
+
+  -- with the lines of these questions
+  pub counts_lines : (r : Reported) → (counts_of r).lines ≡ written_of r.done
+  unfolding counts_of
+  counts_lines r = refl
+
+  reported_of : (done : Done i x) → AreInTalk i x (questions_of i x done) → (rejected : List ℕ) → IsRejection rejected → IsPrefix x.report (lines i x done ++ rejected) → Reported
+  reported_of done reached rejected is report = record { done = done; reached = reached; rejected = rejected; is_rejection = is; report = report }
 
   were_in_talk : (done : Done i x) → WereReached i x done → AreInTalk i x (questions_of i x done)
   were_in_talk done (inl none) = inl (ap (questions_of i x) none)
   were_in_talk done (inr (rest, reached)) = inr (None, rest, subst (λ (ts : List Question). Reached i x ts rest) (sym (append-nil (questions_of i x done))) reached)
 
   -- a report of whole lines
-  whole : (done : Done i x) → AreInTalk i x (questions_of i x done) → x.report ≡ lines i x done → CountClause i x
-  whole done reached report = clause_of done reached [] (inl refl) ([], ap (λ (ls : List ℕ). ls ++ []) (sym report))
+  whole : (done : Done i x) → AreInTalk i x (questions_of i x done) → x.report ≡ lines i x done → Reported
+  whole done reached report = reported_of done reached [] (inl refl) ([], ap (λ (ls : List ℕ). ls ++ []) (sym report))
 
-  nothing : x.report ≡ [] → CountClause i x
+  nothing : x.report ≡ [] → Reported
   nothing report = whole [] (inl refl) report
 
   front_of : (before part all more : List ℕ) → x.report ≡ before ++ part → all ≡ part ++ more → before ++ all ≡ x.report ++ more
   front_of before part all more report is = ap (λ (l : List ℕ). before ++ l) is ∙ sym (append_assoc before part more) ∙ ap (λ (l : List ℕ). l ++ more) (sym report)
 
   -- a report that ends in a part of an answer's line
-  part_written : (done : Done i x) (part : List ℕ) → PartWritten i x done part → x.report ≡ lines i x done ++ part → CountClause i x
+  part_written : (done : Done i x) (part : List ℕ) → PartWritten i x done part → x.report ≡ lines i x done ++ part → Reported
   part_written done part w report =
       let all = done ++ w.next ∷ [] in
       let questions : questions_of i x all ≡ questions_of i x done ++ w.next.question ∷ [] = map-append _ done (w.next ∷ []) in
       let ends : lines i x all ≡ lines i x done ++ line w.next.question.query w.next.answer = flat_map-append _ done (w.next ∷ []) ∙ ap (λ (l : List ℕ). lines i x done ++ l) (append-nil _) in
-      clause_of all
+      reported_of all
       (inr (None, [], subst (λ (ts : List Question). Reached i x ts []) (sym questions ∙ sym (append-nil (questions_of i x all))) w.reached)) [] (inl refl)
       (w.front.0, append-nil _ ∙ ends ∙ front_of (lines i x done) part (line w.next.question.query w.next.answer) w.front.0 report w.front.1)
 
   -- a report that ends in a part of a rejection's line
-  part_rejected : (done : Done i x) (part : List ℕ) → PartRejected i x done part → x.report ≡ lines i x done ++ part → CountClause i x
+  part_rejected : (done : Done i x) (part : List ℕ) → PartRejected i x done part → x.report ≡ lines i x done ++ part → Reported
   part_rejected done part w report =
-      clause_of done (inr (Some w.last, ending w.fault.reason, w.reached)) (rejection (suc (length done)) w.fault.round w.fault.reason)
+      reported_of done (inr (Some w.last, ending w.fault.reason, w.reached)) (rejection (suc (length done)) w.fault.round w.fault.reason)
       (inr (suc (length done), w.fault.round, w.fault.reason, refl))
       (w.front.0, front_of (lines i x done) part (rejection (suc (length done)) w.fault.round w.fault.reason) w.front.0 report w.front.1)
 
-  rejected : (query round : ℕ) (reason : Reason) → OneFaulty i x query round reason → CountClause i x
-  rejected query round reason w =
-      clause_of w.done (inr (Some w.last, ending reason, w.reached)) (rejection query round reason) (inr (query, round, reason, refl)) ([], sym w.report ∙ sym (append-nil x.report))
+  one_rejected : (query round : ℕ) (reason : Reason) → OneFaulty i x query round reason → Reported
+  one_rejected query round reason w =
+      reported_of w.done (inr (Some w.last, ending reason, w.reached)) (rejection query round reason) (inr (query, round, reason, refl)) ([], sym w.report ∙ sym (append-nil x.report))
 
-  cut_in_line : (w : CutInLine i x) → (verdict : PartWritten i x w.done w.part ⊎ PartRejected i x w.done w.part) → CountClause i x
+  cut_in_line : (w : CutInLine i x) → (verdict : PartWritten i x w.done w.part ⊎ PartRejected i x w.done w.part) → Reported
   cut_in_line w (inl written) = part_written w.done w.part written w.report
   cut_in_line w (inr other) = part_rejected w.done w.part other w.report
 
   -- a report that has the lines of the queries before one that was not judged
-  unjudged : UnjudgedWritten i x → CountClause i x
+  unjudged : UnjudgedWritten i x → Reported
   unjudged (end, report) = whole end.done (inr (Some end.last, end.ended, end.reached)) report
 
+  pub reported : (status : Status) → VerdictClause i x status → IsListed status → Reported
+  reported statuses.Accepted v is = whole v.done (were_in_talk v.done (inr (bye_sent i.version, v.reached))) v.report
+  reported (statuses.Rejected query round reason) v is = one_rejected query round reason v
+  reported (statuses.Usage word) v is = nothing v
+  reported (statuses.BadStream at why) v is = nothing v
+  reported statuses.BadSeed v is = nothing v
+  reported statuses.SeedSpent v is = nothing v
+  reported (statuses.TooWide query) v is = nothing v
+  reported (statuses.ReadFault port) v is = nothing v
+  reported (statuses.WriteFault ports.Report) v is = cut_in_line v v.verdict
+  reported (statuses.WriteFault ports.Keep) (inl none) is = nothing none.1
+  reported (statuses.WriteFault ports.Keep) (inr v) is = unjudged v
+  reported statuses.PeerFault v is = whole v.done (were_in_talk v.done v.reached) v.report
+  reported statuses.OutOfMemory (inl v) is = whole v.done (were_in_talk v.done v.reached) v.report
+  reported statuses.OutOfMemory (inr (inl v)) is = cut_in_line v v.verdict
+  reported statuses.OutOfMemory (inr (inr v)) is = unjudged v
+  reported _ v is = absurd v
+
   pub report_counts : (status : Status) → VerdictClause i x status → IsListed status → CountClause i x
-  report_counts statuses.Accepted v is = whole v.done (were_in_talk v.done (inr (bye_sent i.version, v.reached))) v.report
-  report_counts (statuses.Rejected query round reason) v is = rejected query round reason v
-  report_counts (statuses.Usage word) v is = nothing v
-  report_counts (statuses.BadStream at why) v is = nothing v
-  report_counts statuses.BadSeed v is = nothing v
-  report_counts statuses.SeedSpent v is = nothing v
-  report_counts (statuses.TooWide query) v is = nothing v
-  report_counts (statuses.ReadFault port) v is = nothing v
-  report_counts (statuses.WriteFault ports.Report) v is = cut_in_line v v.verdict
-  report_counts (statuses.WriteFault ports.Keep) (inl none) is = nothing none.1
-  report_counts (statuses.WriteFault ports.Keep) (inr v) is = unjudged v
-  report_counts statuses.PeerFault v is = whole v.done (were_in_talk v.done v.reached) v.report
-  report_counts statuses.OutOfMemory (inl v) is = whole v.done (were_in_talk v.done v.reached) v.report
-  report_counts statuses.OutOfMemory (inr (inl v)) is = cut_in_line v v.verdict
-  report_counts statuses.OutOfMemory (inr (inr v)) is = unjudged v
-  report_counts _ v is = absurd v
+  report_counts status v is = counts_of (reported status v is)

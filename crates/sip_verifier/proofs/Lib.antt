@@ -29,6 +29,7 @@ mod SumAnswers
 mod SumLaws
 pub mod CountedQuestions
 pub mod CountedReports
+pub mod JointReports
 pub mod Blocks
 pub mod HeardTalks
 mod KeptHead

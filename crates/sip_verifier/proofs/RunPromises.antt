@@ -18,7 +18,7 @@ use Rattle.sip_verifier.specs.Statuses.{FaultClause, IsListed, Stops, is_accepte
 use Rattle.sip_verifier.specs.Tasks.{CanBeDone}
 use Rattle.sip_verifier.proofs.CompleteRuns.{completes}
 use Rattle.sip_vector.specs.Limits.{most_depth}
-use Rattle.sip_verifier.proofs.CountedReports.{report_counts}
+use Rattle.sip_verifier.proofs.JointReports.{task_counted}
 use Rattle.sip_verifier.proofs.KeptRuns.{KeptSo, kept_is}
 use Rattle.sip_verifier.proofs.QueriesChecked.{since_before}
 
@@ -30,14 +30,17 @@ module _ (task : Task) (can : CanBeDone task) (some : 1 ≤ task.depth) (most : 
   -- counts follow from verdicts, and honest helpers from verdicts and causes
   promised : (x : Exchange) (before now : Counts) (status : Status) → IsListed status
       → Ended (inquiry_of task x) x before now status → KeepClause task x status → Promises task x before now status
-  promised x before now status listed e keeps = record {
-    verdict = e.verdict;
-    talk = e.talk;
-    cause = e.cause;
-    count = report_counts (inquiry_of task x) x can.asked status e.verdict listed;
-    complete = completes task x some most (all_fit task can) before now status e.verdict e.cause listed;
-    kept = keeps;
-  }
+  promised x before now status listed e keeps =
+      let counted = task_counted task x can some status e.verdict listed in
+      record {
+        verdict = e.verdict;
+        talk = e.talk;
+        cause = e.cause;
+        count = counted.0;
+        joint = counted.1;
+        complete = completes task x some most (all_fit task can) before now status e.verdict e.cause listed;
+        kept = keeps;
+      }
 
   -- a run keeps all, where each exchange that is told has the first three promises, and what is kept
   -- is so

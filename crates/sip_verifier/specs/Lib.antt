@@ -25,6 +25,7 @@ pub mod Asking
 pub mod Concluding
 pub mod Keeping
 pub mod CountClause
+pub mod JointClause
 pub mod CompletenessClause
 pub mod Promises
 pub mod RunClause

@@ -8,7 +8,7 @@ use Rattle.sip_verifier.specs.Promises.{Promises}
 use Rattle.sip_verifier.specs.Statuses.{FaultClause, IsListed}
 
 pub record RunClause (task : Task) (before now : Moment) (status : Status) : Type 0 where
-  -- the six promises, on the exchange that the ports tell
+  -- the seven promises, on the exchange that the ports tell
   pub promises : (x : Exchange) → Tells before now x
       → Promises task x before.faults now.faults status
   -- ports that tell go on telling, so there is such an exchange, whether the record of the talk is

@@ -15,9 +15,10 @@
 //! | `TalkClause` | in which order the bytes go |
 //! | `CauseClause` | when each other answer comes |
 //! | `CountClause` | how many challenges a helper can win by, and that no line has a wrong answer but at those |
+//! | `JointClause` | the same for all queries of a run together |
 //! | `CompletenessClause` | what an honest helper comes to |
 //! | `Statuses` | which statuses a run may answer, and which count of faults each needs to have risen |
-//! | `Promises`, `RunClause` | the six clauses together, and all that a run keeps |
+//! | `Promises`, `RunClause` | the seven clauses together, and all that a run keeps |
 //! | `QuerySeats`, `Seats`, `NextSeat` | which streams the running numbers stand for, and which of them is next |
 //! | `SeatNumbers` | the running number that a seat shows |
 //! | `Widths` | the first query whose answer may be too wide |
@@ -30,8 +31,8 @@
 //! `specs/inside/` says what one private part of a run did. No promise rests on a reading of it.
 //!
 //! [`check_stream`] is a whole run: [`gather`], then a [`Session`] that asks the queries, by
-//! [`conclude`]. It carries the six clauses, as one `RunClause`. The first four are said of an
-//! `Inquiry`: so [`follow`] and [`conclude`], over seats with challenges that are given
+//! [`conclude`]. It carries the seven clauses, as one `RunClause`. All but the last two are said of
+//! an `Inquiry`: so [`follow`] and [`conclude`], over seats with challenges that are given
 //! ([`Seats::given`]), keep them for a run that is stored.
 //!
 //! A caller that finds out its queries only while it talks has the roots and the extensions of the

@@ -1,0 +1,3 @@
+mod KindBounds
+mod JointTalks
+mod Unasked

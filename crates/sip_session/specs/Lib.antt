@@ -1,0 +1,2 @@
+pub mod JointCounts
+pub mod Examples
