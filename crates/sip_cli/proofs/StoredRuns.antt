@@ -1,5 +1,5 @@
 -- What a command left under the top call is what an audit is promised to judge alike.
-use Rattle.std.proofs.Common.{◌≡◌, ◌⊎◌, ℕ, ◌≤◌, List, length, Option, Some, inl, inr, refl, sym, subst, arith}
+use Rattle.std.proofs.Common.{◌≡◌, ℕ, ◌≤◌, List, length, Option, Some, inl, inr, refl, subst, arith}
 use Rattle.sip_ports.specs.declared.port.TalkEvent.{TalkEvent}
 use Rattle.sip_stream.specs.declared.form.Form.{Form}
 use Rattle.sip_vector.specs.Limits.{most_depth}
@@ -40,7 +40,8 @@ judged form a status d = d.did.keeps.audit form d.did.spelled a d.tells
 
 -- ---- a run that was kept
 
-module _ (task : Task) (x : Exchange) (status : Status) (a : Audited) (k : DidKeep task x status a) where
+module _ (task : Task) (x : Exchange) (status : Status) (a : Audited)
+    (k : DidKeep task x status a) where
   -- whichever command it was, its task was read off words, and it kept the promises of `verify`
   stored_by : (verb : Verb) (words : List (List ℕ)) → most_asked verb ≡ most_queries
       → IsCommandOf verb words → SaysTask verb words task → CanBeDone task

@@ -17,10 +17,10 @@ pub fn kept_runs_are_judged_alike()
         → DidKeep task x status a → DidAudit task.form a given → AuditAgrees x a status given }
 {}
 
-/// `convert`, and then `audit` of what it had and of what it wrote, over any stream. Where the first
-/// wrote all, its two transcripts are of the same run, and the two audits give the same status, but
-/// for the place of `BadTranscript`, and write the same lines, unless a port of one of them failed
-/// or memory ran out there.
+/// `convert`, and then `audit` of what it had and of what it wrote, over any stream. Where the
+/// first wrote all, its two transcripts are of the same run, and the two audits give the same
+/// status, but for the place of `BadTranscript`, and write the same lines, unless a port of one of
+/// them failed or memory ran out there.
 pub fn converted_runs_are_judged_alike()
     ensures same { (a b : Audited) → DidConvert a b → TellSame a b }
     ensures judged { (form : AnyForm) (a b : Audited) (given other : AnyStatus)

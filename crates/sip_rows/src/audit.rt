@@ -1,5 +1,5 @@
-// What is done with a stored run, and stored runs of each kind of query, written out by hand: all at the challenges 2 and
-// 10.
+// What is done with a stored run, and stored runs of each kind of query, written out by hand: all at
+// the challenges 2 and 10.
 
 use crate::audit_frames::*;
 use crate::frames::*;
@@ -83,7 +83,8 @@ pub const SHARE: &[&[u8]] = &[
     &LEVEL_END,
 ];
 
-// What is done with a stored run: the words and the stream, the parts of the transcript, how it ends, and what it writes.
+// What is done with a stored run: the words and the stream, the parts of the transcript, how it
+// ends, and what it writes.
 pub type Stored<'a> = (&'a str, &'a [u8], &'a [&'a [u8]], Status, &'a [u8]);
 
 // Nothing is said on the link.

@@ -14,8 +14,8 @@ use std::alloc::Global;
 use std::process::Abort;
 use std::test::Fail;
 
-// A stored run of one query over both sides that was rejected: its parts, the round, the reason, the
-// line, and the listing.
+// A stored run of one query over both sides that was rejected: its parts, the round, the reason,
+// the line, and the listing.
 type Rejection<'a> = (&'a [&'a [u8]], u8, Reason, &'a str, &'a str);
 
 const AUDIT: &str = "audit text:s t";

@@ -16,13 +16,13 @@
 //!   queries fits the depth and has a code in the version, and exactly its bytes were taken. `Bad`
 //!   has the place where the first field begins that has none of its values, or in which the source
 //!   ends; of that field no more was taken than a field has.
-//! - `show` and `convert` answer `Wrote` exactly where the bytes are a transcript to their end, which
-//!   is then that of a run whose replies are messages, and `BadTranscript` exactly where they stop
-//!   being one, with the place where the field of the head or the frame begins. What is written is
-//!   the listing, or the transcript in version 2, of all that stands before that place, and nothing
-//!   where it is in the head; where a port stopped, or memory ran out, a front of this. No other
-//!   status comes but a fault of the transcript's source or of the report, where its count rose, and
-//!   `OutOfMemory`.
+//! - `show` and `convert` answer `Wrote` exactly where the bytes are a transcript to their end,
+//!   which is then that of a run whose replies are messages, and `BadTranscript` exactly where they
+//!   stop being one, with the place where the field of the head or the frame begins. What is
+//!   written is the listing, or the transcript in version 2, of all that stands before that place,
+//!   and nothing where it is in the head; where a port stopped, or memory ran out, a front of this.
+//!   No other status comes but a fault of the transcript's source or of the report, where its count
+//!   rose, and `OutOfMemory`.
 //! - At each time what was heard on a `TranscriptLink`, and then what is left in its source, are
 //!   what the source had when the link was made; the end is told only where all of this was heard.
 //!   `taken` is how many bytes were heard, below the end of its type. This holds also behind a call
