@@ -16,4 +16,5 @@ pub mod HelpClause
 pub mod PlayClause
 pub mod Statuses
 pub mod CommandClause
+pub mod Stored
 pub mod inside

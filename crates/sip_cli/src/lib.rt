@@ -9,6 +9,7 @@ mod exit;
 mod helper_name;
 mod helping;
 mod hint_text;
+pub mod laws;
 mod page;
 mod page_text;
 mod place;

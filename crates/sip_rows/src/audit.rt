@@ -1,4 +1,5 @@
-// An audit of a stored run, and stored runs of each kind of query, written out by hand: all at the challenges 2 and 10.
+// What is done with a stored run, and stored runs of each kind of query, written out by hand: all at
+// the challenges 2 and 10.
 
 use crate::audit_frames::*;
 use crate::frames::*;
@@ -8,9 +9,6 @@ use sip_verifier::Status;
 use std::alloc::Global;
 use std::process::Abort;
 use std::test::Fail;
-
-// Side 0 is (3, 0, 5, 1) and side 1 is (2, 7, 1, 0).
-pub const BOTH_SIDES: &[u8] = b"0 0 3\n0 2 5\n0 3 1\n1 0 2\n1 1 7\n1 2 1\n";
 
 // A query of each kind of version 1, and what an honest helper replied.
 pub const FIVE_KINDS: &[&[u8]] = &[
@@ -74,34 +72,58 @@ pub const FIVE_WIDE_KINDS: &[&[u8]] = &[
     &LEVEL_END,
 ];
 
-// An audit: its words and its stream, the parts of its transcript, how it ends, and what it writes.
-pub type Audit<'a> = (&'a str, &'a [u8], &'a [&'a [u8]], Status, &'a str);
+// The entries of side 0 that are half of its total of 9 or more, and what an honest helper replied.
+pub const SHARE: &[&[u8]] = &[
+    &ONE_WIDE_ASK,
+    &HALF,
+    &BLOCK,
+    &LEAVES_5_1_WIDE,
+    &LEVEL_END,
+    &NODE_OF_3_WIDE,
+    &LEVEL_END,
+];
+
+// What is done with a stored run: the words and the stream, the parts of the transcript, how it
+// ends, and what it writes.
+pub type Stored<'a> = (&'a str, &'a [u8], &'a [&'a [u8]], Status, &'a [u8]);
+
+// Nothing is said on the link.
+pub fn given<'a>(words: &'a str, stream: &'a [u8], transcript: &'a [u8]) -> Given<'a> {
+    Given {
+        words,
+        stream,
+        seed: transcript,
+        replies: &[],
+    }
+}
 
 fn code_of(status: &Status) -> u8 {
     match status {
-        Status::Accepted => 0,
+        Status::Accepted | Status::Wrote => 0,
         Status::Rejected { .. } => 1,
         _ => 3,
     }
 }
 
-// In single bytes, and in pieces that are as long as is asked for. Nothing is said on the link.
-pub fn check_audit(rt: &impl Abort, alloc: Global, audit: &Audit) -> Result<(), Fail> {
-    let &(words, stream, parts, status, report) = audit;
+// In single bytes, and in pieces that are as long as is asked for.
+pub fn check_stored(rt: &impl Abort, alloc: Global, stored: &Stored) -> Result<(), Fail> {
+    let &(words, stream, parts, status, report) = stored;
     let transcript = bytes_of(alloc, parts)?;
     let row = Row {
         name: words,
-        given: Given {
-            words,
-            stream,
-            seed: &transcript,
-            replies: &[],
-        },
+        given: given(words, stream, &transcript),
         status,
         code: code_of(&status),
-        report: report.as_bytes(),
+        report,
         sent: &[],
         then: &[],
     };
     row.check(rt, alloc)
+}
+
+pub fn check_each(rt: &impl Abort, alloc: Global, each: &[Stored]) -> Result<(), Fail> {
+    for stored in each {
+        check_stored(rt, alloc, stored)?;
+    }
+    Ok(())
 }

@@ -1,11 +1,12 @@
-// Stored runs that were rejected, judged again, and the same in version 2.
+// Stored runs that were rejected, judged again and listed, and judged in version 2.
 
-use crate::audit::{BOTH_SIDES, check_audit};
+use crate::audit::{check_stored, given};
 use crate::audit_frames::*;
 use crate::case::Case;
 use crate::frames::*;
 use crate::heavy_frames::*;
-use crate::row::{Given, bytes_of};
+use crate::play::BOTH_SIDES;
+use crate::row::bytes_of;
 use crate::sum_frames::*;
 use sip_verifier::Status;
 use sip_wire::Reason;
@@ -13,9 +14,11 @@ use std::alloc::Global;
 use std::process::Abort;
 use std::test::Fail;
 
-// A stored run of one query over both sides that was rejected: its parts, the round, the reason, and
-// the line.
-type Rejection<'a> = (&'a [&'a [u8]], u8, Reason, &'a str);
+// A stored run of one query over both sides that was rejected: its parts, the round, the reason,
+// the line, and the listing.
+type Rejection<'a> = (&'a [&'a [u8]], u8, Reason, &'a str, &'a str);
+
+const AUDIT: &str = "audit text:s t";
 
 // Each kind in each round.
 const REJECTIONS: &[Rejection<'static>] = &[
@@ -24,6 +27,10 @@ const REJECTIONS: &[Rejection<'static>] = &[
         0,
         Reason::BadFlags,
         "rejected query 1 round 0 BadFlags\n",
+        "depth 2\n\
+         query 1 sub:1:2 challenges 0000000000000002 000000000000000a\n\
+         frame Entries 0001000000020000000000000005\n\
+         frame Siblings 010000000000000003\n",
     ),
     (
         &[
@@ -37,6 +44,11 @@ const REJECTIONS: &[Rejection<'static>] = &[
         1,
         Reason::BadFlags,
         "rejected query 1 round 1 BadFlags\n",
+        "depth 2\n\
+         query 1 sub:1:2 challenges 0000000000000002 000000000000000a\n\
+         frame Entries 0001000000020000000000000005\n\
+         frame Siblings 0300000000000000030000000000000001\n\
+         frame Siblings 010000000000000003\n",
     ),
     (
         &[
@@ -50,12 +62,21 @@ const REJECTIONS: &[Rejection<'static>] = &[
         2,
         Reason::Root,
         "rejected query 1 round 2 Root\n",
+        "depth 2\n\
+         query 1 sub:1:2 challenges 0000000000000002 000000000000000a\n\
+         frame Entries 0001000000020000000000000005\n\
+         frame Siblings 0300000000000000040000000000000001\n\
+         frame Siblings 00\n",
     ),
     (
         &[&ONE_ASK, &RANGE_1_3, &BLOCK, &CLAIM_11, &ENTRIES_1],
         0,
         Reason::Sum,
         "rejected query 1 round 0 Sum\n",
+        "depth 2\n\
+         query 1 range:0:1:3 challenges 0000000000000002 000000000000000a\n\
+         frame Claim 000000000000000b\n\
+         frame Poly 00000000000000051ffffffffffffffe1ffffffffffffffc\n",
     ),
     (
         &[
@@ -64,6 +85,11 @@ const REJECTIONS: &[Rejection<'static>] = &[
         1,
         Reason::Sum,
         "rejected query 1 round 1 Sum\n",
+        "depth 2\n\
+         query 1 range:0:1:3 challenges 0000000000000002 000000000000000a\n\
+         frame Claim 0000000000000006\n\
+         frame Poly 00000000000000051ffffffffffffffe1ffffffffffffffc\n\
+         frame Poly 00000000000000051ffffffffffffffe1ffffffffffffffc\n",
     ),
     (
         &[
@@ -77,18 +103,32 @@ const REJECTIONS: &[Rejection<'static>] = &[
         2,
         Reason::Root,
         "rejected query 1 round 2 Root\n",
+        "depth 2\n\
+         query 1 range:0:1:3 challenges 0000000000000002 000000000000000a\n\
+         frame Claim 0000000000000006\n\
+         frame Poly 00000000000000051ffffffffffffffe1ffffffffffffffc\n\
+         frame Poly 1ffffffffffffff900000000000000020000000000000001\n",
     ),
     (
         &[&ONE_ASK, &F2, &BLOCK, &CLAIM_36, &SQUARES_1],
         0,
         Reason::Sum,
         "rejected query 1 round 0 Sum\n",
+        "depth 2\n\
+         query 1 f2:0 challenges 0000000000000002 000000000000000a\n\
+         frame Claim 0000000000000024\n\
+         frame Poly 00000000000000221fffffffffffffc50000000000000019\n",
     ),
     (
         &[&ONE_ASK, &F2, &BLOCK, &CLAIM_35, &SQUARES_1, &SQUARES_1],
         1,
         Reason::Sum,
         "rejected query 1 round 1 Sum\n",
+        "depth 2\n\
+         query 1 f2:0 challenges 0000000000000002 000000000000000a\n\
+         frame Claim 0000000000000023\n\
+         frame Poly 00000000000000221fffffffffffffc50000000000000019\n\
+         frame Poly 00000000000000221fffffffffffffc50000000000000019\n",
     ),
     (
         &[
@@ -102,12 +142,21 @@ const REJECTIONS: &[Rejection<'static>] = &[
         2,
         Reason::Root,
         "rejected query 1 round 2 Root\n",
+        "depth 2\n\
+         query 1 f2:0 challenges 0000000000000002 000000000000000a\n\
+         frame Claim 0000000000000023\n\
+         frame Poly 00000000000000221fffffffffffffc50000000000000019\n\
+         frame Poly 00000000000000091ffffffffffffffe0000000000000001\n",
     ),
     (
         &[&ONE_ASK, &INNER, &BLOCK, &CLAIM_6, &PRODUCTS_1],
         0,
         Reason::Sum,
         "rejected query 1 round 0 Sum\n",
+        "depth 2\n\
+         query 1 inner challenges 0000000000000002 000000000000000a\n\
+         frame Claim 0000000000000006\n\
+         frame Poly 000000000000000b00000000000000001ffffffffffffff4\n",
     ),
     (
         &[
@@ -121,6 +170,11 @@ const REJECTIONS: &[Rejection<'static>] = &[
         1,
         Reason::Sum,
         "rejected query 1 round 1 Sum\n",
+        "depth 2\n\
+         query 1 inner challenges 0000000000000002 000000000000000a\n\
+         frame Claim 000000000000000b\n\
+         frame Poly 000000000000000b00000000000000001ffffffffffffff4\n\
+         frame Poly 000000000000000b00000000000000001ffffffffffffff4\n",
     ),
     (
         &[
@@ -134,12 +188,21 @@ const REJECTIONS: &[Rejection<'static>] = &[
         2,
         Reason::Root,
         "rejected query 1 round 2 Root\n",
+        "depth 2\n\
+         query 1 inner challenges 0000000000000002 000000000000000a\n\
+         frame Claim 000000000000000b\n\
+         frame Poly 000000000000000b00000000000000001ffffffffffffff4\n\
+         frame Poly 1fffffffffffffdb00000000000000260000000000000001\n",
     ),
     (
         &[&ONE_ASK, &HEAVY_4, &BLOCK, &LEAF_2, &LEVEL_END],
         0,
         Reason::Pairs,
         "rejected query 1 round 0 Pairs\n",
+        "depth 2\n\
+         query 1 heavy:0:4 challenges 0000000000000002 000000000000000a\n\
+         frame Leaves 0001000000020000000000000005\n\
+         frame LevelEnd -\n",
     ),
     (
         &[
@@ -153,6 +216,11 @@ const REJECTIONS: &[Rejection<'static>] = &[
         1,
         Reason::HeavySibling,
         "rejected query 1 round 1 HeavySibling\n",
+        "depth 2\n\
+         query 1 heavy:0:4 challenges 0000000000000002 000000000000000a\n\
+         frame Leaves 0002000000020000000000000005000000030000000000000001\n\
+         frame LevelEnd -\n\
+         frame Nodes 00010000000000000000000000090000000000000004\n",
     ),
     (
         &[
@@ -167,12 +235,21 @@ const REJECTIONS: &[Rejection<'static>] = &[
         2,
         Reason::Total,
         "rejected query 1 round 2 Total\n",
+        "depth 2\n\
+         query 1 heavy:0:4 challenges 0000000000000002 000000000000000a\n\
+         frame Leaves 0002000000020000000000000005000000030000000000000001\n\
+         frame LevelEnd -\n\
+         frame Nodes 00010000000000000000000000090000000000000002\n\
+         frame LevelEnd -\n",
     ),
     (
         &[&ONE_WIDE_ASK, &HALF, &BLOCK, &REFUSE_3],
         0,
         Reason::Refused(3),
         "rejected query 1 round 0 Refused(3)\n",
+        "depth 2\n\
+         query 1 share:0:1:2 challenges 0000000000000002 000000000000000a\n\
+         frame Refuse 03\n",
     ),
     (
         &[
@@ -186,6 +263,11 @@ const REJECTIONS: &[Rejection<'static>] = &[
         1,
         Reason::Pairs,
         "rejected query 1 round 1 Pairs\n",
+        "depth 2\n\
+         query 1 share:0:1:2 challenges 0000000000000002 000000000000000a\n\
+         frame Leaves 00020000000000000002000000000000000500000000000000030000000000000001\n\
+         frame LevelEnd -\n\
+         frame LevelEnd -\n",
     ),
     (
         &[
@@ -200,10 +282,16 @@ const REJECTIONS: &[Rejection<'static>] = &[
         2,
         Reason::Root,
         "rejected query 1 round 2 Root\n",
+        "depth 2\n\
+         query 1 share:0:1:2 challenges 0000000000000002 000000000000000a\n\
+         frame Leaves 00020000000000000002000000000000000500000000000000030000000000000001\n\
+         frame LevelEnd -\n\
+         frame Nodes 0001000000000000000000000000000000080000000000000003\n\
+         frame LevelEnd -\n",
     ),
 ];
 
-// What `convert` makes of a transcript.
+// What `convert` makes of a transcript is judged as the transcript is.
 fn check_converted(
     rt: &impl Abort,
     alloc: Global,
@@ -212,45 +300,43 @@ fn check_converted(
     status: Status,
 ) -> Result<(), Fail> {
     let transcript = bytes_of(alloc, parts)?;
-    let given = Given {
-        words: "convert t",
-        stream: &[],
-        seed: &transcript,
-        replies: &[],
-    };
-    let shown = given.run(alloc, 10_000, None)?;
+    let shown = given("convert t", &[], &transcript).run(alloc, 10_000, None)?;
     let case = Case {
         name: line,
         number: 2,
     };
     case.ends(rt, shown.status, Status::Wrote);
     let converted: &[&[u8]] = &[shown.report.bytes()];
-    check_audit(
-        rt,
-        alloc,
-        &("audit text:s t", BOTH_SIDES, converted, status, line),
-    )
+    let stored = (AUDIT, BOTH_SIDES, converted, status, line.as_bytes());
+    check_stored(rt, alloc, &stored)
 }
 
 fn check_rejections(rt: &impl Abort, alloc: Global, rejections: &[Rejection]) -> Result<(), Fail> {
-    for &(parts, round, reason, line) in rejections {
+    for &(parts, round, reason, line, listing) in rejections {
         let query = 1;
         let status = Status::Rejected {
             query,
             round,
             reason,
         };
-        check_audit(
-            rt,
-            alloc,
-            &("audit text:s t", BOTH_SIDES, parts, status, line),
-        )?;
+        let stored = (AUDIT, BOTH_SIDES, parts, status, line.as_bytes());
+        check_stored(rt, alloc, &stored)?;
+        let listed = (
+            "show t",
+            BOTH_SIDES,
+            parts,
+            Status::Wrote,
+            listing.as_bytes(),
+        );
+        check_stored(rt, alloc, &listed)?;
         check_converted(rt, alloc, parts, line, status)?;
     }
     Ok(())
 }
 
 #[test]
-fn stored_rejections_are_judged_again_in_both_versions(rt: HostRuntime) -> Result<(), Fail> {
+fn stored_rejections_are_shown_and_judged_again_in_both_versions(
+    rt: HostRuntime,
+) -> Result<(), Fail> {
     check_rejections(&rt, rt.alloc(), REJECTIONS)
 }

@@ -1,13 +1,12 @@
 // Stored runs that are judged again.
 
-use crate::audit::{Audit, BOTH_SIDES, FIVE_KINDS, FIVE_WIDE_KINDS, check_audit};
+use crate::audit::{FIVE_KINDS, FIVE_WIDE_KINDS, SHARE, Stored, check_each, check_stored, given};
 use crate::audit_frames::*;
 use crate::case::Case;
 use crate::frames::*;
-use crate::row::{At, Failing, Given, bytes_of, words_of};
+use crate::play::{BOTH_SIDES, kept};
+use crate::row::{At, Failing, Given, bytes_of};
 use crate::sum_frames::F2;
-use sip_cli::play_words;
-use sip_ports::{MemorySink, MemorySource};
 use sip_stream::Why;
 use sip_verifier::{Port, Status};
 use sip_wire::Reason;
@@ -15,9 +14,9 @@ use std::alloc::Global;
 use std::process::Abort;
 use std::test::Fail;
 
-const FIVE_ANSWERS: &str = "sub:1:2 2:5\nrange:0:1:3 6\nf2:0 35\ninner 11\nheavy:0:4 2:5\n";
+const FIVE_ANSWERS: &[u8] = b"sub:1:2 2:5\nrange:0:1:3 6\nf2:0 35\ninner 11\nheavy:0:4 2:5\n";
 
-const AUDITS: &[Audit<'static>] = &[
+const AUDITS: &[Stored<'static>] = &[
     (
         "audit text:s t",
         BOTH_SIDES,
@@ -36,17 +35,9 @@ const AUDITS: &[Audit<'static>] = &[
     (
         "audit s t",
         &THREE_RECORDS,
-        &[
-            &ONE_WIDE_ASK,
-            &HALF,
-            &BLOCK,
-            &LEAVES_5_1_WIDE,
-            &LEVEL_END,
-            &NODE_OF_3_WIDE,
-            &LEVEL_END,
-        ],
+        SHARE,
         Status::Accepted,
-        "share:0:1:2 2:5\n",
+        b"share:0:1:2 2:5\n",
     ),
     (
         "audit wide:s t",
@@ -60,7 +51,7 @@ const AUDITS: &[Audit<'static>] = &[
             &NO_SIBLINGS,
         ],
         Status::Accepted,
-        "sub:1:2 2:5\n",
+        b"sub:1:2 2:5\n",
     ),
     // No entry can be 10 or more where the total is 9, so nothing was asked.
     (
@@ -68,14 +59,14 @@ const AUDITS: &[Audit<'static>] = &[
         &THREE_RECORDS,
         &[&ONE_ASK, &HEAVY_10, &BLOCK],
         Status::Accepted,
-        "heavy:0:10 none\n",
+        b"heavy:0:10 none\n",
     ),
     (
         "audit s t",
         &THREE_RECORDS,
         &[&ONE_ASK, &HEAVY_10, &BLOCK, &LEVEL_END],
         Status::BadTranscript { offset: 36 },
-        "heavy:0:10 none\n",
+        b"heavy:0:10 none\n",
     ),
     // A byte behind the verdict, of a rejection too, whose last byte is that which shows it.
     (
@@ -91,14 +82,14 @@ const AUDITS: &[Audit<'static>] = &[
             &[0],
         ],
         Status::BadTranscript { offset: 76 },
-        "sub:1:2 2:5\n",
+        b"sub:1:2 2:5\n",
     ),
     (
         "audit s t",
         &THREE_RECORDS,
         &[&ONE_ASK, &SUB_1_2, &BLOCK, &CLAIM_HEADER, &[0]],
         Status::BadTranscript { offset: 38 },
-        "rejected query 1 round 0 BadKind\n",
+        b"rejected query 1 round 0 BadKind\n",
     ),
     // The head is read before the stream, and nothing is written before both are.
     (
@@ -106,14 +97,14 @@ const AUDITS: &[Audit<'static>] = &[
         &DELTA_0,
         &[b"SIP"],
         Status::BadTranscript { offset: 0 },
-        "",
+        b"",
     ),
     (
         "audit s t",
         &THREE_RECORDS,
         &[&ONE_ASK, &SUB_1_2, &BLOCK_AT_1, &[0, 0, 0, 0, 0, 0, 0]],
         Status::BadTranscript { offset: 27 },
-        "",
+        b"",
     ),
     (
         "audit s t",
@@ -123,7 +114,7 @@ const AUDITS: &[Audit<'static>] = &[
             at: 0,
             why: Why::ZeroDelta,
         },
-        "",
+        b"",
     ),
     // The depth is that of the head.
     (
@@ -134,14 +125,14 @@ const AUDITS: &[Audit<'static>] = &[
             at: 0,
             why: Why::BadItem,
         },
-        "",
+        b"",
     ),
     (
         "audit s t",
         &RECORD_OF_65537,
         &[&ONE_ASK_AT_1, &HEAVY_1, &BLOCK_AT_1],
         Status::TooWide { query: 1 },
-        "",
+        b"",
     ),
     // Another stream than that of the run: entry 2 is 0 in it.
     (
@@ -160,7 +151,7 @@ const AUDITS: &[Audit<'static>] = &[
             round: 2,
             reason: Reason::Root,
         },
-        "rejected query 1 round 2 Root\n",
+        b"rejected query 1 round 2 Root\n",
     ),
     // The replies end inside reply 1.
     (
@@ -179,7 +170,7 @@ const AUDITS: &[Audit<'static>] = &[
             round: 1,
             reason: Reason::Closed,
         },
-        "rejected query 1 round 1 Closed\n",
+        b"rejected query 1 round 1 Closed\n",
     ),
     // A second query, whose replies are not there.
     (
@@ -200,20 +191,13 @@ const AUDITS: &[Audit<'static>] = &[
             round: 0,
             reason: Reason::Closed,
         },
-        "sub:1:2 2:5\nrejected query 2 round 0 Closed\n",
+        b"sub:1:2 2:5\nrejected query 2 round 0 Closed\n",
     ),
 ];
 
-fn check_audits(rt: &impl Abort, alloc: Global, audits: &[Audit]) -> Result<(), Fail> {
-    for audit in audits {
-        check_audit(rt, alloc, audit)?;
-    }
-    Ok(())
-}
-
 #[test]
 fn stored_runs_are_judged_again(rt: HostRuntime) -> Result<(), Fail> {
-    check_audits(&rt, rt.alloc(), AUDITS)
+    check_each(&rt, rt.alloc(), AUDITS)
 }
 
 // A run of `play` over both sides: its words, how it ends, and its lines, which were found by hand.
@@ -266,35 +250,19 @@ const RUNS: &[Run<'static>] = &[
     ),
 ];
 
-// What a run keeps, where it is as it should be.
-fn kept(rt: &impl Abort, alloc: Global, run: &Run) -> Result<MemorySink, Fail> {
-    let &(name, status, lines) = run;
-    let words = words_of(alloc, name)?;
-    let mut first = MemorySource::new(BOTH_SIDES.to_vec(alloc)?, 7, Vec::new(alloc));
-    let mut second = MemorySource::new(ZERO_SEED.to_vec(alloc)?, 5, Vec::new(alloc));
-    let mut report = MemorySink::new(alloc, 10_000, Vec::new(alloc));
-    let mut keep = MemorySink::new(alloc, 10_000, Vec::new(alloc));
-    let ended = play_words(
-        alloc,
-        &words,
-        &mut first,
-        &mut second,
-        &mut report,
-        &mut keep,
-    );
-    let case = Case { name, number: 0 };
-    case.holds(rt, ended == Some(status));
-    case.writes(rt, report.bytes(), lines.as_bytes());
-    Ok(keep)
-}
-
 // The audit of what a run keeps writes the lines of the run, and ends as it did.
 fn check_agreeing(rt: &impl Abort, alloc: Global, runs: &[Run]) -> Result<(), Fail> {
-    for run in runs {
-        let kept = kept(rt, alloc, run)?;
+    for &(words, status, lines) in runs {
+        let kept = kept(rt, alloc, words, Some(status), lines)?;
         let parts: &[&[u8]] = &[kept.bytes()];
-        let audit = ("audit text:s t", BOTH_SIDES, parts, run.1, run.2);
-        check_audit(rt, alloc, &audit)?;
+        let audit = (
+            "audit text:s t",
+            BOTH_SIDES,
+            parts,
+            status,
+            lines.as_bytes(),
+        );
+        check_stored(rt, alloc, &audit)?;
     }
     Ok(())
 }
@@ -302,11 +270,11 @@ fn check_agreeing(rt: &impl Abort, alloc: Global, runs: &[Run]) -> Result<(), Fa
 // The first of these runs has a head of 114 bytes and 231 of replies. Without its last byte, and
 // with one more.
 fn check_ends(rt: &impl Abort, alloc: Global, run: &Run) -> Result<(), Fail> {
-    let kept = kept(rt, alloc, run)?;
+    let kept = kept(rt, alloc, run.0, Some(run.1), run.2)?;
     let Some((_, front)) = kept.bytes().split_last() else {
         return Err("a transcript")?;
     };
-    let lines = "sub:1:2 2:5\nf2:0 35\nheavy:0:4 2:5\nrejected query 4 round 1 Closed\n";
+    let lines: &[u8] = b"sub:1:2 2:5\nf2:0 35\nheavy:0:4 2:5\nrejected query 4 round 1 Closed\n";
     let closed = Status::Rejected {
         query: 4,
         round: 1,
@@ -314,19 +282,14 @@ fn check_ends(rt: &impl Abort, alloc: Global, run: &Run) -> Result<(), Fail> {
     };
     let words = "audit text:s t";
     let parts: &[&[u8]] = &[front];
-    check_audit(rt, alloc, &(words, BOTH_SIDES, parts, closed, lines))?;
+    check_stored(rt, alloc, &(words, BOTH_SIDES, parts, closed, lines))?;
     let longer = Status::BadTranscript { offset: 345 };
     let mut more = kept.bytes().to_vec(alloc)?;
     more.push(0)?;
     let parts: &[&[u8]] = &[&more];
-    check_audit(rt, alloc, &(words, BOTH_SIDES, parts, longer, ROW_LINES))?;
-    let given = Given {
-        words: "show t",
-        stream: &[],
-        seed: kept.bytes(),
-        replies: &[],
-    };
-    let shown = given.run(alloc, 10_000, None)?;
+    let stored = (words, BOTH_SIDES, parts, longer, ROW_LINES.as_bytes());
+    check_stored(rt, alloc, &stored)?;
+    let shown = given("show t", &[], kept.bytes()).run(alloc, 10_000, None)?;
     let case = Case {
         name: "show t",
         number: 0,
@@ -391,12 +354,7 @@ fn check_calls(rt: &impl Abort, alloc: Global, given: &Given, calls: Calls) -> R
 fn each_call_of_an_audit_fails_once(rt: HostRuntime) -> Result<(), Fail> {
     let alloc = rt.alloc();
     let stored = bytes_of(alloc, STORED)?;
-    let given = Given {
-        words: "audit s t",
-        stream: &THREE_RECORDS,
-        seed: &stored,
-        replies: &[],
-    };
+    let given = given("audit s t", &THREE_RECORDS, &stored);
     for &calls in CALLS {
         check_calls(&rt, alloc, &given, calls)?;
     }

@@ -62,6 +62,8 @@ mod page_tests;
 #[cfg(test)]
 mod page_words_tests;
 #[cfg(test)]
+mod play;
+#[cfg(test)]
 mod play_tests;
 #[cfg(test)]
 mod progress_tests;

@@ -1,10 +1,7 @@
 // Runs against the helpers in the program.
 
-use crate::case::Case;
-use crate::frames::*;
-use crate::row::{FIRST_GIVEN, FIRST_RUN, Given, Row, check_rows, words_of};
-use sip_cli::play_words;
-use sip_ports::{MemorySink, MemorySource, NullSink};
+use crate::play::kept;
+use crate::row::{FIRST_GIVEN, FIRST_RUN, Given, Row, check_rows};
 use sip_stream::Why;
 use sip_verifier::Status;
 use sip_wire::Reason;
@@ -12,36 +9,9 @@ use std::alloc::Global;
 use std::process::Abort;
 use std::test::Fail;
 
-// Side 0 is (3, 0, 5, 1) and side 1 is (2, 7, 1, 0).
-const BOTH_SIDES: &[u8] = b"0 0 3\n0 2 5\n0 3 1\n1 0 2\n1 1 7\n1 2 1\n";
-
-// A run over this stream: its words, how it ends, if they are words of `play`, and its lines.
+// A run over both sides: its words, how it ends, if they are words of `play`, and its lines.
 #[derive(Clone, Copy)]
 struct Run<'a>(&'a str, Option<Status>, &'a str);
-
-impl Run<'_> {
-    fn check(&self, rt: &impl Abort, alloc: Global) -> Result<(), Fail> {
-        let words = words_of(alloc, self.0)?;
-        let mut first = MemorySource::new(BOTH_SIDES.to_vec(alloc)?, 7, Vec::new(alloc));
-        let mut second = MemorySource::new(ZERO_SEED.to_vec(alloc)?, 5, Vec::new(alloc));
-        let mut report = MemorySink::new(alloc, 10_000, Vec::new(alloc));
-        let status = play_words(
-            alloc,
-            &words,
-            &mut first,
-            &mut second,
-            &mut report,
-            &mut NullSink::new(),
-        );
-        let case = Case {
-            name: self.0,
-            number: 0,
-        };
-        case.holds(rt, status == self.1);
-        case.writes(rt, report.bytes(), self.2.as_bytes());
-        Ok(())
-    }
-}
 
 const ACCEPTED: Option<Status> = Some(Status::Accepted);
 
@@ -141,8 +111,8 @@ const RUNS: &[Run<'static>] = &[
 ];
 
 fn check_runs(rt: &impl Abort, alloc: Global, runs: &[Run]) -> Result<(), Fail> {
-    for run in runs {
-        run.check(rt, alloc)?;
+    for Run(words, status, lines) in runs {
+        kept(rt, alloc, words, *status, lines)?;
     }
     Ok(())
 }

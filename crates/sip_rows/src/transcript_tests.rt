@@ -1,10 +1,8 @@
 // The commands that read a transcript.
 
-use crate::audit::{FIVE_KINDS, FIVE_WIDE_KINDS};
-use crate::row::{Given, Row, bytes_of};
+use crate::audit::{FIVE_KINDS, FIVE_WIDE_KINDS, SHARE, Stored, check_each};
+use crate::row::bytes_of;
 use sip_verifier::Status;
-use std::alloc::Global;
-use std::process::Abort;
 use std::test::Fail;
 
 // One query at depth 2, for the items 1 to 2, at the challenges 2 and 10; an entry, two siblings,
@@ -79,21 +77,59 @@ frame Siblings 0300000000000000030000000000000001
 frame Siblings 00
 ";
 
-// A command that reads a transcript: its words, the transcript, where it stops being one, if it
-// does, and what is written.
-type Reading<'a> = (&'a str, &'a [u8], Option<u64>, &'a [u8]);
-
-const READINGS: &[Reading<'static>] = &[
-    ("show t", &TALK, None, FIVE_LINES),
-    ("show t", &CUT_IN_A_CHALLENGE, Some(27), &[]),
-    ("show t", &CUT_IN_A_FRAME, Some(72), FOUR_LINES),
-    ("show t", &LONGER, Some(76), FIVE_LINES),
-    ("show t", b"SIP", Some(0), &[]),
-    ("convert t", &TALK, None, &WIDE),
-    ("convert t", &WIDE, None, &WIDE),
-    ("convert t", &CUT_IN_A_CHALLENGE, Some(27), &[]),
-    ("convert t", &CUT_IN_A_FRAME, Some(72), &WIDE_CUT),
-    ("convert t", &LONGER, Some(76), &WIDE),
+const READINGS: &[Stored<'static>] = &[
+    ("show t", &[], &[&TALK], Status::Wrote, FIVE_LINES),
+    (
+        "show t",
+        &[],
+        &[&CUT_IN_A_CHALLENGE],
+        Status::BadTranscript { offset: 27 },
+        &[],
+    ),
+    (
+        "show t",
+        &[],
+        &[&CUT_IN_A_FRAME],
+        Status::BadTranscript { offset: 72 },
+        FOUR_LINES,
+    ),
+    (
+        "show t",
+        &[],
+        &[&LONGER],
+        Status::BadTranscript { offset: 76 },
+        FIVE_LINES,
+    ),
+    (
+        "show t",
+        &[],
+        &[b"SIP"],
+        Status::BadTranscript { offset: 0 },
+        &[],
+    ),
+    ("convert t", &[], &[&TALK], Status::Wrote, &WIDE),
+    ("convert t", &[], &[&WIDE], Status::Wrote, &WIDE),
+    (
+        "convert t",
+        &[],
+        &[&CUT_IN_A_CHALLENGE],
+        Status::BadTranscript { offset: 27 },
+        &[],
+    ),
+    (
+        "convert t",
+        &[],
+        &[&CUT_IN_A_FRAME],
+        Status::BadTranscript { offset: 72 },
+        &WIDE_CUT,
+    ),
+    (
+        "convert t",
+        &[],
+        &[&LONGER],
+        Status::BadTranscript { offset: 76 },
+        &WIDE,
+    ),
 ];
 
 // A query of each kind of version 1, and what an honest helper replied.
@@ -122,44 +158,64 @@ frame Nodes 00010000000000000000000000090000000000000003
 frame LevelEnd -
 ";
 
-fn check_readings(rt: &impl Abort, alloc: Global, readings: &[Reading]) -> Result<(), Fail> {
-    for &(words, transcript, bad, report) in readings {
-        let (status, code) = match bad {
-            Some(offset) => (Status::BadTranscript { offset }, 3),
-            None => (Status::Wrote, 0),
-        };
-        let row = Row {
-            name: words,
-            given: Given {
-                words,
-                stream: &[],
-                seed: transcript,
-                replies: &[],
-            },
-            status,
-            code,
-            report,
-            sent: &[],
-            then: &[],
-        };
-        row.check(rt, alloc)?;
-    }
-    Ok(())
-}
+// The same in version 2, where items have eight bytes.
+const FIVE_WIDE_LISTED: &[u8] = b"\
+depth 2
+query 1 sub:1:2 challenges 0000000000000002 000000000000000a
+query 2 range:0:1:3 challenges 0000000000000002 000000000000000a
+query 3 f2:0 challenges 0000000000000002 000000000000000a
+query 4 inner challenges 0000000000000002 000000000000000a
+query 5 heavy:0:4 challenges 0000000000000002 000000000000000a
+frame Entries 000100000000000000020000000000000005
+frame Siblings 0300000000000000030000000000000001
+frame Siblings 00
+frame Claim 0000000000000006
+frame Poly 00000000000000051ffffffffffffffe1ffffffffffffffc
+frame Poly 1ffffffffffffff900000000000000030000000000000000
+frame Claim 0000000000000023
+frame Poly 00000000000000221fffffffffffffc50000000000000019
+frame Poly 000000000000000900000000000000000000000000000000
+frame Claim 000000000000000b
+frame Poly 000000000000000b00000000000000001ffffffffffffff4
+frame Poly 1fffffffffffffdb00000000000000270000000000000000
+frame Leaves 00020000000000000002000000000000000500000000000000030000000000000001
+frame LevelEnd -
+frame Nodes 0001000000000000000000000000000000090000000000000003
+frame LevelEnd -
+";
+
+// The query that version 2 has alone.
+const SHARE_LISTED: &[u8] = b"\
+depth 2
+query 1 share:0:1:2 challenges 0000000000000002 000000000000000a
+frame Leaves 00020000000000000002000000000000000500000000000000030000000000000001
+frame LevelEnd -
+frame Nodes 0001000000000000000000000000000000090000000000000003
+frame LevelEnd -
+";
 
 #[test]
 fn transcripts(rt: HostRuntime) -> Result<(), Fail> {
     let alloc = rt.alloc();
-    check_readings(&rt, alloc, READINGS)?;
-    let five = bytes_of(alloc, FIVE_KINDS)?;
+    check_each(&rt, alloc, READINGS)?;
     let wide = bytes_of(alloc, FIVE_WIDE_KINDS)?;
-    check_readings(
+    let share = bytes_of(alloc, SHARE)?;
+    check_each(
         &rt,
         alloc,
         &[
-            ("show t", &five, None, FIVE_LISTED),
-            ("convert t", &five, None, &wide),
-            ("convert t", &wide, None, &wide),
+            ("show t", &[], FIVE_KINDS, Status::Wrote, FIVE_LISTED),
+            ("convert t", &[], FIVE_KINDS, Status::Wrote, &wide),
+            (
+                "show t",
+                &[],
+                FIVE_WIDE_KINDS,
+                Status::Wrote,
+                FIVE_WIDE_LISTED,
+            ),
+            ("convert t", &[], FIVE_WIDE_KINDS, Status::Wrote, &wide),
+            ("show t", &[], SHARE, Status::Wrote, SHARE_LISTED),
+            ("convert t", &[], SHARE, Status::Wrote, &share),
         ],
     )
 }

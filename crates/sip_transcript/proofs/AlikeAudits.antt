@@ -135,7 +135,7 @@ module _ (form : Form) (a b : Audit) (earlier later before now : Counts) (given 
 
   -- where the first has the transcript of a run whose replies are messages
   pub told_agree : TellSame a b → ConvertAgrees a b given other
-  told_agree t = same_agree t.version t.depth t.asks t.replies t.is_run (both-replies t.version t.replies t.are_replies) t.first t.second t.stream
+  told_agree t = let run = t.run in same_agree run.version run.depth run.asks run.replies run.is_run (both-replies run.version run.replies run.are_replies) run.all t.same t.stream
 
   -- where its transcript is whole, and each is a byte
   pub convert_agrees : IsConverted a b → ConvertAgrees a b given other

@@ -1,11 +1,13 @@
 -- How the writing of a transcript goes on, and how it ends.
 use Rattle.std.proofs.Common.{◌≡◌, ◌≢◌, ℕ, suc, ◌+◌, ◌-◌, ◌<◌, Option, Some, None, Ok, Err, List, [], ◌∷◌, ◌++◌, length, take, refl, sym, ap, subst, ◌∙◌, arith, append_assoc, append-nil, length-append}
 use Rattle.std.specs.Io.KnownBytes.{Consumes}
+use Rattle.std.specs.Prelude.{All}
 use Rattle.std.specs.List.{flat_map}
 use Rattle.std.proofs.Math.Path.{fun_ext}
 use Rattle.std.proofs.lemmas.Grind.{flat_map-append}
 use Rattle.std.proofs.lemmas.List.{flat_map_more, take-append-le, take_at}
 use Rattle.std.proofs.lemmas.List.Concat.{flat_map-cons}
+use Rattle.std.proofs.lemmas.List.Elements.{All-append, All-cons, All-nil}
 use Rattle.sip_ports.specs.declared.port.PortStop.{PortStop}
 use Rattle.sip_ports.specs.declared.port.PortStop.TheVariants as stops
 use Rattle.sip_ports.specs.declared.port.TalkEvent.{TalkEvent}
@@ -39,7 +41,7 @@ use Rattle.sip_transcript.specs.Frames.{ReadsReply}
 use Rattle.sip_transcript.specs.Heads.{Ask, ReadsHead, Says}
 use Rattle.sip_transcript.specs.Listings.{listing, numbered}
 use Rattle.sip_transcript.specs.Renderings.{head_text, rendered, reply_text}
-use Rattle.sip_transcript.specs.Tales.{Tale, all_replies, rest_fault, tale_of, text_of, transcript_fault}
+use Rattle.sip_transcript.specs.Tales.{IsReply, Tale, all_replies, rest_fault, tale_of, text_of, transcript_fault}
 use Rattle.sip_transcript.specs.Underway.{IsUnderway, tale_with}
 use Rattle.sip_transcript.specs.Writing.{AllWritten, FrontWritten, Writes}
 use Rattle.sip_transcript.proofs.Growing.{run-has_no_fault}
@@ -66,6 +68,9 @@ begun-writing to bytes o n start now head asks told says taken wrote =
       asks = asks;
       done = [];
       rest = front.0;
+      is_run = run;
+      are_replies = All-nil (IsReply head.version);
+      spelled = whole;
       no_fault = ap head_fault whole ∙ run-has_no_fault head.version head.depth asks front.0 (depth-test head.version head.depth run.deep run.shallow) (count-test (length asks) run.some run.most) run.each;
       tells = ap tale_of whole ∙ tale-of_run head.version head.depth asks front.0 run.each;
       is_left = front.1;
@@ -179,6 +184,16 @@ module _ (to : Rendering) (bytes : List ℕ) (left : Option (List ℕ)) (start n
       let empty = same_left left so.rest [] so.is_left none in
       let read : all_replies version so.rest ≡ ([], []) = ap (all_replies version) empty ∙ no-replies version 0 in (
         the-fault ∙ ap (λ (x : List Message × List ℕ). rest_fault (length bytes) x.1) read,
+        record {
+          version = version;
+          depth = so.depth;
+          asks = so.asks;
+          replies = so.done;
+          is_run = so.is_run;
+          are_replies = so.are_replies;
+          all = so.spelled ∙ ap (λ (l : List ℕ). transcript version so.depth so.asks (flat_map (spelling version) so.done ++ l)) empty
+              ∙ ap (transcript version so.depth so.asks) (append-nil (flat_map (spelling version) so.done));
+        },
         none,
         all-so_far (ap (λ (x : List Message × List ℕ). x.0) read),
       )
@@ -202,6 +217,14 @@ module _ (to : Rendering) (bytes : List ℕ) (left : Option (List ℕ)) (start n
         replies-more version so.rest m after.0
         (ap (read_frame version ToVerifier) after.2 ∙ read_frame-append version ToVerifier frame after.0 m [] took.read)
 
+    -- what was spelled so far is longer by the message
+    spelled-more : bytes ≡ transcript version so.depth so.asks (flat_map (spelling version) (so.done ++ m ∷ []) ++ after.0)
+    spelled-more =
+        let spell = flat_map (spelling version) in
+        so.spelled
+        ∙ ap (λ (l : List ℕ). transcript version so.depth so.asks (spell so.done ++ l)) (after.2 ∙ ap (λ (l : List ℕ). l ++ after.0) took.spelled)
+        ∙ ap (transcript version so.depth so.asks) (sym (append_assoc (spell so.done) (spelling version m) after.0) ∙ ap (λ (l : List ℕ). l ++ after.0) (flat_map_more (spelling version) [] so.done m))
+
     -- a message was passed
     passed : GoesOn now later (outs (reply_text to version m)) → IsUnderway to bytes new start later version (place + length frame)
     unfolding so_far
@@ -210,6 +233,10 @@ module _ (to : Rendering) (bytes : List ℕ) (left : Option (List ℕ)) (start n
       asks = so.asks;
       done = so.done ++ m ∷ [];
       rest = after.0;
+      is_run = so.is_run;
+      are_replies = All-append (IsReply version) so.done (m ∷ []) so.are_replies
+          (All-cons (IsReply version) m [] (record { has_spelling = took.has_spelling; allowed = took.allowed; in_range = took.in_range }) (All-nil (IsReply version)));
+      spelled = spelled-more;
       no_fault = so.no_fault;
       tells = so.tells
           ∙ ap (tale_with version so.depth so.asks so.done) read-more
@@ -250,7 +277,7 @@ reply-ends to bytes o n start now version place frame so reads =
     let none : so.rest ≡ [] = reads.0 so.rest so.is_left in
     let front = came_front o n so.rest [] so.is_left reads.1 in
     let all = ends to bytes o start now version place so (so.is_left ∙ ap (λ (l : List ℕ). Some l) none) in
-    (all.0, front.1 ∙ ap (λ (l : List ℕ). Some l) (sym front.2 ∙ none), all.2)
+    (all.0, all.1, front.1 ∙ ap (λ (l : List ℕ). Some l) (sym front.2 ∙ none), all.3)
 
 -- the source stopped
 pub source-stopped : (to : Rendering) (bytes : List ℕ) (o n : Option (List ℕ)) (start now : Option (List TalkEvent)) (version : Version) (place : ℕ) (stop : PortStop) → IsUnderway to bytes o start now version place
@@ -298,7 +325,7 @@ writes-same text text' same bytes left old new status wrote = subst (λ (t : Tal
 
 -- some bytes are written, whatever the status
 pub writes-some : (text : Tale → List ℕ) (bytes : List ℕ) (left : Option (List ℕ)) (old new : Option (List TalkEvent)) (status : Status) → Writes text bytes left old new status → (more : List ℕ) × GoesOn old new (outs more)
-writes-some text bytes left old new statuses.Wrote (none, ended, wrote) = (text_of text bytes, wrote)
+writes-some text bytes left old new statuses.Wrote (none, run, ended, wrote) = (text_of text bytes, wrote)
 writes-some text bytes left old new (statuses.BadTranscript at) (found, wrote) = (text_of text bytes, wrote)
 writes-some text bytes left old new (statuses.ReadFault ports.Second) (n, wrote) = (take n (text_of text bytes), wrote)
 writes-some text bytes left old new (statuses.WriteFault ports.Report) (n, wrote) = (take n (text_of text bytes), wrote)

@@ -5,6 +5,7 @@ use Rattle.std.proofs.lemmas.List.{append_cancel_left, nil_from_length}
 use Rattle.sip_vector.specs.Steps.{◌>>=◌}
 use Rattle.sip_wire.specs.declared.message.Reason.{Reason}
 use Rattle.sip_wire.specs.declared.message.Reason.TheVariants as reasons
+use Rattle.sip_replies.specs.LawProofs.Refusals.{same_err}
 use Rattle.sip_replies.specs.Protocols.{Rules}
 use Rattle.sip_replies.specs.Replies.{Fault, in_round, joined, learnt, read_reply, run_from}
 use Rattle.sip_replies.proofs.Agreeing.{IsShortest, alone, both_split, only_one, same_lists, two_fronts}
@@ -22,9 +23,6 @@ pub ok_or_err : {X : Type 0} (r : Result X Reason)
     → ((x : X) × (r ≡ Ok x)) ⊎ ((reason : Reason) × (r ≡ Err reason))
 ok_or_err (Ok x) = inl (x, refl)
 ok_or_err (Err reason) = inr (reason, refl)
-
-pub same_err : {X : Type 0} (a b : Reason) → ◌≡◌ {A = Result X Reason} (Err a) (Err b) → a ≡ b
-same_err a b e = cc
 
 pub ok_no_err : {X : Type 0} (x : X) (b : Reason) → ◌≡◌ {A = Result X Reason} (Ok x) (Err b) → ⊥
 ok_no_err x b e = cc

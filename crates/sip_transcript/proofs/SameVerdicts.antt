@@ -5,6 +5,7 @@ use Rattle.std.specs.Prelude.{map}
 use Rattle.sip_replies.specs.Protocols.{Protocol}
 use Rattle.sip_replies.specs.Replies as general
 use Rattle.sip_replies.specs.Replies.{Fault, in_round, joined, run, verdict}
+use Rattle.sip_replies.proofs.Turns.{same_fault}
 use Rattle.sip_replies.proofs.Unasked.{accepted_asked, accepted_unasked}
 use Rattle.sip_vector.specs.Answers.{Answer}
 use Rattle.sip_vector.specs.Steps.{◌>>=◌}
@@ -32,9 +33,6 @@ IsJudged P block replies (Err fault) = general.IsFaulty P block replies fault
 abbrev pub Closes : Outcome → List ℕ → Type 0
 Closes (Ok answer) behind = Unit {0}
 Closes (Err fault) behind = fault.reason ≡ reasons.Closed → behind ≡ []
-
-same_fault : {X : Type 0} (a b : Fault) → ◌≡◌ {A = Result X Fault} (Err a) (Err b) → a ≡ b
-same_fault a b e = cc
 
 ok_no_fault : (answer : Answer) (fault : Fault) → ◌≡◌ {A = Outcome} (Ok answer) (Err fault) → ⊥
 ok_no_fault answer fault e = cc

@@ -1,19 +1,12 @@
 -- Two audits of one stream: over a transcript, and over the same in version 2.
-use Rattle.std.specs.Prelude.{◌≡◌, ◌⊎◌, ℕ, ◌||◌, All, IsTrue, List, None}
-use Rattle.std.specs.List.{flat_map}
-use Rattle.sip_wire.specs.declared.message.Message.{Message}
-use Rattle.sip_wire.specs.declared.version.Version.{Version}
-use Rattle.sip_wire.specs.declared.version.Version.TheVariants.{Two}
+use Rattle.std.specs.Prelude.{◌≡◌, ◌⊎◌, ◌||◌, IsTrue, None}
 use Rattle.sip_wire.specs.Decoding.{IsBytes}
-use Rattle.sip_wire.specs.Spelling.{spelling}
-use Rattle.sip_wire.specs.Transcript.{transcript}
 use Rattle.sip_verifier.specs.declared.status.Status.{Status}
 use Rattle.sip_verifier.specs.declared.status.Status.TheVariants as statuses
 use Rattle.sip_transcript.specs.Agreements.{stops_freely}
 use Rattle.sip_transcript.specs.Auditing.{Audit}
-use Rattle.sip_transcript.specs.Conversions.{in_version_2}
-use Rattle.sip_transcript.specs.Heads.{Ask, IsRun}
-use Rattle.sip_transcript.specs.Tales.{IsReply, tale_of, transcript_fault}
+use Rattle.sip_transcript.specs.Conversions.{in_version_2, run_in_version_2}
+use Rattle.sip_transcript.specs.Tales.{IsOfRun, tale_of, transcript_fault}
 
 -- the first audit has a transcript that is whole, and the other one has the same in version 2
 pub record IsConverted (a b : Audit) : Type 0 where
@@ -23,17 +16,11 @@ pub record IsConverted (a b : Audit) : Type 0 where
   pub converted : b.stored ≡ in_version_2 (tale_of a.stored)
   pub stream : b.stream ≡ a.stream
 
--- The first audit has the transcript of a run whose replies are these messages, and the other one
--- has the same in version 2.
+-- The first audit has the transcript of a run, and the other one has that of the same run in
+-- version 2.
 pub record TellSame (a b : Audit) : Type 0 where
-  pub version : Version
-  pub depth : ℕ
-  pub asks : List Ask
-  pub replies : List Message
-  pub is_run : IsRun version depth asks
-  pub are_replies : All (IsReply version) replies
-  pub first : a.stored ≡ transcript version depth asks (flat_map (spelling version) replies)
-  pub second : b.stored ≡ transcript Two depth asks (flat_map (spelling Two) replies)
+  pub run : IsOfRun a.stored
+  pub same : b.stored ≡ run_in_version_2 run
   pub stream : b.stream ≡ a.stream
 
 -- a status, whatever the place in a transcript is

@@ -1,5 +1,6 @@
 -- What a transcript tells: a run, and what the helper said in it, as far as that can be read.
-use Rattle.std.specs.Prelude.{ℕ, zero, suc, ◌*◌, ◌-◌, IsTrue, List, [], ◌∷◌, length, drop, slice_index, Option, Some, None, Result, Ok, Err}
+use Rattle.std.specs.Prelude.{◌≡◌, ℕ, zero, suc, ◌*◌, ◌-◌, All, IsTrue, List, [], ◌∷◌, length, drop, slice_index, Option, Some, None, Result, Ok, Err}
+use Rattle.std.specs.List.{flat_map}
 use Rattle.byteorder.specs.Endian.{big_number}
 use Rattle.sip_vector.specs.declared.query.Query.{Query}
 use Rattle.sip_wire.specs.declared.kind.Place.TheVariants.{ToHelper, ToVerifier}
@@ -10,9 +11,10 @@ use Rattle.sip_wire.specs.declared.version.Version.{Version}
 use Rattle.sip_wire.specs.Reading.{read_frame}
 use Rattle.sip_wire.specs.Spelling.{fits, kind_of, spelling}
 use Rattle.sip_wire.specs.Table.{allows}
+use Rattle.sip_wire.specs.Transcript.{transcript}
 use Rattle.sip_wire.specs.Values.{InRange}
 use Rattle.sip_transcript.specs.Fields.{asked_at, head_fault, version_of}
-use Rattle.sip_transcript.specs.Heads.{Ask}
+use Rattle.sip_transcript.specs.Heads.{Ask, IsRun}
 
 -- The version and the depth of a run, its queries with their challenges, the messages of the helper
 -- in order, and the bytes behind them: none, or bytes that begin with no whole frame to a verifier.
@@ -28,6 +30,16 @@ pub record IsReply (version : Version) (m : Message) : Type 0 where
   pub has_spelling : IsTrue (fits version m)
   pub allowed : IsTrue (allows ToVerifier (kind_of m))
   pub in_range : InRange m
+
+-- bytes are the transcript of a run to its end, whose replies are these messages
+pub record IsOfRun (bytes : List ℕ) : Type 0 where
+  pub version : Version
+  pub depth : ℕ
+  pub asks : List Ask
+  pub replies : List Message
+  pub is_run : IsRun version depth asks
+  pub are_replies : All (IsReply version) replies
+  pub all : bytes ≡ transcript version depth asks (flat_map (spelling version) replies)
 
 -- ---- the queries
 

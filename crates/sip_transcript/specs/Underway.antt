@@ -1,18 +1,20 @@
 -- How far the writing of a transcript has come.
-use Rattle.std.specs.Prelude.{◌≡◌, ℕ, ◌+◌, List, ◌++◌, length, Option, Some, None, Result, Ok, Err}
+use Rattle.std.specs.Prelude.{◌≡◌, ℕ, ◌+◌, All, List, ◌++◌, length, Option, Some, None, Result, Ok, Err}
 use Rattle.std.specs.List.{flat_map}
 use Rattle.sip_ports.specs.declared.port.TalkEvent.{TalkEvent}
 use Rattle.sip_ports.specs.Ports.{GoesOn, outs}
 use Rattle.sip_wire.specs.declared.message.Message.{Message}
 use Rattle.sip_wire.specs.declared.version.Version.{Version}
+use Rattle.sip_wire.specs.Spelling.{spelling}
+use Rattle.sip_wire.specs.Transcript.{transcript}
 use Rattle.sip_verifier.specs.declared.status.Status.{Status}
 use Rattle.sip_verifier.specs.declared.status.Status.TheVariants as statuses
 use Rattle.sip_transcript.specs.declared.head.Head.{Head}
 use Rattle.sip_transcript.specs.declared.rendering.Rendering.{Rendering}
 use Rattle.sip_transcript.specs.Fields.{head_fault}
-use Rattle.sip_transcript.specs.Heads.{Ask}
+use Rattle.sip_transcript.specs.Heads.{Ask, IsRun}
 use Rattle.sip_transcript.specs.Renderings.{head_text, rendered, reply_text}
-use Rattle.sip_transcript.specs.Tales.{Tale, all_replies, tale_of}
+use Rattle.sip_transcript.specs.Tales.{IsReply, Tale, all_replies, tale_of}
 use Rattle.sip_transcript.specs.Writing.{Writes}
 
 -- what a transcript tells whose replies are these messages, and those that are read behind them
@@ -33,6 +35,9 @@ pub record IsUnderway (to : Rendering) (bytes : List ℕ) (left : Option (List �
   pub asks : List Ask
   pub done : List Message
   pub rest : List ℕ
+  pub is_run : IsRun version depth asks
+  pub are_replies : All (IsReply version) done
+  pub spelled : bytes ≡ transcript version depth asks (flat_map (spelling version) done ++ rest)
   pub no_fault : head_fault bytes ≡ None
   pub tells : tale_of bytes ≡ tale_with version depth asks done (all_replies version rest)
   pub is_left : left ≡ Some rest

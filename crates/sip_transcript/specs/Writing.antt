@@ -2,7 +2,7 @@
 -- version 2.
 --
 -- All is written exactly where the bytes are a transcript to their end, and then they were read to
--- it. Of bytes that stop being a transcript what stands before that place is written, which is
+-- it, and are the transcript of a run whose replies are messages. Of bytes that stop being a transcript what stands before that place is written, which is
 -- nothing where a field of the head is not there; and the status has the place. Where a port
 -- stopped, or memory ran out, a front of this is written.
 use Rattle.std.specs.Prelude.{◌≡◌, ℕ, Bool, true, false, ◌||◌, IsTrue, List, [], take, Option, Some, None}
@@ -11,7 +11,7 @@ use Rattle.sip_ports.specs.Ports.{GoesOn, outs}
 use Rattle.sip_verifier.specs.declared.status.Port.TheVariants as ports
 use Rattle.sip_verifier.specs.declared.status.Status.{Status}
 use Rattle.sip_verifier.specs.declared.status.Status.TheVariants as statuses
-use Rattle.sip_transcript.specs.Tales.{Tale, text_of, transcript_fault}
+use Rattle.sip_transcript.specs.Tales.{IsOfRun, Tale, text_of, transcript_fault}
 
 -- The source had these bytes to give, and has `left` still; the sink told `old`, and tells `new`.
 module _ (text : Tale → List ℕ) (bytes : List ℕ) (left : Option (List ℕ))
@@ -25,7 +25,8 @@ module _ (text : Tale → List ℕ) (bytes : List ℕ) (left : Option (List ℕ)
   FrontWritten = (n : ℕ) × GoesOn old new (outs (take n (text_of text bytes)))
 
   abbrev pub Writes : Status → Type 0
-  Writes statuses.Wrote = (transcript_fault bytes ≡ None) × (left ≡ Some []) × AllWritten
+  Writes statuses.Wrote =
+      (transcript_fault bytes ≡ None) × IsOfRun bytes × (left ≡ Some []) × AllWritten
   Writes (statuses.BadTranscript at) = (transcript_fault bytes ≡ Some at) × AllWritten
   Writes (statuses.ReadFault ports.Second) = FrontWritten
   Writes (statuses.WriteFault ports.Report) = FrontWritten

@@ -2,7 +2,7 @@
 
 ghost use Rattle.std.specs.Prelude.{◌≡◌, ◌↔◌, ◌++◌, ◌∷◌, [], ℕ, All, List, Some, None, Option, Result, IsTrue, codes, take};
 ghost use Rattle.std.specs.List.{flat_map};
-ghost use Rattle.sip_ports.specs.Ports.{HearsWhole, ReadsWhole, heard};
+ghost use Rattle.sip_ports.specs.Ports.{HearsWhole, ReadsWhole, heard, outs};
 ghost use Rattle.sip_ports.specs.declared.port.PortStop.{PortStop as AnyStop};
 ghost use Rattle.sip_ports.specs.declared.port.TalkEvent.{TalkEvent as AnyEvent};
 ghost use Rattle.sip_stream.specs.declared.form.Form.{Form as AnyForm};
@@ -18,17 +18,19 @@ ghost use Rattle.sip_verifier.specs.Inquiries.{Inquiry as AnyInquiry};
 ghost use Rattle.sip_verifier.specs.VerdictClause.{AllWritten};
 ghost use Rattle.sip_verifier.specs.Moments.{Counts as AnyCounts};
 ghost use Rattle.sip_verifier.specs.declared.status.Status.{Status as AnyStatus};
+ghost use Rattle.sip_verifier.specs.declared.status.Status.TheVariants as statuses;
 ghost use Rattle.sip_verifier.specs.declared.task.Task.{Task as AnyTask};
 ghost use Rattle.sip_transcript.specs.Agreements.{AuditAgrees, IsStored};
 ghost use Rattle.sip_transcript.specs.AlikeAudits.{ConvertAgrees, IsConverted, TellSame};
 ghost use Rattle.sip_transcript.specs.Auditing.{Audit, Audits};
-ghost use Rattle.sip_transcript.specs.Conversions.{in_version_2};
+ghost use Rattle.sip_transcript.specs.Conversions.{in_version_2, run_in_version_2};
 ghost use Rattle.sip_transcript.specs.Examples.{head_by_hand, lines_by_hand, replies_by_hand};
 ghost use Rattle.sip_transcript.specs.Fields.{fits_at, head_fault};
 ghost use Rattle.sip_transcript.specs.Heads.{Ask, IsRun};
 ghost use Rattle.sip_transcript.specs.Listings.{listing};
 ghost use Rattle.sip_transcript.specs.Replaying.{Replays};
-ghost use Rattle.sip_transcript.specs.Tales.{IsReply, tale_of, text_of, transcript_fault};
+ghost use Rattle.sip_transcript.specs.Tales.{IsOfRun, IsReply, tale_of, text_of, transcript_fault};
+ghost use Rattle.sip_transcript.specs.Writing.{Writes};
 
 /// The transcript of a run has no fault in its head, whatever the replies are. So a head that is
 /// there is read, and none that is there is refused.
@@ -62,6 +64,16 @@ pub fn converted_runs_are_told()
         ≡ record { version = Two; depth = depth; asks = asks; replies = replies; rest = [] } }
     ensures run { (version : AnyVersion) (depth : ℕ) (asks : List Ask) → IsRun version depth asks
         → IsRun Two depth asks }
+{}
+
+/// Where `convert` writes all, it had the transcript of a run, and what it wrote is that of the same
+/// run in version 2: with its depth, queries, challenges and messages. One of version 2 is copied.
+pub fn one_run_is_converted()
+    ensures written { (bytes text : List ℕ) (left : Option (List ℕ)) (had : List AnyEvent)
+        → Writes in_version_2 bytes left (Some had) (Some (had ++ outs text)) statuses.Wrote
+        → (run : IsOfRun bytes) × (text ≡ run_in_version_2 run) }
+    ensures copied { (bytes : List ℕ) (run : IsOfRun bytes) → run.version ≡ Two
+        → run_in_version_2 run ≡ bytes }
 {}
 
 /// A transcript has one head: where bytes begin with the heads of two runs, these are one, and so is

@@ -16,12 +16,13 @@
 //!   queries fits the depth and has a code in the version, and exactly its bytes were taken. `Bad`
 //!   has the place where the first field begins that has none of its values, or in which the source
 //!   ends; of that field no more was taken than a field has.
-//! - `show` and `convert` answer `Wrote` exactly where the bytes are a transcript to their end, and
-//!   `BadTranscript` exactly where they stop being one, with the place where the field of the head
-//!   or the frame begins. What is written is the listing, or the transcript in version 2, of all
-//!   that stands before that place, and nothing where it is in the head; where a port stopped, or
-//!   memory ran out, a front of this. No other status comes but a fault of the transcript's source
-//!   or of the report, where its count rose, and `OutOfMemory`.
+//! - `show` and `convert` answer `Wrote` exactly where the bytes are a transcript to their end,
+//!   which is then that of a run whose replies are messages, and `BadTranscript` exactly where they
+//!   stop being one, with the place where the field of the head or the frame begins. What is
+//!   written is the listing, or the transcript in version 2, of all that stands before that place,
+//!   and nothing where it is in the head; where a port stopped, or memory ran out, a front of this.
+//!   No other status comes but a fault of the transcript's source or of the report, where its count
+//!   rose, and `OutOfMemory`.
 //! - At each time what was heard on a `TranscriptLink`, and then what is left in its source, are
 //!   what the source had when the link was made; the end is told only where all of this was heard.
 //!   `taken` is how many bytes were heard, below the end of its type. This holds also behind a call
@@ -38,6 +39,10 @@
 //! - What `audit` answers over the transcript and the stream of a run that ended with a verdict is
 //!   that verdict, and it writes the run's lines, unless a port failed or memory ran out: so it is
 //!   never `BadTranscript`, `BadStream`, `TooWide` or another verdict ([`laws::audits_agree`]).
+//! - What `convert` writes where it writes all is the transcript of the same run in version 2, and
+//!   one of version 2 is copied ([`laws::one_run_is_converted`]). `audit` over it and over what it
+//!   was made of gives the same status, but for the place of `BadTranscript`, and writes the same
+//!   lines, unless a port failed or memory ran out ([`laws::converted_audits_agree`]).
 //!
 //! # The definitions to read
 //!
@@ -47,7 +52,8 @@
 //! where they stop being a transcript; `specs/Listings.antt` the lines, `specs/Conversions.antt`
 //! the form in version 2, and `specs/Writing.antt` what `show` and `convert` promise.
 //! `specs/Replaying.antt` has what is heard on a link over a source, `specs/Auditing.antt` what
-//! `audit` promises, and `specs/Agreements.antt` what it comes to over what a run left.
+//! `audit` promises, `specs/Agreements.antt` what it comes to over what a run left, and
+//! `specs/AlikeAudits.antt` over that in version 2.
 #![tactic(auto)]
 
 mod auditing;

@@ -10,7 +10,11 @@ returns-in_default-clause-refused c = λ fitted.
     absurd (c.in_default.ensures (omega arith) stored.0 stored.1)
 
 pub returns-then-has_word-clause-refused : goal.returns-then-has_word-clause-refused
-returns-then-has_word-clause-refused c = λ fitted. refused_more Audit c.args.words.now 3 fitted refl refl (c.has_word.ensures.0 c.if-has_word.true)
+returns-then-has_word-clause-refused c = λ fitted.
+    refused_more Audit c.args.words.now 3 fitted refl refl
+    (c.has_word.ensures.0 c.if-has_word.true)
 
 pub returns-clause-command : goal.returns-clause-command
-returns-clause-command c = λ fitted. (whole_end Audit c.args.words.now fitted refl (no_word _ 3 _ c.has_word.ensures c.if-has_word.false), c.in-Some.ensures.1)
+returns-clause-command c = λ fitted.
+    let none = no_word _ 3 _ c.has_word.ensures c.if-has_word.false in
+    (whole_end Audit c.args.words.now fitted refl none, c.in-Some.ensures.1)
