@@ -64,6 +64,7 @@ pub mod laws;
 mod powers;
 mod prover;
 pub mod proving;
+mod rounds;
 
 pub use check::MomentCheck;
 pub use prover::MomentProver;

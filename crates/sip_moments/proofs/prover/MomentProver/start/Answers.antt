@@ -1,0 +1,4 @@
+use Rattle.sip_moments.proofs.prover.MomentProver.start.Goals as goal
+
+pub refill-requires-clause-sum : goal.refill-requires-clause-sum
+refill-requires-clause-sum g c = ?
