@@ -1,5 +1,5 @@
 -- The sums of products of powers over pairs, and their differences.
-use Rattle.std.proofs.Common.{◌≡◌, ◌≢◌, ℕ, zero, suc, ◌+◌, ◌*◌, ◌-◌, ◌/◌, ◌%◌, ◌^◌, ◌<◌, ◌≤◌, List, [], ◌∷◌, length, map, sum_by, All, refl, ap, sym, ◌∙◌, inl, inr, add-one, arith}
+use Rattle.std.proofs.Common.{◌≡◌, ℕ, zero, suc, ◌+◌, ◌*◌, ◌-◌, ◌/◌, ◌%◌, ◌^◌, ◌<◌, ◌≤◌, List, [], ◌∷◌, length, sum_by, All, refl, ap, sym, ◌∙◌, inl, inr, add-one, arith}
 use Rattle.std.proofs.Math.Nat.{mod-lt, mod-eq_of_lt, mod-add-mod, add-mod-mod, add-mod_right, pow-zero, pow-succ'}
 use Rattle.std.proofs.lemmas.Bool.{cases_lt}
 use Rattle.std.proofs.lemmas.Bool.Decides.{eqb_tells}
@@ -92,7 +92,7 @@ AreRows p n row t f =
     ((j : ℕ) → j < row → j < n → f j ≡ t j j % p) × ((j : ℕ) → row ≤ j → j < n → f j ≡ t (row - 1) j % p)
 
 module _ (p n row : ℕ) (t : ℕ → ℕ → ℕ) (old new : ℕ → ℕ) (some : 0 < p) (first : 1 ≤ row) (steps : AreDifferences p n t) (rows : AreRows p n row t old)
-  (kept : (j : ℕ) → j < row → new j ≡ old j) (made : (j : ℕ) → row ≤ j → j < n → new j ≡ difference_mod p (old j) (old (j - 1))) where
+    (kept : (j : ℕ) → j < row → new j ≡ old j) (made : (j : ℕ) → row ≤ j → j < n → new j ≡ difference_mod p (old j) (old (j - 1))) where
   -- the number before one of the row
   before : (j : ℕ) → row ≤ j → j < n → old (j - 1) ≡ t (row - 1) (j - 1) % p
   before j le lt = elim (cases_lt (j - 1) row) [

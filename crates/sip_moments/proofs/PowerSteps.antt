@@ -1,12 +1,11 @@
 -- One step of a power, of the sum of a polynomial's ends, and of Pascal's rule.
 use Rattle.std.proofs.Common.{◌≡◌, ◌≢◌, ℕ, zero, suc, ◌+◌, ◌*◌, ◌-◌, ◌%◌, ◌^◌, ◌<◌, ◌≤◌, List, [], ◌∷◌, length, get_or, drop, map, sum, refl, ap, sym, ◌∙◌, add-one, arith}
 use Rattle.std.proofs.Math.Nat.{mod-add-mod, mod-eq_of_lt, pow-zero, pow-suc, pow-le-pow_right}
-use Rattle.std.proofs.lemmas.Nat.{mul-mod_first, mul-mod_second}
+use Rattle.std.proofs.lemmas.Nat.{mul-mod_first}
 use Rattle.std.proofs.lemmas.List.{drop_more}
 use Rattle.std.proofs.lemmas.List.Sums.{sum_by-cons}
 use Rattle.sip_counts.specs.Rounds.{sum_of_ends}
-use Rattle.sip_field.specs.Residue.{difference_mod}
-use Rattle.sip_moments.specs.Honest.{binomial, term}
+use Rattle.sip_moments.specs.Honest.{binomial}
 use Rattle.sip_moments.specs.Moments.{most_degree}
 use Rattle.sip_moments.proofs.Binomials.{binomial-most}
 

@@ -23,12 +23,7 @@ use sip_vector::{Level, Spot};
 ///
 /// O(m) for m entries that are not 0, without memory: at degree k less than 4k `times` for each pair
 /// of neighbours, and k for an entry at an even place whose neighbour is 0.
-pub(crate) fn fill_polynomial<F: Field>(
-    poly: &mut [F],
-    degree: u8,
-    level: &Level<F>,
-    expected: F,
-)
+pub(crate) fn fill_polynomial<F: Field>(poly: &mut [F], degree: u8, level: &Level<F>, expected: F)
     requires some { 1 ≤ degree }
     requires degree { degree ≤ most_degree }
     requires coefficients { length poly.old ≡ degree + 1 }

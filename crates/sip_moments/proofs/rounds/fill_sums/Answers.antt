@@ -1,4 +1,4 @@
-use Rattle.std.proofs.Common.{ℕ, ◌+◌, ◌∙◌, arith}
+use Rattle.std.proofs.Common.{ℕ, ◌∙◌, arith}
 use Rattle.sip_sums.specs.Pairs.{neighbours_of, pairs_of}
 use Rattle.sip_moments.specs.Powers.{mixed}
 use Rattle.sip_moments.proofs.MixedSums.{sums-last, sums-next}

@@ -1,4 +1,4 @@
-use Rattle.std.proofs.Common.{ℕ, length, ◌∙◌, arith}
+use Rattle.std.proofs.Common.{length, ◌∙◌, arith}
 use Rattle.sip_moments.proofs.MixedSums.{rows_next}
 use Rattle.sip_moments.proofs.Places.{at}
 use Rattle.sip_moments.proofs.rounds.take_differences.Goals as goal
