@@ -156,6 +156,11 @@ impl<'a> Prover<'a> {
         &self.poly[..=self.degree]
     }
 
+    /// The same with zeros above the degree.
+    pub fn padded_poly(&self) -> Poly {
+        self.poly
+    }
+
     /// Goes to the next round, of which there has to be one.
     pub fn learn<S: Products>(&mut self, r: u64) {
         let expected = value_at(self.poly(), r);

@@ -51,8 +51,9 @@ impl<F: Field> Model for MomentProver<F> {
 impl<F: Field> MomentProver<F> {
     /// Begins the moment of this degree, from 3 to 8, of a vector's numbers. The vector's weight to
     /// this power is to be at most 2^60 - 1: then a claim has room for the moment. It takes memory
-    /// for the entries that are not 0; no later call takes any. O(m) for m of them, and slower
-    /// where additions are pending in the vector.
+    /// for the entries that are not 0; no later call takes any. O(m) for m of them, with at most
+    /// 3(k - 1) `times` for each pair of neighbours at degree k, and slower where additions are
+    /// pending in the vector.
     pub fn start(alloc: Global, vector: &Vector, degree: u8) -> Result<MomentProver<F>, OutOfMemory>
         requires degree { IsDegree degree }
         requires light { vector.now.weight ^ degree ≤ most_claim }
@@ -119,9 +120,8 @@ impl<F: Field> MomentProver<F> {
     /// Goes to the next round by the challenge of this one: the list is folded, in place, and the
     /// polynomial of the next round is made, if one is left.
     ///
-    /// O(m) for the entries that are not 0, without memory. At degree k one `times` for each pair of
-    /// neighbours to fold it, and then less than 4k for each pair of the folded list in which
-    /// neither entry is 0, and k for each other entry at an even place.
+    /// O(m) for the entries that are not 0, without memory: one `times` to fold a pair of neighbours,
+    /// and at degree k at most 3(k - 1) for each pair of the folded list.
     pub fn learn(&mut self, r: F)
         requires { 2 ≤ length self.old.level }
         ensures learnt { self.new ≡ learnt F.MODULUS self.old (F.number r) }
