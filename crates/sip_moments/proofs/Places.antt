@@ -16,11 +16,6 @@ next P ns i n lt before here j within = elim (cases_lt j i) [
       subst (λ m. P m (get_or (set ns i n) m 0)) same (subst (P i) (sym (get_or-set_same ns i n 0 lt)) here)
 ]
 
--- those behind it are as they were
-pub behind : (ms ns : List ℕ) (i n : ℕ) → ((j : ℕ) → i ≤ j → get_or ns j 0 ≡ get_or ms j 0) → (j : ℕ) → i + 1 ≤ j → get_or (set ns i n) j 0 ≡ get_or ms j 0
-behind ms ns i n same j le =
-    get_or-set_other ns i j n 0 (λ e. absurd (omega (arith, e, le))) ∙ same j (omega (arith, le))
-
 -- a list whose numbers are those of a function
 places_from : (f : ℕ → ℕ) (ns : List ℕ) (a n : ℕ) → length ns ≡ n → ((j : ℕ) → j < n → get_or ns j 0 ≡ f (a + j)) → ns ≡ map f (range_with_len a n)
 places_from f [] a zero long is = refl
@@ -40,6 +35,10 @@ module _ {F : Type 0} (number : F → ℕ) where
   abbrev pub at : List F → ℕ → ℕ
   at xs i = get_or (map number xs) i 0
 
+  -- from a place on, the numbers are those of another slice
+  abbrev pub AreSameFrom : ℕ → List F → List F → Type 0
+  AreSameFrom i xs ys = (j : ℕ) → i ≤ j → at xs j ≡ at ys j
+
   pub read : (xs : List F) (i : ℕ) (x : F) → i < length xs → x ≡ get_or xs i x → number x ≡ at xs i
   read xs i x lt is = ap number is ∙ sym (get_or-map number xs i x 0 lt)
 
@@ -58,7 +57,7 @@ module _ {F : Type 0} (number : F → ℕ) where
   value-next P xs i v lt before here j le =
       subst (λ ns. P j (get_or ns j 0)) (sym (map-set number xs i v)) (next P (map number xs) i (number v) (within xs i lt) before here j le)
 
-  pub values-behind : (ys xs : List F) (i : ℕ) (v : F) → ((j : ℕ) → i ≤ j → at xs j ≡ at ys j) → (j : ℕ) → i + 1 ≤ j → at (set xs i v) j ≡ at ys j
+  pub values-behind : (ys xs : List F) (i : ℕ) (v : F) → AreSameFrom i xs ys → AreSameFrom (i + 1) (set xs i v) ys
   values-behind ys xs i v same j le =
       kept xs i j v (λ e. absurd (omega (arith, e, le))) ∙ same j (omega (arith, le))
 
