@@ -7,6 +7,7 @@ mod plain;
 use plain::blocks::Seat;
 use plain::field::{of, plus};
 use plain::lines::Writer;
+use plain::moments::{Check, Poly, Prover};
 use plain::siblings::Tables;
 use plain::streams::{Made, NARROW, Reader, Update, WIDE};
 use plain::vector::Gathering;
@@ -186,6 +187,49 @@ fn siblings<D: Design>(depth: u32) {
     line("siblings", depth, vector.list().len() as u64, time, sum);
 }
 
+/// A vector of updates of 1, a million or as many as leave room for a moment of the degree in a claim.
+fn ones<D: Design>(depth: u32, degree: u32) -> D::Vector {
+    let is_light = |count: &u64| count.checked_pow(degree).is_some_and(|moment| moment < 1 << 60);
+    let count = (1..=UPDATES).rev().find(is_light).unwrap_or_default();
+    let mut vector = D::Vector::new(depth);
+    let mut generator = Generator(STREAM_SEED);
+    for _ in 0..count {
+        vector.add(generator.update(depth).item, 1);
+    }
+    vector.settle();
+    vector
+}
+
+/// The claim of a moment, and the polynomials of all rounds.
+fn all_polynomials<D: Design>(seat: &Seat, vector: &D::Vector, degree: u32) -> (i64, Vec<Poly>) {
+    let (claim, mut prover) = Prover::new(seat.len() as u32, vector.list(), degree as usize);
+    let mut polynomials = vec![prover.padded_poly()];
+    for &r in &seat[..seat.len() - 1] {
+        prover.learn::<D::Products>(r);
+        polynomials.push(prover.padded_poly());
+    }
+    (claim, polynomials)
+}
+
+/// The helper's end of a moment, from the vector to the last polynomial.
+fn moment<D: Design>(name: &str, depth: u32, degree: u32) {
+    let (seat, vector) = (seat(depth), ones::<D>(depth, degree));
+    let (time, (_, polynomials)) = least(QUERIES, || all_polynomials::<D>(&seat, &vector, degree));
+    let checksum = polynomials.iter().flatten().fold(0u64, |sum, coefficient| sum.wrapping_mul(3).wrapping_add(*coefficient));
+    line(name, depth, vector.list().len() as u64, time, checksum);
+}
+
+/// The verifier's tests of all rounds of a moment.
+fn moment_check<D: Design>(name: &str, depth: u32, degree: u32) {
+    let (seat, vector) = (seat(depth), ones::<D>(depth, degree));
+    let (claim, polynomials) = all_polynomials::<D>(&seat, &vector, degree);
+    let (time, count) = least(READ, || {
+        let mut check = Check::new(claim);
+        polynomials.iter().zip(&seat).filter(|(poly, r)| check.round(&poly[..=degree as usize], **r)).count()
+    });
+    line(name, depth, u64::from(depth), time, count as u64);
+}
+
 fn part<D: Design>(name: &str, depth: u32) {
     match name {
         "updates" => updates(depth),
@@ -200,6 +244,10 @@ fn part<D: Design>(name: &str, depth: u32) {
         "text" => text::<D>(depth),
         "vector" => vector::<D>(depth),
         "siblings" => siblings::<D>(depth),
+        "moment3" => moment::<D>(name, depth, 3),
+        "moment8" => moment::<D>(name, depth, 8),
+        "momentcheck3" => moment_check::<D>(name, depth, 3),
+        "momentcheck8" => moment_check::<D>(name, depth, 8),
         _ => eprintln!("yardstick: no such part: {name}"),
     }
 }

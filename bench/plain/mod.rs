@@ -12,6 +12,7 @@ pub mod helper;
 pub mod hitters;
 pub mod interval;
 pub mod lines;
+pub mod moments;
 pub mod products;
 pub mod questions;
 pub mod siblings;

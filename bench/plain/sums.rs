@@ -27,9 +27,9 @@ fn poly_of(expected: u64, c0: u64, c2: u64) -> Poly {
 
 /// A place of a level and what is there.
 #[derive(Clone, Copy, Default)]
-struct Spot {
-    index: u64,
-    value: u64,
+pub struct Spot {
+    pub index: u64,
+    pub value: u64,
 }
 
 impl From<Entry> for Spot {
@@ -39,7 +39,7 @@ impl From<Entry> for Spot {
 }
 
 /// A number for the even places, and 0 for the odd ones.
-fn if_even(index: u64, value: u64) -> u64 {
+pub fn if_even(index: u64, value: u64) -> u64 {
     value & (index & 1).wrapping_sub(1)
 }
 
@@ -63,7 +63,7 @@ fn fold_spots<S: Products>(count: usize, spot: impl Fn(usize) -> Spot, r: u64, m
 }
 
 /// One list, as far as it is folded.
-enum Level<'a> {
+pub enum Level<'a> {
     Whole(&'a [Entry]),
     Sparse(Vec<Spot>),
     Dense(Vec<u64>),
@@ -72,7 +72,7 @@ enum Level<'a> {
 use Level::{Dense, Sparse, Whole};
 
 impl Level<'_> {
-    fn len(&self) -> usize {
+    pub fn len(&self) -> usize {
         match self {
             Whole(list) => list.len(),
             Sparse(spots) => spots.len(),
@@ -98,7 +98,7 @@ impl Level<'_> {
     }
 
     /// Folds a level that is not dense, into one of so many places that is dense or not, and gives its spots.
-    fn fold_into<S: Products>(&mut self, places: u64, is_dense: bool, r: u64, mut each: impl FnMut(Spot)) {
+    pub fn fold_into<S: Products>(&mut self, places: u64, is_dense: bool, r: u64, mut each: impl FnMut(Spot)) {
         if is_dense {
             let mut values = vec![0; places as usize];
             let give = |spot: Spot| {
@@ -141,7 +141,7 @@ impl Level<'_> {
 
 /// Folds a dense level, and gives each pair of the next one.
 #[inline]
-fn fold_dense<S: Products>(values: &mut Vec<u64>, r: u64, mut each: impl FnMut(u64, u64, u64)) {
+pub fn fold_dense<S: Products>(values: &mut Vec<u64>, r: u64, mut each: impl FnMut(u64, u64, u64)) {
     let pairs = values.len() / 4;
     for pair in 0..pairs {
         let [a, b, c, d] = *values[4 * pair..].first_chunk().unwrap();

@@ -1,10 +1,11 @@
 -- The polynomial of a folded list: its values are the sums of the powers of the list folded once
 -- more, and those at 0 and 1 add up to that of the list.
-use Rattle.std.proofs.Common.{◌≡◌, ℕ, zero, suc, ◌+◌, ◌*◌, ◌-◌, ◌%◌, ◌^◌, ◌<◌, List, [], ◌∷◌, length, map, All, refl, ap, sym, ◌∙◌, arith, add-one}
+use Rattle.std.proofs.Common.{◌≡◌, ℕ, zero, suc, ◌+◌, ◌*◌, ◌-◌, ◌%◌, ◌^◌, ◌<◌, List, [], ◌∷◌, length, map, sum_by, All, refl, ap, sym, ◌∙◌, arith, add-one}
 use Rattle.std.specs.List.{range_with_len}
 use Rattle.std.proofs.Math.Nat.{pow-zero}
 use Rattle.std.proofs.lemmas.Nat.{mul-pow, pow-mod}
 use Rattle.std.proofs.lemmas.List.Elements.{All-head, All-tail}
+use Rattle.std.proofs.lemmas.List.Sums.{sum_by-cons}
 use Rattle.sip_field.specs.Residue.{difference_mod}
 use Rattle.sip_vector.specs.Extensions.{line}
 use Rattle.sip_vector.proofs.TreeResidues.{mod_plus}
@@ -22,6 +23,11 @@ use Rattle.sip_moments.proofs.RangeSums.{ends-mod, value-range}
 unfoldable pub powers : ℕ → List ℕ → ℕ
 powers k [] = 0
 powers k (x ∷ xs) = x ^ k + powers k xs
+
+pub powers-sum : (k : ℕ) (xs : List ℕ) → powers k xs ≡ sum_by (λ x. x ^ k) xs
+unfolding powers
+powers-sum k [] = refl
+powers-sum k (x ∷ xs) = ap (λ n. x ^ k + n) (powers-sum k xs) ∙ sym (sum_by-cons (λ y. y ^ k) x xs)
 
 -- powers of what is the same modulo p
 pub same_power : (p k a b : ℕ) → a % p ≡ b % p → a ^ k % p ≡ b ^ k % p

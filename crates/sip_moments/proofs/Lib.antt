@@ -5,8 +5,9 @@ pub mod Residues
 pub mod TrueRounds
 pub mod WrongMoments
 pub mod MomentCube
-pub mod PairTerms
 pub mod IntPowers
 pub mod PowerSums
 pub mod CallSteps
 pub mod PowerSteps
+pub mod Places
+pub mod MixedSums

@@ -1,12 +1,11 @@
 -- One step of a power, of the sum of a polynomial's ends, and of Pascal's rule.
 use Rattle.std.proofs.Common.{◌≡◌, ◌≢◌, ℕ, zero, suc, ◌+◌, ◌*◌, ◌-◌, ◌%◌, ◌^◌, ◌<◌, ◌≤◌, List, [], ◌∷◌, length, get_or, drop, map, sum, refl, ap, sym, ◌∙◌, add-one, arith}
 use Rattle.std.proofs.Math.Nat.{mod-add-mod, mod-eq_of_lt, pow-zero, pow-suc, pow-le-pow_right}
-use Rattle.std.proofs.lemmas.Nat.{mul-mod_first, mul-mod_second}
+use Rattle.std.proofs.lemmas.Nat.{mul-mod_first}
 use Rattle.std.proofs.lemmas.List.{drop_more}
 use Rattle.std.proofs.lemmas.List.Sums.{sum_by-cons}
 use Rattle.sip_counts.specs.Rounds.{sum_of_ends}
-use Rattle.sip_field.specs.Residue.{difference_mod}
-use Rattle.sip_moments.specs.Honest.{binomial, term}
+use Rattle.sip_moments.specs.Honest.{binomial}
 use Rattle.sip_moments.specs.Moments.{most_degree}
 use Rattle.sip_moments.proofs.Binomials.{binomial-most}
 
@@ -14,6 +13,10 @@ use Rattle.sip_moments.proofs.Binomials.{binomial-most}
 
 pub power-first : (p x v : ℕ) → v ≡ 1 % p → v ≡ (x ^ 0) % p
 power-first p x v e = e ∙ ap (λ n. n % p) (sym (pow-zero x))
+
+pub first-power : (p x : ℕ) → x < p → x ≡ (x ^ 1) % p
+first-power p x below =
+    sym (ap (λ n. n % p) (pow-suc x 0 ∙ ap (λ n. n * x) (pow-zero x) ∙ (let e : 1 * x ≡ x = omega arith in e)) ∙ mod-eq_of_lt below)
 
 pub power-next : (p x i v w : ℕ) → v ≡ (x ^ i) % p → w ≡ (v * x) % p → w ≡ (x ^ (i + 1)) % p
 power-next p x i v w e f =
@@ -65,15 +68,3 @@ binomial-small n m few =
 pub none_of_nothing : (m : ℕ) → m ≢ 0 → 0 ≡ binomial 0 m
 none_of_nothing zero some = absurd (some refl)
 none_of_nothing (suc m) some = refl
-
--- ---- the term of a pair
-
-pub term-steps : (p k m u w d b i v x y z : ℕ) → d ≡ difference_mod p w u → b ≡ binomial k m → i ≡ b % p → v ≡ (u ^ (k - m)) % p → x ≡ (i * v) % p → y ≡ (d ^ m) % p → z ≡ (x * y) % p
-    → z ≡ term p k m u w % p
-term-steps p k m u w d b i v x y z is_d is_b is_i is_v is_x is_y is_z =
-    let first : x ≡ (binomial k m * u ^ (k - m)) % p =
-    is_x ∙ ap (λ n. (n * v) % p) (is_i ∙ ap (λ n. n % p) is_b) ∙ ap (λ n. ((binomial k m % p) * n) % p) is_v
-    ∙ mul-mod_first (binomial k m) ((u ^ (k - m)) % p) p ∙ mul-mod_second (binomial k m) (u ^ (k - m)) p in
-    is_z ∙ ap (λ n. (n * y) % p) first ∙ ap (λ n. (((binomial k m * u ^ (k - m)) % p) * n) % p) is_y
-    ∙ mul-mod_first (binomial k m * u ^ (k - m)) ((d ^ m) % p) p ∙ mul-mod_second (binomial k m * u ^ (k - m)) (d ^ m) p
-    ∙ ap (λ n. (binomial k m * u ^ (k - m) * n ^ m) % p) is_d

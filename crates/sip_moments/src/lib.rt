@@ -47,14 +47,18 @@
 //! | `MomentCheck::reveal`, `MomentCheck::depth`, `MomentCheck::degree`, `MomentCheck::spent` | 0 |
 //! | `MomentCheck::finish` | k |
 //!
-//! A prover keeps 16 bytes for each entry of its vector that is not 0, and takes them at its start,
-//! in a time that is linear in these entries. With n pairs of neighbours left:
+//! A prover keeps 16 bytes for each entry of its vector that is not 0, and 8 for each coefficient
+//! of a polynomial. It takes them at its start, in a time that is linear in these entries. A pair is
+//! two neighbours of a list that are not both 0:
 //!
 //! | Call | `times` |
 //! |---|---|
-//! | `MomentProver::coefficient` at degree k | (k + 2)n |
-//! | `MomentProver::learn` | n |
+//! | `MomentProver::start` at degree k | at most 3(k - 1) for each pair, and k + 1 |
+//! | `MomentProver::learn` at degree k | 1 for each pair, at most 3(k - 1) for each of the folded list, and 2(k + 1) |
+//! | `MomentProver::polynomial`, `MomentProver::coefficient` | 0 |
 //! | `MomentProver::claim`, `MomentProver::degree`, `MomentProver::rounds_left` | 0 |
+//!
+//! Of a pair with a 0 the odd entry wants none of these, and the even one k.
 #![tactic(auto)]
 
 mod check;
@@ -64,6 +68,7 @@ pub mod laws;
 mod powers;
 mod prover;
 pub mod proving;
+mod rounds;
 
 pub use check::MomentCheck;
 pub use prover::MomentProver;

@@ -7,6 +7,7 @@ pub mod AcceptedLists
 pub mod ResidueProducts
 pub mod RoundSums
 pub mod DegreeTwo
+pub mod WrongSmallClaims
 pub mod WrongRounds
 pub mod ReadSums
 pub mod SaidSums

@@ -1,6 +1,6 @@
 use Rattle.std.proofs.Common.{◌-◌, arith}
 use Rattle.sip_moments.proofs.PowerSteps.{pascal, binomial-small}
-use Rattle.sip_moments.proofs.powers.+binomial.Goals as goal
+use Rattle.sip_moments.proofs.rounds.+binomial.Goals as goal
 
 pub overflow_add-result : goal.overflow_add-result
 overflow_add-result t c =
