@@ -1,5 +1,5 @@
 -- A claim that is not the moment is accepted at few vectors of challenges.
-use Rattle.std.proofs.Common.{◌≡◌, ◌≢◌, ℕ, ◌*◌, ◌-◌, ◌/◌, ◌^◌, ◌<◌, ◌≤◌, Bool, true, List, length, sum_by, All, ℤ, nat_abs, refl, ap, sym, ◌∙◌, arith, inl, inr}
+use Rattle.std.proofs.Common.{◌≡◌, ◌≢◌, ℕ, ◌*◌, ◌-◌, ◌/◌, ◌^◌, ◌<◌, ◌≤◌, List, length, sum_by, ℤ, nat_abs, refl, ap, sym, ◌∙◌, arith}
 use Rattle.std.proofs.lemmas.Bool.{and_parts}
 use Rattle.sip_field.specs.Moduli.{m61_modulus}
 use Rattle.sip_field.specs.Prime.{IsPrime}
@@ -11,7 +11,7 @@ use Rattle.sip_counts.specs.Rounds.{adds_up}
 use Rattle.sip_counts.specs.Strategies.{replies}
 use Rattle.sip_sums.specs.AcceptsSum.{is_small_claim}
 use Rattle.sip_sums.proofs.WrongSmallClaims.{few_wrong_small}
-use Rattle.sip_moments.specs.AcceptsMoment.{accepts_stated, power_at}
+use Rattle.sip_moments.specs.AcceptsMoment.{accepts_stated}
 use Rattle.sip_moments.specs.Moments.{moment}
 use Rattle.sip_moments.proofs.PowerSums.{moment-light}
 use Rattle.sip_moments.proofs.Residues.{residue_of_moment}

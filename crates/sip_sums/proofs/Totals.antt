@@ -1,5 +1,5 @@
 -- Which sum each query is for.
-use Rattle.std.proofs.Common.{◌≡◌, ℕ, ◌+◌, ◌*◌, ◌≤◌, cond, List, [], ◌∷◌, length, map, filter, ℤ, pos, ◌+ℤ◌, ◌*ℤ◌, nat_abs, Some, refl, ap, ◌∙◌, inl, inr, arith}
+use Rattle.std.proofs.Common.{◌≡◌, ℕ, ◌+◌, ◌≤◌, cond, List, [], ◌∷◌, length, map, filter, ℤ, pos, ◌+ℤ◌, ◌*ℤ◌, nat_abs, Some, refl, ap, ◌∙◌, inl, inr, arith}
 use Rattle.std.specs.List.{enumerate_from, range_with_len}
 use Rattle.std.proofs.lemmas.Bool.{cases_Bool}
 use Rattle.std.proofs.lemmas.Option.{same_Some}

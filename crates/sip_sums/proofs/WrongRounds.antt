@@ -1,12 +1,12 @@
 -- A claim that is not the sum is accepted at few vectors of challenges.
-use Rattle.std.proofs.Common.{◌≡◌, ◌≢◌, ℕ, ◌*◌, ◌-◌, ◌/◌, ◌<◌, ◌≤◌, ◌^◌, Bool, true, List, length, All, ℤ, nat_abs, ap, sym, ◌∙◌, arith, inl, inr}
+use Rattle.std.proofs.Common.{◌≡◌, ◌≢◌, ℕ, ◌*◌, ◌-◌, ◌/◌, ◌<◌, ◌≤◌, ◌^◌, List, length, ℤ, nat_abs, ap, sym, ◌∙◌, arith}
 use Rattle.std.proofs.lemmas.Bool.{and_parts}
 use Rattle.sip_field.specs.Prime.{IsPrime}
 use Rattle.sip_field.specs.Residue.{residue}
 use Rattle.sip_counts.specs.Counts.{counted}
 use Rattle.sip_counts.specs.Rounds.{adds_up as rounds_add_up}
 use Rattle.sip_counts.specs.Strategies.{replies}
-use Rattle.sip_sums.specs.AcceptsSum.{Coefficients, adds_up, product_at, listed, total, is_small_claim, accepts_stated}
+use Rattle.sip_sums.specs.AcceptsSum.{Coefficients, product_at, listed, total, is_small_claim, accepts_stated}
 use Rattle.sip_sums.proofs.ResidueProducts.{residue_of_total}
 use Rattle.sip_sums.proofs.DegreeTwo.{adds_up-listed, are_rounds, last_sum, replies-listed, rounds, sums}
 use Rattle.sip_sums.proofs.WrongSmallClaims.{few_wrong_small}
