@@ -1,6 +1,6 @@
 //! The running numbers of a run's seats, one by one: what a caller needs that asks by itself.
 
-ghost use Rattle.std.specs.Prelude.{◌≡◌, false, is_some, IfSome, MatchOption, None, IsTrue, ℕ};
+ghost use Rattle.std.specs.Prelude.{◌≡◌, is_some, length, IfSome, IsTrue, ℕ};
 ghost use Rattle.sip_verifier.specs.QuerySeats.{is_seat, point_is, root_is};
 ghost use Rattle.sip_verifier.specs.SeatNumbers.{IsPointAt, IsRootAt, KeepsOne, has_root, has_root_at, point_side, point_side_at, queries_of};
 
@@ -48,6 +48,7 @@ impl Seats {
         ensures asked { is_some result ≡ has_root_at (queries_of self.now) k }
         ensures kept { IfSome result
             (λ root. KeepsOne self.now k root.now.seat (root_is root.now.value)) }
+        ensures levels { IfSome result (λ root. length root.now.seat ≡ self.now.depth) }
         ensures stands { IfSome result (λ root. IsRootAt self.now k root.now.seat root.now.value) }
     {
         self.all().get(k)?.root()
@@ -61,6 +62,7 @@ impl Seats {
         ensures asked { is_some result ≡ is_some (point_side_at (queries_of self.now) k) }
         ensures kept { IfSome result
             (λ point. KeepsOne self.now k point.now.seat (point_is point.now.value)) }
+        ensures levels { IfSome result (λ point. length point.now.seat ≡ self.now.depth) }
         ensures stands { IfSome result
             (λ point. IsPointAt self.now k point.now.seat point.now.value) }
     {
