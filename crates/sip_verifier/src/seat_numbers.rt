@@ -42,8 +42,9 @@ impl QuerySeat {
 impl Seats {
     /// The root that the seat `k`, counted from 0, keeps of side 0's vector, with its challenges.
     ///
-    /// `None` exactly where there is no such seat, or its query is not for a sub-vector. It is the root of the stream so far,
-    /// whichever interval the query has: so [`ask_sub`](crate::ask_sub) can ask for another one.
+    /// `None` exactly where there is no such seat, or its query is not for a sub-vector. It is the
+    /// root of the stream so far, whichever interval the query has: so [`ask_sub`](crate::ask_sub)
+    /// can ask for another one.
     pub fn root(&self, k: usize) -> Option<&Root<M61, CAP>>
         ensures asked { is_some result ≡ has_root_at (queries_of self.now) k }
         ensures kept { IfSome result
@@ -54,10 +55,12 @@ impl Seats {
         self.all().get(k)?.root()
     }
 
-    /// The extension that the seat `k`, counted from 0, keeps of a side's vector, with its challenges.
+    /// The extension that the seat `k`, counted from 0, keeps of a side's vector, with its
+    /// challenges.
     ///
-    /// `None` exactly where there is no such seat, or its query is for neither a range sum nor a second moment. The side is that
-    /// of the query; the extension is that of the stream so far, whichever interval the query has.
+    /// `None` exactly where there is no such seat, or its query is for neither a range sum nor a
+    /// second moment. The side is that of the query; the extension is that of the stream so far,
+    /// whichever interval the query has.
     pub fn point(&self, k: usize) -> Option<&Point<M61, CAP>>
         ensures asked { is_some result ≡ is_some (point_side_at (queries_of self.now) k) }
         ensures kept { IfSome result

@@ -25,19 +25,21 @@ use sip_tree::Root;
 use sip_vector::{CAP, Entry, Query};
 use sip_wire::{Frame, Version};
 
-/// Asks for the entries from `lo` to `hi`, both included, of the vector that has this root, takes the replies and judges them, as
-/// [`Session::ask`](crate::Session::ask) does for a query of a session. After [`Verdict::Pairs`] the pairs of the answer are in
-/// `entries`, rising, and after any other answer none are.
+/// Asks for the entries from `lo` to `hi`, both included, of the vector that has this root, takes
+/// the replies and judges them, as [`Session::ask`](crate::Session::ask) does for a query of a
+/// session. After [`Verdict::Pairs`] the pairs of the answer are in `entries`, rising, and after
+/// any other answer none are.
 ///
-/// The depth is the number of the root's challenges: at most 32 in version 1, and 48 in version 2. No memory is taken: `entries` has
-/// room for the longest answer, one for each item of the interval, or 65,536 if those are more, and keeps it. The time is linear in
-/// the replies and in that room. A root is asked once: the other end knows all but one of its challenges from then on.
+/// The depth is the number of the root's challenges: at most 32 in version 1, and 48 in version 2.
+/// No memory is taken: `entries` has room for the longest answer, one for each item of the
+/// interval, or 65,536 if those are more, and keeps it. The time is linear in the replies and in
+/// that room. A root is asked once: the other end knows all but one of its challenges from then on.
 ///
 /// # Errors
 ///
-/// As of [`Session::ask`](crate::Session::ask). `PeerFault`: a reply is then missing or not whole, and those before it have no fault.
-/// `KeepFault`: what came of the last reply was not judged. `OutOfMemory` is the one or the other. Each comes only where that port's
-/// own count of them rose.
+/// As of [`Session::ask`](crate::Session::ask). `PeerFault`: a reply is then missing or not whole,
+/// and those before it have no fault. `KeepFault`: what came of the last reply was not judged.
+/// `OutOfMemory` is the one or the other. Each comes only where that port's own count of them rose.
 pub fn ask_sub<L: Link, C: Sink>(
     version: Version,
     root: &Root<M61, CAP>,
