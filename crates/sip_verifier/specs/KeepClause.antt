@@ -4,9 +4,9 @@
 -- then the bytes that were received. It is whole where every query was accepted, where one was
 -- rejected, and where the report failed; and where the run stopped before its first query, with a
 -- head behind which nothing was received. Where the link failed its head is whole, and each frame
--- that was received whole is kept, and nothing of one that was not. Where keeping it failed, it is a front of the transcript. Where the
--- seed gave no challenges, nothing is kept. Where memory ran out, it is the one or the other. Of a
--- port that does not tell what it has, nothing is said.
+-- that was received whole is kept, and nothing of one that was not. Where keeping it failed, it is
+-- a front of the transcript. Where the seed gave no challenges, nothing is kept. Where memory ran
+-- out, it is the one or the other. Of a port that does not tell what it has, nothing is said.
 use Rattle.std.specs.Prelude.{◌≡◌, ◌⊎◌, ℕ, List, [], ◌++◌, Some, Err, IfSome}
 use Rattle.sip_ports.specs.Ports.{heard}
 use Rattle.sip_wire.specs.declared.kind.Place.{Place}

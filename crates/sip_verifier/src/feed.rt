@@ -1,6 +1,6 @@
 //! A stream on its way to the helper.
 
-ghost use Rattle.std.specs.Prelude.{◌≡◌, ◌≢◌, ◌<◌, ◌≤◌, ◌^◌, ◌==◌, ◌++◌, ◌∷◌, [], ℕ, List, length, pos, false, OnOk, IsSome};
+ghost use Rattle.std.specs.Prelude.{◌≡◌, ◌≢◌, ◌<◌, ◌≤◌, ◌^◌, ◌==◌, ◌++◌, ◌∷◌, [], ℕ, List, length, pos, false, IsSome};
 ghost use Rattle.std.specs.Io.KnownBytes.{Consumes};
 ghost use Rattle.std.specs.Result.{is_err};
 ghost use Rattle.sip_ports.specs.Ports.{HasCause, Lasts, SendsWhole};
@@ -146,7 +146,7 @@ impl Feed {
     ///
     /// # Errors
     ///
-    /// Those of the sink, which a front of the frame has then reached that is shorter than it. The feed is then spent.
+    /// Those of the sink, which a front of the frame has then reached that is shorter than it. The feed is then spent, and nothing waits.
     #[inline(never)]
     pub fn send<K: Sink>(&mut self, sink: &mut K) -> Result<(), PortStop>
         requires unspent { self.old.is_spent ≡ false }
@@ -154,7 +154,7 @@ impl Feed {
         ensures talk { SendsWhole (K.talk sink.old) (K.talk sink.new) result
             (spelling self.old.version (messages.Updates (record { items = self.old.waiting }))) }
         ensures version { self.new.version ≡ self.old.version }
-        ensures waiting { OnOk result (self.new.waiting ≡ []) }
+        ensures waiting { self.new.waiting ≡ [] }
         ensures spent { self.new.is_spent ≡ is_err result }
         ensures cause { HasCause K.faults K.wants K.is_sure sink.old sink.new result }
     {
@@ -169,7 +169,7 @@ impl Feed {
     ///
     /// # Errors
     ///
-    /// Those of the sink, which a front of the frame has then reached that is shorter than it. The feed is then spent.
+    /// Those of the sink, which a front of the frame has then reached that is shorter than it. The feed is then spent, and nothing waits.
     pub fn update<K: Sink>(&mut self, sink: &mut K, update: &Update) -> Result<(), PortStop>
         requires unspent { self.old.is_spent ≡ false }
         requires room { length self.old.waiting < most_rows }
@@ -178,9 +178,8 @@ impl Feed {
         ensures talk { SendsWhole (K.talk sink.old)
             (K.talk sink.new) result (due_with self.old.version self.old.waiting update.now) }
         ensures version { self.new.version ≡ self.old.version }
-        ensures waiting { OnOk result (self.new.waiting
-            ≡ waiting_with self.old.waiting update.now) }
-        ensures room { OnOk result (length self.new.waiting < most_rows) }
+        ensures waiting { self.new.waiting ≡ waiting_with self.old.waiting update.now }
+        ensures room { length self.new.waiting < most_rows }
         ensures spent { self.new.is_spent ≡ is_err result }
         ensures cause { HasCause K.faults K.wants K.is_sure sink.old sink.new result }
     {
@@ -196,14 +195,14 @@ impl Feed {
     /// # Errors
     ///
     /// Those of the sink, which a front of these bytes has then reached that is shorter than they are. The feed is then
-    /// spent.
+    /// spent, and nothing waits.
     #[inline(never)]
     pub fn finish<K: Sink>(&mut self, sink: &mut K) -> Result<(), PortStop>
         requires { self.old.is_spent ≡ false }
         ensures talk { SendsWhole (K.talk sink.old)
             (K.talk sink.new) result (due_at_end self.old.version self.old.waiting) }
         ensures version { self.new.version ≡ self.old.version }
-        ensures waiting { OnOk result (self.new.waiting ≡ []) }
+        ensures waiting { self.new.waiting ≡ [] }
         ensures spent { self.new.is_spent ≡ is_err result }
         ensures cause { HasCause K.faults K.wants K.is_sure sink.old sink.new result }
     {
@@ -220,7 +219,7 @@ impl Feed {
         ensures talk { SendsWhole (K.talk sink.old)
             (K.talk sink.new) result (due_at_end self.old.version self.old.waiting) }
         ensures version { self.new.version ≡ self.old.version }
-        ensures waiting { OnOk result (self.new.waiting ≡ []) }
+        ensures waiting { self.new.waiting ≡ [] }
         ensures cause { HasCause K.faults K.wants K.is_sure sink.old sink.new result }
     {
         if self.count > 0 {
