@@ -69,6 +69,7 @@ row_bounded (built kind) depth few can = few can
 row_bounded missing depth few can = absurd few
 
 module _ (version : Version) (depth : ℕ) (stream : List Update) (legal : IsLegal depth stream) where
+  -- what the count asks of the stream for a query
   abbrev Can : Query → Type 0
   Can query = OfKind version depth stream query (λ kind. kind.CanBeCounted)
 
@@ -137,6 +138,7 @@ module _ (version : Version) (depth : ℕ) (stream : List Update) (legal : IsLeg
 
   -- ---- queries in turn
 
+  -- no strategy has wrong answers to one of these queries alone accepted at more blocks than its bound
   all_bounded : (queries : List Query) → All (CanBeAsked depth) queries → All Can queries
       → AllByRecursion (IsBounded m61_modulus depth) (all_asked version depth stream queries)
   all_bounded [] asked can = tt
@@ -146,10 +148,12 @@ module _ (version : Version) (depth : ℕ) (stream : List Update) (legal : IsLeg
   )
 
   module _ (strategy : Strategy) where
+    -- where this line has a wrong answer, the strategy has one accepted at these challenges, behind those
     abbrev Misled : List Query → List ℕ → List ℕ → Written → Type 0
     Misled queries earlier v w = (w.question.replies ≡ [] → Can w.question.query) → w.answer ≢ answer depth stream w.question.query
         → is_misled depth strategy (all_asked version depth stream queries) earlier v ≡ true
 
+    -- accepted answers, their questions, and their lines
     abbrev Answered : Type 0
     Answered = List (Accepted version depth stream)
 
@@ -189,9 +193,11 @@ module _ (version : Version) (depth : ℕ) (stream : List Update) (legal : IsLeg
 
 -- ---- a run
 
+-- what is there is one list
 same_list : (xs ys : List ℕ) → Some xs ≡ Some ys → xs ≡ ys
 same_list xs ys e = cc
 
+-- where there are no questions there are no lines
 no_lines : (i : Inquiry) (x : Exchange) (done : Done i x) (P : Written → Type 0)
     → questions_of i x done ≡ []
     → All P (map (λ a. record { question = a.question; answer = a.answer }) done)
@@ -200,12 +206,15 @@ no_lines i x (a ∷ done) P e = absurd cc
 
 module _ (i : Inquiry) (x : Exchange) (can : All (CanBeAsked i.depth) i.queries) (some : 1 ≤ i.depth)
     (vector_is : (challenges : List ℕ) → i.challenges ≡ Some challenges → IsJointVector i x challenges) where
+  -- the stream that was read is legal
   all_legal : IsLegal i.depth (updates i x)
   all_legal = records_legal i.depth i.form x.stream
 
+  -- each query fits the depth
   fit : All (Fits i.depth) i.queries
   fit at other less = (can at other less).1
 
+  -- no joint strategy has wrong answers accepted at more vectors than the clause says
   few : All (CanBeCounted i x) i.queries → (strategy : Strategy) → IsOfBytes strategy
       → misled m61_modulus i.depth strategy (all_asked i.version i.depth (updates i x) i.queries)
       ≤ bounds (all_asked i.version i.depth (updates i x) i.queries) * m61_modulus ^ (length i.queries * i.depth - 1)
@@ -215,6 +224,7 @@ module _ (i : Inquiry) (x : Exchange) (can : All (CanBeAsked i.depth) i.queries)
       subst (λ n. misled m61_modulus i.depth strategy asked ≤ bounds asked * m61_modulus ^ (n * i.depth - 1)) size
       (few_misled m61_modulus i.depth strategy asked some bytes (all_bounded i.version i.depth (updates i x) all_legal i.queries can counted))
 
+  -- each line of accepted questions that the talk has
   misled_lines : (done : Done i x) (challenges : List ℕ) → i.challenges ≡ Some challenges → (strategy : Strategy)
       → AreInTalk i x (questions_of i x done)
       → RepliesSo strategy [] (questions_written (written_of i x can done))
@@ -248,6 +258,7 @@ joint_vector task x challenges is = record {
   below = challenges-below (challenge_count task) x.seed challenges is;
 }
 
+-- a run that keeps to the clause of verdicts keeps to both clauses of counts
 pub task_counted : (task : Task) (x : Exchange) → CanBeDone task → 1 ≤ task.depth → (status : Status) → VerdictClause (inquiry_of task x) x status → IsListed status
     → (count : CountClause (inquiry_of task x) x) × JointClause (inquiry_of task x) x count.lines
 task_counted task x can some = counted_jointly (inquiry_of task x) x can.asked some (joint_vector task x)
