@@ -60,7 +60,7 @@ power_fits version v most some =
   where
     by_tests : (a b c d e : Bool) → c ≡ a → d ≡ b → e ≡ true → (c && d) ≡ (((e && true) && a && true) && b)
     by_tests true b c d e ea eb ec = rw (ea, eb, ec) refl
-    by_tests false b c d e ea eb ec = rw (ea, eb, ec) refl
+    by_tests false b c d e ea eb ec = rw (ea, ec) refl
 
 -- a power without coefficients does not
 pub power_fits_not : (version : Version) (v : ArrayVec ℕ) → v.items ≡ [] → false ≡ fits version (messages.Power v)

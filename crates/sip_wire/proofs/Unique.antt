@@ -50,7 +50,7 @@ degree_by : ℕ → ℕ → ℕ
 degree_by byte len = if byte == 0x25 then len / 8 - 1 else 0
 
 -- one coefficient more than the degree, of eight bytes each
-power_length : (degree : ℕ) → size (repeat (suc degree) (element ∷ [])) / 8 - 1 ≡ degree
+power_length : (degree : ℕ) → (0 + size (repeat (suc degree) (element ∷ []))) / 8 - 1 ≡ degree
 power_length degree = let e = size_repeat (suc degree) (element ∷ []) in omega (arith, e)
 
 -- the byte of a kind and the length of its body say its degree

@@ -27,7 +27,7 @@ pub kind_by : ℕ → ℕ → Option Kind
 kind_by degree byte = find (λ kind. byte == byte_of kind) (all_kinds degree)
 
 -- the degree of a kind that is a power
-pub degree_in : Kind → ℕ
+unfoldable pub degree_in : Kind → ℕ
 degree_in (kinds.Power degree) = degree
 degree_in _ = 0
 
@@ -71,7 +71,7 @@ its_degree places.AskedMoment degree a = absurd cc
 
 -- the byte of a kind stands for it at a place that allows the kind
 pub kind_again : (place : Place) (kind : Kind) → allows place kind ≡ true → kind_at place (byte_of kind) ≡ Some kind
-unfolding kind_by
+unfolding kind_by degree_in
 kind_again place kinds.Open a = refl
 kind_again place kinds.Updates a = refl
 kind_again place kinds.EndStream a = refl

@@ -110,7 +110,15 @@ impl Message {
             Message::Leaves(rows) => !rows.is_empty() && rows_fit(version, rows),
             Message::Nodes(rows) => !rows.is_empty() && rows_fit(version, rows),
             Message::Refuse { code } => 1 <= *code && *code <= MOST_REFUSAL,
-            Message::AskLook { .. } | Message::AskMoment { .. } => true,
+            // Each number that a message can have has room in its field.
+            Message::AskLook { code, item } => {
+                let (_code, _item) = (*code, *item);
+                true
+            }
+            Message::AskMoment { side, degree } => {
+                let (_side, _degree) = (*side, *degree);
+                true
+            }
             Message::Found { flag, index } => is_found(*flag, *index),
             Message::Power(coefficients) => power_fits(version, coefficients),
         }
