@@ -1,7 +1,6 @@
 -- What the calls did that ask: what was said on the link, and what was written to the keeper of
 -- what is received.
-use Rattle.std.specs.Prelude.{◌≡◌, ◌≢◌, ℕ, List, [], ◌∷◌, ◌++◌, flat_map, Option, None, Result, Ok, Err, IsTrue}
-use Rattle.std.specs.List.{All}
+use Rattle.std.specs.Prelude.{◌≡◌, ◌≢◌, All, ℕ, List, [], ◌∷◌, ◌++◌, flat_map, Option, None, Result, Ok, Err, IsTrue}
 use Rattle.sip_ports.specs.declared.port.PortStop.{PortStop}
 use Rattle.sip_ports.specs.declared.port.PortStop.TheVariants as ports
 use Rattle.sip_ports.specs.declared.port.TalkEvent.{TalkEvent}
@@ -142,8 +141,7 @@ pub record Shows (version : Version) (m : Message) (said : Message × List ℕ) 
 
 module _ {S : Type 0} (P : Protocol S) (query : Query) (block : List ℕ)
     (old new before now : Option (List TalkEvent)) where
-  -- all replies came, in whole frames, and are accepted; a known answer needs none, and nothing
-  -- was said
+  -- all replies came, in whole frames, and are accepted; where the answer was known nothing was said
   pub record IsAnswered (answer : Answer) : Type 0 where
     pub replies : List (List ℕ)
     pub talk : GoesOn old new (asked_unless P.unasked P.rules.version query block replies)
