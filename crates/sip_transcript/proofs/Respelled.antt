@@ -22,9 +22,10 @@ use Rattle.sip_replies.specs.declared.check.More.{More}
 use Rattle.sip_replies.specs.declared.check.More.TheVariants as mores
 use Rattle.sip_replies.specs.Protocols.{Rules}
 use Rattle.sip_replies.specs.Replies.{at_end, read_reply, step_says}
+use Rattle.sip_replies.proofs.Agreeing.{two_fronts}
+use Rattle.sip_replies.proofs.Fronts.{closed_or_not}
 use Rattle.sip_replies.proofs.Reading.{read_reply-fault, read_reply-nil, read_reply-step}
 use Rattle.sip_transcript.specs.Tales.{IsReply}
-use Rattle.sip_transcript.proofs.Borrowed.{closed_or_not, two_fronts}
 use Rattle.sip_transcript.proofs.SameReplies.{IsCutAt, same_err}
 
 -- ---- lists of bytes
