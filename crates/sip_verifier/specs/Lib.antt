@@ -4,6 +4,7 @@ pub mod Reports
 pub mod Moments
 pub mod Statuses
 pub mod Exchanges
+pub mod runs
 pub mod Inquiries
 pub mod Kinds
 pub mod Questions

@@ -10,7 +10,8 @@
 //! | `Exchanges` | what one call moved through its ports |
 //! | `Inquiries` | what is asked of a stream, and at which challenges |
 //! | `Kinds` | what is known of a query by its kind, one row a kind |
-//! | `Questions` | a query with its block and its reply bytes; when its replies are accepted, and their fault |
+//! | `runs` | what a run promises in any manner of asking: the clauses below, and what they speak of |
+//! | `Questions` | a query with its block and its reply bytes; when its replies are accepted, and their fault: the manner of the six kinds |
 //! | `VerdictClause` | which lines are written, and when |
 //! | `TalkClause` | in which order the bytes go |
 //! | `CauseClause` | when each other answer comes |
