@@ -21,6 +21,7 @@ pub mod Seats
 pub mod Feeding
 pub mod Gathering
 pub mod Sittings
+pub mod Given
 pub mod Asking
 pub mod Concluding
 pub mod Keeping
@@ -30,4 +31,5 @@ pub mod Promises
 pub mod RunClause
 pub mod NextSeat
 pub mod ReplyBound
+pub mod LawProofs
 pub mod inside

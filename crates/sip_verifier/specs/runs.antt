@@ -9,3 +9,4 @@ pub mod CompletenessClause
 pub mod Asking
 pub mod Progress
 pub mod Concluding
+pub mod Askers

@@ -35,15 +35,18 @@
 //! ([`Seats::given`]), keep them for a run that is stored.
 #![tactic(auto)]
 
+mod asker;
 mod asking;
 mod checking;
 pub mod completeness;
+mod concluding;
 pub mod counting;
 mod ending;
 mod feed;
 mod gathering;
 pub mod laws;
 mod points;
+mod queries;
 mod report;
 mod seat;
 mod seats;
@@ -51,9 +54,12 @@ mod session;
 mod status;
 mod task;
 
+pub use asker::{Asker, Unanswered};
 pub use checking::{check_stream, conclude};
+pub use concluding::conclude_run;
 pub use feed::Feed;
 pub use gathering::{follow, gather};
+pub use queries::Given;
 pub use report::query_word;
 pub use seats::Seats;
 pub use session::{Session, SessionFault, SessionStart, Verdict};
