@@ -24,7 +24,7 @@
 //! | `Feeding` | what is still to send of a stream |
 //! | `Transcripts` | the head of a transcript |
 //! | `Gathering` | what a call did that reads the stream |
-//! | `Sittings`, `Asking` | what is seen of a session, and what a call did that asks a query |
+//! | `Sittings`, `Asking`, `Given` | what is seen of a session, and what a call did that asks a query |
 //! | `Concluding` | what a call did that asks all queries of a session |
 //!
 //! `specs/inside/` says what one private part of a run did. No promise rests on a reading of it.
@@ -33,6 +33,10 @@
 //! [`conclude`]. It carries the six clauses, as one `RunClause`. The first four are said of an
 //! `Inquiry`: so [`follow`] and [`conclude`], over seats with challenges that are given
 //! ([`Seats::given`]), keep them for a run that is stored.
+//!
+//! [`conclude`] is [`conclude_run`] for a session. That serves whatever asks the questions of a run
+//! ([`Asker`]): its contract is said by the manner in which the asker asks, so a run of other
+//! questions has the same clauses by a type of its own.
 #![tactic(auto)]
 
 mod asker;

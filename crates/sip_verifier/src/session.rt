@@ -208,7 +208,9 @@ impl Session {
         ensures { (seat : Seated) (more : List Seated) → self.now.left ≡ seat ∷ more
             → result ≡ seat.query }
     {
-        self.seats.all()[self.asked].query
+        let seats = self.seats.all();
+        let seat = &seats[self.asked];
+        seat.query
     }
 
     /// How many queries were not asked yet.

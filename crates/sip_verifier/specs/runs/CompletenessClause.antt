@@ -44,7 +44,7 @@ module _ {Q A : Type 0} (asking : Asking Q A) (honesty : Honesty Q A) (r : Run Q
     pub challenges : List ℕ
     pub drawn : r.challenges ≡ Some challenges
     pub legal : IsLegalToEnd r x
-    pub few : All (honesty.CanAnswer r.version r.depth (updates r x)) r.queries
+    pub can : All (honesty.CanAnswer r.version r.depth (updates r x)) r.queries
     pub heard : IsPrefix (heard x.talk)
         (flat_map (honesty.honest_bytes r.version r.depth (updates r x))
         (zip r.queries (cut r.depth challenges)))

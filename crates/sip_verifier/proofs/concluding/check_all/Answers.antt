@@ -1,5 +1,5 @@
 -- What came of each query is added to what came of those before.
-use Rattle.std.proofs.Common.{◌≡◌, ◌<◌, Err, ℕ, List, length, refl, ap, drop, rules, arith, sym, subst, ◌∙◌}
+use Rattle.std.proofs.Common.{◌≡◌, Err, ℕ, List, length, refl, ap, drop, rules, arith, sym, ◌∙◌}
 use Rattle.std.proofs.lemmas.List.{drop-drop, length-map}
 use Rattle.std.proofs.lemmas.Result.{err_from_is_err_and}
 use Rattle.sip_verifier.specs.runs.Askers.{Remaining}

@@ -1,7 +1,6 @@
 -- A line that could not be written whole, that of a rejection, and the line of an answer.
 use Rattle.std.proofs.Common.{refl, Err}
 use Rattle.std.proofs.lemmas.Result.{err_from_is_err_and}
-use Rattle.sip_verifier.specs.runs.Manners.{Manner}
 use Rattle.sip_verifier.proofs.KeptQueries.{line_kept}
 use Rattle.sip_verifier.proofs.QueriesChecked.{fault_checked, line_checked, rejection_cut}
 use Rattle.sip_verifier.proofs.concluding.check_next.Goals as goal
