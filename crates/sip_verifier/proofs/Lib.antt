@@ -19,6 +19,7 @@ pub mod SeedRead
 pub mod Gathered
 mod QueryAsked
 mod SeatAsked
+mod SessionAsks
 pub mod QueriesChecked
 pub mod RunTalks
 pub mod SeatedBehind

@@ -1,25 +1,22 @@
 -- What an exchange tells of the talk and of the report.
 use Rattle.std.proofs.Common.{◌≡◌, ℕ, Option, Some, None, Result, Ok, Err, IsSome, List, [], ◌∷◌, ◌++◌, length, refl, sym, ap, subst, ◌∙◌, inl, inr, append_assoc, take, suc}
 use Rattle.std.specs.Prelude.{flat_map, ◌⊎◌}
-use Rattle.sip_wire.specs.declared.version.Version.{Version}
 use Rattle.sip_ports.specs.declared.port.PortStop.{PortStop}
 use Rattle.sip_ports.specs.declared.port.TalkEvent.{TalkEvent}
 use Rattle.sip_ports.specs.Ports.{GoesOn, SendsWhole, outs}
 use Rattle.sip_ports.proofs.TalkLemmas.{GoesOn-refl, GoesOn-trans, GoesOn-told, outs-injective, outs-append}
-use Rattle.sip_vector.specs.declared.query.Query.{Query}
-use Rattle.sip_vector.specs.declared.update.Update.{Update}
 use Rattle.sip_verifier.specs.declared.status.Port.TheVariants as ports
 use Rattle.sip_verifier.specs.declared.status.Status.{Status}
 use Rattle.sip_verifier.specs.declared.status.Status.TheVariants as statuses
 use Rattle.sip_verifier.specs.declared.task.Task.{Task}
 use Rattle.sip_replies.specs.Talks.{IsPrefix}
 use Rattle.sip_verifier.specs.Exchanges.{Appends, Exchange, Tells}
-use Rattle.sip_verifier.specs.Concluding.{Reports}
 use Rattle.sip_verifier.specs.Gathering.{Refuses}
 use Rattle.sip_verifier.specs.Moments.{Moment, IsTold}
-use Rattle.sip_verifier.specs.inside.Progress.{Checks, PassesInPart, FailsInPart, PassedBy, EndsWith}
-use Rattle.sip_verifier.specs.Reports.{line, rejection}
-use Rattle.sip_verifier.specs.Questions.{Accepted}
+use Rattle.sip_verifier.specs.Reports.{rejection}
+use Rattle.sip_verifier.specs.runs.Concluding.{Reports}
+use Rattle.sip_verifier.specs.runs.Manners.{Accepted, Manner}
+use Rattle.sip_verifier.specs.runs.Progress.{Checks, PassesInPart, FailsInPart, PassedBy, EndsWith}
 
 -- a talk that is told before and after, with these events between
 abbrev pub Adds : Option (List TalkEvent) → Option (List TalkEvent) → List TalkEvent → Type 0
@@ -112,8 +109,8 @@ refuses_moves task bytes seed old new statuses.OutOfMemory (inl same) = still_mo
 refuses_moves task bytes seed old new statuses.OutOfMemory (inr (has, cut)) = (cut.said, cut.talk)
 refuses_moves task bytes seed old new _ refuses = absurd refuses
 
-module _ (version : Version) (depth : ℕ) (stream : List Update) (query : Query) (block : List ℕ) (number : ℕ) (old new blank full : Option (List TalkEvent)) where
-  part_moves : PassesInPart version depth stream query block number old new blank full ⊎ FailsInPart version depth stream query block number old new blank full → Moves old new × Reports blank full
+module _ {Q A : Type 0} (m : Manner Q A) (query : Q) (block : List ℕ) (number : ℕ) (old new blank full : Option (List TalkEvent)) where
+  part_moves : PassesInPart m query block number old new blank full ⊎ FailsInPart m query block number old new blank full → Moves old new × Reports blank full
   part_moves (inl part) = ((_, part.answered.talk), (part.part, part.wrote))
   part_moves (inr part) = ((_, part.rejected.talk), (part.part, part.wrote))
 
@@ -121,7 +118,7 @@ module _ (version : Version) (depth : ℕ) (stream : List Update) (query : Query
   nothing_written same = ([], subst (λ (o : Option (List TalkEvent)). GoesOn blank o []) (sym same) (GoesOn-refl blank))
 
   -- a query that ends a run moves on the link and on the report
-  pub check_moves : (status : Status) → Checks version depth stream query block number old new blank full (Err status) → Moves old new × Reports blank full
+  pub check_moves : (status : Status) → Checks m query block number old new blank full (Err status) → Moves old new × Reports blank full
   check_moves (statuses.Rejected k round reason) checks = ((_, checks.1.rejected.talk), (rejection number round reason, checks.1.wrote))
   check_moves (statuses.WriteFault ports.First) checks = absurd checks
   check_moves (statuses.WriteFault ports.Second) checks = absurd checks
@@ -135,15 +132,15 @@ module _ (version : Version) (depth : ℕ) (stream : List Update) (query : Query
   check_moves _ checks = absurd checks
 
 -- accepted queries move on the link and on the report
-pub passed_moves : (version : Version) (depth : ℕ) (stream : List Update) (queries : List Query) (blocks : List (List ℕ)) (old new blank full : Option (List TalkEvent)) (count : ℕ) → PassedBy version depth stream queries blocks old new blank full count
+pub passed_moves : {Q A : Type 0} (m : Manner Q A) (queries : List Q) (blocks : List (List ℕ)) (old new blank full : Option (List TalkEvent)) (count : ℕ) → PassedBy m queries blocks old new blank full count
     → Moves old new × Reports blank full
-passed_moves version depth stream queries blocks old new blank full count so = ((_, so.passed.talk), (flat_map (λ (a : Accepted version depth stream). line a.question.query a.answer) so.done, so.passed.report))
+passed_moves m queries blocks old new blank full count so = ((_, so.passed.talk), (flat_map (λ (a : Accepted m). m.line a.question.query a.answer) so.done, so.passed.report))
 
 -- the queries up to the last one move on the link and on the report
-pub ends_moves : (version : Version) (depth : ℕ) (stream : List Update) (queries : List Query) (blocks : List (List ℕ)) (old new blank full : Option (List TalkEvent)) (status : Status) → EndsWith version depth stream queries blocks old new blank full status
+pub ends_moves : {Q A : Type 0} (m : Manner Q A) (queries : List Q) (blocks : List (List ℕ)) (old new blank full : Option (List TalkEvent)) (status : Status) → EndsWith m queries blocks old new blank full status
     → Moves old new × Reports blank full
-ends_moves version depth stream queries blocks old new blank full status e =
-    let last = check_moves version depth stream e.query e.block (suc (length e.done)) e.mid new e.half full status e.checks in (
+ends_moves m queries blocks old new blank full status e =
+    let last = check_moves m e.query e.block (suc (length e.done)) e.mid new e.half full status e.checks in (
       (_, GoesOn-trans old e.mid new _ _ e.passed.talk last.0.1),
       (_, subst (GoesOn blank full) (sym (outs-append _ last.1.0)) (GoesOn-trans blank e.half full _ _ e.passed.report last.1.1)),
     )

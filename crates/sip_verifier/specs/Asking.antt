@@ -1,5 +1,5 @@
 -- What a call that asks one query did.
-use Rattle.std.specs.Prelude.{◌⊎◌, ℕ, List, ◌++◌, Option, Result, Ok, Err}
+use Rattle.std.specs.Prelude.{◌⊎◌, ℕ, List, Option, Result, Ok, Err}
 use Rattle.sip_ports.specs.declared.port.TalkEvent.{TalkEvent}
 use Rattle.sip_ports.specs.Ports.{GoesOn}
 use Rattle.sip_vector.specs.declared.query.Query.{Query}
@@ -8,49 +8,33 @@ use Rattle.sip_vector.specs.declared.update.Update.{Update}
 use Rattle.sip_vector.specs.Answers.{Answer, pairs, number}
 use Rattle.sip_wire.specs.declared.message.Reason.{Reason}
 use Rattle.sip_wire.specs.declared.version.Version.{Version}
-use Rattle.sip_replies.specs.Talks.{IsPrefix, ending}
 use Rattle.sip_verifier.specs.declared.session.SessionFault.{SessionFault}
 use Rattle.sip_verifier.specs.declared.session.SessionFault.TheVariants as faults
 use Rattle.sip_verifier.specs.declared.session.Verdict.{Verdict}
 use Rattle.sip_verifier.specs.declared.session.Verdict.TheVariants as verdicts
 use Rattle.sip_verifier.specs.CountClause.{CountsFor}
-use Rattle.sip_verifier.specs.Questions.{Question, Accepts, IsFaulty, IsUnjudged, IsWaiting, said_for}
-
--- the question of a query at its block, with these replies
-abbrev pub question_of : Query → List ℕ → List (List ℕ) → Question
-question_of query block replies = record { query = query; block = block; replies = replies }
+use Rattle.sip_verifier.specs.Questions.{asking, said_for}
+use Rattle.sip_verifier.specs.runs.Asking as runs
+pub use Rattle.sip_verifier.specs.runs.Asking.{question_of}
 
 module _ (version : Version) (depth : ℕ) (stream : List Update) (query : Query) (block : List ℕ)
     (old new : Option (List TalkEvent)) where
   -- all replies came and are accepted, and they state this answer
-  pub record IsAnswered (answer : Answer) : Type 0 where
-    pub replies : List (List ℕ)
-    pub talk : GoesOn old new (said_for version depth stream (question_of query block replies))
-    pub accepted : Accepts version depth stream (question_of query block replies) answer
+  abbrev pub IsAnswered : Answer → Type 0
+  IsAnswered answer = runs.IsAnswered (asking version depth stream) query block old new answer
 
   -- the replies that came have this first fault
-  pub record IsRejected (round : ℕ) (reason : Reason) : Type 0 where
-    pub replies : List (List ℕ)
-    pub talk : GoesOn old new (said_for version depth stream
-        (question_of query block replies) ++ ending reason)
-    pub faulty : IsFaulty version depth stream (question_of query block replies)
-        (record { round = round; reason = reason })
+  abbrev pub IsRejected : ℕ → Reason → Type 0
+  IsRejected round reason =
+      runs.IsRejected (asking version depth stream) query block old new round reason
 
   -- the talk stopped, a reply is missing or not whole, and none has a fault so far
-  pub record IsInterrupted : Type 0 where
-    pub replies : List (List ℕ)
-    pub said : List TalkEvent
-    pub talk : GoesOn old new said
-    pub order : IsPrefix said (said_for version depth stream (question_of query block replies))
-    pub waits : IsWaiting version depth stream (question_of query block replies)
+  abbrev pub IsInterrupted : Type 0
+  IsInterrupted = runs.IsInterrupted (asking version depth stream) query block old new
 
   -- what came of the last reply could not be kept, and so was not judged
-  pub record IsUnrecorded : Type 0 where
-    pub replies : List (List ℕ)
-    pub ended : List TalkEvent
-    pub talk : GoesOn old new (said_for version depth stream
-        (question_of query block replies) ++ ended)
-    pub unjudged : IsUnjudged version depth stream (question_of query block replies) ended
+  abbrev pub IsUnrecorded : Type 0
+  IsUnrecorded = runs.IsUnrecorded (asking version depth stream) query block old new
 
   -- What was answered, where the entries are those that the session shows then.
   abbrev pub Asks : List Entry → Result Verdict SessionFault → Type 0

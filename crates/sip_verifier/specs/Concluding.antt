@@ -1,20 +1,18 @@
 -- What a call did that asks all queries of a session, whose stream was read before.
-use Rattle.std.specs.Prelude.{◌≡◌, ℕ, List, [], ◌++◌, map, All, Option, Some, None, Result, Ok, Err}
+use Rattle.std.specs.Prelude.{◌≡◌, ℕ, List, [], ◌++◌, map, All, Option, Some, None}
 use Rattle.sip_ports.specs.declared.port.TalkEvent.{TalkEvent}
 use Rattle.sip_ports.specs.Ports.{GoesOn, outs}
 use Rattle.sip_vector.specs.Pieces.{cut}
 use Rattle.sip_verifier.specs.declared.status.Status.{Status}
-use Rattle.sip_verifier.specs.declared.status.Status.TheVariants as statuses
-use Rattle.sip_verifier.specs.CauseClause.{CauseClause}
 use Rattle.sip_verifier.specs.Exchanges.{Exchange}
 use Rattle.sip_verifier.specs.Inquiries.{Inquiry}
 use Rattle.sip_verifier.specs.Moments.{Counts}
-use Rattle.sip_verifier.specs.Questions.{IsLegalToEnd, updates}
+use Rattle.sip_verifier.specs.Questions.{asking, IsLegalToEnd, updates}
 use Rattle.sip_verifier.specs.QuerySeats.{StandsFor}
+use Rattle.sip_verifier.specs.runs.Concluding as runs
+pub use Rattle.sip_verifier.specs.runs.Concluding.{Reports, status_of}
 use Rattle.sip_verifier.specs.Sittings.{Sitting}
-use Rattle.sip_verifier.specs.TalkClause.{TalkClause}
 use Rattle.sip_verifier.specs.Talks.{stream_sent}
-use Rattle.sip_verifier.specs.VerdictClause.{VerdictClause}
 use Rattle.sip_verifier.specs.Widths.{first_wide}
 
 -- The session has the seats of an inquiry, which stand for its stream. That was legal and was read
@@ -36,18 +34,6 @@ pub record GoesBehind (i : Inquiry) (x : Exchange) (s : Sitting)
       → x.talk ≡ stream_sent i.version i.depth (updates i x) ++ said
   pub report : (bytes : List ℕ) → GoesOn blank full (outs bytes) → x.report ≡ bytes
 
--- some bytes were written
-abbrev pub Reports : Option (List TalkEvent) → Option (List TalkEvent) → Type 0
-Reports blank full = (bytes : List ℕ) × GoesOn blank full (outs bytes)
-
--- the first three promises of a run that ends with this status; those of counts and of completeness
--- follow from them
-pub record Ended (i : Inquiry) (x : Exchange) (before now : Counts) (status : Status) : Type 0 where
-  pub verdict : VerdictClause i x status
-  pub talk : TalkClause i x status
-  pub cause : CauseClause i x before now status
-
--- the status of a run whose queries came to this
-abbrev pub status_of : Result (Unit {0}) Status → Status
-status_of (Ok _) = statuses.Accepted
-status_of (Err status) = status
+-- the first three promises of a run of `verify` that ends with this status
+abbrev pub Ended : Inquiry → Exchange → Counts → Counts → Status → Type 0
+Ended i x before now status = runs.Ended asking i x before now status

@@ -7,23 +7,23 @@
 -- order, and perhaps of the line of a rejection behind them. Where an answer in these lines is not
 -- the one that the stream's own vectors give, the run's block for that query is among those few,
 -- for every helper that replies to this block as the talk shows.
-use Rattle.std.specs.Prelude.{◌≡◌, ◌⊎◌, ℕ, ◌*◌, ◌-◌, ◌^◌, ◌≤◌, Bool, List, [], ◌++◌, map, flat_map, option_to_list, Option, Some, All}
+use Rattle.std.specs.Prelude.{ℕ, ◌*◌, ◌-◌, ◌^◌, ◌≤◌, Bool, List, flat_map, Some}
 use Rattle.sip_field.specs.Moduli.{m61_modulus}
-use Rattle.sip_ports.specs.declared.port.TalkEvent.{TalkEvent}
 use Rattle.sip_vector.specs.declared.query.Query.{Query}
 use Rattle.sip_vector.specs.declared.update.Update.{Update}
 use Rattle.sip_vector.specs.Answers.{Answer, answer}
-use Rattle.sip_wire.specs.declared.message.Reason.{Reason}
 use Rattle.sip_counts.specs.Clauses.{FewAndCounted}
 use Rattle.sip_counts.specs.Strategies.{Strategy, IsOfBytes, fooled}
 use Rattle.sip_replies.specs.Replies.{accepts}
 use Rattle.sip_wire.specs.declared.version.Version.{Version}
-use Rattle.sip_replies.specs.Talks.{IsPrefix}
 use Rattle.sip_verifier.specs.Exchanges.{Exchange}
 use Rattle.sip_verifier.specs.Inquiries.{Inquiry}
 use Rattle.sip_verifier.specs.Kinds.{Kind, OfKind}
-use Rattle.sip_verifier.specs.Reports.{line, rejection}
-use Rattle.sip_verifier.specs.Questions.{Question, updates, Reached}
+use Rattle.sip_verifier.specs.Reports.{line}
+use Rattle.sip_verifier.specs.runs.CountClause as runs
+use Rattle.sip_verifier.specs.runs.CountClause.{Counting}
+pub use Rattle.sip_verifier.specs.runs.CountClause.{questions_written, IsRejection}
+use Rattle.sip_verifier.specs.Questions.{Question, asking}
 
 -- ---- one query
 
@@ -49,40 +49,22 @@ CountsFor version depth stream q written = OfKind version depth stream q.query (
     (accepts_in kind) kind.is_right q.block q.replies (Some written)
     (answer depth stream q.query))
 
+-- what is promised of a helper that lies
+abbrev pub counting : Counting Query Answer
+counting = record { FewFor = FewFor; CountsFor = CountsFor }
+
 -- ---- a run
 
 -- an answer that a line has, and the question that it is the answer to
-pub record Written : Type 0 where
-  pub question : Question
-  pub answer : Answer
-
--- their questions
-abbrev pub questions_written : List Written → List Question
-questions_written lines = map (λ w. w.question) lines
+abbrev pub Written : Type 0
+Written = runs.Written Query Answer
 
 -- the lines of answers
 abbrev pub lines_written : List Written → List ℕ
 lines_written lines = flat_map (λ w. line w.question.query w.answer) lines
 
--- nothing, or the line of a rejection
-abbrev pub IsRejection : List ℕ → Type 0
-IsRejection bytes =
-    (bytes ≡ []) ⊎ ((query round : ℕ) × (reason : Reason) × (bytes ≡ rejection query round reason))
+abbrev pub AreInTalk : Inquiry → Exchange → List Question → Type 0
+AreInTalk i x questions = runs.AreInTalk asking counting i x questions
 
-module _ (i : Inquiry) (x : Exchange) where
-  -- the talk has these questions, and perhaps one more
-  abbrev pub AreInTalk : List Question → Type 0
-  AreInTalk questions =
-      (questions ≡ [])
-      ⊎ ((after : Option Question) × (rest : List TalkEvent)
-      × Reached i x (questions ++ option_to_list after) rest)
-
-  pub record CountClause : Type 0 where
-    pub few : All (FewFor i.version i.depth (updates i x)) i.queries
-    pub lines : List Written
-    pub questions : AreInTalk (questions_written lines)
-    pub rejected : List ℕ
-    pub is_rejection : IsRejection rejected
-    pub report : IsPrefix x.report (lines_written lines ++ rejected)
-    pub counted : All
-        (λ w. CountsFor i.version i.depth (updates i x) w.question w.answer) lines
+abbrev pub CountClause : Inquiry → Exchange → Type 0
+CountClause i x = runs.CountClause asking counting i x

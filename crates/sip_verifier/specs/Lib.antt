@@ -4,6 +4,7 @@ pub mod Reports
 pub mod Moments
 pub mod Statuses
 pub mod Exchanges
+pub mod runs
 pub mod Inquiries
 pub mod Kinds
 pub mod Questions
@@ -21,6 +22,7 @@ pub mod SeatNumbers
 pub mod Feeding
 pub mod Gathering
 pub mod Sittings
+pub mod Given
 pub mod Asking
 pub mod Concluding
 pub mod Keeping
@@ -31,4 +33,5 @@ pub mod Promises
 pub mod RunClause
 pub mod NextSeat
 pub mod ReplyBound
+pub mod LawProofs
 pub mod inside

@@ -1,26 +1,31 @@
 -- The queries of a run, each with its block of challenges and the reply bytes that were taken.
-use Rattle.std.specs.Prelude.{◌≡◌, ◌==◌, ℕ, List, [], ◌++◌, length, take, map, flat_map, Some, None, if◌then◌else◌}
+use Rattle.std.specs.Prelude.{◌≡◌, ℕ, List, [], ◌∷◌, flat_map, Some, None}
 use Rattle.sip_ports.specs.declared.port.TalkEvent.{TalkEvent}
 use Rattle.sip_vector.specs.declared.query.Query.{Query}
 use Rattle.sip_vector.specs.declared.update.Update.{Update}
 use Rattle.sip_vector.specs.Answers.{Answer}
-use Rattle.sip_vector.specs.Pieces.{cut}
-use Rattle.sip_stream.specs.Records.{records}
+use Rattle.sip_wire.specs.declared.message.Message.TheVariants as messages
 use Rattle.sip_wire.specs.declared.version.Version.{Version}
+use Rattle.sip_wire.specs.Spelling.{spelling}
 use Rattle.sip_replies.specs.Protocols.{Protocol}
 use Rattle.sip_replies.specs.Replies as general
 use Rattle.sip_replies.specs.Replies.{Fault}
 use Rattle.sip_replies.specs.Talks.{asked_unless}
+use Rattle.sip_verifier.specs.declared.status.Status.{Status}
+use Rattle.sip_verifier.specs.declared.status.Status.TheVariants as statuses
 use Rattle.sip_verifier.specs.Exchanges.{Exchange}
 use Rattle.sip_verifier.specs.Inquiries.{Inquiry}
 use Rattle.sip_verifier.specs.Kinds.{KindRow, built, missing, kind_row, OfKind}
 use Rattle.sip_verifier.specs.Reports.{line}
-use Rattle.sip_verifier.specs.Talks.{stream_sent, bye_sent}
+use Rattle.sip_verifier.specs.runs.Manners as manners
+use Rattle.sip_verifier.specs.runs.Manners.{Asking}
+use Rattle.sip_verifier.specs.runs.Runs as runs
+pub use Rattle.sip_verifier.specs.runs.Runs.{updates, IsLegalToEnd, AreQuestions}
+use Rattle.sip_verifier.specs.Widths.{first_wide}
 
-pub record Question : Type 0 where
-  pub query : Query
-  pub block : List ℕ
-  pub replies : List (List ℕ)
+-- a question of a run of `verify`
+abbrev pub Question : Type 0
+Question = manners.Question Query
 
 -- a reply is due, and none of those that came has a fault so far
 abbrev pub IsDue : {S : Type 0} → Protocol S → List ℕ → List (List ℕ) → Type 0
@@ -54,12 +59,6 @@ abbrev pub IsUnjudged : Version → ℕ → List Update → Question → List Ta
 IsUnjudged version depth stream q ended = OfKind version depth stream q.query
     (λ kind. general.IsUnjudged (kind.protocol q.block) q.block q.replies ended)
 
--- a question whose replies are accepted
-pub record Accepted (version : Version) (depth : ℕ) (stream : List Update) : Type 0 where
-  pub question : Question
-  pub answer : Answer
-  pub accepts : Accepts version depth stream question answer
-
 -- ---- the questions of a run
 
 -- what was said for a query by its row: nothing, where its answer is known without a reply
@@ -72,39 +71,43 @@ said_by_kind missing q = []
 abbrev pub said_for : Version → ℕ → List Update → Question → List TalkEvent
 said_for version depth stream q = said_by_kind (kind_row version depth stream q.query) q
 
-module _ (i : Inquiry) (x : Exchange) where
-  -- the legal records of the stream
-  abbrev pub updates : List Update
-  updates = (records i.depth i.form x.stream).legal
+-- where a query's answer may be too wide, the run ends with the first such query
+abbrev pub is_refused : List Update → List Query → Status → Type 0
+is_refused stream queries (statuses.TooWide query) = first_wide stream queries ≡ Some query
+is_refused stream queries _ = ⊥
 
-  -- the stream is legal to its end
-  abbrev pub IsLegalToEnd : Type 0
-  IsLegalToEnd = (records i.depth i.form x.stream).fault ≡ None
+-- how queries are asked and judged
+abbrev pub asking : Asking Query Answer
+asking version depth stream = record {
+  said_for = said_for version depth stream;
+  Accepts = Accepts version depth stream;
+  IsFaulty = IsFaulty version depth stream;
+  IsUnfinished = IsUnfinished version depth stream;
+  IsWaiting = IsWaiting version depth stream;
+  IsUnjudged = IsUnjudged version depth stream;
+  line = line;
+  farewell = flat_map (spelling version) (messages.Bye ∷ []);
+  MayAsk = λ queries. first_wide stream queries ≡ None;
+  Refuses = is_refused stream;
+}
 
-  abbrev pub Done : Type 0
-  Done = List (Accepted i.version i.depth updates)
+-- a question whose replies are accepted
+abbrev pub Accepted : Version → ℕ → List Update → Type 0
+Accepted version depth stream = manners.Accepted (asking version depth stream)
 
-  abbrev pub questions_of : Done → List Question
-  questions_of done = map (λ a. a.question) done
+-- ---- a run by these
 
-  abbrev pub lines : Done → List ℕ
-  lines done = flat_map (λ a. line a.question.query a.answer) done
+abbrev pub Done : Inquiry → Exchange → Type 0
+Done i x = runs.Done asking i x
 
-  -- the farewell, which comes once every query was accepted
-  abbrev pub farewell : Done → List TalkEvent
-  farewell done = if length done == length i.queries then bye_sent i.version else []
+abbrev pub questions_of : (i : Inquiry) (x : Exchange) → Done i x → List Question
+questions_of i x done = runs.questions_of asking i x done
 
-  -- these are the first queries in order, each with its own block of the challenges
-  pub record AreQuestions (questions : List Question) : Type 0 where
-    pub challenges : List ℕ
-    pub drawn : i.challenges ≡ Some challenges
-    pub queries : map (λ q. q.query) questions ≡ take (length questions) i.queries
-    pub blocks : map (λ q. q.block) questions ≡ take (length questions) (cut i.depth challenges)
+abbrev pub lines : (i : Inquiry) (x : Exchange) → Done i x → List ℕ
+lines i x done = runs.lines asking i x done
 
-  -- the whole stream was legal and was sent, and then these questions were taken, and then the rest
-  -- was said
-  pub record Reached (questions : List Question) (rest : List TalkEvent) : Type 0 where
-    pub are_questions : AreQuestions questions
-    pub legal : IsLegalToEnd
-    pub talk : x.talk ≡ stream_sent i.version i.depth updates ++ flat_map
-        (said_for i.version i.depth updates) questions ++ rest
+abbrev pub farewell : (i : Inquiry) (x : Exchange) → Done i x → List TalkEvent
+farewell i x done = runs.farewell asking i x done
+
+abbrev pub Reached : Inquiry → Exchange → List Question → List TalkEvent → Type 0
+Reached i x questions rest = runs.Reached asking i x questions rest

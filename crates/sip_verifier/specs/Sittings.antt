@@ -1,5 +1,6 @@
 -- What is seen of a session.
-use Rattle.std.specs.Prelude.{◌≡◌, ℕ, Bool, true, false, List, [], Some, None, Result, Ok, Err}
+use Rattle.std.specs.Prelude.{◌≡◌, ℕ, Bool, true, false, List, [], map, Some, None, Result, Ok, Err}
+use Rattle.sip_vector.specs.declared.query.Query.{Query}
 use Rattle.sip_vector.specs.declared.update.Entry.{Entry}
 use Rattle.sip_wire.specs.declared.version.Version.{Version}
 use Rattle.sip_verifier.specs.declared.session.SessionFault.{SessionFault}
@@ -8,6 +9,7 @@ use Rattle.sip_verifier.specs.declared.session.SessionStart.TheVariants as start
 use Rattle.sip_verifier.specs.declared.session.Verdict.{Verdict}
 use Rattle.sip_verifier.specs.declared.session.Verdict.TheVariants as verdicts
 use Rattle.sip_verifier.specs.QuerySeats.{Seated}
+use Rattle.sip_verifier.specs.runs.Askers.{Remaining}
 use Rattle.sip_verifier.specs.Seats.{Seating}
 use Rattle.sip_verifier.specs.Widths.{first_wide_seat}
 
@@ -20,6 +22,19 @@ pub record Sitting : Type 0 where
   pub left : List Seated
   pub entries : List Entry
   pub spent : Bool
+
+-- the queries of these seats, with their blocks
+abbrev pub asks_left : List Seated → List (Query × List ℕ)
+asks_left seats = map (λ seat. (seat.query, seat.block)) seats
+
+-- what is still to be asked in it
+abbrev pub remaining_of : Sitting → Remaining Query
+remaining_of s = record {
+  version = s.version;
+  depth = s.depth;
+  left = asks_left s.left;
+  spent = s.spent;
+}
 
 -- the session is over with this verdict, or with this fault
 abbrev pub is_over : Result Verdict SessionFault → Bool

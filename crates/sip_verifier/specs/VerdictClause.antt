@@ -1,118 +1,41 @@
--- Verdicts.
---
--- The line of a query has the answer that its replies state. It is written only where they are
--- accepted and the lines of all queries before were written; and then it is written, unless writing
--- the report failed or memory ran out. A run is rejected as query k exactly where the replies to k
--- - 1 queries were accepted and those to query k have that first fault; the line of the rejection
--- is then the last one. Where every query was accepted, the report is all their lines, and the
--- stream was read to its end. Where the link failed, the report is the lines of all queries that
--- were accepted. Where writing the report failed, it is the lines of the queries before the last
--- verdict and a front of the line of that verdict, and nothing was said after it. Where keeping the
--- talk failed, the report is the lines of the queries before the one that was asked last, whose last
--- reply was not judged; or nothing was said yet. Where memory ran out, it is one of the three. Which
--- queries were accepted is read off the talk, so none can be left out.
-use Rattle.std.specs.Prelude.{◌≡◌, ◌⊎◌, ℕ, suc, List, [], ◌∷◌, ◌++◌, length, flat_map, option_to_list, Option, IfSome}
-use Rattle.sip_ports.specs.declared.port.TalkEvent.{TalkEvent}
-use Rattle.sip_replies.specs.Replies.{Fault}
+-- Verdicts of a run of `verify`: each line has the answer that accepted replies state, in order, and
+-- none is left out.
+use Rattle.std.specs.Prelude.{ℕ, List}
 use Rattle.sip_wire.specs.declared.message.Reason.{Reason}
-use Rattle.sip_verifier.specs.declared.status.Port.TheVariants as ports
 use Rattle.sip_verifier.specs.declared.status.Status.{Status}
-use Rattle.sip_verifier.specs.declared.status.Status.TheVariants as statuses
-use Rattle.sip_replies.specs.Talks.{IsPrefix, ending}
 use Rattle.sip_verifier.specs.Exchanges.{Exchange}
 use Rattle.sip_verifier.specs.Inquiries.{Inquiry}
-use Rattle.sip_verifier.specs.Reports.{line, rejection}
-use Rattle.sip_verifier.specs.Talks.{bye_sent, stream_sent}
-use Rattle.sip_verifier.specs.Questions.{Question, Accepted, IsFaulty, IsUnjudged, IsWaiting, said_for, updates, Done, questions_of, lines, farewell, Reached}
+use Rattle.sip_verifier.specs.Questions.{Done, asking}
+use Rattle.sip_verifier.specs.runs.VerdictClause as runs
 
-module _ (i : Inquiry) (x : Exchange) where
-  -- every query was accepted, and every line was written
-  pub record AllWritten : Type 0 where
-    pub done : Done i x
-    pub all : length done ≡ length i.queries
-    pub reached : Reached i x (questions_of i x done) (bye_sent i.version)
-    pub report : x.report ≡ lines i x done
-    pub read : x.unread ≡ []
+-- every query was accepted, and every line was written
+abbrev pub AllWritten : Inquiry → Exchange → Type 0
+AllWritten i x = runs.AllWritten asking i x
 
-  -- The replies to the queries before this one were accepted, and its own have this first fault.
-  -- The report is the lines of those before and the line of the rejection.
-  pub record OneFaulty (query round : ℕ) (reason : Reason) : Type 0 where
-    pub done : Done i x
-    pub number : query ≡ suc (length done)
-    pub last : Question
-    pub faulty : IsFaulty i.version i.depth (updates i x) last
-        (record { round = round; reason = reason })
-    pub reached : Reached i x (questions_of i x done ++ last ∷ []) (ending reason)
-    pub report : x.report ≡ lines i x done ++ rejection query round reason
+-- the replies to a query have this first fault, after those to the queries before were accepted
+abbrev pub OneFaulty : Inquiry → Exchange → ℕ → ℕ → Reason → Type 0
+OneFaulty i x query round reason = runs.OneFaulty asking i x query round reason
 
-  -- these queries were accepted, as the talk shows
-  abbrev pub WereReached : Done i x → Type 0
-  WereReached done =
-      (done ≡ []) ⊎ ((rest : List TalkEvent) × Reached i x (questions_of i x done) rest)
+abbrev pub WereReached : (i : Inquiry) (x : Exchange) → Done i x → Type 0
+WereReached i x done = runs.WereReached asking i x done
 
-  -- a part of the line of the next query, whose replies were accepted, and after which nothing was
-  -- said
-  pub record PartWritten (done : Done i x) (part : List ℕ) : Type 0 where
-    pub next : Accepted i.version i.depth (updates i x)
-    pub reached : Reached i x (questions_of i x done ++ next.question ∷ []) []
-    pub front : IsPrefix part (line next.question.query next.answer)
+abbrev pub PartWritten : (i : Inquiry) (x : Exchange) → Done i x → List ℕ → Type 0
+PartWritten i x done part = runs.PartWritten asking i x done part
 
-  -- a part of the line of the rejection of the next query, whose replies have this first fault
-  pub record PartRejected (done : Done i x) (part : List ℕ) : Type 0 where
-    pub last : Question
-    pub fault : Fault
-    pub faulty : IsFaulty i.version i.depth (updates i x) last fault
-    pub reached : Reached i x (questions_of i x done ++ last ∷ []) (ending fault.reason)
-    pub front : IsPrefix part (rejection (suc (length done)) fault.round fault.reason)
+abbrev pub PartRejected : (i : Inquiry) (x : Exchange) → Done i x → List ℕ → Type 0
+PartRejected i x done part = runs.PartRejected asking i x done part
 
-  -- The lines of the queries before a verdict that was reached, and a front of the line of that
-  -- verdict: none of it, a part, or all. Nothing was said after that verdict.
-  pub record CutInLine : Type 0 where
-    pub done : Done i x
-    pub part : List ℕ
-    pub reached : WereReached done
-    pub verdict : PartWritten done part ⊎ PartRejected done part
-    pub report : x.report ≡ lines i x done ++ part
+abbrev pub CutInLine : Inquiry → Exchange → Type 0
+CutInLine i x = runs.CutInLine asking i x
 
-  -- The lines of all queries that were accepted. What was said after them is a front of the
-  -- farewell, or of a query that waits for replies: so no other verdict was reached, and no front
-  -- of the talk can hide an accepted query.
-  pub record NoneLeft : Type 0 where
-    pub done : Done i x
-    pub current : Option Question
-    pub waits : IfSome current (IsWaiting i.version i.depth (updates i x))
-    pub reached : WereReached done
-    pub order : IsPrefix x.talk
-        (stream_sent i.version i.depth (updates i x) ++ flat_map
-        (said_for i.version i.depth (updates i x))
-        (questions_of i x done ++ option_to_list current) ++ farewell i x done)
-    pub report : x.report ≡ lines i x done
+abbrev pub NoneLeft : Inquiry → Exchange → Type 0
+NoneLeft i x = runs.NoneLeft asking i x
 
-  -- What came of the last reply was not judged, after the replies to the queries before were
-  -- accepted. Nothing was said after it.
-  pub record EndsUnjudged : Type 0 where
-    pub done : Done i x
-    pub last : Question
-    pub ended : List TalkEvent
-    pub unjudged : IsUnjudged i.version i.depth (updates i x) last ended
-    pub reached : Reached i x (questions_of i x done ++ last ∷ []) ended
+abbrev pub EndsUnjudged : Inquiry → Exchange → Type 0
+EndsUnjudged i x = runs.EndsUnjudged asking i x
 
-  -- the same, and the report is the lines of the queries before
-  abbrev pub UnjudgedWritten : Type 0
-  UnjudgedWritten = (end : EndsUnjudged) × (x.report ≡ lines i x end.done)
+abbrev pub UnjudgedWritten : Inquiry → Exchange → Type 0
+UnjudgedWritten i x = runs.UnjudgedWritten asking i x
 
-  abbrev pub VerdictClause : Status → Type 0
-  VerdictClause statuses.Accepted = AllWritten
-  VerdictClause (statuses.Rejected query round reason) = OneFaulty query round reason
-  VerdictClause (statuses.Usage word) = x.report ≡ []
-  VerdictClause (statuses.BadStream at why) = x.report ≡ []
-  VerdictClause statuses.BadSeed = x.report ≡ []
-  VerdictClause statuses.SeedSpent = x.report ≡ []
-  VerdictClause (statuses.TooWide query) = x.report ≡ []
-  VerdictClause (statuses.ReadFault port) = x.report ≡ []
-  VerdictClause (statuses.WriteFault ports.Report) = CutInLine
-  VerdictClause (statuses.WriteFault ports.Keep) =
-      ((x.talk ≡ []) × (x.report ≡ [])) ⊎ UnjudgedWritten
-  VerdictClause statuses.PeerFault = NoneLeft
-  VerdictClause statuses.OutOfMemory = NoneLeft ⊎ CutInLine ⊎ UnjudgedWritten
-  VerdictClause _ = ⊥
+abbrev pub VerdictClause : Inquiry → Exchange → Status → Type 0
+VerdictClause i x status = runs.VerdictClause asking i x status

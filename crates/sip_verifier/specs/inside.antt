@@ -7,4 +7,3 @@ pub mod Judging
 pub mod Protocols
 pub mod Ending
 pub mod Passing
-pub mod Progress

@@ -1,10 +1,8 @@
 //! A whole run of the verifier.
 
-ghost use Rattle.std.specs.Prelude.{◌≡◌, ◌⊎◌, ◌<◌, ◌≤◌, ℕ, List, Ok, Err, false, length, map, drop, All, IfOk, MatchResult, OnOk};
-ghost use Rattle.sip_ports.specs.Ports.{HasCause, Lasts, SendsWhole};
+ghost use Rattle.std.specs.Prelude.{◌≡◌, ◌⊎◌, ◌≤◌, ℕ, List, Ok, Err, false, length, map, All, IfOk, MatchResult};
+ghost use Rattle.sip_ports.specs.Ports.{Lasts};
 ghost use Rattle.sip_vector.specs.declared.update.Update.{Update as AnyUpdate};
-ghost use Rattle.sip_wire.specs.declared.message.Message.TheVariants as messages;
-ghost use Rattle.sip_wire.specs.Spelling.{spelling};
 ghost use Rattle.sip_wire.specs.Table.{most_queries};
 ghost use Rattle.sip_wire.specs.Versions.{Speaks};
 ghost use Rattle.sip_verifier.specs.declared.session.SessionStart.{SessionStart as AnyStart};
@@ -14,104 +12,22 @@ ghost use Rattle.sip_verifier.specs.inside.Ending.{status_of_start};
 ghost use Rattle.sip_verifier.specs.Inquiries.{Inquiry};
 ghost use Rattle.sip_verifier.specs.Keeping.{KeepsTalk};
 ghost use Rattle.sip_verifier.specs.Moments.{Counts, counts, moment};
-ghost use Rattle.sip_verifier.specs.NextSeat.{IsNext};
-ghost use Rattle.sip_verifier.specs.inside.Progress.{Checks, ChecksAll};
-ghost use Rattle.sip_verifier.specs.QuerySeats.{Seated, StandsFor};
+ghost use Rattle.sip_verifier.specs.QuerySeats.{StandsFor};
 ghost use Rattle.sip_verifier.specs.RunClause.{RunClause};
 ghost use Rattle.sip_verifier.specs.Seats.{Seating};
 ghost use Rattle.sip_verifier.specs.Sittings.{Starts};
 ghost use Rattle.sip_verifier.specs.Statuses.{FaultClause, Stops, stops_asking};
 ghost use Rattle.sip_verifier.specs.Tasks.{CanBeDone};
 
-use crate::ending::{on_link, on_report, status_of_fault, status_of_start};
+use crate::concluding::conclude_run;
+use crate::ending::status_of_start;
 use crate::gathering::gather_into;
-use crate::report::{write_number, write_pairs, write_rejection};
-use crate::{Seats, Session, Status, Task, Verdict};
-use sip_ports::{Link, PortStop, Sink, Source};
+use crate::{Seats, Session, Status, Task};
+use sip_ports::{Link, Sink, Source};
 use sip_vector::{Depth, Query};
-use sip_wire::{Message, Version, encode};
+use sip_wire::Version;
 use std::alloc::Global;
 use std::mem;
-
-/// Asks the next query, which has this number, and writes the line of its verdict.
-fn check_query<L: Link, K: Sink, C: Sink>(
-    session: &mut Session,
-    number: u8,
-    query: &Query,
-    peer: &mut L,
-    report: &mut K,
-    keep: &mut C,
-) -> Result<(), Status>
-    requires left { 0 < length session.old.left }
-    requires live { session.old.spent ≡ false }
-    ensures checks { (stream : List AnyUpdate) (seat : Seated)
-        → IsNext session.old.depth stream session.old.left query.now seat
-        → Checks session.old.version session.old.depth stream query.now seat.block number
-        (L.talk peer.old) (L.talk peer.new) (K.talk report.old) (K.talk report.new) result }
-    ensures kept { KeepsTalk (L.talk peer.old) (L.talk peer.new) (C.talk keep.old) (C.talk keep.new)
-        session.old.version result }
-    ensures next { session.new.left ≡ drop 1 session.old.left }
-    ensures version { session.new.version ≡ session.old.version }
-    ensures depth { session.new.depth ≡ session.old.depth }
-    ensures goes_on { OnOk result (session.new.spent ≡ false) }
-    ensures fault { (first firsts second seconds : ℕ) → Stops stops_asking
-        (counts first second (L.faults peer.old) (K.faults report.old) (C.faults keep.old))
-        (counts firsts seconds (L.faults peer.new) (K.faults report.new) (C.faults keep.new))
-        result }
-    ensures peer { Lasts L.faults L.wants L.is_sure peer.old peer.new }
-    ensures report { Lasts K.faults K.wants K.is_sure report.old report.new }
-    ensures keep { Lasts C.faults C.wants C.is_sure keep.old keep.new }
-{
-    match session.ask(peer, keep) {
-        Ok(Verdict::Pairs) => on_report(write_pairs(report, query, session.entries())),
-        Ok(Verdict::Number(value)) => on_report(write_number(report, query, value)),
-        Ok(Verdict::Rejected { round, reason }) => {
-            on_report(write_rejection(report, number, round, reason))?;
-            Err(Status::Rejected {
-                query: number,
-                round,
-                reason,
-            })
-        }
-        Err(fault) => Err(status_of_fault(fault)),
-    }
-}
-
-/// Asks all queries in order and writes the line of each verdict, up to the first stop.
-#[inline(never)]
-fn check_all<L: Link, K: Sink, C: Sink>(
-    session: &mut Session,
-    queries: &[Query],
-    peer: &mut L,
-    report: &mut K,
-    keep: &mut C,
-) -> Result<(), Status>
-    requires count { length session.old.left ≡ length queries.now }
-    requires most { length queries.now ≤ most_queries }
-    requires live { session.old.spent ≡ false }
-    ensures checks { (stream : List AnyUpdate)
-        → map (λ seat. seat.query) session.old.left ≡ queries.now
-        → All (StandsFor session.old.depth stream) session.old.left
-        → ChecksAll session.old.version session.old.depth stream queries.now
-        (map (λ seat. seat.block) session.old.left)
-        (L.talk peer.old) (L.talk peer.new) (K.talk report.old) (K.talk report.new) result }
-    ensures kept { KeepsTalk (L.talk peer.old) (L.talk peer.new) (C.talk keep.old) (C.talk keep.new)
-        session.old.version result }
-    ensures fault { (first firsts second seconds : ℕ) → Stops stops_asking
-        (counts first second (L.faults peer.old) (K.faults report.old) (C.faults keep.old))
-        (counts firsts seconds (L.faults peer.new) (K.faults report.new) (C.faults keep.new))
-        result }
-    ensures peer { Lasts L.faults L.wants L.is_sure peer.old peer.new }
-    ensures report { Lasts K.faults K.wants K.is_sure report.old report.new }
-    ensures keep { Lasts C.faults C.wants C.is_sure keep.old keep.new }
-{
-    let mut number = 0;
-    for query in queries {
-        number += 1;
-        check_query(session, number, query, peer, report, keep)?;
-    }
-    Ok(())
-}
 
 /// The session of the seats that were gathered, if they were. These are taken from where they stand:
 /// they are large, and an argument would be a second place for them on the stack of the run.
@@ -136,16 +52,6 @@ fn open(
         },
         Err(status) => Err(status),
     }
-}
-
-/// Says that all queries were asked. The message is made in a call of its own, since it is as large as the longest frame's rows.
-#[inline(never)]
-fn say_bye<L: Link>(version: Version, peer: &mut L) -> Result<(), PortStop>
-    ensures talk { SendsWhole (L.talk peer.old) (L.talk peer.new) result
-        (spelling version messages.Bye) }
-    ensures cause { HasCause L.faults L.wants L.is_sure peer.old peer.new result }
-{
-    encode(&Message::Bye, version, peer)
 }
 
 /// Asks all queries of a session in order over a link to where its stream is kept, writes the line of each verdict to `report`, up
@@ -186,9 +92,7 @@ pub fn conclude<L: Link, K: Sink, C: Sink>(
     ensures report { Lasts K.faults K.wants K.is_sure report.old report.new }
     ensures keep { Lasts C.faults C.wants C.is_sure keep.old keep.new }
 {
-    let version = session.version();
-    check_all(session, queries, peer, report, keep)?;
-    on_link(say_bye(version, peer))
+    conclude_run(session, peer, report, keep)
 }
 
 /// All that a run does, up to its first stop.

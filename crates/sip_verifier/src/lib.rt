@@ -10,7 +10,8 @@
 //! | `Exchanges` | what one call moved through its ports |
 //! | `Inquiries` | what is asked of a stream, and at which challenges |
 //! | `Kinds` | what is known of a query by its kind, one row a kind |
-//! | `Questions` | a query with its block and its reply bytes; when its replies are accepted, and their fault |
+//! | `runs` | what a run promises in any manner of asking: the clauses below, and what they speak of |
+//! | `Questions` | a query with its block and its reply bytes; when its replies are accepted, and their fault: the manner of the six kinds |
 //! | `VerdictClause` | which lines are written, and when |
 //! | `TalkClause` | in which order the bytes go |
 //! | `CauseClause` | when each other answer comes |
@@ -25,7 +26,7 @@
 //! | `Feeding` | what is still to send of a stream |
 //! | `Transcripts` | the head of a transcript |
 //! | `Gathering` | what a call did that reads the stream |
-//! | `Sittings`, `Asking` | what is seen of a session, and what a call did that asks a query |
+//! | `Sittings`, `Asking`, `Given` | what is seen of a session, and what a call did that asks a query |
 //! | `Concluding` | what a call did that asks all queries of a session |
 //!
 //! `specs/inside/` says what one private part of a run did. No promise rests on a reading of it.
@@ -38,17 +39,24 @@
 //! A caller that finds out its queries only while it talks has the roots and the extensions of the
 //! seats one by one ([`Seats::root`], [`Seats::point`]), and [`ask_sub`] asks for a sub-vector by
 //! such a root, with the contract of [`Session::ask`].
+//!
+//! [`conclude`] is [`conclude_run`] for a session. That serves whatever asks the questions of a run
+//! ([`Asker`]): its contract is said by the manner in which the asker asks, so a run of other
+//! questions has the same clauses by a type of its own.
 #![tactic(auto)]
 
+mod asker;
 mod asking;
 mod checking;
 pub mod completeness;
+mod concluding;
 pub mod counting;
 mod ending;
 mod feed;
 mod gathering;
 pub mod laws;
 mod points;
+mod queries;
 mod report;
 mod seat;
 mod seat_numbers;
@@ -58,9 +66,12 @@ mod status;
 mod sub_vector;
 mod task;
 
+pub use asker::{Asker, Unanswered};
 pub use checking::{check_stream, conclude};
+pub use concluding::conclude_run;
 pub use feed::Feed;
 pub use gathering::{follow, gather};
+pub use queries::Given;
 pub use report::query_word;
 pub use seats::Seats;
 pub use session::{Session, SessionFault, SessionStart, Verdict};

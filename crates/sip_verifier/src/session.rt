@@ -23,7 +23,7 @@ use crate::asking::{ask_seat, found_in, verdict_of};
 use crate::seat::QuerySeat;
 use sip_heavy::HeavySpace;
 use sip_ports::{Link, Sink};
-use sip_vector::Entry;
+use sip_vector::{Entry, Query};
 use sip_wire::{Frame, Reason, Version};
 use std::alloc::Global;
 use std::marker::Model;
@@ -200,6 +200,17 @@ impl Session {
         ensures { result ≡ self.now.version }
     {
         self.version
+    }
+
+    /// The query that is asked next.
+    pub(crate) fn next_query(&self) -> Query
+        requires { 0 < length self.now.left }
+        ensures { (seat : Seated) (more : List Seated) → self.now.left ≡ seat ∷ more
+            → result ≡ seat.query }
+    {
+        let seats = self.seats.all();
+        let seat = &seats[self.asked];
+        seat.query
     }
 
     /// How many queries were not asked yet.

@@ -75,7 +75,7 @@ pub fn ask_sub<L: Link, C: Sink>(
         → Rose (L.wants link.old) (L.wants link.new)
         ⊎ Rose (C.wants keep.old) (C.wants keep.new) }
     ensures kept { KeepsReplies (L.talk link.old) (L.talk link.new) (C.talk keep.old)
-        (C.talk keep.new) result }
+        (C.talk keep.new) version result }
     ensures keep_cause { result ≡ Err SessionFault.KeepFault
         → Rose (C.faults keep.old) (C.faults keep.new) }
     ensures link { Lasts L.faults L.wants L.is_sure link.old link.new }

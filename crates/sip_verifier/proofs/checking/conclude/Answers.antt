@@ -1,37 +1,10 @@
--- What came of the queries is handed to the lemmas of its end: one of them stopped, or all were accepted and the farewell was sent.
-use Rattle.std.proofs.Common.{◌∙◌}
-use Rattle.std.proofs.lemmas.Result.{err_from_is_err_and}
-use Rattle.sip_ports.proofs.FaultLemmas.{Rose-since}
-use Rattle.sip_verifier.proofs.KeptQueries.{bye_kept}
-use Rattle.sip_verifier.proofs.QueriesChecked.{all_checked}
-use Rattle.sip_verifier.proofs.QueryPromises.{after_queries, at_bye, bye_stops}
-use Rattle.sip_verifier.proofs.RunTalks.{ends_moves, passed_moves}
+-- A session is what asks the queries of a run.
+use Rattle.sip_verifier.proofs.SessionAsks.{all_stand, goes_on}
 use Rattle.sip_verifier.proofs.checking.conclude.Goals as goal
-
-pub returns-in_err-check_all-clause-ends : goal.returns-in_err-check_all-clause-ends
-returns-in_err-check_all-clause-ends g c =
-    let p = err_from_is_err_and c.from_residual.result c.from_residual.ensures.1 in
-    rw (p.1, p.2)
-    (λ i x before now same b fault.
-    let all = all_checked i x _ _ _ _ _ _ _ _ c.in_err-check_all.was same b c.check_all.ensures.checks in
-    after_queries i x b.challenges _ _ _ _ b.drawn b.legal b.narrow b.talk b.report before now c.in_err-check_all.field-0.0 all fault)
-
-pub returns-in_err-check_all-clause-wrote : goal.returns-in_err-check_all-clause-wrote
-returns-in_err-check_all-clause-wrote g c = λ stream same all.
-    (ends_moves _ _ stream _ _ _ _ _ _ c.in_err-check_all.field-0.0 (rw c.in_err-check_all.was at c.check_all.ensures.checks stream same all)).1
 
 pub returns-clause-ends : goal.returns-clause-ends
 returns-clause-ends g c = λ i x before now same b fault.
-    let all = all_checked i x _ _ _ _ _ _ _ _ c.in_ok-check_all.was same b c.check_all.ensures.checks in
-    at_bye i x b.challenges _ _ _ _ b.drawn b.legal b.narrow b.talk b.report before now _ c.say_bye.result c.on_link.result all (rw (c.version-version.ensures ∙ b.version) at c.say_bye.ensures.talk) c.on_link.ensures fault b.read
-
-pub returns-clause-fault : goal.returns-clause-fault
-returns-clause-fault g c = λ first firsts second seconds.
-    bye_stops _ _ c.say_bye.result c.on_link.result c.on_link.ensures (λ e. Rose-since _ _ _ c.check_all.ensures.peer.later (c.say_bye.ensures.cause.failed e))
-
-pub returns-clause-kept : goal.returns-clause-kept
-returns-clause-kept g c = bye_kept c.args.session.now.version _ _ _ _ _ (rw c.in_ok-check_all.was at c.check_all.ensures.kept) c.say_bye.result c.on_link.result _ c.say_bye.ensures.talk c.on_link.ensures
+    c.conclude_run.ensures.ends i x before now (goes_on i x c.args.session.now _ _ _ _ b) (all_stand i x c.args.session.now _ _ _ _ b) fault
 
 pub returns-clause-wrote : goal.returns-clause-wrote
-returns-clause-wrote g c = λ stream same all.
-    (passed_moves _ _ stream _ _ _ _ _ _ _ (rw c.in_ok-check_all.was at c.check_all.ensures.checks stream same all)).1
+returns-clause-wrote g c = λ stream same all. c.conclude_run.ensures.wrote stream all

@@ -1,7 +1,7 @@
 -- A Bye has a spelling in each version.
 use Rattle.std.proofs.Common.{refl}
 use Rattle.sip_wire.specs.Spelling.{fits, has_room, all_hold}
-use Rattle.sip_verifier.proofs.checking.say_bye.Goals as goal
+use Rattle.sip_verifier.proofs.queries.SessionAsker.say_farewell.Goals as goal
 
 pub encode-requires : goal.encode-requires
 unfolding fits has_room all_hold

@@ -1,0 +1,2 @@
+-- Proofs of the laws that the traits of this crate ask for.
+pub mod Waiting

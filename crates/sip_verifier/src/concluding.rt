@@ -1,0 +1,141 @@
+//! All queries of a run, asked and reported.
+
+ghost use Rattle.std.specs.Prelude.{◌≡◌, ◌<◌, ◌≤◌, ℕ, List, false, length, OnOk};
+ghost use Rattle.sip_ports.specs.Ports.{Lasts};
+ghost use Rattle.sip_vector.specs.declared.update.Update.{Update as AnyUpdate};
+ghost use Rattle.sip_wire.specs.Table.{most_queries};
+ghost use Rattle.sip_verifier.specs.Exchanges.{Exchange};
+ghost use Rattle.sip_verifier.specs.Keeping.{KeepsTalk};
+ghost use Rattle.sip_verifier.specs.Moments.{Counts, counts};
+ghost use Rattle.sip_verifier.specs.runs.Askers.{GoesBehind, IsFirst, behind, blocks_in, queries_in};
+ghost use Rattle.sip_verifier.specs.runs.Concluding.{Ended, Reports, status_of};
+ghost use Rattle.sip_verifier.specs.runs.Progress.{Checks, ChecksAll};
+ghost use Rattle.sip_verifier.specs.runs.Runs.{Run, updates};
+ghost use Rattle.sip_verifier.specs.Statuses.{FaultClause, Stops, stops_asking};
+
+use crate::Status;
+use crate::asker::{Asker, Unanswered};
+use crate::ending::{on_link, on_report, status_of_fault};
+use crate::report::write_rejection;
+use sip_ports::{Link, Sink};
+
+/// Asks the next query, which has this number, and writes the line of its verdict.
+fn check_next<Q: Asker, L: Link, K: Sink, C: Sink>(
+    asker: &mut Q,
+    number: u8,
+    peer: &mut L,
+    report: &mut K,
+    keep: &mut C,
+) -> Result<(), Status>
+    requires left { 0 < length (Q.remaining asker.old).left }
+    requires live { (Q.remaining asker.old).spent ≡ false }
+    ensures checks { (stream : List AnyUpdate) (ask : Q.Query × List ℕ)
+        → Q.stands stream asker.old → IsFirst (Q.remaining asker.old) ask
+        → Checks
+        (Q.asking (Q.remaining asker.old).version (Q.remaining asker.old).depth stream)
+        ask.0 ask.1 number (L.talk peer.old) (L.talk peer.new) (K.talk report.old)
+        (K.talk report.new) result }
+    ensures kept { KeepsTalk (L.talk peer.old) (L.talk peer.new) (C.talk keep.old) (C.talk keep.new)
+        (Q.remaining asker.old).version result }
+    ensures stands { (stream : List AnyUpdate) → Q.stands stream asker.old
+        → Q.stands stream asker.new }
+    ensures remaining { OnOk result
+        (Q.remaining asker.new ≡ behind false (Q.remaining asker.old)) }
+    ensures fault { (first firsts second seconds : ℕ) → Stops stops_asking
+        (counts first second (L.faults peer.old) (K.faults report.old) (C.faults keep.old))
+        (counts firsts seconds (L.faults peer.new) (K.faults report.new) (C.faults keep.new))
+        result }
+    ensures peer { Lasts L.faults L.wants L.is_sure peer.old peer.new }
+    ensures report { Lasts K.faults K.wants K.is_sure report.old report.new }
+    ensures keep { Lasts C.faults C.wants C.is_sure keep.old keep.new }
+{
+    match asker.ask_next(peer, keep) {
+        Ok(given) => on_report(asker.write_line(&given, report)),
+        Err(Unanswered::Rejected { round, reason }) => {
+            on_report(write_rejection(report, number, round, reason))?;
+            Err(Status::Rejected {
+                query: number,
+                round,
+                reason,
+            })
+        }
+        Err(Unanswered::Fault(fault)) => Err(status_of_fault(fault)),
+    }
+}
+
+/// Asks all queries in order and writes the line of each verdict, up to the first stop.
+#[inline(never)]
+fn check_all<Q: Asker, L: Link, K: Sink, C: Sink>(
+    asker: &mut Q,
+    peer: &mut L,
+    report: &mut K,
+    keep: &mut C,
+) -> Result<(), Status>
+    requires most { length (Q.remaining asker.old).left ≤ most_queries }
+    requires live { (Q.remaining asker.old).spent ≡ false }
+    ensures checks { (stream : List AnyUpdate) → Q.stands stream asker.old → ChecksAll
+        (Q.asking (Q.remaining asker.old).version (Q.remaining asker.old).depth stream)
+        (queries_in (Q.remaining asker.old).left) (blocks_in (Q.remaining asker.old).left)
+        (L.talk peer.old) (L.talk peer.new) (K.talk report.old) (K.talk report.new) result }
+    ensures kept { KeepsTalk (L.talk peer.old) (L.talk peer.new) (C.talk keep.old) (C.talk keep.new)
+        (Q.remaining asker.old).version result }
+    ensures version { OnOk result
+        ((Q.remaining asker.new).version ≡ (Q.remaining asker.old).version) }
+    ensures depth { OnOk result
+        ((Q.remaining asker.new).depth ≡ (Q.remaining asker.old).depth) }
+    ensures fault { (first firsts second seconds : ℕ) → Stops stops_asking
+        (counts first second (L.faults peer.old) (K.faults report.old) (C.faults keep.old))
+        (counts firsts seconds (L.faults peer.new) (K.faults report.new) (C.faults keep.new))
+        result }
+    ensures peer { Lasts L.faults L.wants L.is_sure peer.old peer.new }
+    ensures report { Lasts K.faults K.wants K.is_sure report.old report.new }
+    ensures keep { Lasts C.faults C.wants C.is_sure keep.old keep.new }
+{
+    let count = asker.left() as u8;
+    for asked in 0..count {
+        check_next(asker, asked + 1, peer, report, keep)?;
+    }
+    Ok(())
+}
+
+/// Asks all queries of a run in order over a link to where its stream is kept, writes the line of
+/// each verdict to `report`, up to the first stop, and says farewell where all were accepted. The
+/// time and the memory are those of the asker's calls.
+///
+/// `keep` gets each frame's bytes as soon as they came, before they are judged; of a frame that the
+/// link's failure cut, it gets none.
+///
+/// # Errors
+///
+/// How the run ends: `Rejected`, behind the line of the rejection; `WriteFault` of the report,
+/// behind a front of a line; `WriteFault` of `keep` and `PeerFault`, behind the lines before.
+/// `OutOfMemory` is one of these three. The asker is over then.
+#[inline(never)]
+pub fn conclude_run<Q: Asker, L: Link, K: Sink, C: Sink>(
+    asker: &mut Q,
+    peer: &mut L,
+    report: &mut K,
+    keep: &mut C,
+) -> Result<(), Status>
+    requires most { length (Q.remaining asker.old).left ≤ most_queries }
+    requires live { (Q.remaining asker.old).spent ≡ false }
+    ensures ends { (r : Run Q.Query) (x : Exchange) (before now : Counts)
+        → GoesBehind Q.asking r x (Q.remaining asker.old) (L.talk peer.old) (L.talk peer.new)
+        (K.talk report.old) (K.talk report.new)
+        → Q.stands (updates r x) asker.old → FaultClause before now (status_of result)
+        → Ended Q.asking r x before now (status_of result) }
+    ensures kept { KeepsTalk (L.talk peer.old) (L.talk peer.new) (C.talk keep.old) (C.talk keep.new)
+        (Q.remaining asker.old).version result }
+    ensures wrote { (stream : List AnyUpdate) → Q.stands stream asker.old
+        → Reports (K.talk report.old) (K.talk report.new) }
+    ensures fault { (first firsts second seconds : ℕ) → Stops stops_asking
+        (counts first second (L.faults peer.old) (K.faults report.old) (C.faults keep.old))
+        (counts firsts seconds (L.faults peer.new) (K.faults report.new) (C.faults keep.new))
+        result }
+    ensures peer { Lasts L.faults L.wants L.is_sure peer.old peer.new }
+    ensures report { Lasts K.faults K.wants K.is_sure report.old report.new }
+    ensures keep { Lasts C.faults C.wants C.is_sure keep.old keep.new }
+{
+    check_all(asker, peer, report, keep)?;
+    on_link(asker.say_farewell(peer))
+}
