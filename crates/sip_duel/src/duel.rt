@@ -1,6 +1,6 @@
 //! A run of the verifier against a boxed helper.
 
-ghost use Rattle.std.specs.Prelude.{◌≡◌, ◌≢◌, None, Some, []};
+ghost use Rattle.std.specs.Prelude.{◌≡◌, ◌≢◌, ◌≤◌, None, Some, []};
 ghost use Rattle.std.specs.Option.{option_and_then};
 ghost use Rattle.sip_ports.specs.Ports.{Lasts};
 ghost use Rattle.sip_verifier.specs.Exchanges.{Exchange as AnyExchange, Tells, TakesAtMost};
@@ -61,6 +61,7 @@ pub fn play<A: Source, B: Source, K: Sink, C: Sink>(
         (counts (A.faults first.new) (B.faults second.new) 0 (K.faults report.new)
         (C.faults keep.new)) result }
     ensures gone { link.new.helper ≡ None }
+    ensures wants { link.old.wants.count ≤ link.new.wants.count }
     ensures first { Lasts A.faults A.wants A.is_sure first.old first.new }
     ensures seed { TakesAtMost 32 (B.left second.old) (B.left second.new) }
     ensures second { Lasts B.faults B.wants B.is_sure second.old second.new }

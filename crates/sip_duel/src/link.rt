@@ -119,6 +119,7 @@ impl HelperLink {
         ensures talk { self.new.kept.talk ≡ self.old.kept.talk }
         ensures gone { self.new.helper ≡ None }
         ensures mood { self.new.kept.mood ≡ closed self.old.kept.mood }
+        ensures wants { self.new.wants ≡ self.old.wants }
         ensures given { (self.new.kept.out ≡ self.old.kept.out)
             × (self.new.kept.at ≡ self.old.kept.at) }
     {

@@ -19,3 +19,6 @@ returns-clause-accepts g c = λ p none x tells.
     played c.args.task.now (omega (arith, c.get-levels.ensures.same, c.get-levels.ensures.some)) (omega (arith, c.get-levels.ensures.same, c.get-levels.ensures.most)) (omega (arith, c.len-asked.ensures.value, c.len-asked.ensures.fits)) c.requires
     _ _ _ c.args.link.now.kept.talk.items c.close_and_drop.new.self.kept.talk.items (rw c.close_and_drop.ensures.talk c.check_stream-status.ensures.keeps) refl refl
     (subst (λ t. IsHonestTalk t.items) (sym c.close_and_drop.ensures.talk) (kept_is_honest _ c.check_stream-status.new.peer.kept (c.check_stream-status.ensures.peer.sure p))) none x tells
+
+pub returns-clause-wants : goal.returns-clause-wants
+returns-clause-wants g c = rw c.close_and_drop.ensures.wants c.check_stream-status.ensures.peer.wants_later
