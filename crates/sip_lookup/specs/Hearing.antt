@@ -1,0 +1,24 @@
+-- What a call did that receives a Found: what was said on the link, and what was written to the
+-- keeper of what is received.
+use Rattle.std.specs.Prelude.{◌≡◌, ◌⊎◌, ℕ, List, [], Option, Result, Ok, Err}
+use Rattle.sip_ports.specs.declared.port.TalkEvent.{TalkEvent}
+use Rattle.sip_wire.specs.declared.version.Version.{Version}
+use Rattle.sip_replies.specs.Asking.{Came, HasFault, IsPart, IsUnkept}
+use Rattle.sip_verifier.specs.declared.asker.Unanswered.{Unanswered}
+use Rattle.sip_verifier.specs.declared.asker.Unanswered.TheVariants as unanswered
+use Rattle.sip_verifier.specs.declared.session.SessionFault.TheVariants as faults
+use Rattle.sip_lookup.specs.Frames.{read_found}
+
+module _ (version : Version) (old new before now : Option (List TalkEvent)) where
+  -- a Found came whole and names this place, or has this fault; or the link or the keeper stopped
+  abbrev pub HearsFound : Result (Option ℕ) Unanswered → Type 0
+  HearsFound (Ok found) = Came version (read_found version) old new before now (found, [])
+  HearsFound (Err (unanswered.Rejected round reason)) =
+      (round ≡ 0) × HasFault version (read_found version) old new before now reason
+  HearsFound (Err (unanswered.Fault faults.PeerFault)) =
+      IsPart version (read_found version) old new before now
+  HearsFound (Err (unanswered.Fault faults.KeepFault)) =
+      IsUnkept version (read_found version) old new before now
+  HearsFound (Err (unanswered.Fault faults.OutOfMemory)) =
+      IsPart version (read_found version) old new before now
+      ⊎ IsUnkept version (read_found version) old new before now
