@@ -1,6 +1,6 @@
 //! The lookups of a run, asked one after another.
 
-ghost use Rattle.std.specs.Prelude.{◌≡◌, ◌≤◌, ◌^◌, ℕ, All, IsTrue, IfErr, IfOk, List, drop, false, length, map, nat_lt, vec_capacity};
+ghost use Rattle.std.specs.Prelude.{◌≡◌, ◌≤◌, ◌^◌, ℕ, All, IsTrue, IfErr, IfOk, List, false, length, nat_lt, vec_capacity};
 ghost use Rattle.std.specs.List.{list_all, zip};
 ghost use Rattle.sip_subvec.specs.Replies.{most_entries};
 ghost use Rattle.sip_wire.specs.Versions.{deepest};
@@ -55,6 +55,8 @@ pub(crate) struct Looker {
 }
 
 impl Model for Looker {
+    ghost use Rattle.std.specs.Prelude.{drop};
+    ghost use Rattle.std.specs.List.{zip};
     ghost use Rattle.sip_lookup.specs.Sittings.{LookSitting};
 
     ghost Value = { LookSitting };
@@ -96,11 +98,14 @@ impl Looker {
         let Ok(entries) = Vec::with_capacity(alloc, MOST_ENTRIES) else {
             return Err(Status::OutOfMemory);
         };
+        let mut lookups = ArrayVec::new();
+        let copied = lookups.try_extend_from_slice(&task.lookups).is_ok();
+        prove!(copied);
         Ok(Looker {
             seats,
             depth: task.depth,
             version: task.version(),
-            lookups: task.lookups.clone(),
+            lookups,
             asked: 0,
             frame,
             entries,

@@ -1,18 +1,21 @@
 //! One lookup, asked of the helper and checked.
 
-ghost use Rattle.std.specs.Prelude.{◌≡◌, ◌<◌, ◌≤◌, ◌^◌, ℕ, Err, List, MatchResult, length, vec_capacity};
+ghost use Rattle.std.specs.Prelude.{◌≡◌, ◌<◌, ◌≤◌, ◌^◌, ℕ, Ok, Err, List, MatchResult, length, vec_capacity};
 ghost use Rattle.sip_field.specs.Moduli.{m61_modulus};
+ghost use Rattle.sip_ports.specs.declared.port.PortStop.{PortStop as AnyPortStop};
 ghost use Rattle.sip_ports.specs.Ports.{HasCause, Lasts, Rose, SendsWhole};
 ghost use Rattle.sip_subvec.specs.Replies.{most_entries};
 ghost use Rattle.sip_tree.specs.StandsFor.{RootStandsFor};
 ghost use Rattle.sip_vector.specs.declared.update.Side.TheVariants.{First};
 ghost use Rattle.sip_vector.specs.declared.update.Update.{Update as AnyUpdate};
 ghost use Rattle.sip_vector.specs.Streams.{vector};
+ghost use Rattle.sip_wire.specs.declared.message.Reason.{Reason as AnyReason};
+ghost use Rattle.sip_wire.specs.declared.message.WireFault.{WireFault as AnyWireFault};
 ghost use Rattle.sip_wire.specs.Spelling.{spelling};
 ghost use Rattle.sip_wire.specs.Versions.{deepest};
 ghost use Rattle.sip_verifier.specs.runs.Askers.{Asks, KeepsAsked};
 ghost use Rattle.sip_lookup.specs.Frames.{ask_message, found_in};
-ghost use Rattle.sip_lookup.specs.Hearing.{HearsFound};
+ghost use Rattle.sip_lookup.specs.Hearing.{HearsFound, stop_of_found, stop_of_keeper, stop_of_link};
 ghost use Rattle.sip_lookup.specs.Lookups.{item_of};
 ghost use Rattle.sip_lookup.specs.Questions.{looking};
 ghost use Rattle.sip_lookup.specs.Sittings.{looked_of};
@@ -26,46 +29,62 @@ use sip_vector::{CAP, Depth, Entry};
 use sip_verifier::{SessionFault, Unanswered, Verdict, ask_sub};
 use sip_wire::{Frame, Message, Place, Reason, Version, WireFault, decode_within, encode};
 
-/// A lookup has no answer, since the link stopped.
-fn on_link(stop: PortStop) -> Unanswered {
-    Unanswered::Fault(match stop {
-        PortStop::Failed => SessionFault::PeerFault,
-        PortStop::OutOfMemory => SessionFault::OutOfMemory,
-    })
+/// What sending on the link gave.
+fn on_link(sent: Result<(), PortStop>) -> Result<(), Unanswered>
+    ensures { MatchResult result (λ x. sent ≡ Ok x) (λ stop. (port : AnyPortStop)
+        × (sent ≡ Err port) × (stop ≡ stop_of_link port)) }
+{
+    match sent {
+        Ok(()) => Ok(()),
+        Err(PortStop::Failed) => Err(Unanswered::Fault(SessionFault::PeerFault)),
+        Err(PortStop::OutOfMemory) => Err(Unanswered::Fault(SessionFault::OutOfMemory)),
+    }
 }
 
-/// A lookup has no answer, since the keeper stopped.
-fn on_keep(stop: PortStop) -> Unanswered {
-    Unanswered::Fault(match stop {
-        PortStop::Failed => SessionFault::KeepFault,
-        PortStop::OutOfMemory => SessionFault::OutOfMemory,
-    })
+/// What writing to the keeper gave.
+fn on_keep(written: Result<(), PortStop>) -> Result<(), Unanswered>
+    ensures { MatchResult result (λ x. written ≡ Ok x) (λ stop. (port : AnyPortStop)
+        × (written ≡ Err port) × (stop ≡ stop_of_keeper port)) }
+{
+    match written {
+        Ok(()) => Ok(()),
+        Err(PortStop::Failed) => Err(Unanswered::Fault(SessionFault::KeepFault)),
+        Err(PortStop::OutOfMemory) => Err(Unanswered::Fault(SessionFault::OutOfMemory)),
+    }
 }
 
-/// The Found has this fault.
-fn in_found(fault: WireFault) -> Unanswered {
-    let reason = match fault {
-        WireFault::BadKind => Reason::BadKind,
-        WireFault::BadLength => Reason::BadLength,
-        WireFault::BadCount => Reason::BadCount,
-        WireFault::BadNumber => Reason::BadNumber,
-        WireFault::Closed => Reason::Closed,
-        WireFault::PeerFault => return Unanswered::Fault(SessionFault::PeerFault),
-        WireFault::OutOfMemory => return Unanswered::Fault(SessionFault::OutOfMemory),
+/// What receiving a Found gave.
+fn on_found(judged: Result<(), WireFault>) -> Result<(), Unanswered>
+    ensures { MatchResult result (λ x. judged ≡ Ok x) (λ stop. (fault : AnyWireFault)
+        × (judged ≡ Err fault) × (stop ≡ stop_of_found fault)) }
+{
+    let reason = match judged {
+        Ok(()) => return Ok(()),
+        Err(WireFault::PeerFault) => return Err(Unanswered::Fault(SessionFault::PeerFault)),
+        Err(WireFault::OutOfMemory) => return Err(Unanswered::Fault(SessionFault::OutOfMemory)),
+        Err(WireFault::Closed) => Reason::Closed,
+        Err(WireFault::BadKind) => Reason::BadKind,
+        Err(WireFault::BadLength) => Reason::BadLength,
+        Err(WireFault::BadCount) => Reason::BadCount,
+        Err(WireFault::BadNumber) => Reason::BadNumber,
     };
-    Unanswered::Rejected { round: 0, reason }
+    Err(Unanswered::Rejected { round: 0, reason })
 }
 
 /// The place that a message names where a Found is awaited, or that it names none.
-fn place_in(message: &Message) -> Result<Option<u64>, Reason>
-    ensures { result ≡ found_in message.now }
+fn place_in(message: &Message) -> Result<Option<u64>, Unanswered>
+    ensures { MatchResult result (λ found. found_in message.now ≡ Ok found)
+        (λ stop. (reason : AnyReason) × (found_in message.now ≡ Err reason)
+        × (stop ≡ Unanswered.Rejected 0 reason)) }
 {
-    match message {
-        Message::Found { flag: 1, index } => Ok(Some(*index)),
-        Message::Found { .. } => Ok(None),
-        Message::Refuse { code } => Err(Reason::Refused(*code)),
-        _ => Err(Reason::BadKind),
-    }
+    let reason = match message {
+        Message::Found { flag, index } => {
+            return Ok(if *flag == 1 { Some(*index) } else { None });
+        }
+        Message::Refuse { code } => Reason::Refused(*code),
+        _ => Reason::BadKind,
+    };
+    Err(Unanswered::Rejected { round: 0, reason })
 }
 
 /// Sends an Ask.
@@ -98,13 +117,15 @@ fn hear_found<L: Link, C: Sink>(
     ensures link { Lasts L.faults L.wants L.is_sure link.old link.new }
     ensures keep { Lasts C.faults C.wants C.is_sure keep.old keep.new }
 {
-    let judged = decode_within(link, Place::Found, version, frame);
-    if let Err(WireFault::PeerFault | WireFault::OutOfMemory) = judged {
-        return judged.map(|()| None).map_err(in_found);
+    match decode_within(link, Place::Found, version, frame) {
+        Err(WireFault::PeerFault) => Err(Unanswered::Fault(SessionFault::PeerFault)),
+        Err(WireFault::OutOfMemory) => Err(Unanswered::Fault(SessionFault::OutOfMemory)),
+        judged => {
+            on_keep(write_whole(keep, frame.bytes()))?;
+            on_found(judged)?;
+            place_in(frame.message())
+        }
     }
-    write_whole(keep, frame.bytes()).map_err(on_keep)?;
-    judged.map_err(in_found)?;
-    place_in(frame.message()).map_err(|reason| Unanswered::Rejected { round: 0, reason })
 }
 
 /// Asks a lookup, takes the replies and judges them: the place that is found, and the entries of the
@@ -148,7 +169,7 @@ pub fn ask_look<L: Link, C: Sink>(
     ensures link { Lasts L.faults L.wants L.is_sure link.old link.new }
     ensures keep { Lasts C.faults C.wants C.is_sure keep.old keep.new }
 {
-    send_ask(lookup, version, link).map_err(on_link)?;
+    on_link(send_ask(lookup, version, link))?;
     let found = hear_found(version, link, keep, frame)?;
     if !lookup.is_possible(depth, found) {
         return Err(Unanswered::Rejected {

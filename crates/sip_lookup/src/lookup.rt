@@ -21,6 +21,17 @@ pub enum Lookup {
     Succ(u64),
 }
 
+/// The value at item 0.
+impl Default for Lookup {
+    ghost use Rattle.sip_lookup.specs.declared.lookup.Lookup.TheVariants as lookups;
+
+    ghost is_default = { λ l. l ≡ lookups.Index 0 };
+
+    fn default() -> Lookup {
+        Lookup::Index(0)
+    }
+}
+
 impl Lookup {
     /// The item that it is at.
     pub fn item(self) -> u64

@@ -1,5 +1,6 @@
 -- A lookup that waits for a reply has no fault so far.
-use Rattle.std.specs.Prelude.{◌⊎◌, ℕ, List, inl, inr}
+use Rattle.std.proofs.Common.{inl, inr}
+use Rattle.std.specs.Prelude.{ℕ, List}
 use Rattle.sip_vector.specs.declared.update.Update.{Update}
 use Rattle.sip_wire.specs.declared.version.Version.{Version}
 use Rattle.sip_lookup.specs.Questions.{IsUnfinished, IsWaiting, Question}
