@@ -1,7 +1,7 @@
 -- A Found that came whole: what its bytes are, and what they say with more behind them.
-use Rattle.std.proofs.Common.{◌≡◌, ℕ, zero, suc, ◌&&◌, ◌++◌, List, Option, Some, None, Result, Ok, Err, refl, sym, ap, ◌∙◌, cc}
-use Rattle.std.specs.Prelude.{IsTrue}
-use Rattle.std.proofs.lemmas.Bool.{and_parts, eqb-true}
+use Rattle.std.proofs.Common.{◌≡◌, ℕ, zero, suc, true, ◌++◌, List, [], ◌∷◌, Option, Some, None, Result, Ok, Err, refl, sym, ap, ◌∙◌, arith}
+use Rattle.std.specs.Prelude.{IsTrue, nat_le}
+use Rattle.std.proofs.lemmas.Bool.{and_parts, eqb-true, leb-true}
 use Rattle.sip_vector.specs.Steps.{◌>>=◌}
 use Rattle.sip_wire.specs.declared.kind.Place.TheVariants as places
 use Rattle.sip_wire.specs.declared.message.Message.{Message}
@@ -26,7 +26,10 @@ found_same version zero index fit =
     let ordered = (and_parts _ _ (and_parts _ _ fit).0).1 in
     ap (messages.Found 0) (sym (eqb-true index 0 ordered))
 found_same version (suc zero) index fit = refl
-found_same version (suc (suc n)) index fit = absurd (let held = (and_parts _ _ fit).1 in cc)
+found_same version (suc (suc n)) index fit =
+    let held : all_hold found_fields (suc (suc n) ∷ index ∷ []) ≡ true = (and_parts _ _ fit).1 in
+    let most : nat_le (suc (suc n)) 1 ≡ true = (and_parts _ _ (and_parts _ _ held).0).1 in
+    absurd (omega (arith, leb-true (suc (suc n)) 1 most))
 
 -- what is read where a place is awaited is the message for it
 pub found_is : (version : Version) (m : Message) (found : Option ℕ) → IsTrue (fits version m)
@@ -40,7 +43,7 @@ found_is version _ found fit is = absurd cc
 -- ---- more bytes behind it
 
 by_place : (place : Result (Option ℕ) Reason) (rest more : List ℕ) (x : Option ℕ × List ℕ)
-    → (place >>= λ found. Ok (found, rest)) ≡ Ok x → (place >>= λ found. Ok (found, rest ++ more)) ≡ Ok (x.0, x.1 ++ more)
+    → (place >>= λ found. Ok (found, rest)) ≡ Ok x → ◌>>=◌ {B = Option ℕ × List ℕ} place (λ found. Ok (found, rest ++ more)) ≡ Ok (x.0, x.1 ++ more)
 by_place (Err reason) rest more x e = absurd cc
 by_place (Ok found) rest more x e =
     let same : (found, rest) ≡ x = cc in

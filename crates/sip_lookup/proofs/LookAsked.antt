@@ -1,5 +1,5 @@
 -- What asking a lookup did, from what hearing its Found and asking for its interval did.
-use Rattle.std.proofs.Common.{◌≡◌, ℕ, zero, suc, ◌≤◌, Bool, true, false, List, [], ◌∷◌, ◌++◌, length, min, Option, Result, Ok, Err, refl, sym, ap, subst, ◌∙◌, inl, inr, cc, arith, append_assoc, append-nil, length-append}
+use Rattle.std.proofs.Common.{◌≡◌, ℕ, zero, suc, ◌≤◌, Bool, true, false, List, [], ◌∷◌, ◌++◌, length, min, Option, Result, Ok, Err, refl, sym, ap, subst, ◌∙◌, inl, inr, arith, append_assoc, append-nil, length-append}
 use Rattle.std.specs.Prelude.{if◌then◌else◌}
 use Rattle.sip_ports.specs.declared.port.TalkEvent.{TalkEvent}
 use Rattle.sip_ports.specs.Ports.{GoesOn, ins}
@@ -88,7 +88,7 @@ module _ (version : Version) (depth : ℕ) (stream : List Update) (l : Lookup) (
         by_replies (rest ∷ more) is = record {
           replies = outer rest more;
           talk = whole_talk rest more (subst (λ rs. GoesOn mid new (asked version (Sub lo hi) block rs)) is a.talk);
-          accepted = behind rest more (entries, (rw sym is at a.accepted), alone, refl);
+          accepted = behind rest more (entries, (rw is at a.accepted), alone, refl);
         }
 
     -- they are accepted, and do not stand alone
@@ -102,7 +102,7 @@ module _ (version : Version) (depth : ℕ) (stream : List Update) (l : Lookup) (
         by_replies (rest ∷ more) is = record {
           replies = outer rest more;
           talk = talk rest more [] (subst (GoesOn mid new) (sym (append-nil _)) (subst (λ rs. GoesOn mid new (asked version (Sub lo hi) block rs)) is a.talk));
-          faulty = inr (inr (inr (behind rest more (entries, (rw sym is at a.accepted), alone, refl))));
+          faulty = inr (inr (inr (behind rest more (entries, (rw is at a.accepted), alone, refl))));
         }
 
     -- they have a fault
@@ -116,7 +116,7 @@ module _ (version : Version) (depth : ℕ) (stream : List Update) (l : Lookup) (
         by_replies (rest ∷ more) is = record {
           replies = outer rest more;
           talk = talk rest more (ending reason) (subst (λ rs. GoesOn mid new (asked version (Sub lo hi) block rs ++ ending reason)) is r.talk);
-          faulty = inr (inr (inl (behind rest more (rw sym is at r.faulty))));
+          faulty = inr (inr (inl (behind rest more (rw is at r.faulty))));
         }
 
     -- what came of the last one was not judged
@@ -130,5 +130,5 @@ module _ (version : Version) (depth : ℕ) (stream : List Update) (l : Lookup) (
           replies = outer rest more;
           ended = u.ended;
           talk = talk rest more u.ended (subst (λ rs. GoesOn mid new (asked version (Sub lo hi) block rs ++ u.ended)) is u.talk);
-          unjudged = inr (behind rest more (rw sym is at u.unjudged));
+          unjudged = inr (behind rest more (rw is at u.unjudged));
         }

@@ -12,7 +12,8 @@ use Rattle.sip_replies.specs.Replies.{reason_of}
 use Rattle.sip_verifier.specs.declared.asker.Unanswered.{Unanswered}
 use Rattle.sip_verifier.specs.declared.asker.Unanswered.TheVariants as unanswered
 use Rattle.sip_verifier.specs.declared.session.SessionFault.TheVariants as faults
-use Rattle.sip_lookup.specs.Frames.{read_found}
+use Rattle.sip_wire.specs.Spelling.{spelling}
+use Rattle.sip_lookup.specs.Frames.{found_message, read_found}
 
 -- why a lookup has no answer, where the link stopped
 abbrev pub stop_of_link : PortStop → Unanswered
@@ -31,9 +32,14 @@ stop_of_found wire.OutOfMemory = unanswered.Fault faults.OutOfMemory
 stop_of_found fault = unanswered.Rejected 0 (reason_of fault)
 
 module _ (version : Version) (old new before now : Option (List TalkEvent)) where
+  -- a Found came whole, and is the one for this place
+  pub record IsFound (found : Option ℕ) : Type 0 where
+    pub came : Came version (read_found version) old new before now (found, [])
+    pub spelled : came.bytes ≡ spelling version (found_message found)
+
   -- a Found came whole and names this place, or has this fault; or the link or the keeper stopped
   abbrev pub HearsFound : Result (Option ℕ) Unanswered → Type 0
-  HearsFound (Ok found) = Came version (read_found version) old new before now (found, [])
+  HearsFound (Ok found) = IsFound found
   HearsFound (Err (unanswered.Rejected round reason)) =
       (round ≡ 0) × HasFault version (read_found version) old new before now reason
   HearsFound (Err (unanswered.Fault faults.PeerFault)) =
