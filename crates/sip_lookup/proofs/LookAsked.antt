@@ -13,7 +13,10 @@ use Rattle.sip_wire.specs.declared.message.Reason.{Reason}
 use Rattle.sip_wire.specs.declared.message.Reason.TheVariants as reasons
 use Rattle.sip_wire.specs.declared.version.Version.{Version}
 use Rattle.sip_wire.specs.Spelling.{spelling}
-use Rattle.sip_replies.specs.Talks.{asked, ending, sent}
+use Rattle.sip_replies.specs.Talks.{IsPrefix, asked, ending, sent}
+use Rattle.sip_replies.specs.Protocols.{Rules}
+use Rattle.sip_replies.specs.Replies as general
+use Rattle.sip_replies.specs.Replies.{Fault, read_from, run, run_from}
 use Rattle.sip_verifier.specs.Asking as subs
 use Rattle.sip_verifier.specs.runs.Asking.{IsAnswered, IsRejected, IsInterrupted, IsUnrecorded, question_of}
 use Rattle.sip_lookup.specs.AcceptsLook.{parts}
@@ -27,6 +30,25 @@ use Rattle.sip_lookup.proofs.FoundFrames.{found_more}
 some_min : (round n : ℕ) → 1 ≤ n → 1 ≤ min (suc round) n
 some_min round zero some = absurd (omega (arith, some))
 some_min round (suc n) some = omega (arith)
+
+-- where no byte of reply 0 came, it is not whole
+none_read : {S : Type 0} (R : Rules S) (rs : List ℕ) → run R rs ([] ∷ []) ≡ Err (record { round = 0; reason = reasons.Closed })
+unfolding run_from read_from
+none_read R rs = refl
+
+same_fault : {X : Type 0} (a b : Fault) → ◌≡◌ {A = Result X Fault} (Err a) (Err b) → a ≡ b
+same_fault a b e = cc
+
+none_whole : {S : Type 0} (R : Rules S) (rs : List ℕ) → 1 ≤ length rs → general.IsUnfinished R rs ([] ∷ [])
+none_whole R rs some = record {
+  few = some;
+  passes = λ fault is.
+      let same : record { round = 0; reason = reasons.Closed } ≡ fault = same_fault _ fault (sym (none_read R rs) ∙ is) in
+      (ap (λ (f : Fault). f.reason) (sym same), ap (λ (f : Fault). suc f.round) (sym same));
+}
+
+none_came : {S : Type 0} (R : Rules S) (rs : List ℕ) → general.IsMissing R rs ([] ∷ [])
+none_came R rs = inr (record { round = 0; reason = reasons.Closed }, none_read R rs)
 
 -- A Found came whole, in these bytes, and names a place that may be found.
 module _ (version : Version) (depth : ℕ) (stream : List Update) (l : Lookup) (block : List ℕ) (found : Option ℕ) (bytes : List ℕ)
@@ -132,3 +154,35 @@ module _ (version : Version) (depth : ℕ) (stream : List Update) (l : Lookup) (
           talk = talk rest more u.ended (subst (λ rs. GoesOn mid new (asked version (Sub lo hi) block rs ++ u.ended)) is u.talk);
           unjudged = inr (behind rest more (rw is at u.unjudged));
         }
+
+    -- a front of what is said about the interval is one of what is said for the lookup
+    front : (rest : List ℕ) (more : List (List ℕ)) (part : List TalkEvent) → IsPrefix part (asked version (Sub lo hi) block (rest ∷ more))
+        → IsPrefix ((sent version (ask_message l ∷ []) ++ ins bytes) ++ part) (said_for version depth (asks rest more))
+    front rest more part f =
+        let a = sent version (ask_message l ∷ []) in (
+          f.0,
+          said rest more ∙ ap (λ (q : List TalkEvent). a ++ (ins bytes ++ q)) f.1 ∙ sym (append_assoc a (ins bytes) (part ++ f.0)) ∙ sym (append_assoc (a ++ ins bytes) part f.0),
+        )
+
+    -- the link stopped while they came
+    pub interrupted : 1 ≤ length block → subs.IsInterrupted version depth stream (Sub lo hi) block mid new
+        → IsInterrupted (looking version depth stream) l block old new
+    interrupted some i = by_replies i.replies refl
+      where
+        by_replies : (replies : List (List ℕ)) → i.replies ≡ replies → IsInterrupted (looking version depth stream) l block old new
+        by_replies [] is = record {
+          replies = outer [] [];
+          said = (sent version (ask_message l ∷ []) ++ ins bytes) ++ i.said;
+          talk = GoesOn-trans old mid new (sent version (ask_message l ∷ []) ++ ins bytes) i.said before i.talk;
+          order = front [] [] i.said (subst (λ (rs : List (List ℕ)). IsPrefix i.said (asked version (Sub lo hi) block rs)) is i.order);
+          waits = inr (behind [] [] (none_whole _ block some, none_came _ block));
+        }
+        by_replies (rest ∷ more) is =
+            let due = rw is at i.waits in
+            record {
+              replies = outer rest more;
+              said = (sent version (ask_message l ∷ []) ++ ins bytes) ++ i.said;
+              talk = GoesOn-trans old mid new (sent version (ask_message l ∷ []) ++ ins bytes) i.said before i.talk;
+              order = front rest more i.said (subst (λ (rs : List (List ℕ)). IsPrefix i.said (asked version (Sub lo hi) block rs)) is i.order);
+              waits = inr (behind rest more (due.1, due.2));
+            }

@@ -13,14 +13,12 @@ use crate::lookup::Lookup;
 use crate::task::LookTask;
 use arrayvec::ArrayVec;
 use sip_ports::{Link, PortStop, Sink};
+use sip_subvec::MOST_ENTRIES;
 use sip_vector::{Depth, Entry};
 use sip_verifier::{Asker, Seats, Status, Unanswered};
 use sip_wire::{Frame, MOST_QUERIES, Message, Version, encode};
 use std::alloc::Global;
 use std::marker::Model;
-
-/// How many entries there is room for: those of the longest answer of a sub-vector.
-const MOST_ENTRIES: usize = 65_536;
 
 /// An answer that was accepted.
 #[derive(Clone, Copy, Debug)]
@@ -95,7 +93,7 @@ impl Looker {
         let Ok(frame) = Frame::new(alloc) else {
             return Err(Status::OutOfMemory);
         };
-        let Ok(entries) = Vec::with_capacity(alloc, MOST_ENTRIES) else {
+        let Ok(entries) = Vec::with_capacity(alloc, MOST_ENTRIES as usize) else {
             return Err(Status::OutOfMemory);
         };
         let mut lookups = ArrayVec::new();
