@@ -23,6 +23,7 @@ mod SessionAsks
 pub mod QueriesChecked
 pub mod RunTalks
 pub mod SeatedBehind
+pub mod GatheredRuns
 pub mod StreamPromises
 pub mod QueryPromises
 pub mod ShareAnswers
