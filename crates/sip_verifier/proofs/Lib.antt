@@ -30,6 +30,7 @@ pub mod ShareAnswers
 mod SumAnswers
 mod SumLaws
 pub mod CountedQuestions
+pub mod WrittenReports
 pub mod CountedReports
 pub mod JointReports
 pub mod Blocks
