@@ -1,2 +1,5 @@
 pub mod NearEntries
 pub mod FewFooled
+pub mod FoundFrames
+pub mod LookHeard
+pub mod LookAsked

@@ -159,3 +159,18 @@ alone_is_near d numbers (Succ i) (Some j) len item possible alone =
 pub same_answer : (y : Looked) → is_same_answer y y ≡ true
 same_answer (value a) = (signed_Decides a a).1 refl
 same_answer (nearest o) = (same_entries (option_to_list o) (option_to_list o)).1 refl
+
+-- two optional entries whose lists are the same
+same_option : (a b : Option Entry) → option_to_list a ≡ option_to_list b → a ≡ b
+same_option None None e = refl
+same_option None (Some y) e = absurd cc
+same_option (Some x) None e = absurd cc
+same_option (Some x) (Some y) e = cc
+
+-- answers that pass the test are the same
+pub equal_answers : (x y : Looked) → is_same_answer x y ≡ true → x ≡ y
+equal_answers (value a) (value b) same = ap value ((signed_Decides a b).0 same)
+equal_answers (value a) (nearest o) same = absurd cc
+equal_answers (nearest o) (value b) same = absurd cc
+equal_answers (nearest a) (nearest b) same =
+    ap nearest (same_option a b ((same_entries (option_to_list a) (option_to_list b)).0 same))

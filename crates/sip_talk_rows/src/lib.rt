@@ -30,6 +30,8 @@ mod helper_tests;
 #[cfg(test)]
 mod list_tests;
 #[cfg(test)]
+mod look_tests;
+#[cfg(test)]
 mod moment_check_tests;
 #[cfg(test)]
 mod replaying_tests;
