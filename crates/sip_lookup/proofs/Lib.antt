@@ -3,3 +3,4 @@ pub mod FewFooled
 pub mod FoundFrames
 pub mod LookHeard
 pub mod LookAsked
+pub mod WrittenLooks
