@@ -1,6 +1,7 @@
 pub mod Binomials
 pub mod RangeSums
 pub mod LevelPowers
+pub mod PowerFrames
 pub mod Residues
 pub mod TrueRounds
 pub mod WrongMoments

@@ -1,6 +1,15 @@
 pub mod Moments
 pub mod AcceptsMoment
 pub mod Checking
+pub mod Questions
+pub mod Protocol
+pub mod Asking
+pub mod LawProofs
+pub mod Stating
+pub mod Counting
 pub mod Honest
+pub mod Tasks
+pub mod Manner
+pub mod MomentClause
 pub mod Examples
 pub mod Powers

@@ -2,6 +2,8 @@
 //! a sum-check of degree k (Cormode, Thaler, Yi, PVLDB 5(1), section 3).
 //!
 //! - [`MomentCheck`] is the verifier's check of a claimed moment, round by round.
+//! - [`MomentAsking`] is that check in the form that the talk of `sip_replies` asks, where a
+//!   [`Moment`] is what is asked.
 //! - [`MomentProver`] is the honest side: the moment, and the true polynomial of each round.
 //!
 //! The second moment is a sum of products, and `sip_sums` has its check. What the two have in
@@ -22,8 +24,6 @@
 //! - For every helper whose polynomials depend on the challenges revealed so far, at most
 //!   k·d·p^(d-1) of the p^d challenge vectors make the check accept a wrong moment ([`counting`]).
 //!
-//! Not yet here: the frames in which a claim and its polynomials are sent, and the talk.
-//!
 //! # The definitions to read
 //!
 //! | Module | Definitions |
@@ -31,9 +31,12 @@
 //! | `Moments` | the moments of a vector, and for which of them a claim has room |
 //! | `AcceptsMoment` | what replies state, and when that is accepted |
 //! | `Checking` | what a check keeps, and what a call makes of it |
+//! | `Protocol` | the replies as frames: how they are read, and what they come to |
+//! | `Questions` | the message that asks for a moment |
 //! | `Honest` | the true round polynomials, and what a prover keeps |
 //!
-//! `Powers` serves the contracts of private functions alone.
+//! `Powers` serves the contracts of private functions alone, and `Asking` those of the check in the
+//! talk.
 //!
 //! # Cost
 //!
@@ -61,14 +64,20 @@
 //! Of a pair with a 0 the odd entry wants none of these, and the even one k.
 #![tactic(auto)]
 
+mod asking;
 mod check;
 mod claims;
 pub mod counting;
 pub mod laws;
+mod moment;
 mod powers;
 mod prover;
 pub mod proving;
 mod rounds;
+mod task;
 
+pub use asking::MomentAsking;
 pub use check::MomentCheck;
+pub use moment::Moment;
 pub use prover::MomentProver;
+pub use task::MomentTask;

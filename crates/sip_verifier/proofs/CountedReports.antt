@@ -152,6 +152,7 @@ module _ (i : Inquiry) (x : Exchange) (can : All (CanBeAsked i.depth) i.queries)
   reported statuses.BadSeed v is = nothing v
   reported statuses.SeedSpent v is = nothing v
   reported (statuses.TooWide query) v is = nothing v
+  reported (statuses.TooHigh query) v is = nothing v
   reported (statuses.ReadFault port) v is = nothing v
   reported (statuses.WriteFault ports.Report) v is = cut_in_line v v.verdict
   reported (statuses.WriteFault ports.Keep) (inl none) is = nothing none.1
