@@ -5,6 +5,10 @@ pub mod PowerFrames
 pub mod Residues
 pub mod TrueRounds
 pub mod WrongMoments
+pub mod ReadMoments
+pub mod SaidMoments
+pub mod FewFooled
+pub mod StatedMoments
 pub mod MomentCube
 pub mod IntPowers
 pub mod PowerSums

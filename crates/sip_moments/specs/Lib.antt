@@ -10,6 +10,7 @@ pub mod Counting
 pub mod Honest
 pub mod Tasks
 pub mod Manner
+pub mod Sittings
 pub mod MomentClause
 pub mod Examples
 pub mod Powers

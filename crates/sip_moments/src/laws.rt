@@ -8,11 +8,14 @@ ghost use Rattle.sip_field.specs.Residue.{residue};
 ghost use Rattle.sip_vector.specs.Examples.{four};
 ghost use Rattle.sip_counts.specs.Rounds.{adds_up, is_expected, sum_of_ends, value_at};
 ghost use Rattle.sip_sums.specs.Examples.{less};
-ghost use Rattle.sip_moments.specs.AcceptsMoment.{accepts_stated, power_at};
+ghost use Rattle.sip_wire.specs.declared.version.Version.{Version};
+ghost use Rattle.sip_moments.specs.AcceptsMoment.{Stated, accepts_stated, power_at};
 ghost use Rattle.sip_moments.specs.Checking.{Kept, adds_up_from, begun as started, with_polynomial, with_revealed};
+ghost use Rattle.sip_moments.specs.Counting.{accepts_moment};
 ghost use Rattle.sip_moments.specs.Examples.{first_round, one_and_none, second_round, stated_cubes, stated_two};
 ghost use Rattle.sip_moments.specs.Honest.{begun, its_polynomial, learnt, round_polynomial};
-ghost use Rattle.sip_moments.specs.Moments.{is_too_high, moment};
+ghost use Rattle.sip_moments.specs.Moments.{is_too_high, moment, most_degree};
+ghost use Rattle.sip_moments.specs.Stating.{HasSpelling, stated_replies};
 
 /// The third moment of (3, 0, 5, 1) at the challenges (2, 10), worked out by hand.
 pub fn cubes_by_hand()
@@ -72,4 +75,14 @@ pub fn calls_are_steps_of_the_definition()
         → adds_up_from p last (with_revealed check) more ≡ adds_up_from p last check more }
     ensures finish { (p last : ℕ) (check : Kept) → check.given ≡ length check.challenges
         → adds_up_from p last check [] ≡ (check.expected == last) }
+{}
+
+/// The protocol, which goes state by state, is the check over whole lists: bytes are accepted for a
+/// vector exactly where what they state is. A claim has no bytes that is not small modulo 2^61 - 1.
+pub fn bytes_are_accepted_where_lists_are()
+    ensures { (version : Version) (k : ℕ) (numbers : List ℤ) (challenges : List ℕ) (s : Stated)
+        → k ≤ most_degree → HasSpelling k s → length s.polynomials ≡ length challenges
+        → 0 < length challenges
+        → accepts_moment version m61_modulus k numbers challenges (stated_replies version s)
+        ≡ accepts_stated m61_modulus k numbers challenges s }
 {}
