@@ -81,11 +81,10 @@ pub power_spelled : (version : Version) (k : ℕ) (c : List ℕ) → k ≤ most_
 unfolding fits
 power_spelled version k c low h =
     let degree : length c - 1 ≡ k = omega (arith, h.long) in
-    let count : length c ≡ suc (length c - 1) = omega (arith, h.long) in
-    (
+    let count : length c ≡ suc (length c - 1) = omega (arith, h.long) in (
       and_from _ _ (and_from _ _ (and_from _ _ (and_from _ _
-      (le-leb (length c - 1) most_degree (omega (arith, degree, low))) refl)
-      (all_room (suc (length c - 1)) c count h.elements)) refl)
-      (all_held (suc (length c - 1)) c count h.elements),
+          (le-leb (length c - 1) most_degree (omega (arith, degree, low))) refl)
+          (all_room (suc (length c - 1)) c count h.elements)) refl)
+          (all_held (suc (length c - 1)) c count h.elements),
       eq-eqb (length c - 1) k degree,
     )

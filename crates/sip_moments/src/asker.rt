@@ -74,8 +74,13 @@ impl Questions {
     ) -> Questions
         requires degrees { All (λ m. IsDegree m.degree) moments.items }
         requires same { map (λ s. s.query) seats.seats ≡ map square_of moments.items }
-        ensures { result ≡ record { version = version; moments = moments.items; seats = seats;
-            asked = 0; spent = false } }
+        ensures { result ≡ record {
+          version = version;
+          moments = moments.items;
+          seats = seats;
+          asked = 0;
+          spent = false;
+        } }
     {
         Questions {
             version,
