@@ -9,6 +9,7 @@ pub mod ReadMoments
 pub mod SaidMoments
 pub mod FewFooled
 pub mod StatedMoments
+pub mod AcceptedMoments
 pub mod MomentAsked
 pub mod MomentCube
 pub mod IntPowers

@@ -100,7 +100,8 @@ impl Reader {
         self.is_spent
     }
 
-    fn weight(&self, side: Side) -> u64
+    /// The weight of a side so far: the sum of the sizes of its deltas.
+    pub fn weight(&self, side: Side) -> u64
         ensures same { result ≡ weight_of self.now side }
         ensures small { result < 1073741824 }
     {

@@ -22,7 +22,7 @@ ghost use Rattle.sip_verifier.specs.Tasks.{CanBeDone};
 use crate::concluding::conclude_run;
 use crate::ending::status_of_start;
 use crate::gathering::gather_into;
-use crate::{Seats, Session, Status, Task};
+use crate::{Seats, Session, Status, Task, Weights};
 use sip_ports::{Link, Sink, Source};
 use sip_vector::{Depth, Query};
 use sip_wire::Version;
@@ -126,7 +126,15 @@ fn steps<A: Source, B: Source, L: Link, K: Sink, C: Sink>(
     let version = task.version();
     // Nothing is gathered yet. What is stays here until the session has it.
     let mut gathered = Err(Status::SeedSpent);
-    gather_into(task, first, second, peer, keep, &mut gathered);
+    gather_into(
+        task,
+        first,
+        second,
+        peer,
+        keep,
+        &mut gathered,
+        &mut Weights::default(),
+    );
     let mut session = open(alloc, version, &mut gathered)?;
     conclude(&mut *session, &task.queries, peer, report, keep)
 }

@@ -16,9 +16,9 @@ use Rattle.sip_verifier.proofs.FramesFit.{item_below}
 use Rattle.sip_verifier.proofs.SeatsHead.{depth-shallow}
 use Rattle.sip_verifier.specs.QuerySeats.{HaveRoom}
 use Rattle.sip_verifier.specs.Seats.{AreSeats}
-use Rattle.sip_verifier.proofs.Gathered.{IsFollowed, followed_many, followed_on, followed_one, followed_room, IsUnderway, begins, fair_items, goes_on, goes_on_many, stops_first, stops_after, stops_at_end, passed_on, link_stops, reading_stops}
+use Rattle.sip_verifier.proofs.Gathered.{IsFollowed, followed_many, followed_on, followed_one, followed_room, IsUnderway, begins, fair_items, goes_on, goes_on_many, stops_first, stops_after, stops_at_end, passed_on, link_stops, reading_stops, weighed}
 use Rattle.sip_verifier.proofs.StreamSending.{opened, stopped_in_opening, one_more, at_end}
-use Rattle.sip_verifier.proofs.gathering.follow.Goals as goal
+use Rattle.sip_verifier.proofs.gathering.follow_weighed.Goals as goal
 
 pub begin-requires-clause-shallow : goal.begin-requires-clause-shallow
 begin-requires-clause-shallow g c =
@@ -177,3 +177,12 @@ returns-clause-passes_on g c = λ bytes at_blocks all has.
     let moved = rw c.in_ok-on_link-3.ensures at (at_end (version_of c.args.task.now) _ _ _ _ so.stream _ c.finish.result so.said (rw c.loop-update.invariant.version at c.finish.ensures.talk)) in
     let stand = c.update_all.ensures.stands _ _ _ so.said.sent so.stand in
     passed_on _ bytes _ _ at_blocks has _ _ _ _ _ _ _ _ so reads moved (rw c.waiting-rest.ensures at stand)
+
+pub returns-clause-weights : goal.returns-clause-weights
+returns-clause-weights g c = λ bytes all.
+    let at = c.requires.at_blocks in
+    let has = c.requires.stand in
+    let so = c.loop-update.invariant.underway bytes at all has in
+    let reads = rw (c.loop-update.invariant.depth, c.loop-update.invariant.form, c.in_ok-update.ensures, c.in_default.is) at (c.next.ensures.reads so.stream so.rest so.after so.to_come) in
+    let after = rw (c.in_ok-update.ensures, c.in_default.is) at (c.next.ensures.after so.stream so.after) in
+    weighed c.args.task.now bytes _ _ at has _ _ _ _ _ _ so reads c.next.new.self after _ c.weight.ensures.same c.weight-2.ensures.same
