@@ -11,6 +11,7 @@ pub mod FewFooled
 pub mod StatedMoments
 pub mod AcceptedMoments
 pub mod MomentAsked
+pub mod MomentSeats
 pub mod MomentCube
 pub mod IntPowers
 pub mod PowerSums
