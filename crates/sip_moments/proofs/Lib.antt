@@ -10,8 +10,6 @@ pub mod SaidMoments
 pub mod FewFooled
 pub mod StatedMoments
 pub mod AcceptedMoments
-pub mod MomentAsked
-pub mod MomentSeats
 pub mod MomentCube
 pub mod IntPowers
 pub mod PowerSums

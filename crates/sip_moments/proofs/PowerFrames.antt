@@ -1,5 +1,5 @@
 -- The frames of a power: their coefficients are elements of the field, and elements have a frame.
-use Rattle.std.proofs.Common.{◌≡◌, ℕ, suc, ◌+◌, ◌-◌, ◌<◌, ◌≤◌, Bool, true, ◌&&◌, List, [], ◌∷◌, ◌++◌, length, get_or, drop, All, refl, sym, ap, subst, ◌∙◌, arith, append_assoc}
+use Rattle.std.proofs.Common.{◌≡◌, ℕ, zero, suc, ◌+◌, ◌-◌, ◌<◌, ◌≤◌, Bool, true, ◌&&◌, List, [], ◌∷◌, ◌++◌, length, get_or, drop, All, refl, sym, ap, subst, ◌∙◌, arith, append_assoc}
 use Rattle.std.specs.Prelude.{IsTrue}
 use Rattle.std.specs.List.{flat_map}
 use Rattle.std.proofs.lemmas.Bool.{and_from, and_parts, eq-eqb, le-leb, lt-ltb, ltb-true}
@@ -34,7 +34,7 @@ all_below (suc n) (c ∷ cs) same h =
     let both = and_parts _ _ h in
     All-cons (λ x. x < m61_modulus) c cs (ltb-true c m61_modulus both.0)
     (all_below n cs (omega (arith, same)) both.1)
-all_below 0 (c ∷ cs) same h = absurd (omega (arith, same))
+all_below zero (c ∷ cs) same h = absurd (omega (arith, same))
 
 -- a power that has a spelling has no coefficient that is not an element
 pub power_below : (version : Version) (v : ArrayVec ℕ) → IsTrue (fits version (messages.Power v))
@@ -63,7 +63,7 @@ all_room n [] same h = subst (λ (k : ℕ). has_room (repeat k (element ∷ []))
 all_room (suc n) (c ∷ cs) same h =
     and_from _ _ (element_room c (All-head (λ x. x < m61_modulus) c cs h))
     (all_room n cs (omega (arith, same)) (All-tail (λ x. x < m61_modulus) c cs h))
-all_room 0 (c ∷ cs) same h = absurd (omega (arith, same))
+all_room zero (c ∷ cs) same h = absurd (omega (arith, same))
 
 all_held : (n : ℕ) (cs : List ℕ) → length cs ≡ n → All (λ c. c < m61_modulus) cs
     → all_hold (repeat n (element ∷ [])) (flat_map coefficient_numbers cs) ≡ true
@@ -72,7 +72,7 @@ all_held n [] same h = subst (λ (k : ℕ). all_hold (repeat k (element ∷ []))
 all_held (suc n) (c ∷ cs) same h =
     and_from _ _ (lt-ltb c m61_modulus (All-head (λ x. x < m61_modulus) c cs h))
     (all_held n cs (omega (arith, same)) (All-tail (λ x. x < m61_modulus) c cs h))
-all_held 0 (c ∷ cs) same h = absurd (omega (arith, same))
+all_held zero (c ∷ cs) same h = absurd (omega (arith, same))
 
 -- a polynomial of a degree that there is has a spelling, and may stand at the place of its degree
 pub power_spelled : (version : Version) (k : ℕ) (c : List ℕ) → k ≤ most_degree → IsPolynomial k c

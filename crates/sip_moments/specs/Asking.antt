@@ -1,8 +1,11 @@
 -- What a moment's check of the general talk keeps.
-use Rattle.std.specs.Prelude.{◌≡◌, ℕ, ◌%◌, ◌^◌, ◌==◌, ℤ, false, List, slice_index, Option, if◌then◌else◌}
+use Rattle.std.specs.Prelude.{◌≡◌, ℕ, ◌+◌, ◌%◌, ◌^◌, ◌==◌, ℤ, false, List, length, slice_index, Option, Result, if◌then◌else◌}
 use Rattle.sip_field.specs.Moduli.{m61_modulus}
 use Rattle.sip_vector.specs.declared.update.Entry.{Entry}
-use Rattle.sip_counts.specs.Rounds.{value_at}
+use Rattle.sip_vector.specs.Steps.{◌>>=◌, needs}
+use Rattle.sip_wire.specs.declared.message.Reason.{Reason}
+use Rattle.sip_wire.specs.declared.message.Reason.TheVariants as reasons
+use Rattle.sip_counts.specs.Rounds.{sum_of_ends, value_at}
 use Rattle.sip_replies.specs.Protocols.{Phase}
 use Rattle.sip_moments.specs.Checking.{Kept}
 use Rattle.sip_moments.specs.Protocol.{MomentAsked, MomentState}
@@ -34,3 +37,9 @@ pub record MomentStands (asked : MomentAsked) (s : MomentState) (a : Asking)
   pub claim : a.claim ≡ s.claim
   pub expected : a.check.expected ≡ expects m61_modulus s a.check
   pub unspent : a.check.spent ≡ false
+
+-- the tests of a polynomial: that of its number of coefficients, and that of its values at 0 and 1
+abbrev pub power_tests : ℕ → Kept → List ℕ → Result (Unit {0}) Reason
+power_tests p check c =
+    needs (length c == check.degree + 1) reasons.BadLength
+    >>= λ _. needs (sum_of_ends p c == check.expected) reasons.Sum

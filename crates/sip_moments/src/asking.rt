@@ -1,13 +1,11 @@
 //! The check of a moment's replies as the general talk asks it.
-ghost use Rattle.std.specs.Prelude.{◌≡◌, ◌+◌, ◌%◌, ◌^◌, ◌<◌, ◌≤◌, ◌==◌, false, All, List, length, map, OnOk};
+ghost use Rattle.std.specs.Prelude.{◌≡◌, ◌+◌, ◌%◌, ◌^◌, ◌<◌, ◌≤◌, false, All, List, length, map, OnOk};
 ghost use Rattle.sip_field.specs.Elements.{m61_number};
 ghost use Rattle.sip_field.specs.Moduli.{m61_modulus};
 ghost use Rattle.sip_vector.specs.declared.update.Entry.{Entry as AnyEntry};
-ghost use Rattle.sip_vector.specs.Steps.{◌>>=◌, needs};
-ghost use Rattle.sip_counts.specs.Rounds.{sum_of_ends};
 ghost use Rattle.sip_wire.specs.declared.version.Version.{Version};
 ghost use Rattle.sip_replies.specs.Protocols.{Begins};
-ghost use Rattle.sip_moments.specs.Asking.{MomentStands, phase_of};
+ghost use Rattle.sip_moments.specs.Asking.{MomentStands, phase_of, power_tests};
 ghost use Rattle.sip_moments.specs.Checking.{with_polynomial};
 ghost use Rattle.sip_moments.specs.Moments.{IsDegree, most_degree};
 ghost use Rattle.sip_moments.specs.Protocol.{moment_asked, moment_rules};
@@ -88,9 +86,7 @@ impl MomentAsking {
         requires due { self.old.check.given < length self.old.check.challenges }
         requires learnt { self.old.check.revealed ≡ self.old.check.given }
         requires elements { All (λ c. c < m61_modulus) coefficients.now }
-        ensures answer { result ≡ (needs (length coefficients.now == self.old.check.degree + 1)
-            Reason.BadLength >>= λ _. needs (sum_of_ends m61_modulus coefficients.now
-            == self.old.check.expected) Reason.Sum) }
+        ensures answer { result ≡ power_tests m61_modulus self.old.check coefficients.now }
         ensures given { OnOk result (self.new
             ≡ record self.old { check = with_polynomial m61_modulus self.old.check coefficients.now }) }
     {

@@ -64,7 +64,6 @@
 //! Of a pair with a 0 the odd entry wants none of these, and the even one k.
 #![tactic(auto)]
 
-mod asker;
 mod asking;
 mod check;
 mod claims;
