@@ -10,6 +10,9 @@ pub mod SaidMoments
 pub mod FewFooled
 pub mod StatedMoments
 pub mod AcceptedMoments
+pub mod MomentAsked
+pub mod MomentSeats
+pub mod AskFrames
 pub mod MomentCube
 pub mod IntPowers
 pub mod PowerSums

@@ -8,5 +8,9 @@ pub mod LawProofs
 pub mod Stating
 pub mod Counting
 pub mod Honest
+pub mod Tasks
+pub mod Manner
+pub mod Sittings
+pub mod MomentClause
 pub mod Examples
 pub mod Powers

@@ -4,6 +4,7 @@
 //! - [`MomentCheck`] is the verifier's check of a claimed moment, round by round.
 //! - [`MomentAsking`] is that check in the form that the talk of `sip_replies` asks, where a
 //!   [`Moment`] is what is asked.
+//! - [`moment_stream`] is a whole run that asks for moments, up to 16 of them.
 //! - [`MomentProver`] is the honest side: the moment, and the true polynomial of each round.
 //!
 //! The second moment is a sum of products, and `sip_sums` has its check. What the two have in
@@ -33,6 +34,9 @@
 //! | `Checking` | what a check keeps, and what a call makes of it |
 //! | `Protocol` | the replies as frames: how they are read, and what they come to |
 //! | `Questions` | the message that asks for a moment |
+//! | `Counting` | which replies are accepted and which are right, for a count over bytes |
+//! | `Manner` | how moments are asked and judged in a run, the count of each, and the honest helper |
+//! | `MomentClause` | what a run keeps that asks for moments |
 //! | `Honest` | the true round polynomials, and what a prover keeps |
 //!
 //! `Powers` serves the contracts of private functions alone, and `Asking` those of the check in the
@@ -64,6 +68,7 @@
 //! Of a pair with a 0 the odd entry wants none of these, and the even one k.
 #![tactic(auto)]
 
+mod asker;
 mod asking;
 mod check;
 mod claims;
@@ -74,10 +79,13 @@ mod powers;
 mod prover;
 pub mod proving;
 mod rounds;
+mod stream;
 mod task;
 
+pub use asker::Given;
 pub use asking::MomentAsking;
 pub use check::MomentCheck;
 pub use moment::Moment;
 pub use prover::MomentProver;
+pub use stream::moment_stream;
 pub use task::MomentTask;
