@@ -24,6 +24,8 @@
 //!   weight ([`proving`]).
 //! - For every helper whose polynomials depend on the challenges revealed so far, at most
 //!   k·d·p^(d-1) of the p^d challenge vectors make the check accept a wrong moment ([`counting`]).
+//!   The same holds of replies as bytes, for every strategy: they are accepted exactly where the
+//!   claim and the polynomials that they state are ([`laws`]).
 //!
 //! # The definitions to read
 //!
