@@ -101,8 +101,11 @@ fn steps<A: Source, B: Source, L: Link, K: Sink>(
     let Ok(frame) = Frame::new(alloc) else {
         return Err(Status::OutOfMemory);
     };
+    let Ok(moments) = task.moments.clone() else {
+        return Err(Status::OutOfMemory);
+    };
     let version = Version::needed(task.depth, &[]);
-    let mut questions = Questions::new(version, task.moments.clone(), seats, frame);
+    let mut questions = Questions::new(version, moments, seats, frame);
     conclude_run(&mut questions, peer, report, keep)
 }
 
