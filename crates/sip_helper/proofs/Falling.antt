@@ -20,16 +20,13 @@ use Rattle.arrayvec.specs.ArrayVec.{ArrayVec}
 use Rattle.sip_wire.specs.declared.kind.Kind.TheVariants as kinds
 use Rattle.sip_wire.specs.declared.version.Version.{Version}
 use Rattle.sip_wire.specs.Table.{Field, Shape, field, index, most_queries, repeat, shape, side, update_fields}
-use Rattle.sip_wire.specs.Versions.{deepest}
 use Rattle.sip_wire.specs.Spelling.{fits, fits_shape, has_room, all_hold, side_number, update_numbers}
 use Rattle.sip_helper.specs.declared.heard.Heard.{Heard}
 use Rattle.sip_helper.specs.declared.heard.Heard.TheVariants.{Nothing, Part, Whole}
 use Rattle.sip_helper.specs.Vectors.{Vectors}
 use Rattle.sip_helper.specs.Kinds.{is_below}
 use Rattle.sip_helper.specs.inside.Measures.{stream_left, challenges_left, turns_left}
-use Rattle.sip_helper.specs.Serving.{IsTurn, Turn, after_turn}
 use Rattle.sip_helper.specs.Turns.{HelperState, OpenQuery, after_answer, after_reply, depth_of, is_allowed, is_light, is_refused, step, weights_after, with_challenge}
-use Rattle.sip_helper.proofs.Hearing.{deepest_most}
 use Rattle.sip_helper.proofs.LegalUpdates.{light_parts}
 
 -- ---- updates weigh something
@@ -75,7 +72,7 @@ given_left : (depth : ℕ) (v : Option Vectors) (q : Option OpenQuery) → chall
 given_left depth v None = omega arith
 given_left depth v (Some o) = replied_left o.given (is_refused v o || nat_le depth (length o.revealed + 1)) o
 
-answer_left : (s : HelperState) → turns_left (after_answer s) ≤ turns_left s
+pub answer_left : (s : HelperState) → turns_left (after_answer s) ≤ turns_left s
 answer_left s = omega (arith, given_left (depth_of s.heard) s.vectors s.open_query)
 
 -- ---- each message
@@ -116,34 +113,28 @@ updates_light s (Whole depth) us allowed = absurd cc
 updates_light s (Part depth) us allowed =
     light_parts (weights_after s.weights us.items) (and_parts (list_all (λ (u : Update). nat_lt u.item (2 ^ depth)) us.items) (is_light (weights_after s.weights us.items)) allowed).1
 
-step_left : (s : HelperState) (memory : Bool) (m : Message) → depth_of s.heard ≤ most_depth → IsTrue (fits s.version m) → IsTrue (is_allowed s m) → s.done ≡ false → (step s memory m).done ≡ false → 1 + turns_left (step s memory m) ≤ turns_left s
-step_left s memory (messages.Open version depth) deep fit allowed going next = omega (arith, open_left s s.heard version depth refl allowed)
-step_left s memory (messages.Updates us) deep fit allowed going next =
-    let more = updates_weigh s.version us.items fit in
+pub step_left : (version : Version) (s : HelperState) (memory : Bool) (m : Message) → depth_of s.heard ≤ most_depth → IsTrue (fits version m) → IsTrue (is_allowed s m) → s.done ≡ false → (step s memory m).done ≡ false → 1 + turns_left (step s memory m) ≤ turns_left s
+step_left v s memory (messages.Open version depth) deep fit allowed going next = omega (arith, open_left s s.heard version depth refl allowed)
+step_left version s memory (messages.Updates us) deep fit allowed going next =
+    let more = updates_weigh version us.items fit in
     let light = updates_light s s.heard us allowed in
     omega (arith, more, light.0, light.1)
-step_left s memory messages.EndStream deep fit allowed going next = omega (arith, end_left s s.heard allowed)
-step_left s memory (messages.Query q) deep fit allowed going next =
+step_left version s memory messages.EndStream deep fit allowed going next = omega (arith, end_left s s.heard allowed)
+step_left version s memory (messages.Query q) deep fit allowed going next =
     let may = query_left s s.heard q allowed in
     omega (arith, may.0, ap challenges_left may.1)
-step_left s memory (messages.Reveal r) deep fit allowed going next = omega (arith, challenge_left s r s.open_query deep allowed)
-step_left s memory messages.Bye deep fit allowed going next = absurd cc
-step_left s memory (messages.Claim _) deep fit allowed going next = absurd cc
-step_left s memory (messages.Poly _ _ _) deep fit allowed going next = absurd cc
-step_left s memory (messages.Entries _) deep fit allowed going next = absurd cc
-step_left s memory (messages.Siblings _ _) deep fit allowed going next = absurd cc
-step_left s memory (messages.Leaves _) deep fit allowed going next = absurd cc
-step_left s memory (messages.Nodes _) deep fit allowed going next = absurd cc
-step_left s memory messages.LevelEnd deep fit allowed going next = absurd cc
-step_left s memory (messages.Refuse _) deep fit allowed going next = absurd cc
-step_left s memory (messages.AskLook code item) deep fit allowed going next = absurd cc
-step_left s memory (messages.Found flag index) deep fit allowed going next = absurd cc
-step_left s memory messages.End deep fit allowed going next = absurd cc
-step_left s memory (messages.AskMoment side degree) deep fit allowed going next = absurd cc
-step_left s memory (messages.Power v) deep fit allowed going next = absurd cc
-
--- a turn that is no farewell leaves fewer turns
-pub turn_left : (s : HelperState) (t : Turn) → IsTurn s t → depth_of s.heard ≤ deepest s.version → s.done ≡ false → (after_turn s t).done ≡ false → 1 + turns_left (after_turn s t) ≤ turns_left s
-turn_left s t is deep going next =
-    let most = deepest_most s.version in
-    omega (arith, step_left s t.refused t.message (omega (arith, deep, most)) is.message.has_spelling is.allowed going next, answer_left (step s t.refused t.message))
+step_left version s memory (messages.Reveal r) deep fit allowed going next = omega (arith, challenge_left s r s.open_query deep allowed)
+step_left version s memory messages.Bye deep fit allowed going next = absurd cc
+step_left version s memory (messages.Claim _) deep fit allowed going next = absurd cc
+step_left version s memory (messages.Poly _ _ _) deep fit allowed going next = absurd cc
+step_left version s memory (messages.Entries _) deep fit allowed going next = absurd cc
+step_left version s memory (messages.Siblings _ _) deep fit allowed going next = absurd cc
+step_left version s memory (messages.Leaves _) deep fit allowed going next = absurd cc
+step_left version s memory (messages.Nodes _) deep fit allowed going next = absurd cc
+step_left version s memory messages.LevelEnd deep fit allowed going next = absurd cc
+step_left version s memory (messages.Refuse _) deep fit allowed going next = absurd cc
+step_left version s memory (messages.AskLook code item) deep fit allowed going next = absurd cc
+step_left version s memory (messages.Found flag index) deep fit allowed going next = absurd cc
+step_left version s memory messages.End deep fit allowed going next = absurd cc
+step_left version s memory (messages.AskMoment side degree) deep fit allowed going next = absurd cc
+step_left version s memory (messages.Power v) deep fit allowed going next = absurd cc
