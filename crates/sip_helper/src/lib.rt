@@ -61,6 +61,7 @@ pub mod turn_laws;
 mod vectors;
 
 pub use helper::HelperCore;
+pub use refusal::{WANT_OF_MEMORY, put_refusal};
 pub use serving::serve;
 pub use status::HelpStatus;
 pub use talking::{Helps, talk};

@@ -2,3 +2,5 @@ pub mod Lookups
 pub mod Frames
 pub mod AcceptsLook
 pub mod Examples
+pub mod Serving
+pub mod inside

@@ -15,11 +15,15 @@
 //! [`laws`] works out examples of each. [`counting`] has the theorem on helpers that lie: at most
 //! d·p^(d-1) of the p^d vectors of challenges have a wrong answer accepted.
 //!
-//! No code runs here yet: the talk of a lookup and the helper's end of it are to come.
+//! | `Serving` | the turns of a helper of lookups, and what it does on a link |
+//!
+//! [`serve_look`] is the helper's end of a talk of lookups. The verifier's end is not here yet.
 #![tactic(auto)]
 
 pub mod counting;
 pub mod laws;
 mod lookup;
+mod serving;
 
 pub use lookup::Lookup;
+pub use serving::serve_look;
