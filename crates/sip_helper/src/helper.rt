@@ -3,13 +3,15 @@
 ghost use Rattle.std.specs.Prelude.{◌≡◌, ◌<◌, ◌≤◌, Bool, ℕ, IfSome, IsOk, IsTrue, MatchOption, OnErr, OnOk, None, Some, ◌↔◌, false, is_some, true};
 ghost use Rattle.sip_field.specs.Moduli.{m61_modulus};
 ghost use Rattle.sip_ports.specs.Ports.{HasCause, SendsWhole};
+ghost use Rattle.sip_vector.specs.Limits.{most_depth};
 ghost use Rattle.sip_vector.specs.Streams.{most_weight};
 ghost use Rattle.sip_vector.specs.Vectors.{contents};
 ghost use Rattle.sip_wire.specs.Spelling.{fits};
 ghost use Rattle.sip_wire.specs.declared.version.Version.TheVariants.{Two};
 ghost use Rattle.sip_wire.specs.declared.message.Message.TheVariants as messages;
 ghost use Rattle.sip_helper.specs.Shown.{opened, opened_version, shown_vector, weight_of};
-ghost use Rattle.sip_helper.specs.Turns.{after_answer, fresh, is_allowed, may_hear, owed, owes, step, whole_of};
+ghost use Rattle.sip_helper.specs.inside.Measures.{turns_left};
+ghost use Rattle.sip_helper.specs.Turns.{after_answer, depth_of, fresh, is_allowed, may_hear, owed, owes, step, whole_of};
 
 use crate::OutOfTurn;
 use crate::asked::{Answerer, Asked};
@@ -207,11 +209,23 @@ impl HelperCore {
         ensures heard { OnOk result ((refused : Bool)
             × (self.new ≡ step self.old refused message.now)) }
         ensures same { OnErr result (self.new ≡ self.old) }
+        ensures fewer { self.old.done ≡ false
+            → OnOk result (turns_left self.new < turns_left self.old) }
     {
+        // The proof wants that the depth is bounded.
+        let _ = self.levels();
         match message {
             Message::Bye => Err(OutOfTurn),
             _ => self.hear(message),
         }
+    }
+
+    /// The number of levels of the talk; 0 before its opening.
+    pub(crate) fn levels(&self) -> u8
+        ensures same { result ≡ depth_of self.now.heard }
+        ensures most { result ≤ most_depth }
+    {
+        self.heard.depth()
     }
 
     /// The version of the frames that are heard and answered: that of the opening, and version 1 before it.

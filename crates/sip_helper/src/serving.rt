@@ -33,6 +33,8 @@ impl Helps for HelperCore {
     }
 
     fn take(&mut self, message: &Message) -> Result<(), OutOfTurn> {
+        // The proof wants that the depth is bounded.
+        let _ = self.levels();
         self.hear(message)
     }
 

@@ -35,13 +35,13 @@ most_lookups = 16
 
 -- what was heard of the stream, and of the queries; how many lookups were asked, how far the one
 -- under way is, and whether the talk is over
-pub record LookState : Type 0 where
+pub record LookHelper : Type 0 where
   pub helper : HelperState
   pub asked : ℕ
   pub stage : Stage
   pub done : Bool
 
-abbrev pub fresh_look : LookState
+abbrev pub fresh_look : LookHelper
 fresh_look = record { helper = fresh; asked = 0; stage = Due; done = false }
 
 -- ---- which message may come next
@@ -65,13 +65,13 @@ may_question depth asked messages.End = true
 may_question depth asked _ = false
 
 -- the place of the next frame: behind the stream, where no lookup is under way, one is due
-abbrev pub place_due : LookState → Place
+abbrev pub place_due : LookHelper → Place
 place_due s = elim s.stage [
   | Due ↦ elim (whole_of s.helper.heard) [ Some depth ↦ places.AskedLook | None ↦ places.ToHelper ]
   | _ ↦ places.ToHelper
 ]
 
-abbrev pub is_allowed : LookState → Message → Bool
+abbrev pub is_allowed : LookHelper → Message → Bool
 is_allowed s m = elim s.stage [
   | Due ↦ elim (whole_of s.helper.heard) [
     | Some depth ↦ may_question depth s.asked m
@@ -84,7 +84,7 @@ is_allowed s m = elim s.stage [
 -- ---- what it does
 
 -- the state after a message that may come next, by whether memory is refused for it
-abbrev pub step : LookState → Bool → Message → LookState
+abbrev pub step : LookHelper → Bool → Message → LookHelper
 step s refused (messages.AskLook code item) = record s {
   asked = s.asked + 1;
   stage = elim (lookup_of code item) [ Some l ↦ Asked l | None ↦ Due ];
@@ -99,11 +99,11 @@ abbrev pub reply_to_look : Option SideVector → Lookup → List Message
 reply_to_look None l = refusal want_of_memory
 reply_to_look (Some v) l = found_message (honest_found v.numbers l) ∷ []
 
-abbrev pub owes : LookState → Bool
+abbrev pub owes : LookHelper → Bool
 owes s = elim s.stage [ Due ↦ false | Asked l ↦ true | Found ↦ turns.owes s.helper ]
 
 -- the messages of the reply that is owed
-abbrev pub owed_messages : LookState → List Message
+abbrev pub owed_messages : LookHelper → List Message
 owed_messages s = elim s.stage [
   | Due ↦ []
   | Asked l ↦ reply_to_look (shown_vector s.helper First) l
@@ -111,7 +111,7 @@ owed_messages s = elim s.stage [
 ]
 
 -- its bytes
-abbrev pub owed : LookState → List ℕ
+abbrev pub owed : LookHelper → List ℕ
 owed s = flat_map (spelling s.helper.version) (owed_messages s)
 
 -- how far the lookup is once its reply was given: a place awaits its query, and a refusal closes it
@@ -120,24 +120,24 @@ stage_behind None = Due
 stage_behind (Some v) = Found
 
 -- once a reply about the interval was given: the query is still open, or the lookup is closed
-abbrev pub with_answer : LookState → HelperState → LookState
+abbrev pub with_answer : LookHelper → HelperState → LookHelper
 with_answer s helper =
     record s { helper = helper; stage = if is_some helper.open_query then Found else Due }
 
 -- the state once the reply that is owed was given
-abbrev pub after_reply : LookState → LookState
+abbrev pub after_reply : LookHelper → LookHelper
 after_reply s = elim s.stage [
   | Due ↦ s
   | Asked l ↦ record s { stage = stage_behind (shown_vector s.helper First) }
   | Found ↦ with_answer s (turns.after_answer s.helper)
 ]
 
-abbrev pub after_answer : LookState → LookState
+abbrev pub after_answer : LookHelper → LookHelper
 after_answer s = if owes s then after_reply s else s
 
 -- ---- on a link
 
-abbrev pub look_rules : Rules LookState
+abbrev pub look_rules : Rules LookHelper
 look_rules = record {
   version = λ s. s.helper.version;
   place = place_due;

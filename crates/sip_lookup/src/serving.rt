@@ -42,10 +42,10 @@ pub(crate) struct LookCore {
 }
 
 impl Model for LookCore {
-    ghost use Rattle.sip_lookup.specs.Serving.{LookState};
-    ghost use Rattle.sip_lookup.specs.inside.Keeping.{IsLookState};
+    ghost use Rattle.sip_lookup.specs.Serving.{LookHelper};
+    ghost use Rattle.sip_lookup.specs.inside.Keeping.{IsCoherent};
 
-    ghost Value = { LookState };
+    ghost Value = { LookHelper };
 
     ghost view = { λ h. record {
       helper = h.core;
@@ -54,7 +54,7 @@ impl Model for LookCore {
       done = h.done;
     } };
 
-    ghost invariant = { λ h. IsLookState (record {
+    ghost invariant = { λ h. IsCoherent (record {
       helper = h.core;
       asked = h.asked;
       stage = h.stage;

@@ -4,3 +4,6 @@ pub mod Checking
 pub mod Honest
 pub mod Examples
 pub mod Powers
+pub mod Replies
+pub mod Serving
+pub mod inside

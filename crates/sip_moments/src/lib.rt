@@ -3,6 +3,7 @@
 //!
 //! - [`MomentCheck`] is the verifier's check of a claimed moment, round by round.
 //! - [`MomentProver`] is the honest side: the moment, and the true polynomial of each round.
+//! - [`serve_moments`] is the helper's end of a talk of moments.
 //!
 //! The second moment is a sum of products, and `sip_sums` has its check. What the two have in
 //! common, the rounds of a sum-check of any degree and the count of the challenges at which a wrong
@@ -22,7 +23,10 @@
 //! - For every helper whose polynomials depend on the challenges revealed so far, at most
 //!   k·d·p^(d-1) of the p^d challenge vectors make the check accept a wrong moment ([`counting`]).
 //!
-//! Not yet here: the frames in which a claim and its polynomials are sent, and the talk.
+//! - `serve_moments` takes turns, each of them a message that may come and then its reply: the honest
+//!   one, or a refusal where memory was refused. Its status says where it stopped (`ServesMoments`).
+//!
+//! Not yet here: the verifier's end of the talk.
 //!
 //! # The definitions to read
 //!
@@ -32,6 +36,8 @@
 //! | `AcceptsMoment` | what replies state, and when that is accepted |
 //! | `Checking` | what a check keeps, and what a call makes of it |
 //! | `Honest` | the true round polynomials, and what a prover keeps |
+//! | `Replies` | the messages of an honest helper |
+//! | `Serving` | the turns of a helper of moments, and what it does on a link |
 //!
 //! `Powers` serves the contracts of private functions alone.
 //!
@@ -68,7 +74,10 @@ pub mod laws;
 mod powers;
 mod prover;
 pub mod proving;
+mod question;
 mod rounds;
+mod serving;
 
 pub use check::MomentCheck;
 pub use prover::MomentProver;
+pub use serving::serve_moments;
