@@ -141,6 +141,28 @@ step_left version s memory messages.End deep fit allowed going next = absurd cc
 step_left version s memory (messages.AskMoment side degree) deep fit allowed going next = absurd cc
 step_left version s memory (messages.Power v) deep fit allowed going next = absurd cc
 
+-- where no farewell may come, any other message may as where one may
+pub hears_as : (s : HelperState) (m : Message) → (m ≡ messages.Bye → ⊥) → may_hear s m ≡ is_allowed s m
+hears_as s messages.Bye other = absurd (other refl)
+hears_as s (messages.Open _ _) other = refl
+hears_as s (messages.Updates _) other = refl
+hears_as s messages.EndStream other = refl
+hears_as s (messages.Query _) other = refl
+hears_as s (messages.Reveal _) other = refl
+hears_as s (messages.Claim _) other = refl
+hears_as s (messages.Poly _ _ _) other = refl
+hears_as s (messages.Entries _) other = refl
+hears_as s (messages.Siblings _ _) other = refl
+hears_as s (messages.Leaves _) other = refl
+hears_as s (messages.Nodes _) other = refl
+hears_as s messages.LevelEnd other = refl
+hears_as s (messages.Refuse _) other = refl
+hears_as s (messages.AskLook code item) other = refl
+hears_as s (messages.Found flag index) other = refl
+hears_as s messages.End other = refl
+hears_as s (messages.AskMoment side degree) other = refl
+hears_as s (messages.Power v) other = refl
+
 -- a message that may come where no farewell may is one that may come, and does not end the talk
 pub hears_allowed : (s : HelperState) (m : Message) → IsTrue (may_hear s m) → IsTrue (is_allowed s m)
 hears_allowed s messages.Bye may = absurd cc

@@ -3,4 +3,5 @@ pub mod Frames
 pub mod AcceptsLook
 pub mod Examples
 pub mod Serving
+pub mod ServedExamples
 pub mod inside

@@ -23,6 +23,7 @@
 pub mod counting;
 pub mod laws;
 mod lookup;
+pub mod served_examples;
 mod serving;
 
 pub use lookup::Lookup;

@@ -6,4 +6,5 @@ pub mod Examples
 pub mod Powers
 pub mod Replies
 pub mod Serving
+pub mod ServedExamples
 pub mod inside

@@ -76,6 +76,7 @@ mod prover;
 pub mod proving;
 mod question;
 mod rounds;
+pub mod served_examples;
 mod serving;
 
 pub use check::MomentCheck;
