@@ -160,7 +160,7 @@ hears_as s (messages.Refuse _) other = refl
 hears_as s (messages.AskLook code item) other = refl
 hears_as s (messages.Found flag index) other = refl
 hears_as s messages.End other = refl
-hears_as s (messages.AskMoment side degree) other = refl
+hears_as s (messages.AskMoment _ _) other = refl
 hears_as s (messages.Power v) other = refl
 
 -- a message that may come where no farewell may is one that may come, and does not end the talk
@@ -182,7 +182,7 @@ hears_allowed s (messages.Refuse _) may = may
 hears_allowed s (messages.AskLook code item) may = may
 hears_allowed s (messages.Found flag index) may = may
 hears_allowed s messages.End may = may
-hears_allowed s (messages.AskMoment side degree) may = may
+hears_allowed s (messages.AskMoment _ _) may = may
 hears_allowed s (messages.Power v) may = may
 
 goes_on : (s : HelperState) (memory : Bool) (m : Message) → IsTrue (may_hear s m) → s.done ≡ false → (step s memory m).done ≡ false

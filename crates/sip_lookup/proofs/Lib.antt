@@ -1,2 +1,3 @@
 pub mod NearEntries
 pub mod FewFooled
+pub mod FoundFits

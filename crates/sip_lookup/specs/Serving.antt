@@ -4,7 +4,7 @@
 -- ends. To a lookup it says the place of its answer, and then takes the query about the interval,
 -- with its challenges, as a helper of queries does, until that is closed. Where memory was refused
 -- while the stream was heard, a lookup is refused, and the next may be asked.
-use Rattle.std.specs.Prelude.{ℕ, ◌+◌, ◌^◌, Bool, true, false, ◌&&◌, nat_lt, is_some, List, [], ◌∷◌, Option, Some, None, if◌then◌else◌}
+use Rattle.std.specs.Prelude.{ℕ, ◌+◌, ◌^◌, Bool, true, false, ◌&&◌, ◌==◌, nat_lt, is_some, List, [], ◌∷◌, Option, Some, None, if◌then◌else◌}
 use Rattle.std.specs.List.{flat_map}
 use Rattle.sip_ports.specs.declared.port.TalkEvent.{TalkEvent}
 use Rattle.sip_vector.specs.declared.update.Side.TheVariants.{First}
@@ -48,10 +48,11 @@ fresh_look = record { helper = fresh; asked = 0; stage = Due; done = false }
 
 -- the lookup of a code at an item
 abbrev pub lookup_of : ℕ → ℕ → Option Lookup
-lookup_of 1 item = Some (Index item)
-lookup_of 2 item = Some (Pred item)
-lookup_of 3 item = Some (Succ item)
-lookup_of _ item = None
+lookup_of code item =
+    if code == 1 then Some (Index item)
+    else if code == 2 then Some (Pred item)
+    else if code == 3 then Some (Succ item)
+    else None
 
 -- a lookup may be asked of a stream of this depth, behind so many
 abbrev pub may_look : ℕ → ℕ → ℕ → ℕ → Bool

@@ -91,16 +91,17 @@ fn honest_place(vector: &Vector, lookup: Lookup) -> Option<u64>
 
 /// Says the place of a lookup's answer, or that there is none.
 #[inline(never)]
+#[tactic(auto, using(crate::proofs::FoundFits::some_fits, crate::proofs::FoundFits::none_fits))]
 fn put_place<K: Sink>(version: Version, place: Option<u64>, out: &mut K) -> Result<(), PortStop>
     ensures talk { SendsWhole (K.talk out.old) (K.talk out.new) result
         (spelling version (found_message place)) }
     ensures cause { HasCause K.faults K.wants K.is_sure out.old out.new result }
 {
-    let (flag, index) = match place {
-        Some(index) => (1, index),
-        None => (0, 0),
+    let message = match place {
+        Some(index) => Message::Found { flag: 1, index },
+        None => Message::Found { flag: 0, index: 0 },
     };
-    encode(&Message::Found { flag, index }, version, out)
+    encode(&message, version, out)
 }
 
 impl LookCore {

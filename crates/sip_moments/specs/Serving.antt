@@ -4,7 +4,7 @@
 -- ends. To a moment it gives the claim and the first round polynomial, and then behind each
 -- challenge the next polynomial, until the last is given. Where memory was refused, while the
 -- stream was heard or at the question, it refuses, and the next may be asked.
-use Rattle.std.specs.Prelude.{ℕ, ◌+◌, Bool, true, false, not, ◌&&◌, ◌||◌, nat_le, nat_lt, is_none, is_some, List, [], ◌∷◌, ◌++◌, length, Option, Some, None, if◌then◌else◌}
+use Rattle.std.specs.Prelude.{ℕ, ◌+◌, Bool, true, false, not, ◌&&◌, ◌||◌, ◌==◌, nat_le, nat_lt, is_none, is_some, List, [], ◌∷◌, ◌++◌, length, Option, Some, None, if◌then◌else◌}
 use Rattle.std.specs.List.{flat_map}
 use Rattle.std.specs.Option.{option_map}
 use Rattle.sip_field.specs.Moduli.{m61_modulus}
@@ -56,9 +56,10 @@ fresh_moments = record { helper = fresh; asked = 0; question = None; done = fals
 
 -- the side of a number
 abbrev pub side_of : ℕ → Option Side
-side_of 0 = Some First
-side_of 1 = Some Second
-side_of _ = None
+side_of number =
+    if number == 0 then Some First
+    else if number == 1 then Some Second
+    else None
 
 -- a moment may be asked: its side is one, its degree is from 3 to 8, a claim has room for it
 -- whatever the numbers are, and few were asked before it
