@@ -1,10 +1,10 @@
 -- Each turn but a farewell leaves fewer turns.
-use Rattle.std.proofs.Common.{◌≡◌, ℕ, zero, suc, ◌+◌, ◌^◌, ◌<◌, ◌≤◌, Bool, true, false, not, ◌&&◌, ◌||◌, ◌==◌, nat_lt, nat_le, eqb, cond, Option, Some, None, List, [], ◌∷◌, length, Result, Ok, Err, inl, inr, ℤ, pos, negsuc, nat_abs, w64, refl, sym, ap, subst, ◌∙◌, arith}
+use Rattle.std.proofs.Common.{◌≡◌, ℕ, zero, suc, ◌+◌, ◌^◌, ◌<◌, ◌≤◌, Bool, true, false, not, ◌&&◌, ◌||◌, ◌==◌, nat_lt, nat_le, eqb, cond, Option, Some, None, List, [], ◌∷◌, length, Result, Ok, Err, ℤ, pos, negsuc, nat_abs, w64, refl, sym, ap, subst, ◌∙◌, arith}
 use Rattle.std.specs.Prelude.{IsOk, IsTrue, OnOk, is_none}
 use Rattle.std.specs.Int.{cast_unsigned}
 use Rattle.std.specs.List.{list_all, flat_map}
 use Rattle.std.specs.Option.{option_map, option_and_then}
-use Rattle.std.proofs.lemmas.Bool.{and_parts, both_ways, cases_Bool, ltb-true}
+use Rattle.std.proofs.lemmas.Bool.{and_parts, both_ways, ltb-true}
 use Rattle.std.proofs.lemmas.List.{length_push}
 use Rattle.sip_vector.specs.declared.query.Query.{Query}
 use Rattle.sip_vector.specs.declared.update.Side.{Side}
@@ -29,7 +29,6 @@ use Rattle.sip_helper.specs.Kinds.{is_below}
 use Rattle.sip_helper.specs.inside.Measures.{stream_left, challenges_left, turns_left}
 use Rattle.sip_helper.specs.Turns.{HelperState, OpenQuery, after_answer, after_reply, depth_of, is_allowed, is_light, is_refused, may_hear, step, weights_after, with_challenge}
 use Rattle.sip_helper.proofs.LegalUpdates.{light_parts}
-use Rattle.sip_helper.proofs.Turning.{only_bye}
 
 -- ---- updates weigh something
 
@@ -115,31 +114,31 @@ updates_light s (Whole depth) us allowed = absurd cc
 updates_light s (Part depth) us allowed =
     light_parts (weights_after s.weights us.items) (and_parts (list_all (λ (u : Update). nat_lt u.item (2 ^ depth)) us.items) (is_light (weights_after s.weights us.items)) allowed).1
 
-pub step_left : (version : Version) (s : HelperState) (memory : Bool) (m : Message) → depth_of s.heard ≤ most_depth → IsTrue (fits version m) → IsTrue (is_allowed s m) → s.done ≡ false → (step s memory m).done ≡ false → 1 + turns_left (step s memory m) ≤ turns_left s
-step_left v s memory (messages.Open version depth) deep fit allowed going next = omega (arith, open_left s s.heard version depth refl allowed)
-step_left version s memory (messages.Updates us) deep fit allowed going next =
+pub step_left : (version : Version) (s : HelperState) (memory : Bool) (m : Message) → depth_of s.heard ≤ most_depth → IsTrue (fits version m) → IsTrue (is_allowed s m) → (m ≡ messages.Bye → ⊥) → 1 + turns_left (step s memory m) ≤ turns_left s
+step_left v s memory (messages.Open version depth) deep fit allowed other = omega (arith, open_left s s.heard version depth refl allowed)
+step_left version s memory (messages.Updates us) deep fit allowed other =
     let more = updates_weigh version us.items fit in
     let light = updates_light s s.heard us allowed in
     omega (arith, more, light.0, light.1)
-step_left version s memory messages.EndStream deep fit allowed going next = omega (arith, end_left s s.heard allowed)
-step_left version s memory (messages.Query q) deep fit allowed going next =
+step_left version s memory messages.EndStream deep fit allowed other = omega (arith, end_left s s.heard allowed)
+step_left version s memory (messages.Query q) deep fit allowed other =
     let may = query_left s s.heard q allowed in
     omega (arith, may.0, ap challenges_left may.1)
-step_left version s memory (messages.Reveal r) deep fit allowed going next = omega (arith, challenge_left s r s.open_query deep allowed)
-step_left version s memory messages.Bye deep fit allowed going next = absurd cc
-step_left version s memory (messages.Claim _) deep fit allowed going next = absurd cc
-step_left version s memory (messages.Poly _ _ _) deep fit allowed going next = absurd cc
-step_left version s memory (messages.Entries _) deep fit allowed going next = absurd cc
-step_left version s memory (messages.Siblings _ _) deep fit allowed going next = absurd cc
-step_left version s memory (messages.Leaves _) deep fit allowed going next = absurd cc
-step_left version s memory (messages.Nodes _) deep fit allowed going next = absurd cc
-step_left version s memory messages.LevelEnd deep fit allowed going next = absurd cc
-step_left version s memory (messages.Refuse _) deep fit allowed going next = absurd cc
-step_left version s memory (messages.AskLook code item) deep fit allowed going next = absurd cc
-step_left version s memory (messages.Found flag index) deep fit allowed going next = absurd cc
-step_left version s memory messages.End deep fit allowed going next = absurd cc
-step_left version s memory (messages.AskMoment side degree) deep fit allowed going next = absurd cc
-step_left version s memory (messages.Power v) deep fit allowed going next = absurd cc
+step_left version s memory (messages.Reveal r) deep fit allowed other = omega (arith, challenge_left s r s.open_query deep allowed)
+step_left version s memory messages.Bye deep fit allowed other = absurd (other refl)
+step_left version s memory (messages.Claim _) deep fit allowed other = absurd cc
+step_left version s memory (messages.Poly _ _ _) deep fit allowed other = absurd cc
+step_left version s memory (messages.Entries _) deep fit allowed other = absurd cc
+step_left version s memory (messages.Siblings _ _) deep fit allowed other = absurd cc
+step_left version s memory (messages.Leaves _) deep fit allowed other = absurd cc
+step_left version s memory (messages.Nodes _) deep fit allowed other = absurd cc
+step_left version s memory messages.LevelEnd deep fit allowed other = absurd cc
+step_left version s memory (messages.Refuse _) deep fit allowed other = absurd cc
+step_left version s memory (messages.AskLook code item) deep fit allowed other = absurd cc
+step_left version s memory (messages.Found flag index) deep fit allowed other = absurd cc
+step_left version s memory messages.End deep fit allowed other = absurd cc
+step_left version s memory (messages.AskMoment side degree) deep fit allowed other = absurd cc
+step_left version s memory (messages.Power v) deep fit allowed other = absurd cc
 
 -- where no farewell may come, any other message may as where one may
 pub hears_as : (s : HelperState) (m : Message) → (m ≡ messages.Bye → ⊥) → may_hear s m ≡ is_allowed s m
@@ -163,45 +162,18 @@ hears_as s messages.End other = refl
 hears_as s (messages.AskMoment _ _) other = refl
 hears_as s (messages.Power v) other = refl
 
--- a message that may come where no farewell may is one that may come, and does not end the talk
-pub hears_allowed : (s : HelperState) (m : Message) → IsTrue (may_hear s m) → IsTrue (is_allowed s m)
-hears_allowed s messages.Bye may = absurd cc
-hears_allowed s (messages.Open _ _) may = may
-hears_allowed s (messages.Updates _) may = may
-hears_allowed s messages.EndStream may = may
-hears_allowed s (messages.Query _) may = may
-hears_allowed s (messages.Reveal _) may = may
-hears_allowed s (messages.Claim _) may = may
-hears_allowed s (messages.Poly _ _ _) may = may
-hears_allowed s (messages.Entries _) may = may
-hears_allowed s (messages.Siblings _ _) may = may
-hears_allowed s (messages.Leaves _) may = may
-hears_allowed s (messages.Nodes _) may = may
-hears_allowed s messages.LevelEnd may = may
-hears_allowed s (messages.Refuse _) may = may
-hears_allowed s (messages.AskLook code item) may = may
-hears_allowed s (messages.Found flag index) may = may
-hears_allowed s messages.End may = may
-hears_allowed s (messages.AskMoment _ _) may = may
-hears_allowed s (messages.Power v) may = may
-
-goes_on : (s : HelperState) (memory : Bool) (m : Message) → IsTrue (may_hear s m) → s.done ≡ false → (step s memory m).done ≡ false
-goes_on s memory m may going = elim (cases_Bool (step s memory m).done) [
-  | inl done ↦ absurd (both_ways false refl (subst (λ (x : Message). IsTrue (may_hear s x)) (only_bye s memory m going done) may))
-  | inr still ↦ still
-]
-
 -- a message that may come and is no farewell leaves fewer turns, where it was heard
-pub fewer_heard : {E : Type 0} (s next : HelperState) (m : Message) (heard : Result Unit E) → depth_of s.heard ≤ most_depth → IsTrue (fits Two m) → s.done ≡ false → (IsOk heard → IsTrue (is_allowed s m))
+pub fewer_heard : {E : Type 0} (s next : HelperState) (m : Message) (heard : Result Unit E) → depth_of s.heard ≤ most_depth → IsTrue (fits Two m) → (IsOk heard → IsTrue (is_allowed s m))
     → OnOk heard ((memory : Bool) × (next ≡ step s memory m)) → OnOk heard (next.done ≡ false → turns_left next < turns_left s)
-fewer_heard s next m (Err e) deep fit going may did = tt
-fewer_heard s next m (Ok x) deep fit going may did =
-    λ still. (let fall = step_left Two s did.0 m deep fit (may refl) going (sym (ap (λ (x : HelperState). x.done) did.1) ∙ still) in
+fewer_heard s next m (Err e) deep fit may did = tt
+fewer_heard s next m (Ok x) deep fit may did =
+    λ still. (let fall = step_left Two s did.0 m deep fit (may refl) (λ bye. both_ways next.done still (ap (λ (x : HelperState). x.done) did.1 ∙ ap (λ (x : Message). (step s did.0 x).done) bye)) in
     subst (λ (x : HelperState). turns_left x < turns_left s) (sym did.1) (omega (arith, fall)))
 
 -- and so where no farewell may come
-pub fewer_heard_on : {E : Type 0} (s next : HelperState) (m : Message) (heard : Result Unit E) → depth_of s.heard ≤ most_depth → IsTrue (fits Two m) → s.done ≡ false → (IsOk heard → IsTrue (may_hear s m))
+pub fewer_heard_on : {E : Type 0} (s next : HelperState) (m : Message) (heard : Result Unit E) → depth_of s.heard ≤ most_depth → IsTrue (fits Two m) → (m ≡ messages.Bye → ⊥) → (IsOk heard → IsTrue (is_allowed s m))
     → OnOk heard ((memory : Bool) × (next ≡ step s memory m)) → OnOk heard (turns_left next < turns_left s)
-fewer_heard_on s next m (Err e) deep fit going may did = tt
-fewer_heard_on s next m (Ok x) deep fit going may did =
-    fewer_heard {E = Unit {0}} s next m (Ok tt) deep fit going (λ _. hears_allowed s m (may refl)) did (ap (λ (x : HelperState). x.done) did.1 ∙ goes_on s did.0 m (may refl) going)
+fewer_heard_on s next m (Err e) deep fit other may did = tt
+fewer_heard_on s next m (Ok x) deep fit other may did =
+    let fall = step_left Two s did.0 m deep fit (may refl) other in
+    subst (λ (x : HelperState). turns_left x < turns_left s) (sym did.1) (omega (arith, fall))

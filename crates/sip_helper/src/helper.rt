@@ -209,8 +209,7 @@ impl HelperCore {
         ensures heard { OnOk result ((refused : Bool)
             × (self.new ≡ step self.old refused message.now)) }
         ensures same { OnErr result (self.new ≡ self.old) }
-        ensures fewer { self.old.done ≡ false
-            → OnOk result (turns_left self.new < turns_left self.old) }
+        ensures fewer { OnOk result (turns_left self.new < turns_left self.old) }
     {
         // The proof wants that the depth is bounded.
         let _ = self.levels();

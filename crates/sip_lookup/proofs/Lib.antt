@@ -1,3 +1,4 @@
 pub mod NearEntries
 pub mod FewFooled
 pub mod FoundFits
+pub mod FewerTurns

@@ -13,7 +13,7 @@ ghost use Rattle.sip_lookup.specs.Serving.{ServesLooks, after_answer, fresh_look
 use crate::Lookup;
 use sip_helper::{HelpStatus, HelperCore, Helps, OutOfTurn, WANT_OF_MEMORY, put_refusal, talk};
 use sip_ports::{Link, PortStop, Sink};
-use sip_vector::{Side, Vector};
+use sip_vector::{Depth, Side, Vector};
 use sip_wire::{Message, Place, Version, encode};
 use std::alloc::Global;
 use std::marker::Model;
@@ -118,7 +118,7 @@ impl LookCore {
     }
 
     /// Takes a lookup, where it may be asked of a stream of this depth.
-    fn ask(&mut self, depth: u8, code: u8, item: u64) -> Result<(), OutOfTurn>
+    fn ask(&mut self, depth: Depth, code: u8, item: u64) -> Result<(), OutOfTurn>
         requires due { self.old.stage ≡ Stage.Due }
         requires whole { whole_of self.old.helper.heard ≡ Some depth }
         ensures turn { IsOk result ↔ IsTrue (may_look depth self.old.asked code item) }
@@ -126,7 +126,10 @@ impl LookCore {
             (self.new ≡ step self.old false (messages.AskLook code item)) }
         ensures same { OnErr result (self.new ≡ self.old) }
     {
-        if self.asked >= MOST_LOOKUPS || item >= 1 << depth {
+        if self.asked >= MOST_LOOKUPS {
+            return Err(OutOfTurn);
+        }
+        if item >= 1 << depth.get() {
             return Err(OutOfTurn);
         }
         let Some(lookup) = lookup_of(code, item) else {
@@ -138,7 +141,7 @@ impl LookCore {
     }
 
     /// Takes what may come where a lookup is due, or the end.
-    fn hear_question(&mut self, depth: u8, message: &Message) -> Result<(), OutOfTurn>
+    fn hear_question(&mut self, depth: Depth, message: &Message) -> Result<(), OutOfTurn>
         requires due { self.old.stage ≡ Stage.Due }
         requires whole { whole_of self.old.helper.heard ≡ Some depth }
         ensures turn { IsOk result ↔ IsTrue (may_question depth self.old.asked message.now) }
@@ -216,7 +219,7 @@ impl Helps for LookCore {
     fn take(&mut self, message: &Message) -> Result<(), OutOfTurn> {
         match (self.stage, self.core.whole()) {
             (Stage::Asked(_), _) => Err(OutOfTurn),
-            (Stage::Due, Some(depth)) => self.hear_question(depth.get(), message),
+            (Stage::Due, Some(depth)) => self.hear_question(depth, message),
             _ => self.core.hear_on(message),
         }
     }

@@ -11,5 +11,5 @@ returns-in_default c =
       turn = (λ ok. same ∙ c.hear.ensures.turn.0 ok, λ may. c.hear.ensures.turn.1 (sym same ∙ may));
       heard = c.hear.ensures.heard;
       same = c.hear.ensures.same;
-      fewer = λ going. fewer_heard_on c.args.self.now c.hear.new.self c.args.message.now c.hear.result (subst (λ (n : ℕ). n ≤ most_depth) c.levels.ensures.same c.levels.ensures.most) c.requires.fits going (λ ok. same ∙ c.hear.ensures.turn.0 ok) c.hear.ensures.heard;
+      fewer = fewer_heard_on c.args.self.now c.hear.new.self c.args.message.now c.hear.result (subst (λ (n : ℕ). n ≤ most_depth) c.levels.ensures.same c.levels.ensures.most) c.requires.fits c.in_default.not-Bye c.hear.ensures.turn.0 c.hear.ensures.heard;
     }
