@@ -11,13 +11,14 @@
 //! | `Lookups` | the answer to a lookup, the place that an honest helper finds, and its interval |
 //! | `Frames` | the messages Ask and Found, and how a Found is read |
 //! | `AcceptsLook` | when replies are accepted, and at how many challenges wrong ones are |
+//! | `Serving` | the turns of a helper of lookups, and what it does on a link |
 //!
 //! [`laws`] works out examples of each. [`counting`] has the theorem on helpers that lie: at most
 //! d·p^(d-1) of the p^d vectors of challenges have a wrong answer accepted.
 //!
-//! | `Serving` | the turns of a helper of lookups, and what it does on a link |
-//!
-//! [`serve_look`] is the helper's end of a talk of lookups. The verifier's end is not here yet.
+//! [`serve_look`] is the helper's end of a talk of lookups: it takes turns, each of them a message
+//! that may come and then its reply, and its status says where it stopped (`ServesLooks`). The
+//! verifier's end is not here yet.
 #![tactic(auto)]
 
 pub mod counting;
