@@ -84,34 +84,40 @@ fn put_polynomial<K: Sink>(
 }
 
 impl Question {
-    /// Takes the memory that the replies want, the only that they ever take. With no vector there is
-    /// none.
-    pub(crate) fn start(
-        alloc: Global,
-        vector: Option<&Vector>,
-        side: Side,
-        degree: u8,
-    ) -> Question
+    /// Takes the memory that the replies want, the only that they ever take.
+    pub(crate) fn start(alloc: Global, vector: &Vector, side: Side, degree: u8) -> Question
         requires degree { IsDegree degree }
-        requires light { IfSome vector (λ v. v.now.weight ^ degree ≤ most_claim) }
+        requires light { vector.now.weight ^ degree ≤ most_claim }
         ensures side { result.side ≡ side }
         ensures degree { result.degree ≡ degree }
         ensures revealed { result.revealed.items ≡ [] }
         ensures owed { result.given ≡ false }
-        ensures begun { IfSome result.prover (λ prover. IfSome vector
-            (λ v. prover ≡ begun m61_modulus degree v.now.numbers)) }
-        ensures level { IfSome result.prover (λ prover. IfSome vector
-            (λ v. length prover.level ≡ 2 ^ v.now.depth)) }
-        ensures none { vector ≡ None → result.prover ≡ None }
+        ensures begun { IfSome result.prover (λ prover. prover
+            ≡ begun m61_modulus degree vector.now.numbers) }
+        ensures level { IfSome result.prover (λ prover.
+            length prover.level ≡ 2 ^ vector.now.depth) }
     {
-        let prover = match vector {
-            Some(vector) => MomentProver::start(alloc, vector, degree).ok(),
-            None => None,
-        };
         Question {
             side,
             degree,
-            prover,
+            prover: MomentProver::start(alloc, vector, degree).ok(),
+            revealed: ArrayVec::new(),
+            given: false,
+        }
+    }
+
+    /// A moment for which memory was refused.
+    pub(crate) fn refused(side: Side, degree: u8) -> Question
+        ensures side { result.side ≡ side }
+        ensures degree { result.degree ≡ degree }
+        ensures revealed { result.revealed.items ≡ [] }
+        ensures owed { result.given ≡ false }
+        ensures none { result.prover ≡ None }
+    {
+        Question {
+            side,
+            degree,
+            prover: None,
             revealed: ArrayVec::new(),
             given: false,
         }

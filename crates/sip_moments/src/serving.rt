@@ -111,8 +111,10 @@ impl MomentCore {
         if is_too_high(self.core.weight(side), degree) {
             return Err(OutOfTurn);
         }
-        let question = Question::start(self.alloc, self.core.vector(side), side, degree);
-        self.question = Some(question);
+        self.question = Some(match self.core.vector(side) {
+            Some(vector) => Question::start(self.alloc, vector, side, degree),
+            None => Question::refused(side, degree),
+        });
         self.asked += 1;
         Ok(())
     }
