@@ -64,17 +64,19 @@ fn side_of(number: u8) -> Option<Side>
 }
 
 /// Whether a claim may have no room for the moment of a vector of this weight. It stops at the first
-/// power that is too high, so that none overflows.
+/// power that is too high: of a weight that is not 0 no later one is lower.
 fn is_too_high(weight: u64, degree: u8) -> bool
-    requires { weight < 2 ^ 30 }
     ensures { result ≡ is_too_high weight degree }
 {
-    let mut power = 1;
+    let mut power: u64 = 1;
     for _step in 0..degree {
-        power *= weight;
-        if power > MOST_CLAIM {
+        let Some(higher) = power.checked_mul(weight) else {
+            return true;
+        };
+        if higher > MOST_CLAIM {
             return true;
         }
+        power = higher;
     }
     false
 }
