@@ -1,6 +1,6 @@
 //! Worked examples of the helper's end, which hold by computation. These functions do nothing: each
 //! contract is a fact that holds.
-#![tactic(auto, unfolding(crate::specs::Replies::honest_messages, sip_wire::specs::Spelling::spelling, sip_wire::specs::Spelling::in_bytes, sip_wire::specs::Spelling::spelled))]
+#![tactic(auto, unfolding(sip_vector::specs::Vectors::zeros, crate::specs::Replies::honest_messages, sip_wire::specs::Spelling::spelling, sip_wire::specs::Spelling::in_bytes, sip_wire::specs::Spelling::spelled))]
 
 ghost use Rattle.std.specs.Prelude.{◌≡◌, [], ◌∷◌, ◌++◌, None, pos, replicate, true, false};
 ghost use Rattle.sip_wire.specs.declared.message.Message.TheVariants as messages;
