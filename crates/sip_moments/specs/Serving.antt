@@ -153,7 +153,7 @@ abbrev pub after_reply : HelperState → OpenMoment → Option OpenMoment
 after_reply helper o =
     if o.given then Some o
     else if is_refused (shown_vector helper o.side) o
-        || nat_le (turns.depth_of helper.heard) (length o.revealed + 1) then None
+    || nat_le (turns.depth_of helper.heard) (length o.revealed + 1) then None
     else Some (record o { given = true })
 
 -- the state once the reply that is owed was given

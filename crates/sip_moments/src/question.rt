@@ -150,11 +150,7 @@ impl Question {
     }
 
     /// Sends the reply that is owed, one write a frame. It takes no memory.
-    pub(crate) fn put_reply<K: Sink>(
-        &self,
-        version: Version,
-        out: &mut K,
-    ) -> Result<(), PortStop>
+    pub(crate) fn put_reply<K: Sink>(&self, version: Version, out: &mut K) -> Result<(), PortStop>
         requires stands { (helper : AnyHelper) × CanReply helper self.now }
         ensures talk { (helper : AnyHelper) → CanReply helper self.now
             → SendsWhole (K.talk out.old) (K.talk out.new) result (flat_map (spelling version)

@@ -20,6 +20,7 @@ const MOST_MOMENTS: u8 = 16;
 
 /// The least and the greatest degree of a moment that may be asked.
 const LEAST_DEGREE: u8 = 3;
+
 const MOST_DEGREE: u8 = 8;
 
 /// The greatest absolute value of a claim.
