@@ -62,7 +62,7 @@ fn open(
 /// # Errors
 ///
 /// How the run ends: `Rejected`, behind the line of the rejection; `WriteFault` of the report, behind a front of a line; `WriteFault`
-/// of `keep` and `PeerFault`, behind the lines before. `OutOfMemory` is one of these three. The session is spent then.
+/// of `keep` and `PeerFault`, behind the lines before. `OutOfMemory` is one of these three.
 #[inline(never)]
 pub fn conclude<L: Link, K: Sink, C: Sink>(
     session: &mut Session,

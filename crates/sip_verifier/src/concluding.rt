@@ -109,7 +109,7 @@ fn check_all<Q: Asker, L: Link, K: Sink, C: Sink>(
 ///
 /// How the run ends: `Rejected`, behind the line of the rejection; `WriteFault` of the report,
 /// behind a front of a line; `WriteFault` of `keep` and `PeerFault`, behind the lines before.
-/// `OutOfMemory` is one of these three. The asker is over then.
+/// `OutOfMemory` is one of these three.
 #[inline(never)]
 pub fn conclude_run<Q: Asker, L: Link, K: Sink, C: Sink>(
     asker: &mut Q,

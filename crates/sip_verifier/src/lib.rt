@@ -72,7 +72,7 @@ pub use concluding::conclude_run;
 pub use feed::Feed;
 pub use gathering::{follow, gather};
 pub use queries::Given;
-pub use report::query_word;
+pub use report::{query_word, write_dropped};
 pub use seats::Seats;
 pub use session::{Session, SessionFault, SessionStart, Verdict};
 pub use status::{Port, Status};
