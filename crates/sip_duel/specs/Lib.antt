@@ -1,5 +1,6 @@
 pub mod Accepting
 pub mod Helping
+pub mod Links
 pub mod Lying
 pub mod Receiving
 pub mod Story

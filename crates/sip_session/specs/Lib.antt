@@ -1,2 +1,10 @@
 pub mod JointCounts
 pub mod Examples
+pub mod Panels
+pub mod PanelExchanges
+pub mod PanelMoments
+pub mod PanelEnds
+pub mod PanelCounts
+pub mod PanelHonesty
+pub mod PanelClause
+pub mod inside

@@ -26,5 +26,11 @@
 //! - [`examples`]: counts worked out one by one.
 #![tactic(auto)]
 
+mod asking;
 pub mod counting;
 pub mod examples;
+mod farewells;
+mod hearing;
+mod panel;
+
+pub use panel::panel;

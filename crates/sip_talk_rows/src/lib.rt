@@ -32,6 +32,8 @@ mod list_tests;
 #[cfg(test)]
 mod moment_check_tests;
 #[cfg(test)]
+mod panel_tests;
+#[cfg(test)]
 mod replaying_tests;
 #[cfg(test)]
 mod session_facts;

@@ -32,7 +32,7 @@ use std::mem;
 /// The session of the seats that were gathered, if they were. These are taken from where they stand:
 /// they are large, and an argument would be a second place for them on the stack of the run.
 #[inline(never)]
-fn open(
+pub fn open(
     alloc: Global,
     version: Version,
     gathered: &mut Result<Seats, Status>,

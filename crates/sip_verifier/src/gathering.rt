@@ -28,8 +28,8 @@ use sip_ports::{Link, PortStop, Sink, Source, read_exact_into};
 use sip_stream::{Reader, StreamFault};
 use sip_vector::{Depth, Update};
 
-/// What reading a record gave.
-fn on_stream(read: Result<Option<Update>, StreamFault>) -> Result<Option<Update>, Status>
+/// What reading a record of the stream gave, with the status of a run that stopped there.
+pub fn on_stream(read: Result<Option<Update>, StreamFault>) -> Result<Option<Update>, Status>
     ensures { MatchResult result (λ next. read ≡ Ok next)
         (λ status. (fault : AnyStreamFault) × (read ≡ Err fault)
         × (status ≡ status_of_stream fault)) }
@@ -45,7 +45,7 @@ fn on_stream(read: Result<Option<Update>, StreamFault>) -> Result<Option<Update>
 /// Reads 32 bytes of a seed, draws the challenges of a task from them, and leaves the seats in
 /// `drawn`.
 #[inline(never)]
-fn draw<B: Source>(
+pub fn draw<B: Source>(
     task: &Task,
     second: &mut B,
     drawn: &mut Result<Seats, Status>,

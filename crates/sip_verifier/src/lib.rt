@@ -67,10 +67,11 @@ mod sub_vector;
 mod task;
 
 pub use asker::{Asker, Unanswered};
-pub use checking::{check_stream, conclude};
+pub use checking::{check_stream, conclude, open};
 pub use concluding::conclude_run;
+pub use ending::{on_link, on_report, status_of_fault};
 pub use feed::Feed;
-pub use gathering::{follow, gather};
+pub use gathering::{draw, follow, gather, on_stream};
 pub use queries::Given;
 pub use report::{query_word, write_dropped};
 pub use seats::Seats;
