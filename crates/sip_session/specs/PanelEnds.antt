@@ -10,19 +10,19 @@ use Rattle.std.specs.List.{enumerate_from}
 use Rattle.sip_ports.specs.declared.port.TalkEvent.{TalkEvent}
 use Rattle.sip_replies.specs.Replies.{Fault}
 use Rattle.sip_replies.specs.Talks.{IsPrefix, ending}
-use Rattle.sip_stream.specs.Records.{records}
 use Rattle.sip_vector.specs.declared.update.Update.{Update}
 use Rattle.sip_wire.specs.declared.version.Version.{Version}
 use Rattle.sip_verifier.specs.declared.status.Port.TheVariants as ports
 use Rattle.sip_verifier.specs.declared.status.Status.{Status}
 use Rattle.sip_verifier.specs.declared.status.Status.TheVariants as statuses
 use Rattle.sip_verifier.specs.declared.task.Task.{Task}
+use Rattle.sip_verifier.specs.Gathering.{EndsLegally, before_end, legal}
 use Rattle.sip_verifier.specs.Questions.{IsUnjudged, IsWaiting, Question, said_for}
 use Rattle.sip_verifier.specs.Reports.{dropped, line}
-use Rattle.sip_verifier.specs.Talks.{bye_sent, opening_sent, stream_sent, whole_frames}
+use Rattle.sip_verifier.specs.Talks.{bye_sent, stream_sent}
 use Rattle.sip_verifier.specs.Tasks.{version_of}
 use Rattle.sip_session.specs.PanelExchanges.{PanelExchange}
-use Rattle.sip_session.specs.Panels.{Attempt, Outcome, Turn, accepted, rejected, are_answered, first_turn, is_left, legal, turn_behind, IsOfTurn}
+use Rattle.sip_session.specs.Panels.{Attempt, Outcome, Turn, accepted, rejected, are_answered, first_turn, is_left, turn_behind, IsOfTurn}
 
 -- ---- lines
 
@@ -49,20 +49,13 @@ said_to version depth stream helper attempts = flat_map
     attempts
 
 module _ (helpers : ℕ) (task : Task) (x : PanelExchange) where
+  -- the legal records of the stream
   abbrev pub updates : List Update
-  updates = legal helpers task x.seed x.stream
+  updates = legal task x.stream
 
-  -- what each helper hears first: the opening and all frames of the stream that are full, and then
-  -- the rest and the end
-  abbrev pub before_end : List TalkEvent
-  before_end = opening_sent (version_of task) task.depth
-      (whole_frames updates)
-
+  -- what each helper hears before it is asked
   abbrev pub all_sent : List TalkEvent
   all_sent = stream_sent (version_of task) task.depth updates
-
-  abbrev pub EndsLegally : Type 0
-  EndsLegally = (records task.depth task.form x.stream).fault ≡ None
 
   -- this holds of each helper and of all that was said on its link
   abbrev pub OfEach : (ℕ → List TalkEvent → Type 0) → Type 0
@@ -71,7 +64,7 @@ module _ (helpers : ℕ) (task : Task) (x : PanelExchange) where
   -- the stream was legal, was read to its end and was sent to each helper; then each heard its
   -- attempts, and after them what this says
   record Went (attempts : List Attempt) (rest : ℕ → List TalkEvent → Type 0) : Type 0 where
-    pub to_end : EndsLegally
+    pub to_end : EndsLegally task x.stream
     pub read : x.unread ≡ []
     pub talks : OfEach (λ helper talk. (more : List TalkEvent)
         × (talk ≡ all_sent
@@ -165,21 +158,22 @@ module _ (helpers : ℕ) (task : Task) (x : PanelExchange) where
     pub report : x.report ≡ []
 
   -- what each helper may hear before it is asked
-  abbrev pub may_hear : List TalkEvent → Type 0
-  may_hear most = (EndsLegally → most ≡ all_sent) × (¬ EndsLegally → most ≡ before_end)
+  abbrev pub MayHear : List TalkEvent → Type 0
+  MayHear most = (EndsLegally task x.stream → most ≡ all_sent)
+      × (¬ EndsLegally task x.stream → most ≡ before_end task x.stream)
 
   abbrev pub Ends : List Attempt → Status → Type 0
   Ends attempts statuses.Accepted = AllAnswered attempts
   Ends attempts (statuses.Rejected query round reason) =
       AllDropped attempts query (record { round = round; reason = reason })
-  Ends attempts (statuses.BadStream at why) = NoneAskedBehind attempts before_end
+  Ends attempts (statuses.BadStream at why) = NoneAskedBehind attempts (before_end task x.stream)
   Ends attempts statuses.BadSeed = NoneAskedBehind attempts []
   Ends attempts statuses.SeedSpent = NoneAskedBehind attempts []
   Ends attempts (statuses.TooWide query) = NoneAskedBehind attempts all_sent
-  Ends attempts (statuses.ReadFault ports.First) = NoneAsked attempts before_end
+  Ends attempts (statuses.ReadFault ports.First) = NoneAsked attempts (before_end task x.stream)
   Ends attempts (statuses.ReadFault ports.Second) = NoneAskedBehind attempts []
   Ends attempts (statuses.WriteFault ports.Report) = CutInLine attempts
   Ends attempts statuses.OutOfMemory =
-      ((most : List TalkEvent) × may_hear most × NoneAsked attempts most)
+      ((most : List TalkEvent) × MayHear most × NoneAsked attempts most)
       ⊎ CutInTalk attempts ⊎ CutInLine attempts ⊎ EndsUnjudged attempts
   Ends attempts _ = ⊥

@@ -1,8 +1,7 @@
 -- Honest helpers of a panel: why they may be dropped, and what they come to.
-use Rattle.std.specs.Prelude.{◌≡◌, ◌⊎◌, ◌<◌, ◌≤◌, ⊤, ℕ, List, [], flat_map, length, All, Some, None}
+use Rattle.std.specs.Prelude.{◌≡◌, ◌⊎◌, ◌<◌, ◌≤◌, ⊤, ℕ, List, [], flat_map, length, All, Some}
 use Rattle.sip_helper.specs.KindRows.{not_strict, too_many, want_of_memory}
 use Rattle.sip_replies.specs.Replies.{Fault}
-use Rattle.sip_stream.specs.Records.{records}
 use Rattle.sip_subvec.specs.Replies.{most_entries}
 use Rattle.sip_vector.specs.declared.query.Query.{Query}
 use Rattle.sip_vector.specs.declared.query.Query.TheVariants.{Sub, Heavy, Share}
@@ -21,8 +20,9 @@ use Rattle.sip_verifier.specs.Moments.{Counts}
 use Rattle.sip_verifier.specs.Questions.{Question}
 use Rattle.sip_verifier.specs.Reports.{line, report_of}
 use Rattle.sip_verifier.specs.Tasks.{version_of}
+use Rattle.sip_verifier.specs.Gathering.{EndsLegally, legal}
 use Rattle.sip_session.specs.PanelExchanges.{PanelExchange}
-use Rattle.sip_session.specs.Panels.{Attempt, Outcome, accepted, rejected, inquiry_of_panel, legal}
+use Rattle.sip_session.specs.Panels.{Attempt, Outcome, accepted, rejected, inquiry_of_panel}
 
 -- the query is for a sub-vector with more entries than may be sent
 abbrev pub IsTooLong : ℕ → List Update → Query → Type 0
@@ -75,8 +75,8 @@ module _ (helpers : ℕ) (IsHonest : ℕ → Type 0) (task : Task) (x : PanelExc
   pub record IsGood : Type 0 where
     pub challenges : List ℕ
     pub drawn : (inquiry_of_panel helpers task x.seed).challenges ≡ Some challenges
-    pub to_end : (records task.depth task.form x.stream).fault ≡ None
-    pub few : All (HasFewEntries (version_of task) task.depth (legal helpers task x.seed x.stream))
+    pub to_end : EndsLegally task x.stream
+    pub few : All (HasFewEntries (version_of task) task.depth (legal task x.stream))
         task.queries.items
 
   -- one of the helpers is honest
@@ -90,7 +90,7 @@ module _ (helpers : ℕ) (IsHonest : ℕ → Type 0) (task : Task) (x : PanelExc
   -- an honest helper is dropped for no other cause
   abbrev pub AreDroppedRightly : Type 0
   AreDroppedRightly = All (λ a. IsHonest a.turn.helper → OfFault (λ fault. IsRight task.depth
-      (legal helpers task x.seed x.stream) a.question.query fault.reason) a.outcome) attempts
+      (legal task x.stream) a.question.query fault.reason) a.outcome) attempts
 
   -- an honest helper was dropped for want of memory alone
   abbrev pub WantedMemory : Type 0
@@ -110,12 +110,12 @@ module _ (helpers : ℕ) (IsHonest : ℕ → Type 0) (task : Task) (x : PanelExc
   -- where all queries were answered, the lines of answers are the report with these.
   record AreOwn (status : Status) : Type 0 where
     pub each : All (λ a. OfAnswer (λ given. given ≡ answer task.depth
-        (legal helpers task x.seed x.stream) a.question.query) a.outcome) attempts
+        (legal task x.stream) a.question.query) a.outcome) attempts
     pub all : status ≡ statuses.Accepted → answer_lines attempts
-        ≡ report_of task.depth (legal helpers task x.seed x.stream) task.queries.items
+        ≡ report_of task.depth (legal task x.stream) task.queries.items
 
   abbrev pub AnswersAreOwn : Status → Type 0
   AnswersAreOwn status =
       AreHonest
-      → All (IsOnStrictSide task.depth (legal helpers task x.seed x.stream)) task.queries.items
+      → All (IsOnStrictSide task.depth (legal task x.stream)) task.queries.items
       → AreOwn status

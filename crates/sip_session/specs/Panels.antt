@@ -7,10 +7,9 @@
 -- Each query has a seat for each helper: with h helpers, query k with helper i has the seat number
 -- (k - 1)·h + i, counted from 1. Each seat has its own block of challenges; block n of the seed's is
 -- that of seat n. Seats whose turn doesn't come stay unused.
-use Rattle.std.specs.Prelude.{◌≡◌, ◌≤◌, ℕ, suc, ◌+◌, ◌*◌, ◌-◌, ⊤, Bool, nat_le, nat_lt, List, [], ◌∷◌, length, flat_map, map, replicate, All, Option, Some, None}
+use Rattle.std.specs.Prelude.{◌≡◌, ◌≤◌, ℕ, suc, ◌+◌, ◌*◌, ◌-◌, ⊤, Bool, nat_le, nat_lt, List, [], ◌∷◌, length, flat_map, replicate, All, Some, None}
 use Rattle.std.specs.List.{slice_get}
 use Rattle.sip_replies.specs.Replies.{Fault}
-use Rattle.sip_stream.specs.Records.{records}
 use Rattle.sip_vector.specs.declared.query.Query.{Query}
 use Rattle.sip_vector.specs.declared.update.Update.{Update}
 use Rattle.sip_vector.specs.Answers.{Answer}
@@ -18,6 +17,7 @@ use Rattle.sip_vector.specs.Pieces.{cut}
 use Rattle.sip_wire.specs.declared.version.Version.{Version}
 use Rattle.sip_verifier.specs.declared.task.Task.{Task}
 use Rattle.sip_verifier.specs.Draws.{challenges_of}
+use Rattle.sip_verifier.specs.Gathering.{legal}
 use Rattle.sip_verifier.specs.Inquiries.{Inquiry}
 use Rattle.sip_verifier.specs.Questions.{Accepts, IsFaulty, Question}
 use Rattle.sip_verifier.specs.Tasks.{version_of}
@@ -107,12 +107,8 @@ IsJudged version depth stream q (accepted answer) = Accepts version depth stream
 IsJudged version depth stream q (rejected fault) = IsFaulty version depth stream q fault
 
 module _ (helpers : ℕ) (task : Task) (seed bytes : List ℕ) where
-  -- the legal records of the stream
-  abbrev pub legal : List Update
-  legal = (records task.depth task.form bytes).legal
-
-  -- the helper is one of the panel and the query one of the task's, and the question is that of
-  -- the turn's seat
+  -- The helper is one of the panel and the query one of the task's, and the question is that of
+  -- the turn's seat.
   pub record IsOfTurn (turn : Turn) (q : Question) : Type 0 where
     pub helper : turn.helper ≤ helpers
     pub number : turn.number ≤ length task.queries.items
@@ -126,4 +122,6 @@ module _ (helpers : ℕ) (task : Task) (seed bytes : List ℕ) where
   pub record AreAttempts (attempts : List Attempt) : Type 0 where
     pub in_turn : AreInTurn first_turn attempts
     pub of_turn : All (λ a. IsOfTurn a.turn a.question) attempts
-    pub judged : All (λ a. IsJudged (version_of task) task.depth legal a.question a.outcome) attempts
+    pub judged : All
+        (λ a. IsJudged (version_of task) task.depth (legal task bytes) a.question a.outcome)
+        attempts

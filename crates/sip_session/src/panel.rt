@@ -1,17 +1,19 @@
 //! A run over several helpers.
 
-ghost use Rattle.std.specs.Prelude.{◌≡◌, ◌*◌, ◌<◌, ◌≤◌, List, length, All, None, Some};
-ghost use Rattle.std.specs.List.{slice_get};
-ghost use Rattle.std.specs.Prelude.{ℕ, ◌-◌, ◌×◌};
-ghost use Rattle.sip_duel.specs.Links.{IsNew, IsOfHonest, talk_on};
-ghost use Rattle.sip_duel.specs.declared.link.HelperLink.{HelperLink as AnyLink};
+ghost use Rattle.std.specs.Prelude.{◌≡◌, ◌*◌, ◌<◌, ◌≤◌, ℕ, List, All, length, false, None, Some, Ok, Err, IfErr, IfOk, IsSome, MatchResult};
+ghost use Rattle.std.specs.List.{AllZip};
+ghost use Rattle.sip_duel.specs.Links.{IsNew};
 ghost use Rattle.sip_ports.specs.Ports.{Lasts};
 ghost use Rattle.sip_wire.specs.Table.{most_queries};
+ghost use Rattle.sip_verifier.specs.Concluding.{status_of};
 ghost use Rattle.sip_verifier.specs.Exchanges.{TakesAtMost};
+ghost use Rattle.sip_verifier.specs.Moments.{counts};
+ghost use Rattle.sip_verifier.specs.Statuses.{FaultClause, IsListed};
 ghost use Rattle.sip_verifier.specs.Tasks.{CanBeDone};
+ghost use Rattle.sip_session.specs.inside.Beginning.{Begins, by_query, task_of_seats};
+ghost use Rattle.sip_session.specs.inside.Hearing.{StillKeeps};
 ghost use Rattle.sip_session.specs.PanelClause.{PanelRunClause};
 ghost use Rattle.sip_session.specs.PanelMoments.{honest_at, panel_moment};
-ghost use Rattle.sip_session.specs.Panels.{seat_queries};
 
 use crate::asking::ask_all;
 use crate::farewells::let_all_go;
@@ -26,9 +28,7 @@ use std::alloc::Global;
 /// The task whose queries are those of the seats: each query once for each helper.
 fn seats_task(task: &Task, helpers: usize) -> Task
     requires { helpers * length task.now.queries.items ≤ most_queries }
-    ensures depth { result.depth ≡ task.now.depth }
-    ensures form { result.form ≡ task.now.form }
-    ensures queries { result.queries.items ≡ seat_queries helpers task.now.queries.items }
+    ensures { result ≡ task_of_seats helpers task.now }
 {
     let mut queries = ArrayVec::new();
     for query in task.queries.iter() {
@@ -44,7 +44,11 @@ fn seats_task(task: &Task, helpers: usize) -> Task
 }
 
 /// The same end, where it names a seat by the query of that seat. Both are counted from 1.
-fn of_query(status: Status, helpers: u8) -> Status {
+fn by_query(status: Status, helpers: u8) -> Status
+    requires some { 0 < helpers }
+    requires counted { (seat : ℕ) → status ≡ Status.TooWide seat → 0 < seat }
+    ensures { result ≡ by_query helpers status }
+{
     match status {
         Status::TooWide { query } => Status::TooWide {
             query: (query - 1) / helpers + 1,
@@ -64,6 +68,25 @@ fn begin<A: Source, B: Source>(
     requires done { CanBeDone task.now }
     requires some { 0 < length links.old }
     requires few { length links.old * length task.now.queries.items ≤ most_queries }
+    ensures begins { (bytes seed : List ℕ) → A.left first.old ≡ Some bytes
+        → B.left second.old ≡ Some seed
+        → MatchResult result
+        (λ session. Begins (length links.old) task.now bytes seed (A.left first.new) links.old
+        links.new (Ok session.value))
+        (λ status. Begins (length links.old) task.now bytes seed (A.left first.new) links.old
+        links.new (Err status)) }
+    ensures left { IfOk result (λ session.
+        length session.value.left ≡ length links.old * length task.now.queries.items) }
+    ensures live { IfOk result (λ session. session.value.spent ≡ false) }
+    ensures count { length links.new ≡ length links.old }
+    ensures keeps { AllZip StillKeeps links.old links.new }
+    ensures fault { IfErr result (λ status. IsListed status × FaultClause
+        (counts (A.faults first.old) (B.faults second.old) 0 0 0)
+        (counts (A.faults first.new) (B.faults second.new) 0 0 0) status) }
+    ensures told { IsSome (A.left first.old) → IsSome (A.left first.new) }
+    ensures first { Lasts A.faults A.wants A.is_sure first.old first.new }
+    ensures seed { TakesAtMost 32 (B.left second.old) (B.left second.new) }
+    ensures second { Lasts B.faults B.wants B.is_sure second.old second.new }
 {
     let helpers = links.len();
     let wide = seats_task(task, helpers);
@@ -74,7 +97,7 @@ fn begin<A: Source, B: Source>(
     }
     match open(alloc, wide.version(), &mut gathered) {
         Ok(session) => Ok(session),
-        Err(status) => Err(of_query(status, helpers as u8)),
+        Err(status) => Err(by_query(status, helpers as u8)),
     }
 }
 
@@ -90,6 +113,18 @@ fn steps<A: Source, B: Source, K: Sink>(
     requires done { CanBeDone task.now }
     requires some { 0 < length links.old }
     requires few { length links.old * length task.now.queries.items ≤ most_queries }
+    requires new { All IsNew links.old }
+    ensures keeps { PanelRunClause (length links.old) (honest_at links.old) task.now
+        (panel_moment (A.left first.old) (A.faults first.old) (B.left second.old)
+        (B.faults second.old) links.old (K.talk report.old) (K.faults report.old))
+        (panel_moment (A.left first.new) (A.faults first.new) (B.left second.new)
+        (B.faults second.new) links.new (K.talk report.new) (K.faults report.new))
+        (status_of result) }
+    ensures count { length links.new ≡ length links.old }
+    ensures first { Lasts A.faults A.wants A.is_sure first.old first.new }
+    ensures seed { TakesAtMost 32 (B.left second.old) (B.left second.new) }
+    ensures second { Lasts B.faults B.wants B.is_sure second.old second.new }
+    ensures report { Lasts K.faults K.wants K.is_sure report.old report.new }
 {
     let mut session = begin(alloc, task, first, second, links)?;
     let queries = task.queries.len() as u8;
