@@ -5,7 +5,7 @@
 -- byte that shows the fault, or with the end of the link, and nothing is said to it any more. Once
 -- all queries were answered, each helper that is left hears the farewell. Each attempt has a line:
 -- that of the answer, or that of the helper which was dropped.
-use Rattle.std.specs.Prelude.{◌≡◌, ◌⊎◌, ◌<◌, ◌==◌, ◌&&◌, ℕ, List, [], ◌∷◌, ◌++◌, flat_map, length, All, Option, Some, None, IfSome, if◌then◌else◌}
+use Rattle.std.specs.Prelude.{◌≡◌, ◌⊎◌, ◌==◌, ◌&&◌, ℕ, suc, List, [], ◌∷◌, ◌++◌, flat_map, length, All, Option, Some, None, IfSome, if◌then◌else◌}
 use Rattle.std.specs.List.{enumerate_from}
 use Rattle.sip_ports.specs.declared.port.TalkEvent.{TalkEvent}
 use Rattle.sip_replies.specs.Replies.{Fault}
@@ -63,7 +63,7 @@ module _ (helpers : ℕ) (task : Task) (x : PanelExchange) where
 
   -- the stream was legal, was read to its end and was sent to each helper; then each heard its
   -- attempts, and after them what this says
-  record Went (attempts : List Attempt) (rest : ℕ → List TalkEvent → Type 0) : Type 0 where
+  pub record Went (attempts : List Attempt) (rest : ℕ → List TalkEvent → Type 0) : Type 0 where
     pub to_end : EndsLegally task x.stream
     pub read : x.unread ≡ []
     pub talks : OfEach (λ helper talk. (more : List TalkEvent)
@@ -79,7 +79,7 @@ module _ (helpers : ℕ) (task : Task) (x : PanelExchange) where
   -- every query was answered, each helper that is left heard the farewell, and every line was
   -- written
   pub record AllAnswered (attempts : List Attempt) : Type 0 where
-    pub all : (turn_behind first_turn attempts).number ≡ length task.queries.items + 1
+    pub all : (turn_behind first_turn attempts).number ≡ suc (length task.queries.items)
     pub went : Went attempts (λ helper more. more
         ≡ (if is_left (turn_behind first_turn attempts) helper then bye_sent (version_of task)
         else []))
@@ -88,12 +88,10 @@ module _ (helpers : ℕ) (task : Task) (x : PanelExchange) where
   -- the last attempt dropped the last helper, at this query and for this fault
   pub record AllDropped (attempts : List Attempt) (number : ℕ) (fault : Fault) : Type 0 where
     pub before : List Attempt
-    pub question : Question
-    pub last : attempts ≡ before ++ record {
-          turn = record { helper = helpers; number = number };
-          question = question;
-          outcome = rejected fault;
-        } ∷ []
+    pub last : Attempt
+    pub are : attempts ≡ before ++ last ∷ []
+    pub turn : last.turn ≡ record { helper = helpers; number = number }
+    pub outcome : last.outcome ≡ rejected fault
     pub went : WentSilent attempts
     pub report : x.report ≡ lines attempts
 
@@ -107,15 +105,15 @@ module _ (helpers : ℕ) (task : Task) (x : PanelExchange) where
     pub front : IsPrefix part (line_of last.turn last.question last.outcome)
     pub report : x.report ≡ lines before ++ part
 
+  -- what is said for a question, where there is one
+  abbrev pub said_for_any : Option Question → List TalkEvent
+  said_for_any None = []
+  said_for_any (Some q) = said_for (version_of task) task.depth updates q
+
   -- what a helper is still to hear where it is this turn and this question is asked
   abbrev pub due : Turn → Option Question → ℕ → List TalkEvent
   due turn current helper =
-      (elim current [
-        Some q ↦ if turn.helper == helper
-            then said_for (version_of task) task.depth updates q
-            else []
-        | None ↦ []
-      ])
+      (if turn.helper == helper then said_for_any current else [])
       ++ (if are_answered turn task.queries.items && is_left turn helper
       then bye_sent (version_of task) else [])
 

@@ -1,5 +1,5 @@
 -- What the ports of a panel tell, and what one call moved through them.
-use Rattle.std.specs.Prelude.{◌≡◌, ℕ, List, [], ◌×◌, Option, Some, None, IsSome}
+use Rattle.std.specs.Prelude.{◌≡◌, ℕ, List, [], Option, Some, None, IsSome}
 use Rattle.sip_ports.specs.declared.port.TalkEvent.{TalkEvent}
 use Rattle.sip_verifier.specs.Exchanges.{Appends, Exchange}
 use Rattle.sip_verifier.specs.Moments.{Counts}

@@ -108,7 +108,7 @@ module _ (helpers : ℕ) (IsHonest : ℕ → Type 0) (task : Task) (x : PanelExc
 
   -- Where each helper is honest and the sides are strict, each answer is the stream's own; and
   -- where all queries were answered, the lines of answers are the report with these.
-  record AreOwn (status : Status) : Type 0 where
+  pub record AreOwn (status : Status) : Type 0 where
     pub each : All (λ a. OfAnswer (λ given. given ≡ answer task.depth
         (legal task x.stream) a.question.query) a.outcome) attempts
     pub all : status ≡ statuses.Accepted → answer_lines attempts

@@ -17,9 +17,7 @@ ghost use Rattle.sip_session.specs.inside.Trying.{Trails, Tries};
 
 use sip_duel::HelperLink;
 use sip_ports::{NullSink, Sink};
-use sip_verifier::{
-    Asker, Session, Status, Unanswered, on_report, status_of_fault, write_dropped,
-};
+use sip_verifier::{Asker, Session, Status, Unanswered, on_report, status_of_fault, write_dropped};
 use sip_wire::Reason;
 
 /// What came of asking a helper.
