@@ -6,5 +6,6 @@ pub mod PanelMoments
 pub mod PanelEnds
 pub mod PanelCounts
 pub mod PanelHonesty
+pub mod PanelExamples
 pub mod PanelClause
 pub mod inside

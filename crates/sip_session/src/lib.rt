@@ -32,7 +32,7 @@
 //! - [`counting`]: the **joint bound** over every prime modulus, and that legal streams meet what it
 //!   asks; that where nothing is asked for heavy entries there are none; that the promise on a run
 //!   follows from that of verdicts; and that each talk is some joint strategy's.
-//! - [`examples`]: counts worked out one by one.
+//! - [`examples`]: counts worked out one by one; [`turns`]: the same for the turns of a panel.
 #![tactic(auto)]
 
 mod asking;
@@ -41,5 +41,6 @@ pub mod examples;
 mod farewells;
 mod hearing;
 mod panels;
+pub mod turns;
 
 pub use panels::panel;
