@@ -46,8 +46,8 @@ module _ (helpers : ℕ) (task : Task) (bytes seed : List ℕ) (left : Option (L
       × Starts (version_of task) seats (Ok session)
   Begins (Err (statuses.TooWide query)) = (seats : Seating) × IsHeard seats × (seat : ℕ)
       × (first_wide_seat seats.seats ≡ Some seat) × (query ≡ query_of_seat helpers seat)
-  Begins (Err statuses.OutOfMemory) = (seats : Seating) × (at_blocks : List (List ℕ)) × AllZip
-      (λ o n. IsPassedInPart (task_of_seats helpers task) bytes at_blocks left seats o n) old new
+  Begins (Err statuses.OutOfMemory) =
+      AllZip (IsPassedInPart (task_of_seats helpers task) bytes) old new
   Begins (Err status) = AllZip
       (λ o n. Refuses (task_of_seats helpers task) bytes seed (Some (talk_on o)) (Some (talk_on n))
       status) old new

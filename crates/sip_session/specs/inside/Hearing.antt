@@ -1,5 +1,5 @@
 -- What a call did to the links on which a panel sends. (For the proof of `panel` alone.)
-use Rattle.std.specs.Prelude.{◌≡◌, ◌≤◌, ℕ, List, ◌++◌, take, Option, Some, Result, Ok, Err, All}
+use Rattle.std.specs.Prelude.{◌≡◌, ◌≤◌, ℕ, List, ◌++◌, Option, Some, Result, Ok, Err}
 use Rattle.std.specs.List.{AllZip}
 use Rattle.sip_duel.specs.declared.link.HelperLink.{HelperLink}
 use Rattle.sip_duel.specs.Links.{IsOfHonest, talk_on}
@@ -30,8 +30,7 @@ abbrev pub SaysAll : {T E : Type 0} → List HelperLink → List HelperLink → 
 SaysAll old new bytes (Ok _) = AllZip (λ o n. Says o n (outs bytes)) old new
 SaysAll old new bytes (Err _) = AllZip (λ o n. SaysPart o n (outs bytes)) old new
 
-module _ (task : Task) (bytes : List ℕ) (at_blocks : List (List ℕ)) (left : Option (List ℕ))
-    (seats : Seating) where
+module _ (task : Task) (bytes : List ℕ) where
   -- a front was sent of what a stream sends, as far as it is legal
   pub record IsPassedInPart (old new : HelperLink) : Type 0 where
     pub said : List TalkEvent
@@ -39,12 +38,14 @@ module _ (task : Task) (bytes : List ℕ) (at_blocks : List (List ℕ)) (left : 
     pub order : IsPrefix said (stream_sent (version_of task) task.depth (legal task bytes))
     pub illegal : ¬ EndsLegally task bytes → IsPrefix said (before_end task bytes)
 
+module _ (task : Task) (bytes : List ℕ) (at_blocks : List (List ℕ)) (left : Option (List ℕ))
+    (seats : Seating) where
   -- What one helper heard of the stream, by what the call answered. Where memory ran out some have
   -- heard more of it than others.
   abbrev pub HearsStream : HelperLink → HelperLink → Result (Unit {0}) Status → Type 0
   HearsStream old new (Ok _) =
       IsPassedOn task bytes at_blocks left (Some (talk_on old)) (Some (talk_on new)) seats
-  HearsStream old new (Err statuses.OutOfMemory) = IsPassedInPart old new
+  HearsStream old new (Err statuses.OutOfMemory) = IsPassedInPart task bytes old new
   HearsStream old new (Err status) =
       Breaks task bytes (Some (talk_on old)) (Some (talk_on new)) status
 

@@ -1,5 +1,5 @@
 -- What calls did that ask helpers of a panel. (For the proof of `panel` alone.)
-use Rattle.std.specs.Prelude.{◌≡◌, ◌≢◌, ◌⊎◌, ℕ, suc, ◌*◌, ◌-◌, List, [], ◌∷◌, ◌++◌, All, Option, Some, Result, Ok, Err}
+use Rattle.std.specs.Prelude.{◌≡◌, ◌≢◌, ◌⊎◌, ℕ, suc, ◌+◌, ◌*◌, ◌-◌, List, [], ◌∷◌, ◌++◌, All, Option, Some, Result, Ok, Err}
 use Rattle.std.specs.List.{AllZip, enumerate_from, slice_get}
 use Rattle.sip_duel.specs.declared.link.HelperLink.{HelperLink}
 use Rattle.sip_duel.specs.Links.{talk_on}
