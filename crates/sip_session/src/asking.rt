@@ -1,8 +1,9 @@
 //! The queries of a panel, each asked of one helper after another.
 
-ghost use Rattle.std.specs.Prelude.{◌≡◌, ◌*◌, ◌<◌, ◌≤◌, ℕ, suc, List, All, false, length, drop, IfOk, OnOk, Some};
+ghost use Rattle.std.specs.Prelude.{◌≡◌, ◌*◌, ◌<◌, ◌≤◌, ℕ, suc, List, All, false, length, drop, map, IfOk, OnOk, Some};
 ghost use Rattle.std.specs.List.{AllZip};
-ghost use Rattle.sip_duel.specs.Links.{talk_on};
+ghost use Rattle.std.specs.Option.{option_and_then};
+ghost use Rattle.sip_duel.specs.Links.{link_view, talk_on};
 ghost use Rattle.sip_ports.specs.Ports.{Lasts};
 ghost use Rattle.sip_vector.specs.declared.query.Query.{Query as AnyQuery};
 ghost use Rattle.sip_vector.specs.declared.update.Update.{Update as AnyUpdate};
@@ -44,7 +45,9 @@ fn ask_helper<K: Sink>(
         → All (StandsFor session.old.depth stream) session.old.left
         → IsFirst (remaining_of session.old) ask
         → Tries (asking session.old.version session.old.depth stream) ask helper number
-        (Some (talk_on link.old)) (Some (talk_on link.new)) (K.talk report.old) (K.talk report.new)
+        (Some (talk_on (link_view link.old.kept
+        (option_and_then honest_state link.old.helper) link.old.wants.count))) (Some (talk_on (link_view link.new.kept
+        (option_and_then honest_state link.new.helper) link.new.wants.count))) (K.talk report.old) (K.talk report.new)
         result }
     ensures next { session.new.left ≡ drop 1 session.old.left }
     ensures version { session.new.version ≡ session.old.version }
@@ -52,7 +55,9 @@ fn ask_helper<K: Sink>(
     ensures live { OnOk result (session.new.spent ≡ false) }
     ensures fault { Stops stops_asking (counts 0 0 0 (K.faults report.old) 0)
         (counts 0 0 0 (K.faults report.new) 0) result }
-    ensures keeps { StillKeeps link.old link.new }
+    ensures keeps { StillKeeps (link_view link.old.kept
+        (option_and_then honest_state link.old.helper) link.old.wants.count) (link_view link.new.kept
+        (option_and_then honest_state link.new.helper) link.new.wants.count) }
     ensures report { Lasts K.faults K.wants K.is_sure report.old report.new }
 {
     match session.ask_next(link, &mut NullSink::new()) {
@@ -103,7 +108,10 @@ fn ask_query<K: Sink>(
         → All (StandsFor session.old.depth stream) session.old.left
         → Trails session.old.version session.old.depth stream (length links.old)
         (asks_left session.old.left) (record { helper = suc gone; number = number })
-        links.old links.new (K.talk report.old) (K.talk report.new) (suc number) result }
+        (map (λ l. link_view l.kept (option_and_then honest_state l.helper) l.wants.count)
+        links.old)
+        (map (λ l. link_view l.kept (option_and_then honest_state l.helper) l.wants.count)
+        links.new) (K.talk report.old) (K.talk report.new) (suc number) result }
     ensures gone { IfOk result (λ now. now < length links.old) }
     ensures count { length links.new ≡ length links.old }
     ensures next { OnOk result
@@ -111,7 +119,11 @@ fn ask_query<K: Sink>(
     ensures version { session.new.version ≡ session.old.version }
     ensures depth { session.new.depth ≡ session.old.depth }
     ensures live { OnOk result (session.new.spent ≡ false) }
-    ensures keeps { AllZip StillKeeps links.old links.new }
+    ensures keeps { AllZip StillKeeps
+        (map (λ l. link_view l.kept (option_and_then honest_state l.helper) l.wants.count)
+        links.old)
+        (map (λ l. link_view l.kept (option_and_then honest_state l.helper) l.wants.count)
+        links.new) }
     ensures fault { Stops stops_asking (counts 0 0 0 (K.faults report.old) 0)
         (counts 0 0 0 (K.faults report.new) 0) result }
     ensures report { Lasts K.faults K.wants K.is_sure report.old report.new }
@@ -159,10 +171,17 @@ pub(crate) fn ask_all<K: Sink>(
         → All (StandsFor session.old.depth stream) session.old.left
         → Trails session.old.version session.old.depth stream (length links.old)
         (asks_left session.old.left) (record { helper = 1; number = 1 })
-        links.old links.new (K.talk report.old) (K.talk report.new) (suc queries) result }
+        (map (λ l. link_view l.kept (option_and_then honest_state l.helper) l.wants.count)
+        links.old)
+        (map (λ l. link_view l.kept (option_and_then honest_state l.helper) l.wants.count)
+        links.new) (K.talk report.old) (K.talk report.new) (suc queries) result }
     ensures gone { IfOk result (λ now. now < length links.old) }
     ensures count { length links.new ≡ length links.old }
-    ensures keeps { AllZip StillKeeps links.old links.new }
+    ensures keeps { AllZip StillKeeps
+        (map (λ l. link_view l.kept (option_and_then honest_state l.helper) l.wants.count)
+        links.old)
+        (map (λ l. link_view l.kept (option_and_then honest_state l.helper) l.wants.count)
+        links.new) }
     ensures fault { Stops stops_asking (counts 0 0 0 (K.faults report.old) 0)
         (counts 0 0 0 (K.faults report.new) 0) result }
     ensures report { Lasts K.faults K.wants K.is_sure report.old report.new }

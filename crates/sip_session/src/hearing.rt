@@ -1,9 +1,10 @@
 //! A stream, sent to each helper of a panel.
 
-ghost use Rattle.std.specs.Prelude.{◌≡◌, ◌≢◌, ◌⊎◌, ◌<◌, ◌≤◌, ℕ, List, [], ◌∷◌, length, false, IfOk, IsSome, IsTrue, Ok, Err, Some};
+ghost use Rattle.std.specs.Prelude.{◌≡◌, ◌≢◌, ◌⊎◌, ◌<◌, ◌≤◌, ℕ, List, [], ◌∷◌, length, map, false, IfOk, IsSome, IsTrue, Ok, Err, Some};
 ghost use Rattle.std.specs.List.{AllZip};
 ghost use Rattle.std.specs.Result.{is_err};
-ghost use Rattle.sip_duel.specs.Links.{talk_on};
+ghost use Rattle.std.specs.Option.{option_and_then};
+ghost use Rattle.sip_duel.specs.Links.{link_view};
 ghost use Rattle.sip_ports.specs.Ports.{Lasts};
 ghost use Rattle.sip_vector.specs.declared.update.Update.{Update as AnyUpdate};
 ghost use Rattle.sip_wire.specs.declared.message.Message.TheVariants as messages;
@@ -26,7 +27,11 @@ use sip_wire::{Message, Version, encode};
 fn open_all(links: &mut [HelperLink], feed: &mut Feed, depth: Depth) -> Result<(), PortStop>
     requires unspent { feed.old.is_spent ≡ false }
     requires shallow { depth ≤ deepest feed.old.version }
-    ensures talks { SaysAll links.old links.new
+    ensures talks { SaysAll
+        (map (λ l. link_view l.kept (option_and_then honest_state l.helper) l.wants.count)
+        links.old)
+        (map (λ l. link_view l.kept (option_and_then honest_state l.helper) l.wants.count)
+        links.new)
         (spelling feed.old.version (messages.Open (number_of feed.old.version) depth)) result }
     ensures version { feed.new.version ≡ feed.old.version }
     ensures waiting { feed.new.waiting ≡ feed.old.waiting }
@@ -42,7 +47,11 @@ fn open_all(links: &mut [HelperLink], feed: &mut Feed, depth: Depth) -> Result<(
 /// Sends the updates that wait as a frame to each helper. None waits then.
 fn send_all(links: &mut [HelperLink], feed: &mut Feed) -> Result<(), PortStop>
     requires some { 0 < length feed.old.waiting }
-    ensures talks { SaysAll links.old links.new
+    ensures talks { SaysAll
+        (map (λ l. link_view l.kept (option_and_then honest_state l.helper) l.wants.count)
+        links.old)
+        (map (λ l. link_view l.kept (option_and_then honest_state l.helper) l.wants.count)
+        links.new)
         (spelling feed.old.version (messages.Updates (record { items = feed.old.waiting })))
         result }
     ensures version { feed.new.version ≡ feed.old.version }
@@ -64,7 +73,11 @@ pub(crate) fn say_all(
     version: Version,
 ) -> Result<(), PortStop>
     requires { IsTrue (fits version message.now) }
-    ensures talks { SaysAll links.old links.new (spelling version message.now) result }
+    ensures talks { SaysAll
+        (map (λ l. link_view l.kept (option_and_then honest_state l.helper) l.wants.count)
+        links.old)
+        (map (λ l. link_view l.kept (option_and_then honest_state l.helper) l.wants.count)
+        links.new) (spelling version message.now) result }
     ensures cause { result ≢ Err PortStop.Failed }
 {
     for link in links.iter_mut() {
@@ -91,8 +104,16 @@ pub(crate) fn follow_all<A: Source>(
     ensures hears { (bytes : List ℕ) (at_blocks : List (List ℕ)) → A.left first.old ≡ Some bytes
         → AreSeats task.now.depth task.now.queries.items at_blocks [] seats.old
         → AllZip (λ old new. HearsStream task.now bytes at_blocks (A.left first.new) seats.new old
-        new result) links.old links.new }
-    ensures keeps { AllZip StillKeeps links.old links.new }
+        new result)
+        (map (λ l. link_view l.kept (option_and_then honest_state l.helper) l.wants.count)
+        links.old)
+        (map (λ l. link_view l.kept (option_and_then honest_state l.helper) l.wants.count)
+        links.new) }
+    ensures keeps { AllZip StillKeeps
+        (map (λ l. link_view l.kept (option_and_then honest_state l.helper) l.wants.count)
+        links.old)
+        (map (λ l. link_view l.kept (option_and_then honest_state l.helper) l.wants.count)
+        links.new) }
     ensures seats { IfOk result (λ _. (stream : List AnyUpdate) × AreOf task.now stream seats.new) }
     ensures fault { Stops stops_following (counts (A.faults first.old) 0 0 0 0)
         (counts (A.faults first.new) 0 0 0 0) result }

@@ -1,8 +1,9 @@
 //! A run over several helpers.
 
-ghost use Rattle.std.specs.Prelude.{◌≡◌, ◌*◌, ◌<◌, ◌≤◌, ℕ, List, All, length, false, None, Some, Ok, Err, IfErr, IfOk, IsSome, MatchResult};
+ghost use Rattle.std.specs.Prelude.{◌≡◌, ◌*◌, ◌<◌, ◌≤◌, ℕ, List, All, length, map, false, None, Some, Ok, Err, IfErr, IfOk, IsSome, MatchResult};
 ghost use Rattle.std.specs.List.{AllZip};
-ghost use Rattle.sip_duel.specs.Links.{IsNew};
+ghost use Rattle.std.specs.Option.{option_and_then};
+ghost use Rattle.sip_duel.specs.Links.{IsNew, link_view};
 ghost use Rattle.sip_ports.specs.Ports.{Lasts};
 ghost use Rattle.sip_wire.specs.Table.{most_queries};
 ghost use Rattle.sip_verifier.specs.Concluding.{status_of};
@@ -71,15 +72,25 @@ fn begin<A: Source, B: Source>(
     ensures begins { (bytes seed : List ℕ) → A.left first.old ≡ Some bytes
         → B.left second.old ≡ Some seed
         → MatchResult result
-        (λ session. Begins (length links.old) task.now bytes seed (A.left first.new) links.old
-        links.new (Ok session.value))
-        (λ status. Begins (length links.old) task.now bytes seed (A.left first.new) links.old
-        links.new (Err status)) }
+        (λ session. Begins (length links.old) task.now bytes seed (A.left first.new)
+        (map (λ l. link_view l.kept (option_and_then honest_state l.helper) l.wants.count)
+        links.old)
+        (map (λ l. link_view l.kept (option_and_then honest_state l.helper) l.wants.count)
+        links.new) (Ok session.value))
+        (λ status. Begins (length links.old) task.now bytes seed (A.left first.new)
+        (map (λ l. link_view l.kept (option_and_then honest_state l.helper) l.wants.count)
+        links.old)
+        (map (λ l. link_view l.kept (option_and_then honest_state l.helper) l.wants.count)
+        links.new) (Err status)) }
     ensures left { IfOk result (λ session.
         length session.value.left ≡ length links.old * length task.now.queries.items) }
     ensures live { IfOk result (λ session. session.value.spent ≡ false) }
     ensures count { length links.new ≡ length links.old }
-    ensures keeps { AllZip StillKeeps links.old links.new }
+    ensures keeps { AllZip StillKeeps
+        (map (λ l. link_view l.kept (option_and_then honest_state l.helper) l.wants.count)
+        links.old)
+        (map (λ l. link_view l.kept (option_and_then honest_state l.helper) l.wants.count)
+        links.new) }
     ensures fault { IfErr result (λ status. IsListed status × FaultClause
         (counts (A.faults first.old) (B.faults second.old) 0 0 0)
         (counts (A.faults first.new) (B.faults second.new) 0 0 0) status) }
@@ -113,12 +124,20 @@ fn steps<A: Source, B: Source, K: Sink>(
     requires done { CanBeDone task.now }
     requires some { 0 < length links.old }
     requires few { length links.old * length task.now.queries.items ≤ most_queries }
-    requires new { All IsNew links.old }
-    ensures keeps { PanelRunClause (length links.old) (honest_at links.old) task.now
+    requires new { All IsNew
+        (map (λ l. link_view l.kept (option_and_then honest_state l.helper) l.wants.count)
+        links.old) }
+    ensures keeps { PanelRunClause (length links.old) (honest_at
+        (map (λ l. link_view l.kept (option_and_then honest_state l.helper) l.wants.count)
+        links.old)) task.now
         (panel_moment (A.left first.old) (A.faults first.old) (B.left second.old)
-        (B.faults second.old) links.old (K.talk report.old) (K.faults report.old))
+        (B.faults second.old)
+        (map (λ l. link_view l.kept (option_and_then honest_state l.helper) l.wants.count)
+        links.old) (K.talk report.old) (K.faults report.old))
         (panel_moment (A.left first.new) (A.faults first.new) (B.left second.new)
-        (B.faults second.new) links.new (K.talk report.new) (K.faults report.new))
+        (B.faults second.new)
+        (map (λ l. link_view l.kept (option_and_then honest_state l.helper) l.wants.count)
+        links.new) (K.talk report.new) (K.faults report.new))
         (status_of result) }
     ensures count { length links.new ≡ length links.old }
     ensures first { Lasts A.faults A.wants A.is_sure first.old first.new }
@@ -156,12 +175,20 @@ pub fn panel<A: Source, B: Source, K: Sink>(
     requires done { CanBeDone task.now }
     requires some { 0 < length links.old.items }
     requires few { length links.old.items * length task.now.queries.items ≤ most_queries }
-    requires new { All IsNew links.old.items }
-    ensures keeps { PanelRunClause (length links.old.items) (honest_at links.old.items) task.now
+    requires new { All IsNew
+        (map (λ l. link_view l.kept (option_and_then honest_state l.helper) l.wants.count)
+        links.old.items) }
+    ensures keeps { PanelRunClause (length links.old.items) (honest_at
+        (map (λ l. link_view l.kept (option_and_then honest_state l.helper) l.wants.count)
+        links.old.items)) task.now
         (panel_moment (A.left first.old) (A.faults first.old) (B.left second.old)
-        (B.faults second.old) links.old.items (K.talk report.old) (K.faults report.old))
+        (B.faults second.old)
+        (map (λ l. link_view l.kept (option_and_then honest_state l.helper) l.wants.count)
+        links.old.items) (K.talk report.old) (K.faults report.old))
         (panel_moment (A.left first.new) (A.faults first.new) (B.left second.new)
-        (B.faults second.new) links.new.items (K.talk report.new) (K.faults report.new))
+        (B.faults second.new)
+        (map (λ l. link_view l.kept (option_and_then honest_state l.helper) l.wants.count)
+        links.new.items) (K.talk report.new) (K.faults report.new))
         result }
     ensures gone { All (λ link. link.helper ≡ None) links.new.items }
     ensures count { length links.new.items ≡ length links.old.items }

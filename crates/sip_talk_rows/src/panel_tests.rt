@@ -5,8 +5,9 @@
 // replies fit together, so they pass every round, and at depth 2 the test behind the last one, of
 // round 2, finds another root. Of 0 it says what is right: the products with an empty side are 0,
 // and so is each polynomial.
-ghost use Rattle.std.specs.Prelude.{◌≡◌, All, IfOk, length};
-ghost use Rattle.sip_duel.specs.Links.{IsNew};
+ghost use Rattle.std.specs.Prelude.{◌≡◌, All, IfOk, length, map};
+ghost use Rattle.std.specs.Option.{option_and_then};
+ghost use Rattle.sip_duel.specs.Links.{IsNew, link_view};
 ghost use Rattle.sip_verifier.specs.Tasks.{CanBeDone};
 
 use crate::duel_counting::Watched;
@@ -34,7 +35,8 @@ use Name::{Honest as H, Mute as M, Skewed as S};
 
 // A link to a helper of this name, on which nothing has happened.
 fn link(alloc: Global, name: Name) -> Result<HelperLink, Fail>
-    ensures { IfOk result IsNew }
+    ensures { IfOk result (λ l. IsNew
+        (link_view l.kept (option_and_then honest_state l.helper) l.wants.count)) }
 {
     let helper: Box<dyn Helper> = match name {
         Name::Honest => Box::new(alloc, Honest::new(alloc))?,
@@ -45,7 +47,9 @@ fn link(alloc: Global, name: Name) -> Result<HelperLink, Fail>
 }
 
 fn three_links(alloc: Global, names: [Name; 3]) -> Result<Vec<HelperLink>, Fail>
-    ensures new { IfOk result (λ links. All IsNew links.items) }
+    ensures new { IfOk result (λ links. All IsNew
+        (map (λ l. link_view l.kept (option_and_then honest_state l.helper) l.wants.count)
+        links.items)) }
     ensures count { IfOk result (λ links. length links.items ≡ 3) }
 {
     let mut links = Vec::new(alloc);
@@ -100,8 +104,18 @@ const LAST_CLOSED: Status = Status::Rejected {
 const ROWS: [Row<'static>; 12] = [
     // Every order of the three: those before the honest one are dropped at the first query, and
     // those behind it are never asked. The honest one has (2, 5) from 1 to 2, and 9 + 25 + 1.
-    ([H, S, M], [SUB, SQUARES], Status::Accepted, "sub:1:2 2:5\nf2:0 35\n"),
-    ([H, M, S], [SUB, SQUARES], Status::Accepted, "sub:1:2 2:5\nf2:0 35\n"),
+    (
+        [H, S, M],
+        [SUB, SQUARES],
+        Status::Accepted,
+        "sub:1:2 2:5\nf2:0 35\n",
+    ),
+    (
+        [H, M, S],
+        [SUB, SQUARES],
+        Status::Accepted,
+        "sub:1:2 2:5\nf2:0 35\n",
+    ),
     (
         [S, H, M],
         [SUB, SQUARES],
@@ -182,7 +196,9 @@ fn run(
 ) -> Result<(Status, MemorySink), Fail>
     requires done { CanBeDone task.now }
     requires queries { length task.now.queries.items ≡ 2 }
-    requires new { All IsNew links.old.items }
+    requires new { All IsNew
+        (map (λ l. link_view l.kept (option_and_then honest_state l.helper) l.wants.count)
+        links.old.items) }
     requires helpers { length links.old.items ≡ 3 }
 {
     let mut first = MemorySource::new(FOUR.stream.to_vec(alloc)?, 5, Vec::new(alloc));
@@ -212,7 +228,8 @@ fn helpers_are_asked_in_turn(rt: HostRuntime) -> Result<(), Fail> {
 
 // A link to a helper that counts what is called of it.
 fn watched_link(alloc: Global, watched: &Watched, gives: bool) -> Result<HelperLink, Fail>
-    ensures { IfOk result IsNew }
+    ensures { IfOk result (λ l. IsNew
+        (link_view l.kept (option_and_then honest_state l.helper) l.wants.count)) }
 {
     let helper: Box<dyn Helper> = if gives {
         Box::new(alloc, watched.honest(alloc)?)?

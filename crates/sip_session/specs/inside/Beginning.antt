@@ -2,8 +2,7 @@
 -- helper and made the session. (For the proof of `panel` alone.)
 use Rattle.std.specs.Prelude.{◌≡◌, ℕ, ◌+◌, ◌-◌, ◌/◌, List, Option, Some, Result, Ok, Err}
 use Rattle.std.specs.List.{AllZip}
-use Rattle.sip_duel.specs.declared.link.HelperLink.{HelperLink}
-use Rattle.sip_duel.specs.Links.{talk_on}
+use Rattle.sip_duel.specs.Links.{talk_on, LinkView}
 use Rattle.sip_verifier.specs.declared.status.Status.{Status}
 use Rattle.sip_verifier.specs.declared.status.Status.TheVariants as statuses
 use Rattle.sip_verifier.specs.declared.task.Task.{Task}
@@ -31,7 +30,7 @@ by_query helpers (statuses.TooWide seat) = statuses.TooWide (query_of_seat helpe
 by_query helpers status = status
 
 module _ (helpers : ℕ) (task : Task) (bytes seed : List ℕ) (left : Option (List ℕ))
-    (old new : List HelperLink) where
+    (old new : List LinkView) where
   -- the seed gives challenges, each helper heard the whole stream, and the seats stand for it
   pub record IsHeard (seats : Seating) : Type 0 where
     pub challenges : List ℕ

@@ -1,8 +1,7 @@
 -- What calls did that ask helpers of a panel. (For the proof of `panel` alone.)
 use Rattle.std.specs.Prelude.{◌≡◌, ◌≢◌, ◌⊎◌, ℕ, suc, ◌+◌, ◌*◌, ◌-◌, List, [], ◌∷◌, ◌++◌, All, Option, Some, Result, Ok, Err}
 use Rattle.std.specs.List.{AllZip, enumerate_from, slice_get}
-use Rattle.sip_duel.specs.declared.link.HelperLink.{HelperLink}
-use Rattle.sip_duel.specs.Links.{talk_on}
+use Rattle.sip_duel.specs.Links.{talk_on, LinkView}
 use Rattle.sip_ports.specs.declared.port.TalkEvent.{TalkEvent}
 use Rattle.sip_ports.specs.Ports.{GoesOn, outs}
 use Rattle.sip_replies.specs.Replies.{Fault}
@@ -59,7 +58,7 @@ module _ (m : Manner Query Answer) (ask : Query × List ℕ) (helper number : �
 -- what the calls of several attempts did: the queries and blocks that are left from the first
 -- helper's on, the turn that they begin with, the links before and after, and the report
 module _ (version : Version) (depth : ℕ) (stream : List Update) (helpers : ℕ)
-    (asks : List (Query × List ℕ)) (from : Turn) (old new : List HelperLink)
+    (asks : List (Query × List ℕ)) (from : Turn) (old new : List LinkView)
     (blank full : Option (List TalkEvent)) where
   -- the attempts were made in turn, each at its own seat, and were judged; each helper heard its
   -- own, and their lines were written
@@ -89,18 +88,18 @@ module _ (version : Version) (depth : ℕ) (stream : List Update) (helpers : ℕ
 
 -- attempts were made, and then one stopped with this status
 pub record TrailStops (version : Version) (depth : ℕ) (stream : List Update) (helpers : ℕ)
-    (asks : List (Query × List ℕ)) (from : Turn) (old new : List HelperLink)
+    (asks : List (Query × List ℕ)) (from : Turn) (old new : List LinkView)
     (blank full : Option (List TalkEvent)) (status : Status) : Type 0 where
   pub attempts : List Attempt
-  pub mid : List HelperLink
+  pub mid : List LinkView
   pub half : Option (List TalkEvent)
   pub trail : Trail version depth stream helpers asks from old mid blank half attempts
   pub turn : Turn
   pub behind : turn_behind from attempts ≡ turn
   pub ask : Query × List ℕ
   pub seat : slice_get asks ((turn.number - from.number) * helpers + (turn.helper - 1)) ≡ Some ask
-  pub one : HelperLink
-  pub later : HelperLink
+  pub one : LinkView
+  pub later : LinkView
   pub asked : slice_get mid (turn.helper - 1) ≡ Some one
   pub stopped : slice_get new (turn.helper - 1) ≡ Some later
   pub tries : Tries (asking version depth stream) ask turn.helper turn.number
@@ -110,7 +109,7 @@ pub record TrailStops (version : Version) (depth : ℕ) (stream : List Update) (
 
 -- what came of asking helpers in turn, up to the first of this number that is not asked
 abbrev pub Trails : Version → ℕ → List Update → ℕ → List (Query × List ℕ) → Turn
-    → List HelperLink → List HelperLink → Option (List TalkEvent) → Option (List TalkEvent)
+    → List LinkView → List LinkView → Option (List TalkEvent) → Option (List TalkEvent)
     → ℕ → Result ℕ Status → Type 0
 Trails version depth stream helpers asks from old new blank full number (Ok gone) =
     TrailsTo version depth stream helpers asks from old new blank full
