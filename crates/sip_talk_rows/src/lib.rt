@@ -42,6 +42,8 @@ mod session_seat_tests;
 #[cfg(test)]
 mod session_tests;
 #[cfg(test)]
+mod sub_vector_tests;
+#[cfg(test)]
 mod sum_check_tests;
 #[cfg(test)]
 mod sum_tests;
