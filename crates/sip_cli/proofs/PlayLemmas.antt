@@ -19,7 +19,8 @@ use Rattle.sip_verifier.proofs.CompleteRuns.{completes}
 use Rattle.sip_verifier.proofs.JointReports.{task_counted}
 use Rattle.sip_verifier.proofs.KeptRuns.{kept_is}
 use Rattle.sip_verifier.proofs.RunTalks.{nothing_reported, tells}
-use Rattle.sip_verifier.proofs.StreamPromises.{after_gather}
+use Rattle.sip_verifier.proofs.GatheredRuns.{after_gather}
+use Rattle.sip_verifier.specs.Questions.{asking}
 use Rattle.sip_duel.specs.Story.{IsHonestTalk}
 use Rattle.sip_cli.specs.declared.command.Command.{Command}
 use Rattle.sip_cli.specs.declared.command.Command.TheVariants.{Play}
@@ -34,7 +35,7 @@ nothing_is_honest = inl (record { steps = []; part = []; give = []; follows = re
 module _ (task : Task) (can : CanBeDone task) (some : 1 ≤ task.depth) (most : task.depth ≤ most_depth) where
   -- it wanted memory
   wanted : (m : Moment) (x : Exchange) → Tells m m x → Ended (inquiry_of task x) x m.faults m.faults statuses.OutOfMemory
-  wanted m x t = after_gather task x m.faults m.faults statuses.OutOfMemory _ _ t.talk (nothing_reported _ _ t.report) (inl refl) tt
+  wanted m x t = after_gather asking task.queries.items task x m.faults m.faults statuses.OutOfMemory _ _ t.talk (nothing_reported _ _ t.report) (inl refl) tt
 
   unbegun_promises : (m : Moment) (x : Exchange) → Tells m m x → Promises task x m.faults m.faults statuses.OutOfMemory
   unbegun_promises m x t =

@@ -15,6 +15,7 @@ code_of statuses.SeedSpent = 3
 code_of (statuses.BadTranscript _) = 3
 code_of (statuses.BadFrame _) = 3
 code_of (statuses.TooWide _) = 3
+code_of (statuses.TooHigh _) = 3
 code_of (statuses.ReadFault _) = 4
 code_of (statuses.WriteFault _) = 4
 code_of statuses.PeerFault = 4

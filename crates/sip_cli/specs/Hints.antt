@@ -97,6 +97,7 @@ abbrev pub status_hint : Status → Option (List ℕ)
 status_hint statuses.BadSeed = Some hints.SHORT.now
 status_hint statuses.SeedSpent = Some hints.SPENT.now
 status_hint (statuses.TooWide _) = Some hints.WIDE.now
+status_hint (statuses.TooHigh _) = Some hints.HIGH.now
 status_hint (statuses.BadTranscript _) = Some hints.BROKEN.now
 status_hint (statuses.BadFrame _) = Some hints.FRAME.now
 status_hint (statuses.ReadFault ports.First) = Some hints.FIRST.now

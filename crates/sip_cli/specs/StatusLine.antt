@@ -41,6 +41,8 @@ line_of_status (statuses.BadFrame offset) =
     codes "sip: bad frame at offset " ++ decimal offset ++ 10 ∷ []
 line_of_status (statuses.TooWide query) =
     codes "sip: query " ++ decimal query ++ codes " too wide" ++ 10 ∷ []
+line_of_status (statuses.TooHigh query) =
+    codes "sip: query " ++ decimal query ++ codes " too high" ++ 10 ∷ []
 line_of_status (statuses.ReadFault port) =
     codes "sip: read fault on " ++ port_name port ++ 10 ∷ []
 line_of_status (statuses.WriteFault port) =

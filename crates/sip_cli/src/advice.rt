@@ -77,6 +77,7 @@ fn status_line(status: &Status) -> Option<&'static str>
         Status::BadSeed => Some(text::SHORT),
         Status::SeedSpent => Some(text::SPENT),
         Status::TooWide { .. } => Some(text::WIDE),
+        Status::TooHigh { .. } => Some(text::HIGH),
         Status::BadTranscript { .. } => Some(text::BROKEN),
         Status::BadFrame { .. } => Some(text::FRAME),
         Status::ReadFault { port: Port::First } => Some(text::FIRST),

@@ -25,7 +25,8 @@ pub fn exit_code(status: &Status) -> u8
         | Status::SeedSpent
         | Status::BadTranscript { .. }
         | Status::BadFrame { .. }
-        | Status::TooWide { .. } => 3,
+        | Status::TooWide { .. }
+        | Status::TooHigh { .. } => 3,
         Status::ReadFault { .. }
         | Status::WriteFault { .. }
         | Status::PeerFault

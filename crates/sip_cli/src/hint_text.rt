@@ -103,6 +103,10 @@ sip: hint: another seed is wanted: head -c 32 /dev/urandom > SEED makes one\n";
 pub(crate) const WIDE: &str = "\
 sip: hint: more than 65536 entries could be in that answer: ask for a greater T or share\n";
 
+/// A moment that may be too high.
+pub(crate) const HIGH: &str = "\
+sip: hint: that side has too great a weight for a moment of this degree: ask for a lower degree\n";
+
 /// Bytes that are no transcript.
 pub(crate) const BROKEN: &str = "\
 sip: hint: TRANSCRIPT is a file that verify or play kept; that of a rejected run may end inside a frame\n";

@@ -113,6 +113,7 @@ fn line_of(status: &Status) -> ArrayVec<u8, ROOM>
         }
         Status::BadFrame { offset } => numbered(b"sip: bad frame at offset ", *offset, b""),
         Status::TooWide { query } => numbered(b"sip: query ", *query as u64, b" too wide"),
+        Status::TooHigh { query } => numbered(b"sip: query ", *query as u64, b" too high"),
         Status::ReadFault { port } => on_port(b"sip: read fault on ", *port),
         Status::WriteFault { port } => on_port(b"sip: write fault on ", *port),
         Status::PeerFault => plain(b"sip: peer fault"),

@@ -281,6 +281,7 @@ module _ (task : Task) (x : Exchange) (some : 1 ≤ task.depth) (most : task.dep
   duel_accepts before now (statuses.Rejected query round reason) w cause is = λ good none. inr (inr (query, round, ap (λ (r : Reason). statuses.Rejected query round r) (rejected task x some most room can good talk query round reason w)))
   duel_accepts before now (statuses.BadStream at why) w cause is = λ good none. absurd (let fault = cause.2 in let legal = good.legal in cc)
   duel_accepts before now (statuses.TooWide query) w cause is = λ good none. absurd (let legal : IsLegal task.depth (updates (inquiry_of task x) x) = records_legal task.depth task.form x.stream in let narrow = none_wide (version_of task) task.depth (updates (inquiry_of task x) x) task.queries.items legal.items good.few in let wide = cause.1 in cc)
+  duel_accepts before now (statuses.TooHigh query) w cause is = absurd cause.1
   duel_accepts before now statuses.BadSeed w cause is = λ good none. absurd (some_drawn task x some most room can good talk (none_drawn (challenge_count task) x.seed cause))
   duel_accepts before now statuses.SeedSpent w cause is = λ good none. absurd (some_drawn task x some most room can good talk cause.1)
   duel_accepts before now (statuses.ReadFault ports.First) w cause is = λ good none. absurd (none.first cause.1)

@@ -76,7 +76,7 @@ exchanged_is v (r ∷ rs) b (n ∷ bs) tail few =
     ∙ ap (λ l. l ++ exchange v tail) (sym (append_assoc (ins b) (outs (spelling v (messages.Reveal r))) (exchanged v (n ∷ bs) rs))
     ∙ ap (λ l. (ins b ++ outs l) ++ exchanged v (n ∷ bs) rs) (sym (append-nil (spelling v (messages.Reveal r)))))
 
-asked_is : (v : Version) (q : Query) (block : List ℕ) (b : List ℕ) (bs : List (List ℕ)) (tail : List Round) → length bs ≤ length block → asked v q block (b ∷ bs) ++ exchange v tail ≡ exchange v (question_rounds q block (b ∷ bs) tail)
+asked_is : (v : Version) (q : Query) (block : List ℕ) (b : List ℕ) (bs : List (List ℕ)) (tail : List Round) → length bs ≤ length block → asked v (messages.Query q) block (b ∷ bs) ++ exchange v tail ≡ exchange v (question_rounds q block (b ∷ bs) tail)
 asked_is v q block b bs tail few =
     append_assoc (sent v (messages.Query q ∷ [])) (exchanged v (b ∷ bs) block) (exchange v tail)
     ∙ ap (λ l. outs l ++ (exchanged v (b ∷ bs) block ++ exchange v tail)) (append-nil (spelling v (messages.Query q)))
@@ -105,16 +105,16 @@ module _ (v : Version) (depth : ℕ) (stream : List Update) (some : 1 ≤ depth)
         → said_by_kind row (record { query = q; block = block; replies = replies }) ++ exchange v tail ≡ exchange v (question_rounds q block replies tail)
     said_row missing replies a tail how accepts = absurd how
     said_row (built kind) replies a tail (inl asked) accepts =
-        ap (λ u. asked_unless u (kind.protocol block).rules.version q block replies ++ exchange v tail) asked.asked
-        ∙ ap (λ x. Rattle.sip_replies.specs.Talks.asked x q block replies ++ exchange v tail) asked.version
+        ap (λ u. asked_unless u (kind.protocol block).rules.version (messages.Query q) block replies ++ exchange v tail) asked.asked
+        ∙ ap (λ x. Rattle.sip_replies.specs.Talks.asked x (messages.Query q) block replies ++ exchange v tail) asked.version
         ∙ by_replies replies (subst (λ u. elim u as (λ _. Type 0) [ None ↦ IsStated (kind.protocol block) block replies a | Some known ↦ (replies ≡ []) × (a ≡ known) ]) asked.asked accepts).all
       where
-        by_replies : (rs : List (List ℕ)) → length rs ≡ length block → Rattle.sip_replies.specs.Talks.asked v q block rs ++ exchange v tail ≡ exchange v (question_rounds q block rs tail)
+        by_replies : (rs : List (List ℕ)) → length rs ≡ length block → Rattle.sip_replies.specs.Talks.asked v (messages.Query q) block rs ++ exchange v tail ≡ exchange v (question_rounds q block rs tail)
         by_replies [] all = absurd (omega (arith, all, posed.at.size, some))
         by_replies (b ∷ bs) all = asked_is v q block b bs tail (let few : length bs ≤ length block = omega (arith, all) in few)
     said_row (built kind) replies a tail (inr known) accepts =
         let none = subst (λ u. elim u as (λ _. Type 0) [ None ↦ IsStated (kind.protocol block) block replies a | Some x ↦ (replies ≡ []) × (a ≡ x) ]) known.unasked accepts in
-        ap (λ u. asked_unless u (kind.protocol block).rules.version q block replies ++ exchange v tail) known.unasked ∙ ap (λ l. exchange v (question_rounds q block l tail)) (sym none.0)
+        ap (λ u. asked_unless u (kind.protocol block).rules.version (messages.Query q) block replies ++ exchange v tail) known.unasked ∙ ap (λ l. exchange v (question_rounds q block l tail)) (sym none.0)
 
     walk_row : (Last : List ℕ → List ℕ → Type 0) (row : KindRow) (replies : List (List ℕ)) (a : Answer) (tail : List Round) → Holds (AskedOrKnown v depth stream q block) row → Holds (λ kind. IsAccepted (kind.protocol block) block replies a) row
         → (flat_map (λ l. l) (honest_in row block) ≡ joined replies → a ≡ answer depth stream q)
@@ -138,8 +138,8 @@ module _ (v : Version) (depth : ℕ) (stream : List Update) (some : 1 ≤ depth)
         → said_by_kind row (record { query = q; block = block; replies = b ∷ bs }) ++ exchange v tail ≡ exchange v (question_rounds q block (b ∷ bs) tail)
     said_fault missing b bs fault tail how faulty = absurd how
     said_fault (built kind) b bs fault tail (inl asked) faulty =
-        ap (λ u. asked_unless u (kind.protocol block).rules.version q block (b ∷ bs) ++ exchange v tail) asked.asked
-        ∙ ap (λ x. Rattle.sip_replies.specs.Talks.asked x q block (b ∷ bs) ++ exchange v tail) asked.version
+        ap (λ u. asked_unless u (kind.protocol block).rules.version (messages.Query q) block (b ∷ bs) ++ exchange v tail) asked.asked
+        ∙ ap (λ x. Rattle.sip_replies.specs.Talks.asked x (messages.Query q) block (b ∷ bs) ++ exchange v tail) asked.version
         ∙ asked_is v q block b bs tail (let few : length bs ≤ length block = omega (arith, faulty.taken) in few)
     said_fault (built kind) b bs fault tail (inr known) faulty = absurd (let both = sym known.unasked ∙ faulty.asked in cc)
 

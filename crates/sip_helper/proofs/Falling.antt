@@ -1,10 +1,10 @@
 -- Each turn but a farewell leaves fewer turns.
-use Rattle.std.proofs.Common.{◌≡◌, ℕ, zero, suc, ◌+◌, ◌^◌, ◌<◌, ◌≤◌, Bool, true, false, not, ◌&&◌, ◌||◌, ◌==◌, nat_lt, nat_le, eqb, cond, Option, Some, None, List, [], ◌∷◌, length, ℤ, pos, negsuc, nat_abs, w64, refl, ap, arith}
-use Rattle.std.specs.Prelude.{IsTrue, is_none}
+use Rattle.std.proofs.Common.{◌≡◌, ℕ, zero, suc, ◌+◌, ◌^◌, ◌<◌, ◌≤◌, Bool, true, false, not, ◌&&◌, ◌||◌, ◌==◌, nat_lt, nat_le, eqb, cond, Option, Some, None, List, [], ◌∷◌, length, Result, Ok, Err, ℤ, pos, negsuc, nat_abs, w64, refl, sym, ap, subst, ◌∙◌, arith}
+use Rattle.std.specs.Prelude.{IsOk, IsTrue, OnOk, is_none}
 use Rattle.std.specs.Int.{cast_unsigned}
 use Rattle.std.specs.List.{list_all, flat_map}
 use Rattle.std.specs.Option.{option_map, option_and_then}
-use Rattle.std.proofs.lemmas.Bool.{and_parts, ltb-true}
+use Rattle.std.proofs.lemmas.Bool.{and_parts, both_ways, ltb-true}
 use Rattle.std.proofs.lemmas.List.{length_push}
 use Rattle.sip_vector.specs.declared.query.Query.{Query}
 use Rattle.sip_vector.specs.declared.update.Side.{Side}
@@ -19,17 +19,15 @@ use Rattle.sip_wire.specs.declared.message.Message.TheVariants as messages
 use Rattle.arrayvec.specs.ArrayVec.{ArrayVec}
 use Rattle.sip_wire.specs.declared.kind.Kind.TheVariants as kinds
 use Rattle.sip_wire.specs.declared.version.Version.{Version}
+use Rattle.sip_wire.specs.declared.version.Version.TheVariants.{Two}
 use Rattle.sip_wire.specs.Table.{Field, Shape, field, index, most_queries, repeat, shape, side, update_fields}
-use Rattle.sip_wire.specs.Versions.{deepest}
 use Rattle.sip_wire.specs.Spelling.{fits, fits_shape, has_room, all_hold, side_number, update_numbers}
 use Rattle.sip_helper.specs.declared.heard.Heard.{Heard}
 use Rattle.sip_helper.specs.declared.heard.Heard.TheVariants.{Nothing, Part, Whole}
 use Rattle.sip_helper.specs.Vectors.{Vectors}
 use Rattle.sip_helper.specs.Kinds.{is_below}
 use Rattle.sip_helper.specs.inside.Measures.{stream_left, challenges_left, turns_left}
-use Rattle.sip_helper.specs.Serving.{IsTurn, Turn, after_turn}
-use Rattle.sip_helper.specs.Turns.{HelperState, OpenQuery, after_answer, after_reply, depth_of, is_allowed, is_light, is_refused, step, weights_after, with_challenge}
-use Rattle.sip_helper.proofs.Hearing.{deepest_most}
+use Rattle.sip_helper.specs.Turns.{HelperState, OpenQuery, after_answer, after_reply, depth_of, is_allowed, is_light, is_refused, may_hear, step, weights_after, with_challenge}
 use Rattle.sip_helper.proofs.LegalUpdates.{light_parts}
 
 -- ---- updates weigh something
@@ -75,7 +73,7 @@ given_left : (depth : ℕ) (v : Option Vectors) (q : Option OpenQuery) → chall
 given_left depth v None = omega arith
 given_left depth v (Some o) = replied_left o.given (is_refused v o || nat_le depth (length o.revealed + 1)) o
 
-answer_left : (s : HelperState) → turns_left (after_answer s) ≤ turns_left s
+pub answer_left : (s : HelperState) → turns_left (after_answer s) ≤ turns_left s
 answer_left s = omega (arith, given_left (depth_of s.heard) s.vectors s.open_query)
 
 -- ---- each message
@@ -116,34 +114,66 @@ updates_light s (Whole depth) us allowed = absurd cc
 updates_light s (Part depth) us allowed =
     light_parts (weights_after s.weights us.items) (and_parts (list_all (λ (u : Update). nat_lt u.item (2 ^ depth)) us.items) (is_light (weights_after s.weights us.items)) allowed).1
 
-step_left : (s : HelperState) (memory : Bool) (m : Message) → depth_of s.heard ≤ most_depth → IsTrue (fits s.version m) → IsTrue (is_allowed s m) → s.done ≡ false → (step s memory m).done ≡ false → 1 + turns_left (step s memory m) ≤ turns_left s
-step_left s memory (messages.Open version depth) deep fit allowed going next = omega (arith, open_left s s.heard version depth refl allowed)
-step_left s memory (messages.Updates us) deep fit allowed going next =
-    let more = updates_weigh s.version us.items fit in
+pub step_left : (version : Version) (s : HelperState) (memory : Bool) (m : Message) → depth_of s.heard ≤ most_depth → IsTrue (fits version m) → IsTrue (is_allowed s m) → (m ≡ messages.Bye → ⊥) → 1 + turns_left (step s memory m) ≤ turns_left s
+step_left v s memory (messages.Open version depth) deep fit allowed other = omega (arith, open_left s s.heard version depth refl allowed)
+step_left version s memory (messages.Updates us) deep fit allowed other =
+    let more = updates_weigh version us.items fit in
     let light = updates_light s s.heard us allowed in
     omega (arith, more, light.0, light.1)
-step_left s memory messages.EndStream deep fit allowed going next = omega (arith, end_left s s.heard allowed)
-step_left s memory (messages.Query q) deep fit allowed going next =
+step_left version s memory messages.EndStream deep fit allowed other = omega (arith, end_left s s.heard allowed)
+step_left version s memory (messages.Query q) deep fit allowed other =
     let may = query_left s s.heard q allowed in
     omega (arith, may.0, ap challenges_left may.1)
-step_left s memory (messages.Reveal r) deep fit allowed going next = omega (arith, challenge_left s r s.open_query deep allowed)
-step_left s memory messages.Bye deep fit allowed going next = absurd cc
-step_left s memory (messages.Claim _) deep fit allowed going next = absurd cc
-step_left s memory (messages.Poly _ _ _) deep fit allowed going next = absurd cc
-step_left s memory (messages.Entries _) deep fit allowed going next = absurd cc
-step_left s memory (messages.Siblings _ _) deep fit allowed going next = absurd cc
-step_left s memory (messages.Leaves _) deep fit allowed going next = absurd cc
-step_left s memory (messages.Nodes _) deep fit allowed going next = absurd cc
-step_left s memory messages.LevelEnd deep fit allowed going next = absurd cc
-step_left s memory (messages.Refuse _) deep fit allowed going next = absurd cc
-step_left s memory (messages.AskLook code item) deep fit allowed going next = absurd cc
-step_left s memory (messages.Found flag index) deep fit allowed going next = absurd cc
-step_left s memory messages.End deep fit allowed going next = absurd cc
-step_left s memory (messages.AskMoment side degree) deep fit allowed going next = absurd cc
-step_left s memory (messages.Power v) deep fit allowed going next = absurd cc
+step_left version s memory (messages.Reveal r) deep fit allowed other = omega (arith, challenge_left s r s.open_query deep allowed)
+step_left version s memory messages.Bye deep fit allowed other = absurd (other refl)
+step_left version s memory (messages.Claim _) deep fit allowed other = absurd cc
+step_left version s memory (messages.Poly _ _ _) deep fit allowed other = absurd cc
+step_left version s memory (messages.Entries _) deep fit allowed other = absurd cc
+step_left version s memory (messages.Siblings _ _) deep fit allowed other = absurd cc
+step_left version s memory (messages.Leaves _) deep fit allowed other = absurd cc
+step_left version s memory (messages.Nodes _) deep fit allowed other = absurd cc
+step_left version s memory messages.LevelEnd deep fit allowed other = absurd cc
+step_left version s memory (messages.Refuse _) deep fit allowed other = absurd cc
+step_left version s memory (messages.AskLook code item) deep fit allowed other = absurd cc
+step_left version s memory (messages.Found flag index) deep fit allowed other = absurd cc
+step_left version s memory messages.End deep fit allowed other = absurd cc
+step_left version s memory (messages.AskMoment side degree) deep fit allowed other = absurd cc
+step_left version s memory (messages.Power v) deep fit allowed other = absurd cc
 
--- a turn that is no farewell leaves fewer turns
-pub turn_left : (s : HelperState) (t : Turn) → IsTurn s t → depth_of s.heard ≤ deepest s.version → s.done ≡ false → (after_turn s t).done ≡ false → 1 + turns_left (after_turn s t) ≤ turns_left s
-turn_left s t is deep going next =
-    let most = deepest_most s.version in
-    omega (arith, step_left s t.refused t.message (omega (arith, deep, most)) is.message.has_spelling is.allowed going next, answer_left (step s t.refused t.message))
+-- where no farewell may come, any other message may as where one may
+pub hears_as : (s : HelperState) (m : Message) → (m ≡ messages.Bye → ⊥) → may_hear s m ≡ is_allowed s m
+hears_as s messages.Bye other = absurd (other refl)
+hears_as s (messages.Open _ _) other = refl
+hears_as s (messages.Updates _) other = refl
+hears_as s messages.EndStream other = refl
+hears_as s (messages.Query _) other = refl
+hears_as s (messages.Reveal _) other = refl
+hears_as s (messages.Claim _) other = refl
+hears_as s (messages.Poly _ _ _) other = refl
+hears_as s (messages.Entries _) other = refl
+hears_as s (messages.Siblings _ _) other = refl
+hears_as s (messages.Leaves _) other = refl
+hears_as s (messages.Nodes _) other = refl
+hears_as s messages.LevelEnd other = refl
+hears_as s (messages.Refuse _) other = refl
+hears_as s (messages.AskLook code item) other = refl
+hears_as s (messages.Found flag index) other = refl
+hears_as s messages.End other = refl
+hears_as s (messages.AskMoment _ _) other = refl
+hears_as s (messages.Power v) other = refl
+
+-- a message that may come and is no farewell leaves fewer turns, where it was heard
+pub fewer_heard : {E : Type 0} (s next : HelperState) (m : Message) (heard : Result Unit E) → depth_of s.heard ≤ most_depth → IsTrue (fits Two m) → (IsOk heard → IsTrue (is_allowed s m))
+    → OnOk heard ((memory : Bool) × (next ≡ step s memory m)) → OnOk heard (next.done ≡ false → turns_left next < turns_left s)
+fewer_heard s next m (Err e) deep fit may did = tt
+fewer_heard s next m (Ok x) deep fit may did =
+    λ still. (let fall = step_left Two s did.0 m deep fit (may refl) (λ bye. both_ways next.done still (ap (λ (x : HelperState). x.done) did.1 ∙ ap (λ (x : Message). (step s did.0 x).done) bye)) in
+    subst (λ (x : HelperState). turns_left x < turns_left s) (sym did.1) (omega (arith, fall)))
+
+-- and so where no farewell may come
+pub fewer_heard_on : {E : Type 0} (s next : HelperState) (m : Message) (heard : Result Unit E) → depth_of s.heard ≤ most_depth → IsTrue (fits Two m) → (m ≡ messages.Bye → ⊥) → (IsOk heard → IsTrue (is_allowed s m))
+    → OnOk heard ((memory : Bool) × (next ≡ step s memory m)) → OnOk heard (turns_left next < turns_left s)
+fewer_heard_on s next m (Err e) deep fit other may did = tt
+fewer_heard_on s next m (Ok x) deep fit other may did =
+    let fall = step_left Two s did.0 m deep fit (may refl) other in
+    subst (λ (x : HelperState). turns_left x < turns_left s) (sym did.1) (omega (arith, fall))

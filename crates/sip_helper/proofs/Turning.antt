@@ -9,7 +9,7 @@ use Rattle.sip_ports.specs.declared.port.PortStop.TheVariants as stops
 use Rattle.sip_ports.specs.declared.port.TalkEvent.{TalkEvent}
 use Rattle.sip_ports.specs.Ports.{GoesOn, SendsWhole, Rose, ins, outs}
 use Rattle.sip_ports.proofs.TalkLemmas.{GoesOn-trans}
-use Rattle.sip_wire.specs.declared.kind.Place.TheVariants as places
+use Rattle.sip_wire.specs.declared.kind.Place.{Place}
 use Rattle.sip_wire.specs.declared.message.Message.{Message}
 use Rattle.sip_wire.specs.declared.message.Message.TheVariants as messages
 use Rattle.sip_wire.specs.declared.message.WireFault.{WireFault}
@@ -22,25 +22,26 @@ use Rattle.sip_wire.specs.Spelling.{spelling}
 use Rattle.sip_helper.specs.declared.status.HelpStatus.TheVariants.{Served, BadFrame, PeerFault}
 use Rattle.sip_helper.specs.inside.OneTurn.{StopsTurn, Taken}
 use Rattle.sip_helper.specs.KindRows.{out_of_turn}
-use Rattle.sip_helper.specs.Serving.{IsMessage, IsTurn, Turn, heard_in}
+use Rattle.sip_helper.specs.Rules.{IsMessageBy, IsTurnBy, Rules, Turn, heard_by}
 use Rattle.sip_helper.specs.Statuses.{status_of_fault, status_of_stop}
-use Rattle.sip_helper.specs.Turns.{HelperState, OpenQuery, after_answer, after_reply, depth_of, is_allowed, is_known, is_refused, owed, owes, reply_to, step}
+use Rattle.sip_helper.specs.Turns.{HelperState, OpenQuery, after_answer, after_reply, depth_of, is_known, is_refused, owed, owes, reply_to, step}
 
--- a message that came in the version of a state
-pub in_version : (s : HelperState) (version : Version) (old mid : Option (List TalkEvent)) (before now : ℕ) (got : List ℕ) (r : Result Message WireFault) → version ≡ s.version → Decodes version places.ToHelper old mid before now got r → Decodes s.version places.ToHelper old mid before now got r
-in_version s version old mid before now got r same did = subst (λ (v : Version). Decodes v places.ToHelper old mid before now got r) same did
+-- a message that came in the version of a state, at the place that is awaited
+pub in_version : {S : Type 0} (r : Rules S) (s : S) (version : Version) (place : Place) (old mid : Option (List TalkEvent)) (before now : ℕ) (got : List ℕ) (came : Result Message WireFault) → version ≡ r.version s → place ≡ r.place s → Decodes version place old mid before now got came → Decodes (r.version s) (r.place s) old mid before now got came
+in_version r s version place old mid before now got came same there did =
+    subst (λ (p : Place). Decodes (r.version s) p old mid before now got came) there (subst (λ (v : Version). Decodes v place old mid before now got came) same did)
 
-module _ (s : HelperState) (old mid : Option (List TalkEvent)) (before now : ℕ) (got : List ℕ) where
+module _ {S : Type 0} (r : Rules S) (s : S) (old mid : Option (List TalkEvent)) (before now : ℕ) (got : List ℕ) where
   -- ---- no message came
 
-  shown : (at : ℕ) (f : WireFault) → Decodes s.version places.ToHelper old mid before now got (Err f) → GoesOn old mid (ins got ++ []) → IsOfBytes f → read_frame s.version places.ToHelper got ≡ Err f → StopsTurn old mid s at (BadFrame at)
+  shown : (at : ℕ) (f : WireFault) → Decodes (r.version s) (r.place s) old mid before now got (Err f) → GoesOn old mid (ins got ++ []) → IsOfBytes f → read_frame (r.version s) (r.place s) got ≡ Err f → StopsTurn r old mid s at (BadFrame at)
   shown at f did talk bytes read = record {
     rest = ins got ++ [];
     talk = talk;
     ends = (refl, inl (record { got = got; fault = f; shown = bytes; read = read; shortest = did.short; said = append-nil (ins got) }));
   }
 
-  pub no_message : (at : ℕ) (f : WireFault) → Decodes s.version places.ToHelper old mid before now got (Err f) → StopsTurn old mid s at (status_of_fault f at)
+  pub no_message : (at : ℕ) (f : WireFault) → Decodes (r.version s) (r.place s) old mid before now got (Err f) → StopsTurn r old mid s at (status_of_fault f at)
   no_message at faults.Closed did = record { rest = _; talk = did.heard; ends = record { got = got; read = did.answer; said = refl } }
   no_message at faults.BadKind did = shown at faults.BadKind did did.heard tt did.answer
   no_message at faults.BadLength did = shown at faults.BadLength did did.heard tt did.answer
@@ -50,7 +51,7 @@ module _ (s : HelperState) (old mid : Option (List TalkEvent)) (before now : ℕ
   no_message at faults.OutOfMemory did = record { rest = _; talk = did.heard; ends = inl (record { got = got; read = did.answer; said = refl }) }
 
   -- and the link failed only where its count rose
-  pub fault_rose : (f : WireFault) (at : ℕ) → Decodes s.version places.ToHelper old mid before now got (Err f) → status_of_fault f at ≡ PeerFault → Rose before now
+  pub fault_rose : (f : WireFault) (at : ℕ) → Decodes (r.version s) (r.place s) old mid before now got (Err f) → status_of_fault f at ≡ PeerFault → Rose before now
   fault_rose faults.Closed at did e = absurd cc
   fault_rose faults.BadKind at did e = absurd cc
   fault_rose faults.BadLength at did e = absurd cc
@@ -61,59 +62,59 @@ module _ (s : HelperState) (old mid : Option (List TalkEvent)) (before now : ℕ
 
   -- ---- a message came
 
-  module _ (m : Message) (did : Decodes s.version places.ToHelper old mid before now got (Ok m)) where
-    pub came : IsMessage s.version m
+  module _ (m : Message) (did : Decodes (r.version s) (r.place s) old mid before now got (Ok m)) where
+    pub came : IsMessageBy r s m
     came = record { has_spelling = did.answer.has_spelling; to_helper = did.answer.allowed; in_range = did.answer.in_range }
 
-    pub received : GoesOn old mid (ins (spelling s.version m))
+    pub received : GoesOn old mid (ins (spelling (r.version s) m))
     received = subst (GoesOn old mid) (append-nil (ins got) ∙ ap ins did.answer.spelled) did.heard
 
     -- it is a query that is not answered
-    pub unknown : (at : ℕ) → is_known m ≡ false → StopsTurn old mid s at (BadFrame at)
+    pub unknown : (at : ℕ) → is_known m ≡ false → StopsTurn r old mid s at (BadFrame at)
     unknown at out = record {
-      rest = ins (spelling s.version m);
+      rest = ins (spelling (r.version s) m);
       talk = received;
       ends = (refl, inr (inl (record { message = m; is = came; unknown = out; said = refl })));
     }
 
     -- it may not come, and the refusal went out
-    pub refused : (new : Option (List TalkEvent)) (at : ℕ) → IsTrue (is_known m) → is_allowed s m ≡ false → GoesOn mid new (outs (spelling s.version (messages.Refuse out_of_turn))) → StopsTurn old new s at (BadFrame at)
+    pub refused : (new : Option (List TalkEvent)) (at : ℕ) → IsTrue (is_known m) → r.is_allowed s m ≡ false → GoesOn mid new (outs (spelling (r.version s) (messages.Refuse out_of_turn))) → StopsTurn r old new s at (BadFrame at)
     refused new at known out went = record {
-      rest = ins (spelling s.version m) ++ outs (spelling s.version (messages.Refuse out_of_turn));
+      rest = ins (spelling (r.version s) m) ++ outs (spelling (r.version s) (messages.Refuse out_of_turn));
       talk = GoesOn-trans old mid new _ _ received went;
       ends = (refl, inr (inr (record { message = m; is = came; known = known; out = out; said = refl })));
     }
 
     -- a part of it went out
-    pub refusal_cut : (new : Option (List TalkEvent)) (at : ℕ) (stop : PortStop) → IsTrue (is_known m) → is_allowed s m ≡ false → SendsWhole {T = Unit {0}} mid new (Err stop) (spelling s.version (messages.Refuse out_of_turn)) → StopsTurn old new s at (status_of_stop stop)
+    pub refusal_cut : (new : Option (List TalkEvent)) (at : ℕ) (stop : PortStop) → IsTrue (is_known m) → r.is_allowed s m ≡ false → SendsWhole {T = Unit {0}} mid new (Err stop) (spelling (r.version s) (messages.Refuse out_of_turn)) → StopsTurn r old new s at (status_of_stop stop)
     refusal_cut new at stop known out went = by_stop stop
       where
-        by_stop : (stop : PortStop) → StopsTurn old new s at (status_of_stop stop)
+        by_stop : (stop : PortStop) → StopsTurn r old new s at (status_of_stop stop)
         by_stop stops.Failed = record { rest = _; talk = GoesOn-trans old mid new _ _ received went.2; ends = inr (inr (record { message = m; is = came; known = known; out = out; sent = went.0; short = went.1; said = refl })) }
         by_stop stops.OutOfMemory = record { rest = _; talk = GoesOn-trans old mid new _ _ received went.2; ends = inr (inr (record { message = m; is = came; known = known; out = out; sent = went.0; short = went.1; said = refl })) }
 
     -- it was heard
-    module _ (allowed : IsTrue (is_allowed s m)) (memory : Bool) where
+    module _ (allowed : IsTrue (r.is_allowed s m)) (memory : Bool) where
       abbrev turn : Turn
       turn = record { message = m; refused = memory }
 
-      is_turn : IsTurn s turn
+      is_turn : IsTurnBy r s turn
       is_turn = record { message = came; allowed = allowed }
 
       -- it is a farewell
-      pub farewell : (at : ℕ) → m ≡ messages.Bye → StopsTurn old mid s at Served
-      farewell at bye = record { rest = _; talk = received; ends = ap (λ (x : Message). ins (spelling s.version x)) bye }
+      pub farewell : (at : ℕ) → m ≡ r.farewell → StopsTurn r old mid s at Served
+      farewell at bye = record { rest = _; talk = received; ends = ap (λ (x : Message). ins (spelling (r.version s) x)) bye }
 
       -- its reply was cut short
-      pub reply_cut : (new : Option (List TalkEvent)) (at : ℕ) (stop : PortStop) → SendsWhole {T = Unit {0}} mid new (Err stop) (owed (heard_in s turn)) → StopsTurn old new s at (status_of_stop stop)
+      pub reply_cut : (new : Option (List TalkEvent)) (at : ℕ) (stop : PortStop) → SendsWhole {T = Unit {0}} mid new (Err stop) (r.owed (heard_by r s turn)) → StopsTurn r old new s at (status_of_stop stop)
       reply_cut new at stop went = by_stop stop
         where
-          by_stop : (stop : PortStop) → StopsTurn old new s at (status_of_stop stop)
+          by_stop : (stop : PortStop) → StopsTurn r old new s at (status_of_stop stop)
           by_stop stops.Failed = record { rest = _; talk = GoesOn-trans old mid new _ _ received went.2; ends = inr (inl (record { turn = turn; is = is_turn; sent = went.0; short = went.1; said = refl })) }
           by_stop stops.OutOfMemory = record { rest = _; talk = GoesOn-trans old mid new _ _ received went.2; ends = inr (inl (record { turn = turn; is = is_turn; sent = went.0; short = went.1; said = refl })) }
 
       -- its reply was given
-      pub given : (new : Option (List TalkEvent)) (next : HelperState) → next ≡ after_answer (heard_in s turn) → next.done ≡ false → GoesOn mid new (outs (owed (heard_in s turn))) → Taken old new s next got
+      pub given : (new : Option (List TalkEvent)) (next : S) → next ≡ r.after_answer (heard_by r s turn) → r.is_done next ≡ false → GoesOn mid new (outs (r.owed (heard_by r s turn))) → Taken r old new s next got
       given new next state going went = record {
         turn = turn;
         is = is_turn;

@@ -139,6 +139,11 @@ is_allowed s (messages.Reveal r) =
 is_allowed s messages.Bye = true
 is_allowed s _ = false
 
+-- the message may come next in a talk whose farewell is no Bye
+abbrev pub may_hear : HelperState → Message → Bool
+may_hear s messages.Bye = false
+may_hear s m = is_allowed s m
+
 -- ---- what it does
 
 abbrev pub newly_asked : Query → Bool → OpenQuery

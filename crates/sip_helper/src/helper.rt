@@ -1,15 +1,17 @@
 //! The helper's side of a talk, message by message.
 
-ghost use Rattle.std.specs.Prelude.{◌≡◌, ◌<◌, ◌≤◌, Bool, ℕ, IsOk, IsTrue, MatchOption, OnErr, OnOk, None, Some, ◌↔◌, false, is_some, true};
+ghost use Rattle.std.specs.Prelude.{◌≡◌, ◌<◌, ◌≤◌, Bool, ℕ, IfSome, IsOk, IsTrue, MatchOption, OnErr, OnOk, None, Some, ◌↔◌, false, is_some, true};
 ghost use Rattle.sip_field.specs.Moduli.{m61_modulus};
 ghost use Rattle.sip_ports.specs.Ports.{HasCause, SendsWhole};
+ghost use Rattle.sip_vector.specs.Limits.{most_depth};
 ghost use Rattle.sip_vector.specs.Streams.{most_weight};
 ghost use Rattle.sip_vector.specs.Vectors.{contents};
 ghost use Rattle.sip_wire.specs.Spelling.{fits};
 ghost use Rattle.sip_wire.specs.declared.version.Version.TheVariants.{Two};
 ghost use Rattle.sip_wire.specs.declared.message.Message.TheVariants as messages;
 ghost use Rattle.sip_helper.specs.Shown.{opened, opened_version, shown_vector, weight_of};
-ghost use Rattle.sip_helper.specs.Turns.{after_answer, fresh, is_allowed, owed, owes, step};
+ghost use Rattle.sip_helper.specs.inside.Measures.{turns_left};
+ghost use Rattle.sip_helper.specs.Turns.{after_answer, depth_of, fresh, is_allowed, may_hear, owed, owes, step, whole_of};
 
 use crate::OutOfTurn;
 use crate::asked::{Answerer, Asked};
@@ -199,6 +201,32 @@ impl HelperCore {
         }
     }
 
+    /// Takes a message as [`hear`](HelperCore::hear) does, in a talk with another farewell: a Bye may not come there.
+    pub fn hear_on(&mut self, message: &Message) -> Result<(), OutOfTurn>
+        requires fits { IsTrue (fits Two message.now) }
+        requires live { self.old.spent ≡ false }
+        ensures turn { IsOk result ↔ IsTrue (may_hear self.old message.now) }
+        ensures heard { OnOk result ((refused : Bool)
+            × (self.new ≡ step self.old refused message.now)) }
+        ensures same { OnErr result (self.new ≡ self.old) }
+        ensures fewer { OnOk result (turns_left self.new < turns_left self.old) }
+    {
+        // The proof wants that the depth is bounded.
+        let _ = self.levels();
+        match message {
+            Message::Bye => Err(OutOfTurn),
+            _ => self.hear(message),
+        }
+    }
+
+    /// The number of levels of the talk; 0 before its opening.
+    pub(crate) fn levels(&self) -> u8
+        ensures same { result ≡ depth_of self.now.heard }
+        ensures most { result ≤ most_depth }
+    {
+        self.heard.depth()
+    }
+
     /// The version of the frames that are heard and answered: that of the opening, and version 1 before it.
     pub fn spoken(&self) -> Version
         ensures { result ≡ self.now.version }
@@ -221,6 +249,13 @@ impl HelperCore {
         self.heard.opened()
     }
 
+    /// The depth of a stream that has ended; `None` exactly where it has not.
+    pub fn whole(&self) -> Option<Depth>
+        ensures { result ≡ whole_of self.now.heard }
+    {
+        self.heard.whole()
+    }
+
     /// The weight of a side so far, at most 2^30 - 1: the sum of the absolute deltas that were heard, also where memory was
     /// refused and no vector is kept. It is 0 before an opening.
     pub fn weight(&self, side: Side) -> u64
@@ -236,8 +271,10 @@ impl HelperCore {
 
     /// The vector of a side; `None` exactly where the stream has not ended, or memory was refused while it was heard.
     pub fn vector(&self, side: Side) -> Option<&Vector>
-        ensures { MatchOption result (shown_vector self.now side ≡ None)
+        ensures shown { MatchOption result (shown_vector self.now side ≡ None)
             (λ v. shown_vector self.now side ≡ Some (contents v.now)) }
+        ensures depth { IfSome result (λ v. whole_of self.now.heard ≡ Some v.now.depth) }
+        ensures weight { IfSome result (λ v. v.now.weight ≡ weight_of self.now.weights side) }
     {
         let Some(_) = self.heard.whole() else {
             return None;

@@ -20,12 +20,18 @@
 //!
 //! `specs/Turns.antt` has the state, which message may come next, what it does, and the reply that is owed. The queries that are
 //! answered are those of `is_built`; `hear` refuses another one as out of turn, and `serve` does not come to it: it ends there as
-//! at bytes without a spelling (`is_known`, `IsUnknown`). `specs/Serving.antt` says what a talk on a link is, by its status.
+//! at bytes without a spelling (`is_known`, `IsUnknownBy`). `specs/Rules.antt` says what a talk on a link is, by its status, for any rules of
+//! turns, and `specs/Serving.antt` has those of queries.
 //!
 //! What a kind of query means to a helper is a row (`specs/KindRows.antt`): which refusal applies to it
 //! over the two vectors, and the honest reply behind the challenges so far. `specs/Kinds.antt` has the
 //! row of each kind. Heavy hitters and shares have one, by the threshold that they come to (`specs/Hitters.antt`): a negative
 //! entry refuses before an answer that may be too wide.
+//!
+//! # How other questions are answered
+//!
+//! What answers another kind of talk behind the same stream, as of lookups, implements [`Helps`] over a [`HelperCore`]: which frame is
+//! awaited, which message may come, and what is owed then. [`talk`] receives the frames, refuses what is out of turn and says how it ended.
 //!
 //! # How a kind is added
 //!
@@ -49,11 +55,14 @@ mod serving;
 mod status;
 mod sub_vector;
 mod sums;
+mod talking;
 mod turn;
 pub mod turn_laws;
 mod vectors;
 
 pub use helper::HelperCore;
+pub use refusal::{WANT_OF_MEMORY, put_refusal};
 pub use serving::serve;
 pub use status::HelpStatus;
+pub use talking::{Helps, talk};
 pub use turn::OutOfTurn;

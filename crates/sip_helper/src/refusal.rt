@@ -10,7 +10,7 @@ use sip_ports::{PortStop, Sink};
 use sip_wire::{Message, Version, encode};
 
 /// The code of a refusal for want of memory.
-pub(crate) const WANT_OF_MEMORY: u8 = 1;
+pub const WANT_OF_MEMORY: u8 = 1;
 
 /// The code of a refusal where the answer has more entries than one may have.
 pub(crate) const TOO_MANY: u8 = 2;
@@ -21,9 +21,9 @@ pub(crate) const NOT_STRICT: u8 = 3;
 /// The code of the refusal of a message out of turn.
 pub(crate) const OUT_OF_TURN: u8 = 4;
 
-/// Sends a refusal.
+/// Sends a refusal, in one write. After an `Err` a part of it was sent, and not all.
 #[inline(never)]
-pub(crate) fn put_refusal<K: Sink>(version: Version, code: u8, out: &mut K) -> Result<(), PortStop>
+pub fn put_refusal<K: Sink>(version: Version, code: u8, out: &mut K) -> Result<(), PortStop>
     requires some { 1 ≤ code }
     requires most { code ≤ most_refusal }
     ensures talk { SendsWhole (K.talk out.old)

@@ -17,7 +17,7 @@ use Rattle.sip_lookup.specs.declared.lookup.Lookup.{Lookup}
 use Rattle.sip_lookup.specs.declared.lookup.Lookup.TheVariants.{Index, Pred, Succ}
 use Rattle.sip_lookup.specs.Lookups.{Looked, value, nearest, item_of, near, is_same_answer, is_possible, range_of, are_alone, stated_answer}
 
-le_from : (a b : ℕ) → leb a b ≡ true → a ≤ b
+pub le_from : (a b : ℕ) → leb a b ≡ true → a ≤ b
 le_from a b h = elim (leb_tells a b) [ inl t ↦ t.1 | inr t ↦ (let f : true ≡ false = sym h ∙ t.0 in cc) ]
 
 -- the interval of a place that may be found is one of the vector
@@ -32,13 +32,13 @@ range_fits d (Succ i) (Some j) item h =
 
 -- ---- first entries
 
-zero_is : (x : ℤ) → is_zero x ≡ true → x ≡ pos 0
+pub zero_is : (x : ℤ) → is_zero x ≡ true → x ≡ pos 0
 zero_is x h = grind arith
 
-some_is : (x : ℤ) → is_zero x ≡ false → x ≢ pos 0
+pub some_is : (x : ℤ) → is_zero x ≡ false → x ≢ pos 0
 some_is x h e = let f : true ≡ false = rw e at h in absurd cc
 
-abbrev the_entry : ℕ → ℤ → Entry
+abbrev pub the_entry : ℕ → ℤ → Entry
 the_entry i v = record { index = i; value = v }
 
 -- a number that is 0 is passed over
@@ -58,11 +58,11 @@ first_later numbers from hi (Some e) none first = (
   ],
 )
 
-first_here : (numbers : List ℤ) (from hi : ℕ) → from ≤ hi → number_at numbers from ≢ pos 0 → IsFirstOf numbers from hi (Some (the_entry from (number_at numbers from)))
+pub first_here : (numbers : List ℤ) (from hi : ℕ) → from ≤ hi → number_at numbers from ≢ pos 0 → IsFirstOf numbers from hi (Some (the_entry from (number_at numbers from)))
 first_here numbers from hi le some = (omega arith, le, some, refl, λ k above below. absurd (omega (arith, above, below)))
 
 -- the n numbers from an index on have a first one that is not 0, or none
-first_among : (n : ℕ) (numbers : List ℤ) (from hi : ℕ) → from + n ≡ hi + 1 → (o : Option Entry) × IsFirstOf numbers from hi o
+pub first_among : (n : ℕ) (numbers : List ℤ) (from hi : ℕ) → from + n ≡ hi + 1 → (o : Option Entry) × IsFirstOf numbers from hi o
 first_among zero numbers from hi size = (None, λ k above below. absurd (omega (arith, size, above, below)))
 first_among (suc n) numbers from hi size = elim (cases_Bool (is_zero (number_at numbers from))) [
   | inl t ↦
@@ -86,7 +86,7 @@ first_kept numbers from hi top e le up inside found =
 -- ---- last entries
 
 -- a number that is 0 makes no difference
-without_zero : (numbers : List ℤ) (from hi : ℕ) → from ≤ hi → hi < length numbers → number_at numbers from ≡ pos 0 → nonzero_within from hi numbers ≡ nonzero_within (from + 1) hi numbers
+pub without_zero : (numbers : List ℤ) (from hi : ℕ) → from ≤ hi → hi < length numbers → number_at numbers from ≡ pos 0 → nonzero_within from hi numbers ≡ nonzero_within (from + 1) hi numbers
 without_zero numbers from hi le inside none =
     let later = first_among (hi - from) numbers (from + 1) hi (omega (arith, le)) in
     by_first later.0 later.1
@@ -100,7 +100,7 @@ without_zero numbers from hi le inside none =
         ∙ sym (nonzero_within-next (from + 1) hi numbers e (sym (next-is numbers (from + 1) hi (Some e) inside first)))
 
 -- the last of these entries, or the one before them
-abbrev last_behind : Option Entry → List Entry → Option Entry
+abbrev pub last_behind : Option Entry → List Entry → Option Entry
 last_behind o es = fold (λ (before : Option Entry) (e : Entry). Some e) o es
 
 -- an entry that stands alone from its place on is the last one of a longer interval too
@@ -120,11 +120,11 @@ last_kept (suc n) numbers from j hi e o place le inside alone = elim (cases_Bool
 
 -- ---- entries that stand alone
 
-alone_none : (es : List Entry) → pointwise nat_eq (map (λ (e : Entry). e.index) es) [] ≡ true → es ≡ []
+pub alone_none : (es : List Entry) → pointwise nat_eq (map (λ (e : Entry). e.index) es) [] ≡ true → es ≡ []
 alone_none [] h = refl
 alone_none (e ∷ es) h = absurd cc
 
-alone_some : (es : List Entry) (j : ℕ) → pointwise nat_eq (map (λ (e : Entry). e.index) es) (j ∷ []) ≡ true → (e : Entry) × (es ≡ e ∷ [])
+pub alone_some : (es : List Entry) (j : ℕ) → pointwise nat_eq (map (λ (e : Entry). e.index) es) (j ∷ []) ≡ true → (e : Entry) × (es ≡ e ∷ [])
 alone_some [] j h = absurd cc
 alone_some (e ∷ []) j h = (e, refl)
 alone_some (e ∷ f ∷ es) j h = let both = and_parts (eqb e.index j) _ h in absurd cc
@@ -159,3 +159,18 @@ alone_is_near d numbers (Succ i) (Some j) len item possible alone =
 pub same_answer : (y : Looked) → is_same_answer y y ≡ true
 same_answer (value a) = (signed_Decides a a).1 refl
 same_answer (nearest o) = (same_entries (option_to_list o) (option_to_list o)).1 refl
+
+-- two optional entries whose lists are the same
+same_option : (a b : Option Entry) → option_to_list a ≡ option_to_list b → a ≡ b
+same_option None None e = refl
+same_option None (Some y) e = absurd cc
+same_option (Some x) None e = absurd cc
+same_option (Some x) (Some y) e = cc
+
+-- answers that pass the test are the same
+pub equal_answers : (x y : Looked) → is_same_answer x y ≡ true → x ≡ y
+equal_answers (value a) (value b) same = ap value ((signed_Decides a b).0 same)
+equal_answers (value a) (nearest o) same = absurd cc
+equal_answers (nearest o) (value b) same = absurd cc
+equal_answers (nearest a) (nearest b) same =
+    ap nearest (same_option a b ((same_entries (option_to_list a) (option_to_list b)).0 same))

@@ -1,4 +1,16 @@
 pub mod Lookups
 pub mod Frames
 pub mod AcceptsLook
+pub mod Reports
+pub mod Tasks
+pub mod Questions
+pub mod Honest
+pub mod Promises
+pub mod Hearing
+pub mod Sittings
+pub mod LawProofs
 pub mod Examples
+pub mod Serving
+pub mod ServedExamples
+pub mod Owing
+pub mod inside

@@ -2,7 +2,11 @@
 //! nothing: each contract is a fact that holds.
 #![tactic(auto, unfolding(crate::specs::Frames::read_found, sip_subvec::specs::Honest::honest_messages, sip_wire::specs::Spelling::spelling, sip_wire::specs::Spelling::in_bytes, sip_wire::specs::Spelling::spelled, sip_replies::specs::Replies::run_from, sip_replies::specs::Replies::read_from, sip_wire::specs::Reading::read_frame, sip_wire::specs::Spelling::frame_fault, sip_wire::specs::Spelling::kind_fault, sip_wire::specs::Spelling::body_fault, sip_wire::specs::Spelling::asked, sip_wire::specs::Spelling::numbers_in, sip_wire::specs::Spelling::all_hold))]
 
-ghost use Rattle.std.specs.Prelude.{◌≡◌, [], ◌∷◌, ◌++◌, Ok, Err, Some, None, true, false, pos, replicate};
+ghost use Rattle.std.specs.Prelude.{◌≡◌, [], ◌∷◌, ◌++◌, codes, take, Ok, Err, Some, None, true, false, pos, replicate};
+ghost use Rattle.sip_ports.specs.Ports.{ins, outs};
+ghost use Rattle.sip_replies.specs.Talks.{asked};
+ghost use Rattle.sip_subvec.specs.Examples.{reply_0, reply_1};
+ghost use Rattle.sip_vector.specs.declared.query.Query.TheVariants as queries;
 ghost use Rattle.sip_vector.specs.Examples.{four};
 ghost use Rattle.sip_wire.specs.declared.message.Message.TheVariants as messages;
 ghost use Rattle.sip_wire.specs.declared.message.Reason.TheVariants as reasons;
@@ -10,8 +14,11 @@ ghost use Rattle.sip_wire.specs.Spelling.{spelling};
 ghost use Rattle.sip_wire.specs.declared.version.Version.TheVariants.{One, Two};
 ghost use Rattle.sip_lookup.specs.declared.lookup.Lookup.TheVariants as lookups;
 ghost use Rattle.sip_lookup.specs.AcceptsLook.{accepts_look, is_right};
-ghost use Rattle.sip_lookup.specs.Examples.{entry, found_and_proved};
+ghost use Rattle.sip_lookup.specs.Examples.{ask_succ_1, entry, found_and_proved, found_at, succ_1};
 ghost use Rattle.sip_lookup.specs.Frames.{ask_message, found_message, read_found};
+ghost use Rattle.sip_lookup.specs.Honest.{honest_looks};
+ghost use Rattle.sip_lookup.specs.Questions.{said_for};
+ghost use Rattle.sip_lookup.specs.Reports.{look_line};
 ghost use Rattle.sip_lookup.specs.Lookups.{are_alone, honest_found, is_possible, near, nearest, range_of, value};
 
 /// The answers to lookups in (3, 0, 5, 1), and in four zeros.
@@ -97,4 +104,35 @@ pub fn replies_by_hand()
         (found_and_proved (Some 1) 1 1) ≡ true }
     ensures index_right { is_right One 2 four (lookups.Index 1) (found_and_proved (Some 1) 1 1)
         ≡ true }
+{}
+
+/// The lines of answers over (3, 0, 5, 1), and over four zeros.
+pub fn lines_by_hand()
+    ensures index { look_line (lookups.Index 1) (near four (lookups.Index 1))
+        ≡ codes "index:1 0" ++ 10 ∷ [] }
+    ensures pred { look_line (lookups.Pred 1) (near four (lookups.Pred 1))
+        ≡ codes "pred:1 0:3" ++ 10 ∷ [] }
+    ensures succ { look_line (lookups.Succ 1) (near four (lookups.Succ 1))
+        ≡ codes "succ:1 2:5" ++ 10 ∷ [] }
+    ensures none { look_line (lookups.Pred 3) (near (replicate 4 (pos 0)) (lookups.Pred 3))
+        ≡ codes "pred:3 none" ++ 10 ∷ [] }
+{}
+
+/// What an honest helper replies to the lookup of the nearest entry at 1 or above it, and what is
+/// said for it. Before the Found is whole the Ask is all that is sent, and so it stays where the
+/// Found names a place that may not be found.
+pub fn talk_by_hand()
+    ensures honest { honest_looks One 2 four (lookups.Succ 1) (2 ∷ 10 ∷ [])
+        ≡ (found_at 2 ++ reply_0 One) ∷ reply_1 ∷ [] }
+    ensures whole { said_for One 2 (succ_1 ((found_at 2 ++ reply_0 One) ∷ reply_1 ∷ []))
+        ≡ outs ask_succ_1 ++ (ins (found_at 2) ++ asked One
+        (messages.Query (queries.Sub 1 2)) (2 ∷ 10 ∷ [])
+        (reply_0 One ∷ reply_1 ∷ [])) }
+    ensures asked { said_for One 2 (succ_1 (found_at 2 ∷ []))
+        ≡ outs ask_succ_1 ++ (ins (found_at 2) ++ asked One
+        (messages.Query (queries.Sub 1 2)) (2 ∷ 10 ∷ [])
+        ([] ∷ [])) }
+    ensures cut { said_for One 2 (succ_1 (take 11 (found_at 2) ∷ []))
+        ≡ outs ask_succ_1 ++ ins (take 11 (found_at 2)) }
+    ensures bad { said_for One 2 (succ_1 (found_at 0 ∷ [])) ≡ outs ask_succ_1 ++ ins (found_at 0) }
 {}

@@ -11,15 +11,40 @@
 //! | `Lookups` | the answer to a lookup, the place that an honest helper finds, and its interval |
 //! | `Frames` | the messages Ask and Found, and how a Found is read |
 //! | `AcceptsLook` | when replies are accepted, and at how many challenges wrong ones are |
+//! | `Serving` | the turns of a helper of lookups, and what it does on a link |
+//! | `Tasks` | which tasks can be done, and what a run asks |
+//! | `Questions` | a lookup with its block and its reply bytes: what is said for it, when its replies are accepted, and their fault |
+//! | `Reports` | the lines of answers |
+//! | `Honest` | what an honest helper replies |
+//! | `Promises` | what a run promises, and all that it keeps |
+//! | `Sittings`, `Hearing` | what is seen of the lookups while they are asked, and what a call did that receives a Found |
 //!
 //! [`laws`] works out examples of each. [`counting`] has the theorem on helpers that lie: at most
 //! d·p^(d-1) of the p^d vectors of challenges have a wrong answer accepted.
 //!
-//! No code runs here yet: the talk of a lookup and the helper's end of it are to come.
+//! [`look_stream`] is a whole run: the stream is gathered as for a verifier that keeps a root for
+//! each lookup, and then the driver of all runs asks the lookups ([`ask_look`] is one of them). Its
+//! promises are those of any run, said of the manner in which lookups are asked.
+//!
+//! [`serve_look`] is the helper's end of a talk of lookups: it takes turns, each of them a message
+//! that may come and then its reply, and its status says where it stopped (`ServesLooks`).
 #![tactic(auto)]
 
+mod answer;
+mod asker;
+mod asking;
 pub mod counting;
 pub mod laws;
 mod lookup;
+pub mod owing;
+mod running;
+pub mod served_examples;
+mod serving;
+mod task;
 
+pub use answer::LookAnswer;
+pub use asking::ask_look;
 pub use lookup::Lookup;
+pub use running::look_stream;
+pub use serving::serve_look;
+pub use task::LookTask;

@@ -10,7 +10,7 @@ use Rattle.sip_moments.specs.Honest.{Proving, begun, its_polynomial, learnt, of_
 use Rattle.sip_moments.proofs.RangeSums.{map_same}
 
 -- the list of a prover, folded by the challenges, and what stays as it was
-proving_level : (p : ℕ) (s : Proving) (rs : List ℕ) → fold (learnt p) s rs ≡ record s { level = fold (line p) s.level rs }
+pub proving_level : (p : ℕ) (s : Proving) (rs : List ℕ) → fold (learnt p) s rs ≡ record s { level = fold (line p) s.level rs }
 proving_level p s [] = refl
 proving_level p s (r ∷ rs) = proving_level p (learnt p s r) rs
 

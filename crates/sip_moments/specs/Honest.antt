@@ -1,10 +1,15 @@
 -- What an honest helper knows and says of a moment.
-use Rattle.std.specs.Prelude.{ℕ, zero, suc, ◌+◌, ◌-◌, ◌*◌, ◌%◌, ◌^◌, ℤ, List, map, fold}
+use Rattle.std.specs.Prelude.{ℕ, zero, suc, ◌+◌, ◌-◌, ◌*◌, ◌%◌, ◌^◌, ℤ, List, [], ◌∷◌, ◌++◌, length, take, map, flat_map, fold}
 use Rattle.std.specs.List.{range_with_len}
 use Rattle.sip_field.specs.Residue.{residue, difference_mod}
 use Rattle.sip_vector.specs.Extensions.{line}
+use Rattle.sip_wire.specs.declared.message.Message.{Message}
+use Rattle.sip_wire.specs.declared.message.Message.TheVariants as messages
+use Rattle.sip_wire.specs.declared.version.Version.{Version}
+use Rattle.sip_wire.specs.Spelling.{spelling}
 use Rattle.sip_sums.specs.Honest.{over_cube, over_pairs}
 use Rattle.sip_moments.specs.Moments.{moment}
+use Rattle.sip_moments.specs.Stating.{power_message}
 
 -- ---- round polynomials
 
@@ -62,3 +67,27 @@ its_coefficient p s m = over_pairs (of_first p s.degree m) s.level s.level % p
 -- the polynomial
 abbrev pub its_polynomial : ℕ → Proving → List ℕ
 its_polynomial p s = map (its_coefficient p s) (range_with_len 0 (s.degree + 1))
+
+-- ---- the replies
+
+-- what comes before the polynomial: in reply 0, the moment
+abbrev pub opening : ℕ → List ℤ → List ℕ → List Message
+opening k numbers [] = messages.Claim (moment k numbers) ∷ []
+opening k numbers (r ∷ revealed) = []
+
+-- the messages that are due once these challenges are revealed
+unfoldable pub honest_messages : ℕ → ℕ → ℕ → List ℤ → List ℕ → List Message
+honest_messages p k depth numbers revealed =
+    opening k numbers revealed
+    ++ power_message (round_polynomial p k numbers revealed (depth - length revealed - 1)) ∷ []
+
+-- their bytes
+abbrev pub honest_reply : Version → ℕ → ℕ → ℕ → List ℤ → List ℕ → List ℕ
+honest_reply version p k depth numbers revealed =
+    flat_map (spelling version) (honest_messages p k depth numbers revealed)
+
+-- all replies: reply j is the one due once the first j challenges are revealed
+abbrev pub honest_replies : Version → ℕ → ℕ → ℕ → List ℤ → List ℕ → List (List ℕ)
+honest_replies version p k depth numbers challenges =
+    map (λ j. honest_reply version p k depth numbers (take j challenges))
+    (range_with_len 0 (length challenges))

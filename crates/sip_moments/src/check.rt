@@ -70,6 +70,13 @@ impl<F: Field, const CAP: usize> MomentCheck<F, CAP> {
         }
     }
 
+    /// Expects this claim, in place of the one that the check was started with.
+    pub(crate) fn expect(&mut self, claim: i64)
+        ensures { self.new ≡ record self.old { expected = residue F.MODULUS claim } }
+    {
+        self.expected = F::of_signed(claim);
+    }
+
     /// The number of challenges.
     pub fn depth(&self) -> usize
         ensures exact { result ≡ length self.now.challenges }

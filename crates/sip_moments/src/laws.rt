@@ -1,18 +1,25 @@
 //! Laws of the check of a moment. These functions do nothing: each contract is a fact that holds.
 #![tactic(auto, unfolding(sip_counts::specs::Rounds::adds_up))]
 
-ghost use Rattle.std.specs.Prelude.{◌≡◌, ℕ, ◌+◌, ◌<◌, ◌≤◌, ◌==◌, ◌&&◌, ◌^◌, true, false, pos, ℤ, List, [], ◌∷◌, length, slice_index, filter};
+ghost use Rattle.std.specs.Prelude.{◌≡◌, ℕ, ◌+◌, ◌<◌, ◌≤◌, ◌==◌, ◌&&◌, ◌^◌, true, false, pos, ℤ, List, [], ◌∷◌, length, slice_index, filter, All};
 ghost use Rattle.std.specs.List.{range_with_len};
 ghost use Rattle.sip_field.specs.Moduli.{m61_modulus};
 ghost use Rattle.sip_field.specs.Residue.{residue};
 ghost use Rattle.sip_vector.specs.Examples.{four};
 ghost use Rattle.sip_counts.specs.Rounds.{adds_up, is_expected, sum_of_ends, value_at};
 ghost use Rattle.sip_sums.specs.Examples.{less};
-ghost use Rattle.sip_moments.specs.AcceptsMoment.{accepts_stated, power_at};
+ghost use Rattle.sip_vector.specs.Answers.{Answer};
+ghost use Rattle.sip_wire.specs.Decoding.{IsBytes};
+ghost use Rattle.sip_wire.specs.declared.version.Version.{Version};
+ghost use Rattle.sip_replies.specs.Replies.{IsAccepted};
+ghost use Rattle.sip_moments.specs.AcceptsMoment.{Stated, accepts_stated, power_at};
 ghost use Rattle.sip_moments.specs.Checking.{Kept, adds_up_from, begun as started, with_polynomial, with_revealed};
+ghost use Rattle.sip_moments.specs.Counting.{accepts_moment};
 ghost use Rattle.sip_moments.specs.Examples.{first_round, one_and_none, second_round, stated_cubes, stated_two};
 ghost use Rattle.sip_moments.specs.Honest.{begun, its_polynomial, learnt, round_polynomial};
-ghost use Rattle.sip_moments.specs.Moments.{is_too_high, moment};
+ghost use Rattle.sip_moments.specs.Moments.{is_too_high, moment, most_degree};
+ghost use Rattle.sip_moments.specs.Protocol.{moment_asked, moment_protocol};
+ghost use Rattle.sip_moments.specs.Stating.{HasSpelling, States, stated_replies};
 
 /// The third moment of (3, 0, 5, 1) at the challenges (2, 10), worked out by hand.
 pub fn cubes_by_hand()
@@ -72,4 +79,23 @@ pub fn calls_are_steps_of_the_definition()
         → adds_up_from p last (with_revealed check) more ≡ adds_up_from p last check more }
     ensures finish { (p last : ℕ) (check : Kept) → check.given ≡ length check.challenges
         → adds_up_from p last check [] ≡ (check.expected == last) }
+{}
+
+/// Accepted replies are the bytes of a claim and a polynomial for each challenge, which add up to the
+/// power, and the claim is the answer.
+pub fn accepted_replies_state_moments()
+    ensures { (version : Version) (p k power : ℕ) (challenges : List ℕ) (replies : List (List ℕ))
+        (answer : Answer) → All IsBytes replies
+        → IsAccepted (moment_protocol (moment_asked version p k power)) challenges replies answer
+        → (s : Stated) × States version p k power challenges replies answer s }
+{}
+
+/// The protocol, which goes state by state, is the check over whole lists: bytes are accepted for a
+/// vector exactly where what they state is. A claim has no bytes that is not small modulo 2^61 - 1.
+pub fn bytes_are_accepted_where_lists_are()
+    ensures { (version : Version) (k : ℕ) (numbers : List ℤ) (challenges : List ℕ) (s : Stated)
+        → k ≤ most_degree → HasSpelling k s → length s.polynomials ≡ length challenges
+        → 0 < length challenges
+        → accepts_moment version m61_modulus k numbers challenges (stated_replies version s)
+        ≡ accepts_stated m61_modulus k numbers challenges s }
 {}

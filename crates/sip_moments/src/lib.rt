@@ -2,7 +2,11 @@
 //! a sum-check of degree k (Cormode, Thaler, Yi, PVLDB 5(1), section 3).
 //!
 //! - [`MomentCheck`] is the verifier's check of a claimed moment, round by round.
+//! - [`MomentAsking`] is that check in the form that the talk of `sip_replies` asks, where a
+//!   [`Moment`] is what is asked.
+//! - [`moment_stream`] is a whole run that asks for moments, up to 16 of them.
 //! - [`MomentProver`] is the honest side: the moment, and the true polynomial of each round.
+//! - [`serve_moments`] is the helper's end of a talk of moments.
 //!
 //! The second moment is a sum of products, and `sip_sums` has its check. What the two have in
 //! common, the rounds of a sum-check of any degree and the count of the challenges at which a wrong
@@ -21,8 +25,16 @@
 //!   weight ([`proving`]).
 //! - For every helper whose polynomials depend on the challenges revealed so far, at most
 //!   k·d·p^(d-1) of the p^d challenge vectors make the check accept a wrong moment ([`counting`]).
-//!
-//! Not yet here: the frames in which a claim and its polynomials are sent, and the talk.
+//!   The same holds of replies as bytes, for every strategy: they are accepted exactly where the
+//!   claim and the polynomials that they state are ([`laws`]).
+//! - `moment_stream` keeps the promises of a run in the manner of moments (`MomentClause`): which lines
+//!   are written and when, the order of the bytes, the cause of each status, how many challenges a
+//!   helper can win by, and that an honest one is accepted with the stream's own moments. It asks
+//!   nothing where a claim may have no room for a moment, and names the first such one.
+//! - `serve_moments` takes turns, each of them a message that may come and then its reply: the honest
+//!   one, or a refusal where memory was refused. Its status says where it stopped (`ServesMoments`).
+//!   Over a run that keeps to the turns each message may come, and what goes out are the bytes of
+//!   honest replies that `moment_stream` accepts ([`served_laws`]).
 //!
 //! # The definitions to read
 //!
@@ -31,9 +43,18 @@
 //! | `Moments` | the moments of a vector, and for which of them a claim has room |
 //! | `AcceptsMoment` | what replies state, and when that is accepted |
 //! | `Checking` | what a check keeps, and what a call makes of it |
+//! | `Protocol` | the replies as frames: how they are read, and what they come to |
+//! | `Questions` | the message that asks for a moment |
+//! | `Counting` | which replies are accepted and which are right, for a count over bytes |
+//! | `Tasks` | which moments can be asked of a stream, and in which run |
+//! | `Manner` | how moments are asked and judged in a run, the count of each, and the honest helper |
+//! | `MomentClause` | what a run keeps that asks for moments |
 //! | `Honest` | the true round polynomials, and what a prover keeps |
+//! | `Serving` | the turns of a helper of moments, and what it does on a link |
+//! | `Served` | what such a helper hears in a run that keeps to the turns |
 //!
-//! `Powers` serves the contracts of private functions alone.
+//! `Powers` and `Sittings` serve the contracts of private functions alone, and `Asking` those of the
+//! check in the talk.
 //!
 //! # Cost
 //!
@@ -61,14 +82,30 @@
 //! Of a pair with a 0 the odd entry wants none of these, and the even one k.
 #![tactic(auto)]
 
+mod asker;
+mod asking;
 mod check;
 mod claims;
 pub mod counting;
 pub mod laws;
+mod moment;
 mod powers;
 mod prover;
 pub mod proving;
+mod question;
+mod room;
 mod rounds;
+pub mod served_examples;
+pub mod served_laws;
+mod serving;
+mod stream;
+mod task;
 
+pub use asker::Given;
+pub use asking::MomentAsking;
 pub use check::MomentCheck;
+pub use moment::Moment;
 pub use prover::MomentProver;
+pub use serving::serve_moments;
+pub use stream::moment_stream;
+pub use task::MomentTask;

@@ -4,7 +4,7 @@ use Rattle.std.specs.Prelude.{flat_map}
 use Rattle.sip_ports.specs.declared.port.TalkEvent.{TalkEvent}
 use Rattle.sip_ports.specs.Ports.{outs, ins, heard}
 use Rattle.sip_ports.proofs.TalkLemmas.{heard-append, heard-ins, heard-outs}
-use Rattle.sip_vector.specs.declared.query.Query.{Query}
+use Rattle.sip_wire.specs.declared.message.Message.{Message}
 use Rattle.sip_wire.specs.declared.message.Message.TheVariants as messages
 use Rattle.sip_wire.specs.declared.version.Version.{Version}
 use Rattle.sip_wire.specs.Spelling.{spelling}
@@ -31,8 +31,8 @@ heard-exchanged version (r ∷ next ∷ more) (c ∷ challenges) few =
     ∙ ap (λ l. r ++ l) (heard-exchanged version (next ∷ more) challenges (omega arith))
 
 -- where no more replies came than there are challenges
-pub heard-asked : (version : Version) (query : Query) (block : List ℕ) (replies : List (List ℕ))
-    → length replies ≤ length block → heard (asked version query block replies) ≡ joined replies
-heard-asked version query block replies few =
-    after_sent (flat_map (spelling version) (messages.Query query ∷ [])) (exchanged version replies block)
+pub heard-asked : (version : Version) (request : Message) (block : List ℕ) (replies : List (List ℕ))
+    → length replies ≤ length block → heard (asked version request block replies) ≡ joined replies
+heard-asked version request block replies few =
+    after_sent (flat_map (spelling version) (request ∷ [])) (exchanged version replies block)
     ∙ heard-exchanged version replies block (omega arith)

@@ -5,7 +5,6 @@ use Rattle.std.proofs.lemmas.Bool.Decides.{nat_tests}
 use Rattle.sip_ports.specs.declared.port.TalkEvent.{TalkEvent}
 use Rattle.sip_ports.specs.Ports.{ins, outs}
 use Rattle.sip_field.specs.Moduli.{m61_modulus}
-use Rattle.sip_vector.specs.declared.query.Query.{Query}
 use Rattle.sip_wire.specs.declared.message.Message.{Message}
 use Rattle.sip_wire.specs.declared.message.Message.TheVariants as messages
 use Rattle.sip_wire.specs.declared.version.Version.{Version}
@@ -39,12 +38,12 @@ exchanged-snoc version (x ∷ y ∷ ys) (r ∷ rs) (suc k) bytes len lt =
     ap (λ (l : List TalkEvent). (ins x ++ sent version (messages.Reveal r ∷ [])) ++ l) (exchanged-snoc version (y ∷ ys) rs k bytes (omega arith) (omega arith))
     ∙ regroup (ins x ++ sent version (messages.Reveal r ∷ [])) (exchanged version (y ∷ ys) rs) (sent version (messages.Reveal (slice_index rs k) ∷ [])) (ins bytes)
 
--- the same, behind the query
-pub asked-snoc : (version : Version) (query : Query) (replies : List (List ℕ)) (block : List ℕ) (k : ℕ) (bytes : List ℕ) → length replies ≡ suc k → k < length block
-    → asked version query block (replies ++ bytes ∷ []) ≡ (asked version query block replies ++ sent version (messages.Reveal (slice_index block k) ∷ [])) ++ ins bytes
-asked-snoc version query replies block k bytes len lt =
-    ap (λ (l : List TalkEvent). sent version (messages.Query query ∷ []) ++ l) (exchanged-snoc version replies block k bytes len lt)
-    ∙ regroup (sent version (messages.Query query ∷ [])) (exchanged version replies block) (sent version (messages.Reveal (slice_index block k) ∷ [])) (ins bytes)
+-- the same, behind what is asked
+pub asked-snoc : (version : Version) (request : Message) (replies : List (List ℕ)) (block : List ℕ) (k : ℕ) (bytes : List ℕ) → length replies ≡ suc k → k < length block
+    → asked version request block (replies ++ bytes ∷ []) ≡ (asked version request block replies ++ sent version (messages.Reveal (slice_index block k) ∷ [])) ++ ins bytes
+asked-snoc version request replies block k bytes len lt =
+    ap (λ (l : List TalkEvent). sent version (request ∷ []) ++ l) (exchanged-snoc version replies block k bytes len lt)
+    ∙ regroup (sent version (request ∷ [])) (exchanged version replies block) (sent version (messages.Reveal (slice_index block k) ∷ [])) (ins bytes)
 
 -- a challenge has a spelling
 pub reveal_fits : (version : Version) (r : ℕ) → r < m61_modulus → IsTrue (fits version (messages.Reveal r))

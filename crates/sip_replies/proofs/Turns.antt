@@ -7,9 +7,9 @@ use Rattle.sip_ports.specs.declared.port.TalkEvent.{TalkEvent}
 use Rattle.sip_ports.specs.declared.port.TalkEvent.TheVariants.{Out}
 use Rattle.sip_ports.specs.Ports.{GoesOn, ins, outs}
 use Rattle.sip_ports.proofs.TalkLemmas.{GoesOn-refl, GoesOn-trans}
-use Rattle.sip_vector.specs.declared.query.Query.{Query}
 use Rattle.sip_vector.specs.declared.update.Entry.{Entry}
 use Rattle.sip_vector.specs.Steps.{◌>>=◌}
+use Rattle.sip_wire.specs.declared.message.Message.{Message}
 use Rattle.sip_wire.specs.declared.message.Message.TheVariants as messages
 use Rattle.sip_wire.specs.declared.message.Reason.{Reason}
 use Rattle.sip_wire.specs.declared.message.Reason.TheVariants as reasons
@@ -33,17 +33,17 @@ abbrev pub IsShort : {S : Type 0} → Protocol S → List ℕ → List (List ℕ
 IsShort P block replies = (earlier : List (List ℕ)) (front : List ℕ) (byte : ℕ) → replies ≡ earlier ++ (front ++ byte ∷ []) ∷ [] → run P.rules block (earlier ++ front ∷ []) ≡ Err (record { round = length earlier; reason = reasons.Closed })
 
 -- the next reply may come, and is read from this state
-pub record Ready {S : Type 0} (P : Protocol S) (query : Query) (block : List ℕ) (old mid before during : Option (List TalkEvent)) (replies : List (List ℕ)) (state : S) : Type 0 where
+pub record Ready {S : Type 0} (P : Protocol S) (request : Message) (block : List ℕ) (old mid before during : Option (List TalkEvent)) (replies : List (List ℕ)) (state : S) : Type 0 where
   pub said : List TalkEvent
   pub talk : GoesOn old mid said
   pub kept : GoesOn before during (outs (joined replies))
   pub frames : AreFrames P.rules.version (joined replies)
-  pub order : (bytes : List ℕ) → asked P.rules.version query block (replies ++ bytes ∷ []) ≡ said ++ ins bytes
+  pub order : (bytes : List ℕ) → asked P.rules.version request block (replies ++ bytes ∷ []) ≡ said ++ ins bytes
   pub passed : run P.rules block replies ≡ Ok state
   pub few : length replies < length block
 
 -- so many replies came and passed, and they lead to a state in which a challenge is to be learnt
-pub record Going {S : Type 0} (P : Protocol S) (query : Query) (block : List ℕ) (old mid before during : Option (List TalkEvent)) (count : ℕ) (Stands : S → Type 0) : Type 0 where
+pub record Going {S : Type 0} (P : Protocol S) (request : Message) (block : List ℕ) (old mid before during : Option (List TalkEvent)) (count : ℕ) (Stands : S → Type 0) : Type 0 where
   pub replies : List (List ℕ)
   pub state : S
   pub counted : length replies ≡ count
@@ -51,15 +51,15 @@ pub record Going {S : Type 0} (P : Protocol S) (query : Query) (block : List ℕ
   pub within : count ≤ length block
   pub passed : run P.rules block replies ≡ Ok (P.rules.learn state (slice_index block (count - 1)))
   pub shortest : IsShort P block replies
-  pub talk : GoesOn old mid (asked P.rules.version query block replies)
+  pub talk : GoesOn old mid (asked P.rules.version request block replies)
   pub kept : GoesOn before during (outs (joined replies))
   pub frames : AreFrames P.rules.version (joined replies)
   pub stands : Stands state
 
-pub Ready-first : {S : Type 0} (P : Protocol S) (query : Query) (block : List ℕ) (old mid before : Option (List TalkEvent)) → GoesOn old mid (outs (spelling P.rules.version (messages.Query query))) → 0 < length block → Ready P query block old mid before before [] P.rules.start
-Ready-first P query block old mid before talk some = record {
-  said = sent P.rules.version (messages.Query query ∷ []);
-  talk = subst (GoesOn old mid) (sym (sent-one P.rules.version (messages.Query query))) talk;
+pub Ready-first : {S : Type 0} (P : Protocol S) (request : Message) (block : List ℕ) (old mid before : Option (List TalkEvent)) → GoesOn old mid (outs (spelling P.rules.version request)) → 0 < length block → Ready P request block old mid before before [] P.rules.start
+Ready-first P request block old mid before talk some = record {
+  said = sent P.rules.version (request ∷ []);
+  talk = subst (GoesOn old mid) (sym (sent-one P.rules.version request)) talk;
   kept = GoesOn-refl before;
   frames = AreFrames-none P.rules.version;
   order = λ bytes. refl;
@@ -67,14 +67,14 @@ Ready-first P query block old mid before talk some = record {
   few = some;
 }
 
-pub Ready-later : {S : Type 0} (P : Protocol S) (query : Query) (block : List ℕ) (old mid new before during : Option (List TalkEvent)) (count : ℕ) (Stands : S → Type 0) (going : Going P query block old mid before during count Stands)
-    → GoesOn mid new (outs (spelling P.rules.version (messages.Reveal (slice_index block (count - 1))))) → count < length block → Ready P query block old new before during going.replies (P.rules.learn going.state (slice_index block (count - 1)))
-Ready-later P query block old mid new before during count Stands going talk lt = record {
-  said = asked P.rules.version query block going.replies ++ sent P.rules.version (messages.Reveal (slice_index block (count - 1)) ∷ []);
+pub Ready-later : {S : Type 0} (P : Protocol S) (request : Message) (block : List ℕ) (old mid new before during : Option (List TalkEvent)) (count : ℕ) (Stands : S → Type 0) (going : Going P request block old mid before during count Stands)
+    → GoesOn mid new (outs (spelling P.rules.version (messages.Reveal (slice_index block (count - 1))))) → count < length block → Ready P request block old new before during going.replies (P.rules.learn going.state (slice_index block (count - 1)))
+Ready-later P request block old mid new before during count Stands going talk lt = record {
+  said = asked P.rules.version request block going.replies ++ sent P.rules.version (messages.Reveal (slice_index block (count - 1)) ∷ []);
   talk = GoesOn-trans old mid new _ _ going.talk (subst (GoesOn mid new) (sym (sent-one P.rules.version (messages.Reveal (slice_index block (count - 1))))) talk);
   kept = going.kept;
   frames = going.frames;
-  order = λ bytes. asked-snoc P.rules.version query going.replies block (count - 1) bytes (omega (arith, going.counted, going.some)) (omega (arith, going.some));
+  order = λ bytes. asked-snoc P.rules.version request going.replies block (count - 1) bytes (omega (arith, going.counted, going.some)) (omega (arith, going.some));
   passed = going.passed;
   few = omega (arith, going.counted);
 }
@@ -99,13 +99,13 @@ closed_next {S} P block replies s passed few bytes says =
           (ap (λ (f : Fault). f.reason) same, ap (λ (f : Fault). suc f.round) same ∙ count);
     }
 
-module _ {S : Type 0} (P : Protocol S) (due : P.unasked ≡ None) (query : Query) (block : List ℕ) (old mid new before during now : Option (List TalkEvent)) (replies : List (List ℕ)) (s : S) (ready : Ready P query block old mid before during replies s) where
-  came_talk : (bytes : List ℕ) (ended : List TalkEvent) → GoesOn mid new (ins bytes ++ ended) → GoesOn old new (asked P.rules.version query block (replies ++ bytes ∷ []) ++ ended)
+module _ {S : Type 0} (P : Protocol S) (due : P.unasked ≡ None) (request : Message) (block : List ℕ) (old mid new before during now : Option (List TalkEvent)) (replies : List (List ℕ)) (s : S) (ready : Ready P request block old mid before during replies s) where
+  came_talk : (bytes : List ℕ) (ended : List TalkEvent) → GoesOn mid new (ins bytes ++ ended) → GoesOn old new (asked P.rules.version request block (replies ++ bytes ∷ []) ++ ended)
   came_talk bytes ended heard =
       subst (GoesOn old new) (sym (append_assoc ready.said (ins bytes) ended) ∙ ap (λ (l : List TalkEvent). l ++ ended) (sym (ready.order bytes))) (GoesOn-trans old mid new ready.said (ins bytes ++ ended) ready.talk heard)
 
-  came_whole : (bytes : List ℕ) → GoesOn mid new (ins bytes) → GoesOn old new (asked P.rules.version query block (replies ++ bytes ∷ []))
-  came_whole bytes heard = subst (GoesOn old new) (append-nil (asked P.rules.version query block (replies ++ bytes ∷ []))) (came_talk bytes [] (subst (GoesOn mid new) (sym (append-nil (ins bytes))) heard))
+  came_whole : (bytes : List ℕ) → GoesOn mid new (ins bytes) → GoesOn old new (asked P.rules.version request block (replies ++ bytes ∷ []))
+  came_whole bytes heard = subst (GoesOn old new) (append-nil (asked P.rules.version request block (replies ++ bytes ∷ []))) (came_talk bytes [] (subst (GoesOn mid new) (sym (append-nil (ins bytes))) heard))
 
   kept_whole : (bytes : List ℕ) → GoesOn during now (outs bytes) → GoesOn before now (outs (joined (replies ++ bytes ∷ [])))
   kept_whole bytes kept =
@@ -134,7 +134,7 @@ module _ {S : Type 0} (P : Protocol S) (due : P.unasked ≡ None) (query : Query
       subst (λ (l : List (List ℕ)). run P.rules block (l ++ front ∷ []) ≡ Err (record { round = length l; reason = reasons.Closed })) same.0 (run-fault P.rules block replies s ready.passed front reasons.Closed (short front byte same.1))
 
   -- the reply has a fault
-  IsRejected-reply : (reason : Reason) → HasFault P.rules.version (read_reply P.rules s) mid new during now reason → IsRejected P query block old new before now (length replies) reason
+  IsRejected-reply : (reason : Reason) → HasFault P.rules.version (read_reply P.rules s) mid new during now reason → IsRejected P request block old new before now (length replies) reason
   IsRejected-reply reason h = record {
     replies = replies ++ h.bytes ∷ [];
     talk = came_talk h.bytes (ending reason) h.heard;
@@ -148,14 +148,14 @@ module _ {S : Type 0} (P : Protocol S) (due : P.unasked ≡ None) (query : Query
   }
 
   -- the reply is a part
-  IsInterrupted-reply : IsPart P.rules.version (read_reply P.rules s) mid new during now → IsInterrupted P query block old new before now
+  IsInterrupted-reply : IsPart P.rules.version (read_reply P.rules s) mid new during now → IsInterrupted P request block old new before now
   IsInterrupted-reply p = record {
     due = due;
     replies = replies ++ p.bytes ∷ [];
-    said = asked P.rules.version query block (replies ++ p.bytes ∷ []);
+    said = asked P.rules.version request block (replies ++ p.bytes ∷ []);
     talk = came_whole p.bytes p.heard;
-    order = ([], sym (append-nil (asked P.rules.version query block (replies ++ p.bytes ∷ []))));
-    kept = subst (KeepsFrames P.rules.version before now) (sym (heard-asked P.rules.version query block (replies ++ p.bytes ∷ []) (omega (arith, length-append replies (p.bytes ∷ []), ready.few)))) (frames_kept p.bytes p.kept);
+    order = ([], sym (append-nil (asked P.rules.version request block (replies ++ p.bytes ∷ []))));
+    kept = subst (KeepsFrames P.rules.version before now) (sym (heard-asked P.rules.version request block (replies ++ p.bytes ∷ []) (omega (arith, length-append replies (p.bytes ∷ []), ready.few)))) (frames_kept p.bytes p.kept);
     unfinished = closed_next P block replies s ready.passed ready.few p.bytes p.says;
     missing = inr (record { round = length replies; reason = reasons.Closed }, run-fault P.rules block replies s ready.passed p.bytes reasons.Closed p.says);
   }
@@ -166,7 +166,7 @@ module _ {S : Type 0} (P : Protocol S) (due : P.unasked ≡ None) (query : Query
   may_end bytes ended (inr (found, part)) = inr (found, run-fault P.rules block replies s ready.passed bytes reasons.Closed part)
 
   -- what came of the reply was not kept
-  IsUnrecorded-reply : IsUnkept P.rules.version (read_reply P.rules s) mid new during now → IsUnrecorded P query block old new before now
+  IsUnrecorded-reply : IsUnkept P.rules.version (read_reply P.rules s) mid new during now → IsUnrecorded P request block old new before now
   IsUnrecorded-reply u = record {
     replies = replies ++ u.bytes ∷ [];
     ended = u.ended;
@@ -186,7 +186,7 @@ module _ {S : Type 0} (P : Protocol S) (due : P.unasked ≡ None) (query : Query
 
   -- the call that took the reply had no answer
   pub Answers-reply : (round : ℕ) {T : Type 0} (Stands : T → S → Type 0) (taken : Result T ReplyStop) (places : List Entry) (result : Result Said AskStop) (stop : AskStop) → round ≡ length replies → IsErrAnd result (λ other. other ≡ stop)
-      → (of_reply : ReplyStop) × (taken ≡ Err of_reply) × (stop ≡ stop_in_round round of_reply) → Takes P.rules.version (read_reply P.rules s) mid new during now Stands taken → Answers P query block old new before now places result
+      → (of_reply : ReplyStop) × (taken ≡ Err of_reply) × (stop ≡ stop_in_round round of_reply) → Takes P.rules.version (read_reply P.rules s) mid new during now Stands taken → Answers P request block old new before now places result
   Answers-reply round Stands taken places (Ok x) stop count is of_reply took = absurd is
   Answers-reply round Stands taken places (Err other) stop count is (reply_stops.Faulty reason, e, so) took = rw (is, so, count) (IsRejected-reply reason (rw e at took))
   Answers-reply round Stands taken places (Err other) stop count is (reply_stops.PeerFault, e, so) took = rw (is, so) (IsInterrupted-reply (rw e at took))
@@ -195,7 +195,7 @@ module _ {S : Type 0} (P : Protocol S) (due : P.unasked ≡ None) (query : Query
   Answers-reply round Stands taken places (Err other) stop count is (reply_stops.KeepOutOfMemory, e, so) took = rw (is, so) (IsUnrecorded-reply (rw e at took))
 
   -- one reply more
-  pub Going-next : (count : ℕ) (Stands : S → Type 0) (t : S) → length replies + 1 ≡ count → Came P.rules.version (read_reply P.rules s) mid new during now t → Stands t → Going P query block old new before now count Stands
+  pub Going-next : (count : ℕ) (Stands : S → Type 0) (t : S) → length replies + 1 ≡ count → Came P.rules.version (read_reply P.rules s) mid new during now t → Stands t → Going P request block old new before now count Stands
   Going-next count Stands t counted came stands = record {
     replies = replies ++ came.bytes ∷ [];
     state = t;

@@ -5,7 +5,6 @@ use Rattle.sip_ports.specs.declared.port.PortStop.{PortStop}
 use Rattle.sip_ports.specs.declared.port.PortStop.TheVariants as ports
 use Rattle.sip_ports.specs.declared.port.TalkEvent.{TalkEvent}
 use Rattle.sip_ports.specs.Ports.{GoesOn, heard, ins, outs}
-use Rattle.sip_vector.specs.declared.query.Query.{Query}
 use Rattle.sip_vector.specs.declared.update.Entry.{Entry}
 use Rattle.sip_vector.specs.Answers.{Answer}
 use Rattle.sip_wire.specs.declared.message.Reason.{Reason}
@@ -137,14 +136,14 @@ pub record Shows (version : Version) (m : Message) (said : Message × List ℕ) 
   pub has_spelling : IsTrue (fits version m)
   pub in_range : InRange m
 
--- ---- all replies to a query
+-- ---- all replies to what is asked
 
-module _ {S : Type 0} (P : Protocol S) (query : Query) (block : List ℕ)
+module _ {S : Type 0} (P : Protocol S) (request : Message) (block : List ℕ)
     (old new before now : Option (List TalkEvent)) where
   -- all replies came, in whole frames, and are accepted; where the answer was known nothing was said
   pub record IsAnswered (answer : Answer) : Type 0 where
     pub replies : List (List ℕ)
-    pub talk : GoesOn old new (asked_unless P.unasked P.rules.version query block replies)
+    pub talk : GoesOn old new (asked_unless P.unasked P.rules.version request block replies)
     pub kept : GoesOn before now (outs (joined replies))
     pub frames : AreFrames P.rules.version (joined replies)
     pub accepted : IsAccepted P block replies answer
@@ -152,7 +151,7 @@ module _ {S : Type 0} (P : Protocol S) (query : Query) (block : List ℕ)
   -- the replies that came have this first fault
   pub record IsRejected (round : ℕ) (reason : Reason) : Type 0 where
     pub replies : List (List ℕ)
-    pub talk : GoesOn old new (asked P.rules.version query block replies ++ ending reason)
+    pub talk : GoesOn old new (asked P.rules.version request block replies ++ ending reason)
     pub kept : GoesOn before now (outs (joined replies))
     pub faulty : IsFaulty P block replies (record { round = round; reason = reason })
 
@@ -163,7 +162,7 @@ module _ {S : Type 0} (P : Protocol S) (query : Query) (block : List ℕ)
     pub replies : List (List ℕ)
     pub said : List TalkEvent
     pub talk : GoesOn old new said
-    pub order : IsPrefix said (asked P.rules.version query block replies)
+    pub order : IsPrefix said (asked P.rules.version request block replies)
     pub kept : KeepsFrames P.rules.version before now (heard said)
     pub unfinished : IsUnfinished P.rules block replies
     pub missing : IsMissing P.rules block replies
@@ -172,7 +171,7 @@ module _ {S : Type 0} (P : Protocol S) (query : Query) (block : List ℕ)
   pub record IsUnrecorded : Type 0 where
     pub replies : List (List ℕ)
     pub ended : List TalkEvent
-    pub talk : GoesOn old new (asked P.rules.version query block replies ++ ended)
+    pub talk : GoesOn old new (asked P.rules.version request block replies ++ ended)
     pub kept : KeepsPart before now (joined replies)
     pub unjudged : IsUnjudged P block replies ended
 

@@ -3,7 +3,6 @@ use Rattle.std.specs.Prelude.{◌≡◌, ℕ, List, [], ◌∷◌, ◌++◌, fla
 use Rattle.sip_ports.specs.declared.port.TalkEvent.{TalkEvent}
 use Rattle.sip_ports.specs.declared.port.TalkEvent.TheVariants.{Ended}
 use Rattle.sip_ports.specs.Ports.{ins, outs}
-use Rattle.sip_vector.specs.declared.query.Query.{Query}
 use Rattle.sip_vector.specs.Answers.{Answer}
 use Rattle.sip_wire.specs.declared.message.Message.{Message}
 use Rattle.sip_wire.specs.declared.message.Message.TheVariants as messages
@@ -28,15 +27,15 @@ exchanged version (reply ∷ next ∷ more) [] = ins reply
 exchanged version (reply ∷ next ∷ more) (r ∷ challenges) =
     ins reply ++ sent version (messages.Reveal r ∷ []) ++ exchanged version (next ∷ more) challenges
 
--- a query, and the replies to it so far
-abbrev pub asked : Version → Query → List ℕ → List (List ℕ) → List TalkEvent
-asked version query challenges replies =
-    sent version (messages.Query query ∷ []) ++ exchanged version replies challenges
+-- what is asked, and the replies to it so far
+abbrev pub asked : Version → Message → List ℕ → List (List ℕ) → List TalkEvent
+asked version request challenges replies =
+    sent version (request ∷ []) ++ exchanged version replies challenges
 
 -- the same; or nothing, where the answer is known without a reply
-abbrev pub asked_unless : Option Answer → Version → Query → List ℕ → List (List ℕ) → List TalkEvent
-asked_unless None version query challenges replies = asked version query challenges replies
-asked_unless (Some known) version query challenges replies = []
+abbrev pub asked_unless : Option Answer → Version → Message → List ℕ → List (List ℕ) → List TalkEvent
+asked_unless None version request challenges replies = asked version request challenges replies
+asked_unless (Some known) version request challenges replies = []
 
 -- what follows a fault: the end of the link, where that is the fault
 abbrev pub ending : Reason → List TalkEvent

@@ -9,10 +9,11 @@ ghost use Rattle.sip_replies.specs.declared.taking.ReplyStop.{ReplyStop as AnyRe
 ghost use Rattle.sip_replies.specs.declared.taking.ReplyStop.TheVariants as reply_stops;
 
 use crate::check::{Check, Said};
+use crate::request::Request;
 use crate::taking::{ReplyStop, take_reply};
 use sip_ports::{Link, PortStop, Sink};
-use sip_vector::{Entry, Query};
-use sip_wire::{Frame, Reason, Version, encode_query, encode_reveal};
+use sip_vector::Entry;
+use sip_wire::{Frame, Reason, Version, encode_reveal};
 
 /// Why a query has no answer.
 #[derive(Clone, Copy, Debug, PartialEq, Eq)]
@@ -65,16 +66,6 @@ fn in_round(round: u8, taken: Result<(), ReplyStop>) -> Result<(), AskStop>
     }
 }
 
-/// Sends a query.
-fn send_query<L: Link>(query: Query, version: Version, link: &mut L) -> Result<(), PortStop>
-    requires { IsTrue (fits version (messages.Query query)) }
-    ensures talk { SendsWhole (L.talk link.old) (L.talk link.new) result
-        (spelling version (messages.Query query)) }
-    ensures cause { HasCause L.faults L.wants L.is_sure link.old link.new result }
-{
-    encode_query(query, version, link)
-}
-
 /// Reveals a challenge.
 fn send_reveal<L: Link>(challenge: u64, version: Version, link: &mut L) -> Result<(), PortStop>
     requires { IsTrue (fits version (messages.Reveal challenge)) }
@@ -85,7 +76,8 @@ fn send_reveal<L: Link>(challenge: u64, version: Version, link: &mut L) -> Resul
     encode_reveal(challenge, version, link)
 }
 
-/// Asks a query, takes the replies, reveals a challenge between two of them, and checks them.
+/// Asks what is requested, takes the replies, reveals a challenge between two of them, and checks
+/// them.
 ///
 /// A challenge leaves only after the reply before it was taken and passed its tests, and the last
 /// challenge never leaves. No byte is received behind the one that shows the verdict. Where the
@@ -97,10 +89,10 @@ fn send_reveal<L: Link>(challenge: u64, version: Version, link: &mut L) -> Resul
 ///
 /// [`AskStop::Rejected`] with the first fault of the replies; the others are those of the ports,
 /// each only where that port's own count of them rose.
-pub fn ask<C: Check, L: Link, K: Sink>(
+pub fn ask<C: Check, Q: Request, L: Link, K: Sink>(
     check: &mut C,
     version: Version,
-    query: Query,
+    request: &Q,
     places: &mut [Entry],
     frame: &mut Frame,
     link: &mut L,
@@ -109,10 +101,10 @@ pub fn ask<C: Check, L: Link, K: Sink>(
     requires begins { Begins (C.phase check.old) }
     requires stood { (asked : C.Asked)
         × C.stands asked (C.protocol asked).rules.start check.old places.old }
-    requires fits { IsTrue (fits version (messages.Query query)) }
+    requires fits { IsTrue (fits version (Q.message request.now)) }
     ensures answers { (asked : C.Asked) → (C.protocol asked).rules.version ≡ version
         → C.stands asked (C.protocol asked).rules.start check.old places.old
-        → Answers (C.protocol asked) query (C.phase check.old).block
+        → Answers (C.protocol asked) (Q.message request.now) (C.phase check.old).block
         (L.talk link.old) (L.talk link.new) (K.talk keep.old) (K.talk keep.new) places.new result }
     ensures lent { C.lent check.new ≡ C.lent check.old }
     ensures places { length places.new ≡ length places.old }
@@ -128,7 +120,7 @@ pub fn ask<C: Check, L: Link, K: Sink>(
         return Ok(said);
     }
     let depth = check.depth();
-    send_query(query, version, link)?;
+    request.send(version, link)?;
     in_round(0, take_reply(check, version, places, frame, link, keep))?;
     for round in 1..depth {
         let challenge = check.reveal();

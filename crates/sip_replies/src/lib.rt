@@ -1,4 +1,5 @@
-//! The talk of one query: a check of its replies, whatever its kind, and one loop that asks.
+//! The talk of one query: a check of its replies, whatever its kind, and one loop that asks. What
+//! begins it is a [`Request`], the message of a query for one.
 //!
 //! | file of `specs/` | what it defines |
 //! |---|---|
@@ -12,9 +13,11 @@
 mod asking;
 mod check;
 pub mod laws;
+mod request;
 mod rising;
 mod taking;
 
 pub use asking::{AskStop, ask};
 pub use check::{Check, More, Said};
+pub use request::Request;
 pub use rising::is_above;

@@ -97,6 +97,7 @@ const ENDINGS: &[Ending<'static>] = &[
         "sip: bad frame at offset 5\n",
     ),
     (Status::TooWide { query: 16 }, 3, "sip: query 16 too wide\n"),
+    (Status::TooHigh { query: 1 }, 3, "sip: query 1 too high\n"),
     (
         Status::ReadFault { port: Port::First },
         4,

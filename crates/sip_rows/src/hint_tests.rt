@@ -98,6 +98,7 @@ const ENDED: &[Ended<'static>] = &[
     (Status::BadSeed, Some("SEED")),
     (Status::SeedSpent, Some("another seed")),
     (Status::TooWide { query: 1 }, Some("greater T")),
+    (Status::TooHigh { query: 1 }, Some("lower degree")),
     (Status::BadFrame { offset: 3 }, Some("FROM of sip help")),
     (Status::BadTranscript { offset: 0 }, Some("TRANSCRIPT")),
     (Status::ReadFault { port: Port::First }, Some("STREAM")),

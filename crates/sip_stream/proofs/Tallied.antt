@@ -1,7 +1,5 @@
 -- One more record in a tally.
-use Rattle.std.proofs.Common.{◌≡◌, ◌≢◌, ℕ, ◌+◌, ◌-◌, ◌%◌, ◌^◌, ◌<◌, ◌≤◌, pos, nat_abs, bit_or, List, [], ◌∷◌, ◌++◌, false, true, refl, sym, ap, ◌∙◌, arith, subst}
-use Rattle.std.specs.Prelude.{Ok, slice_index}
-use Rattle.std.proofs.lemmas.Bool.{le-ltb}
+use Rattle.std.proofs.Common.{◌≡◌, ◌≢◌, ℕ, ◌+◌, ◌-◌, ◌*◌, ◌%◌, ◌^◌, ◌<◌, ◌≤◌, pos, nat_abs, bit_or, List, [], ◌∷◌, ◌++◌, false, true, refl, sym, ap, ◌∙◌, arith, subst}
 use Rattle.std.proofs.lemmas.List.{length-append}
 use Rattle.std.proofs.lemmas.List.Elements.{All-append, All-cons, All-nil}
 use Rattle.std.proofs.lemmas.Nat.{le_or_l, le_or_r}
@@ -11,9 +9,8 @@ use Rattle.sip_vector.specs.declared.update.Update.{Update}
 use Rattle.sip_vector.specs.Streams.{same_side, weight, most_weight, IsLegal}
 use Rattle.sip_vector.proofs.Sides.{weight-append, weight-one, weight-one_other_side}
 use Rattle.sip_stream.specs.declared.tally.Tally.{Tally}
-use Rattle.sip_stream.specs.Pieces.{record_said}
 use Rattle.sip_stream.specs.Reading.{Reading, HasRoom, IsAfter, weight_of}
-use Rattle.sip_stream.specs.Records.{record_at}
+use Rattle.sip_stream.specs.Spellings.{side_number}
 use Rattle.sip_stream.specs.Tallies.{IsClean, IsLight, TakesOne, reader_of}
 
 -- what holds of both sides holds of any
@@ -43,10 +40,6 @@ after_more old new u before room is depth spent count weights first second = rec
   ready = spent ∙ is.ready;
 }
 
--- a record whose side is none or one says its update
-pub said_fair : (width : ℕ) (piece : List ℕ) (u : Update) → slice_index piece 0 ≤ 1 → u ≡ record_at width piece → Ok u ≡ record_said width piece
-said_fair width piece u side is = rw (le-ltb 1 (slice_index piece 0) side) (ap Ok is)
-
 -- the bits of a tally with one more record
 abbrev pub bits_with : ℕ → ℕ → ℕ → ℕ
 bits_with sizes size total = bit_or sizes (bit_or ((size + 18446744073709551615) % 18446744073709551616) total)
@@ -68,14 +61,13 @@ module _ (sizes size total : ℕ) (few : bits_with sizes size total ≤ most_wei
   size_some = omega (arith, less)
 
 -- a tally, and the same with one more record
-module _ (old new : Tally) (number size : ℕ) (u : Update) (is : size ≡ nat_abs u.delta) (short : size ≤ 9223372036854775808) (sides : new.sides ≡ bit_or old.sides number) (items : new.items ≡ bit_or old.items u.item)
+module _ (old new : Tally) (size : ℕ) (u : Update) (is : size ≡ nat_abs u.delta) (short : size ≤ 9223372036854775808) (items : new.items ≡ bit_or old.items u.item)
     (count : new.count ≡ (old.count + 1) % 18446744073709551616) (sum : new.total ≡ (old.total + size) % 18446744073709551616) (sizes : new.sizes ≡ bits_with old.sizes size new.total) where
   clean_few : (depth : ℕ) → IsClean depth new → bits_with old.sizes size new.total ≤ most_weight
   clean_few depth clean = omega (arith, clean.sizes, sizes)
 
   pub was_clean : (depth : ℕ) → IsClean depth new → IsClean depth old
   was_clean depth clean = record {
-    sides = omega (arith, clean.sides, sides, le_or_l old.sides number);
     items = omega (arith, clean.items, items, le_or_l old.items u.item);
     sizes = sizes_few old.sizes size new.total (clean_few depth clean);
   }
@@ -109,14 +101,13 @@ module _ (old new : Tally) (number size : ℕ) (u : Update) (is : size ≡ nat_a
       weight = weight;
     }
 
-    pub takes_first : u.side ≡ First → new.second ≡ old.second → TakesOne r old new number u
+    takes_first : u.side ≡ First → new.second ≡ old.second → TakesOne r old new u
     takes_first side same =
         let below : new.second ≤ new.total = omega (arith, same, whole, light.second) in
         let first : new.total - new.second ≡ old.total - old.second + size = omega (arith, same, whole, light.second) in
         let light_now = light_with below in
         let room = room_with (subst (λ s. weight_of (reader_of r old) s + nat_abs u.delta ≤ most_weight) (sym side) (omega (arith, few, first, is))) in
         record {
-          side = omega (arith, clean.sides, sides, le_or_r old.sides number);
           light = light_now;
           room = room;
           heavier = omega (arith, whole, some);
@@ -126,7 +117,7 @@ module _ (old new : Tally) (number size : ℕ) (u : Update) (is : size ≡ nat_a
               (omega (arith, same, so.weights Second, other_more before u Second (ap (λ s. same_side s Second) side)))) light_now.first_few light_now.second_few;
         }
 
-    pub takes_second : u.side ≡ Second → new.second ≡ (old.second + size) % 18446744073709551616 → TakesOne r old new number u
+    takes_second : u.side ≡ Second → new.second ≡ (old.second + size) % 18446744073709551616 → TakesOne r old new u
     takes_second side more =
         let second : new.second ≡ old.second + size = omega (arith, more, light.second, light.total, short) in
         let below : new.second ≤ new.total = omega (arith, second, whole, light.second) in
@@ -134,7 +125,6 @@ module _ (old new : Tally) (number size : ℕ) (u : Update) (is : size ≡ nat_a
         let light_now = light_with below in
         let room = room_with (subst (λ s. weight_of (reader_of r old) s + nat_abs u.delta ≤ most_weight) (sym side) (omega (arith, few, second, below, is))) in
         record {
-          side = omega (arith, clean.sides, sides, le_or_r old.sides number);
           light = light_now;
           room = room;
           heavier = omega (arith, whole, some);
@@ -143,3 +133,16 @@ module _ (old new : Tally) (number size : ℕ) (u : Update) (is : size ≡ nat_a
               (omega (arith, first, so.weights First, other_more before u First (ap (λ s. same_side s First) side)))
               (omega (arith, second, is, so.weights Second, own_more before u Second (ap (λ s. same_side s Second) side)))) light_now.first_few light_now.second_few;
         }
+
+    takes_by : (s : Side) → u.side ≡ s → new.second ≡ (old.second + size * side_number s % 18446744073709551616) % 18446744073709551616 → TakesOne r old new u
+    takes_by First side more =
+        let none : new.second ≡ (old.second + size * 0 % 18446744073709551616) % 18446744073709551616 = more in
+        takes_first side (omega (arith, none, light.second, light.total))
+    takes_by Second side more =
+        let all : new.second ≡ (old.second + size * 1 % 18446744073709551616) % 18446744073709551616 = more in
+        takes_second side (omega (arith, all, short))
+
+    -- the weight of the second side grows by the size as often as the number of the side says
+    pub takes_one : (n : ℕ) → n ≡ side_number u.side → new.second ≡ (old.second + size * n % 18446744073709551616) % 18446744073709551616 → TakesOne r old new u
+    takes_one n number more =
+        takes_by u.side refl (more ∙ ap (λ m. (old.second + size * m % 18446744073709551616) % 18446744073709551616) number)

@@ -7,7 +7,6 @@ use Rattle.sip_stream.specs.Reading.{Reading, HasRoom, IsAfter}
 
 -- no bit is one that no legal record has
 pub record IsClean (depth : ℕ) (t : Tally) : Type 0 where
-  pub sides : t.sides ≤ 1
   pub items : t.items < 2 ^ depth
   pub sizes : t.sizes ≤ most_weight
 
@@ -24,8 +23,7 @@ abbrev pub reader_of : Reading → Tally → Reading
 reader_of r t = record r { count = t.count; first = t.total - t.second; second = t.second }
 
 -- the update that was counted last is legal after those before it
-pub record TakesOne (r : Reading) (old new : Tally) (number : ℕ) (u : Update) : Type 0 where
-  pub side : number ≤ 1
+pub record TakesOne (r : Reading) (old new : Tally) (u : Update) : Type 0 where
   pub light : IsLight new
   pub room : HasRoom (reader_of r old) u
   pub heavier : old.total < new.total

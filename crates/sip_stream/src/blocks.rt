@@ -1,12 +1,13 @@
 //! Records of a stream by the block: those that lie whole at the front of what a source holds.
 
-ghost use Rattle.std.specs.Prelude.{◌≡◌, ◌≤◌, ℕ, List, IsSome, length, take};
+ghost use Rattle.std.specs.Prelude.{◌≡◌, ◌≤◌, ℕ, List, IsSome, IfSome, IfNone, length, take};
 ghost use Rattle.std.specs.Io.KnownBytes.{Consumes};
 ghost use Rattle.sip_ports.specs.Ports.{Lasts};
 ghost use Rattle.sip_stream.specs.Layouts.{layout_of, of_bytes, of_line};
 ghost use Rattle.sip_stream.specs.Reading.{HasRead};
 
 use crate::line_reader::line_in_front;
+use crate::reader::MOST_WEIGHT;
 use crate::record_bytes::{NARROW, WIDE, size_of};
 use crate::record_reader::said_by;
 use crate::{Form, Reader};
@@ -20,11 +21,21 @@ struct Taken {
     bytes: usize,
 }
 
+// Writes an update where another one lies. Its parts are written one by one: where it is written
+// whole, what lies between them in memory is written too, by two instructions more.
+fn write_over(place: &mut Update, update: &Update)
+    ensures { place.new ≡ update.now }
+{
+    place.side = update.side;
+    place.item = update.item;
+    place.delta = update.delta;
+}
+
 impl Reader {
     // Takes the legal records of an item of so many bytes that lie whole at the front of the bytes, as far as there is room for them.
     fn take_records<const WIDTH: usize>(&mut self, bytes: &[u8], block: &mut [Update]) -> Taken
         requires some { 1 ≤ WIDTH }
-        requires widest { WIDTH ≤ 8 }
+        requires most { WIDTH ≤ 8 }
         requires layout { layout_of self.old.form ≡ of_bytes WIDTH }
         ensures within { result.bytes ≤ length bytes.now }
         ensures took { HasRead self.old self.new (take result.bytes bytes.now)
@@ -45,13 +56,73 @@ impl Reader {
                 break;
             }
             reader.add(&update);
-            block[count] = update;
+            write_over(&mut block[count], &update);
             count += 1;
         }
         *self = reader;
         Taken {
             records: count,
             bytes: count * size,
+        }
+    }
+
+    // Takes all records of an item of so many bytes that lie whole at the front of the bytes, as
+    // far as there is room for them; `None` where one of them is not legal. They are tested at
+    // once: a test of each costs more than the rest. Only the side is tested in each, so that it is
+    // written as it was read. Where both sides together are heavier than one may be, the test would
+    // fail and is not tried.
+    fn take_all<const WIDTH: usize>(&mut self, bytes: &[u8], block: &mut [Update]) -> Option<Taken>
+        requires some { 1 ≤ WIDTH }
+        requires most { WIDTH ≤ 8 }
+        requires layout { layout_of self.old.form ≡ of_bytes WIDTH }
+        ensures within { IfSome result (λ taken. taken.bytes ≤ length bytes.now) }
+        ensures took { IfSome result (λ taken. HasRead self.old self.new (take taken.bytes bytes.now)
+            (take taken.records block.new)) }
+        ensures few { IfSome result (λ taken. taken.records ≤ length block.new) }
+        ensures same { IfNone result (self.new ≡ self.old) }
+        ensures len { length block.new ≡ length block.old }
+    {
+        let size = size_of(WIDTH);
+        let most = block.len().min(bytes.len() / size);
+        let mut tally = self.tally();
+        if tally.total > MOST_WEIGHT {
+            return None;
+        }
+        let mut count = 0;
+        while count < most {
+            let at = count * size;
+            let Ok(update) = said_by::<WIDTH>(&bytes[at..at + size]) else {
+                return None;
+            };
+            tally.note(&update);
+            write_over(&mut block[count], &update);
+            count += 1;
+        }
+        if !tally.is_clean(self.depth()) {
+            return None;
+        }
+        self.go_on_after(&tally);
+        Some(Taken {
+            records: count,
+            bytes: count * size,
+        })
+    }
+
+    // Takes the legal records of an item of so many bytes that lie whole at the front of the bytes,
+    // as far as there is room for them: all at once, or one by one where one of them is not legal.
+    fn take_front<const WIDTH: usize>(&mut self, bytes: &[u8], block: &mut [Update]) -> Taken
+        requires some { 1 ≤ WIDTH }
+        requires most { WIDTH ≤ 8 }
+        requires layout { layout_of self.old.form ≡ of_bytes WIDTH }
+        ensures within { result.bytes ≤ length bytes.now }
+        ensures took { HasRead self.old self.new (take result.bytes bytes.now)
+            (take result.records block.new) }
+        ensures few { result.records ≤ length block.new }
+        ensures len { length block.new ≡ length block.old }
+    {
+        match self.take_all::<WIDTH>(bytes, block) {
+            Some(taken) => taken,
+            None => self.take_records::<WIDTH>(bytes, block),
         }
     }
 
@@ -78,7 +149,7 @@ impl Reader {
                 break;
             }
             reader.add(&update);
-            block[count] = update;
+            write_over(&mut block[count], &update);
             count += 1;
             used += size;
         }
@@ -98,8 +169,8 @@ impl Reader {
         ensures len { length block.new ≡ length block.old }
     {
         match self.form() {
-            Form::Binary => self.take_records::<NARROW>(bytes, block),
-            Form::Wide => self.take_records::<WIDE>(bytes, block),
+            Form::Binary => self.take_front::<NARROW>(bytes, block),
+            Form::Wide => self.take_front::<WIDE>(bytes, block),
             Form::Text => self.take_lines(bytes, block),
         }
     }

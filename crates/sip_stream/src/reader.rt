@@ -10,10 +10,11 @@ ghost use Rattle.sip_stream.specs.Pieces.{ReadsPiece};
 ghost use Rattle.sip_stream.specs.Reading.{IsAfter, HasRead, HasRoom, GoesOnAfter, Reads, room, unread, weight_of};
 ghost use Rattle.sip_stream.specs.Records.{update_fault};
 ghost use Rattle.sip_stream.specs.Spellings.{all_spelled};
+ghost use Rattle.sip_stream.specs.Tallies.{IsLight, reader_of};
 
 use crate::line_reader::{line_in_front, next_line};
 use crate::record_bytes::{NARROW, WIDE, size_of};
-use crate::record_reader::{next_record, said_by, update_of};
+use crate::record_reader::{next_record, said_by};
 use crate::spelling::{SPELLING_ROOM, put_update};
 use crate::tally::Tally;
 use crate::{Form, StreamFault, Why};
@@ -86,6 +87,13 @@ impl Reader {
         }
     }
 
+    /// How many items the updates are about, as a power of 2.
+    pub(crate) fn depth(&self) -> Depth
+        ensures { result ≡ self.now.depth }
+    {
+        self.depth
+    }
+
     /// The form of what is read.
     pub(crate) fn form(&self) -> Form
         ensures { result ≡ self.now.form }
@@ -100,7 +108,8 @@ impl Reader {
         self.is_spent
     }
 
-    fn weight(&self, side: Side) -> u64
+    /// The weight of a side so far: the sum of the sizes of its deltas.
+    pub fn weight(&self, side: Side) -> u64
         ensures same { result ≡ weight_of self.now side }
         ensures small { result < 1073741824 }
     {
@@ -162,6 +171,30 @@ impl Reader {
             Side::Second => self.second += size,
         }
         self.count += 1;
+    }
+
+    /// A tally that goes on from what was read so far.
+    pub(crate) fn tally(&self) -> Tally
+        ensures light { IsLight result }
+        ensures same { reader_of self.now result ≡ self.now }
+    {
+        Tally {
+            count: self.count,
+            total: self.first + self.second,
+            second: self.second,
+            items: 0,
+            sizes: 0,
+        }
+    }
+
+    /// Takes the place behind the records of a tally, all of which are legal.
+    pub(crate) fn go_on_after(&mut self, tally: &Tally)
+        requires { IsLight tally.now }
+        ensures { self.new ≡ reader_of self.old tally.now }
+    {
+        self.count = tally.count;
+        self.first = tally.total - tally.second;
+        self.second = tally.second;
     }
 
     /// The next record, or `None` where the input ends at a record's end.
@@ -313,26 +346,22 @@ impl Reader {
         ensures same { IfNone result (self.new ≡ self.old) }
     {
         let size = size_of(WIDTH);
-        let mut tally = Tally {
-            count: self.count,
-            total: self.first + self.second,
-            second: self.second,
-            sides: 0,
-            items: 0,
-            sizes: 0,
-        };
+        let mut tally = self.tally();
+        if tally.total > MOST_WEIGHT {
+            return None;
+        }
         let mut used = 0;
         while bytes.len() - used >= size {
-            let record = &bytes[used..used + size];
-            tally.note(record[0], &update_of::<WIDTH>(record));
+            let Ok(update) = said_by::<WIDTH>(&bytes[used..used + size]) else {
+                return None;
+            };
+            tally.note(&update);
             used += size;
         }
         if !tally.is_clean(self.depth) {
             return None;
         }
-        self.count = tally.count;
-        self.first = tally.total - tally.second;
-        self.second = tally.second;
+        self.go_on_after(&tally);
         Some(used)
     }
 

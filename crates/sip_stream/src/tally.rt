@@ -5,10 +5,12 @@ ghost use Rattle.sip_stream.specs.Reading.{Reading};
 ghost use Rattle.sip_stream.specs.Tallies.{IsClean, IsLight, TakesOne};
 
 use crate::reader::MOST_WEIGHT;
-use sip_vector::{Depth, Side, Update};
+use crate::record_bytes::number_of;
+use sip_vector::{Depth, Update};
 
-/// What records come to together, so that one test at the end is a test of each. Where a record is not legal it shows that one is not,
-/// though not which; its weights are of no use then.
+/// What records come to together whose sides are known, so that one test at the end is a test of
+/// each. Where a record is not legal it shows that one is not, though not which; its weights are of
+/// no use then.
 #[derive(Clone, Copy)]
 pub(crate) struct Tally {
     /// How many records came.
@@ -16,8 +18,6 @@ pub(crate) struct Tally {
     /// The weight of both sides, and that of the second one, modulo 2^64.
     pub(crate) total: u64,
     pub(crate) second: u64,
-    /// All bits of the numbers of the sides.
-    pub(crate) sides: u8,
     /// All bits of the items.
     pub(crate) items: u64,
     /// All bits of what is 1 less than a delta's size, and of the weights of both sides.
@@ -25,22 +25,19 @@ pub(crate) struct Tally {
 }
 
 impl Tally {
-    /// Counts an update, and the number of its side in its record.
-    pub(crate) fn note(&mut self, number: u8, update: &Update)
+    /// Counts an update.
+    pub(crate) fn note(&mut self, update: &Update)
         ensures clean { (depth : ℕ) → IsClean depth self.new → IsClean depth self.old }
         ensures one { (r : Reading) → IsClean r.depth self.new → IsLight self.old
-            → TakesOne r self.old self.new number update.now }
+            → TakesOne r self.old self.new update.now }
     {
         let size = update.delta.unsigned_abs();
-        let second = match update.side {
-            Side::First => 0,
-            Side::Second => size,
-        };
+        // A product, since a choice takes one instruction more.
+        let second = size.wrapping_mul(u64::from(number_of(update.side)));
         let total = self.total.wrapping_add(size);
         self.count = self.count.wrapping_add(1);
         self.total = total;
         self.second = self.second.wrapping_add(second);
-        self.sides |= number;
         self.items |= update.item;
         self.sizes |= size.wrapping_sub(1) | total;
     }
@@ -49,6 +46,6 @@ impl Tally {
     pub(crate) fn is_clean(&self, depth: Depth) -> bool
         ensures { IsTrue result → IsClean depth self.now }
     {
-        self.sides <= 1 && self.items < 1 << depth.get() && self.sizes <= MOST_WEIGHT
+        self.items < 1 << depth.get() && self.sizes <= MOST_WEIGHT
     }
 }

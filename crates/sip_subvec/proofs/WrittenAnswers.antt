@@ -38,7 +38,7 @@ vector-small d stream legal =
 -- ---- answers
 
 -- the entries of a verdict are what the replies say
-verdict_says : (version : Version) (p top lo hi : ℕ) (r : List ℕ) (all : List (List ℕ))
+pub verdict_says : (version : Version) (p top lo hi : ℕ) (r : List ℕ) (all : List (List ℕ))
     (es : List Entry)
     → verdict (sub_protocol (sub_asked version p top lo hi r)) r all ≡ Ok (pairs es)
     → said version lo hi all ≡ es
@@ -54,6 +54,17 @@ verdict_says version p top lo hi r all es e =
     let same : pairs a.x.entries ≡ pairs es = same_ok {E = Reason} _ _ b.1 in
     said_by version lo hi r all a.x a.first ∙ (cc)
 
+-- replies that are accepted pass the test
+pub accepted_sub : (version : Version) (p top lo hi : ℕ) (block : List ℕ) (taken : List (List ℕ))
+    (answer : List Entry)
+    → IsAccepted (sub_protocol (sub_asked version p top lo hi block)) block taken (pairs answer)
+    → accepts_sub version p top lo hi block taken ≡ true
+accepted_sub version p top lo hi block taken answer accepted =
+    let P = sub_protocol (sub_asked version p top lo hi block) in
+    let ok : is_ok (verdict P block taken) ≡ true = ap is_ok accepted.found in
+    and_from (eqb (length taken) (length block)) (is_ok (verdict P block taken))
+    (eq-eqb (length taken) (length block) accepted.all) ok
+
 pub written_counts : (version : Version) (p top lo hi : ℕ) (numbers : List ℤ) (tops : List ℕ → ℕ)
     (strategy : Strategy) (block : List ℕ) (taken : List (List ℕ)) (answer : List Entry)
     → tops block ≡ top
@@ -63,11 +74,8 @@ pub written_counts : (version : Version) (p top lo hi : ℕ) (numbers : List ℤ
     strategy block ≡ true
 written_counts version p top lo hi numbers tops strategy block taken answer is accepted talk wrong =
     let says = verdict_says version p top lo hi block taken answer accepted.found in
-    let P = sub_protocol (sub_asked version p top lo hi block) in
-    let ok : is_ok (verdict P block taken) ≡ true = ap is_ok accepted.found in
     let good : accepts_sub version p top lo hi block taken ≡ true =
-    and_from (eqb (length taken) (length block)) (is_ok (verdict P block taken))
-    (eq-eqb (length taken) (length block) accepted.all) ok in
+    accepted_sub version p top lo hi block taken answer accepted in
     takes_wrong-at (λ r. accepts_sub version p (tops r) lo hi r) (is_right version lo hi numbers)
     strategy block taken talk (ap (λ t. accepts_sub version p t lo hi block taken) is ∙ good)
     (false_from_ne_true (is_right version lo hi numbers taken) (λ same. wrong (sym says

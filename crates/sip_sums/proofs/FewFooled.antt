@@ -125,7 +125,7 @@ module _ (version : Version) (p : ℕ) (first second : List ℤ) (prime : IsPrim
       never same (x ∷ v) e = false_from_ne_true (wrongly (x ∷ v)) (λ h. (some_accepted x v h).1 ((signed_Decides (claim_said version strategy) (total first second)).0 same))
 
 -- the claim of a strategy of bytes is small
-strategy_small : (version : Version) (strategy : Strategy) → IsOfBytes strategy → is_small_claim m61_modulus (claim_said version strategy) ≡ true
+pub strategy_small : (version : Version) (strategy : Strategy) → IsOfBytes strategy → is_small_claim m61_modulus (claim_said version strategy) ≡ true
 unfolding claim_said bytes_in
 strategy_small version strategy are = by_reply (strategy []) refl
   where

@@ -30,7 +30,21 @@ mod helper_tests;
 #[cfg(test)]
 mod list_tests;
 #[cfg(test)]
+mod look_ends_tests;
+#[cfg(test)]
+mod look_tests;
+#[cfg(test)]
 mod moment_check_tests;
+#[cfg(test)]
+mod moment_fault_tests;
+#[cfg(test)]
+mod moment_run_tests;
+#[cfg(test)]
+mod moment_runs;
+#[cfg(test)]
+mod moment_serve_tests;
+#[cfg(test)]
+mod moment_talk_tests;
 #[cfg(test)]
 mod replaying_tests;
 #[cfg(test)]
@@ -43,6 +57,8 @@ mod session_gather_tests;
 mod session_seat_tests;
 #[cfg(test)]
 mod session_tests;
+#[cfg(test)]
+mod sub_vector_tests;
 #[cfg(test)]
 mod sum_check_tests;
 #[cfg(test)]

@@ -260,7 +260,7 @@ fn asked_of(
     let said = ask(
         &mut check,
         Version::One,
-        Query::Sub { lo: 0, hi: 2 },
+        &Query::Sub { lo: 0, hi: 2 },
         places,
         &mut frame,
         &mut link,

@@ -1,6 +1,5 @@
 // The queries of a run, asked one after another over a link in memory.
-ghost use Rattle.std.specs.Prelude.{◌≡◌, ◌≤◌, IfOk, false};
-ghost use Rattle.sip_verifier.specs.Sittings.{is_over};
+ghost use Rattle.std.specs.Prelude.{◌≡◌, ◌≤◌, IfOk, false, is_err};
 
 use crate::session_facts::expect;
 use sip_field::{Field, M61};
@@ -32,7 +31,7 @@ fn ask(
     peer: &mut MemoryLink,
 ) -> Result<Result<Verdict, SessionFault>, Fail>
     requires { session.old.spent ≡ false }
-    ensures { IfOk result (λ verdict. session.new.spent ≡ is_over verdict) }
+    ensures { IfOk result (λ verdict. session.new.spent ≡ is_err verdict) }
 {
     let mut keep = MemorySink::new(alloc, 1, Vec::new(alloc));
     if session.left() == 0 {

@@ -238,7 +238,7 @@ fn asked_of(
     let said = ask(
         &mut check,
         Version::One,
-        Query::F2 { side: Side::First },
+        &Query::F2 { side: Side::First },
         &mut [],
         &mut frame,
         &mut link,

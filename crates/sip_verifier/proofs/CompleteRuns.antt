@@ -104,6 +104,7 @@ module _ (task : Task) (x : Exchange) (some : 1 ≤ task.depth) (most : task.dep
   completes before now (statuses.Rejected query round reason) v cause is = λ honest none. absurd (not_rejected task x some most fits honest query round reason v)
   completes before now (statuses.BadStream at why) v cause is = λ honest none. absurd (let fault = cause.2 in let legal = honest.legal in cc)
   completes before now (statuses.TooWide query) v cause is = λ honest none. absurd (let legal : IsLegal task.depth (updates (inquiry_of task x) x) = records_legal task.depth task.form x.stream in let narrow = none_wide (version_of task) task.depth (updates (inquiry_of task x) x) task.queries.items legal.items honest.can in let wide = cause.1 in cc)
+  completes before now (statuses.TooHigh query) v cause is = absurd cause.1
   completes before now statuses.BadSeed v cause is = λ honest none. absurd (some_drawn task x some most fits honest (none_drawn (challenge_count task) x.seed cause))
   completes before now statuses.SeedSpent v cause is = λ honest none. absurd (some_drawn task x some most fits honest cause.1)
   completes before now (statuses.ReadFault ports.First) v cause is = λ honest none. absurd (none.first cause.1)

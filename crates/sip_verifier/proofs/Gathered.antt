@@ -12,11 +12,12 @@ use Rattle.sip_ports.specs.declared.port.PortStop.TheVariants as stops
 use Rattle.sip_ports.specs.declared.port.TalkEvent.{TalkEvent}
 use Rattle.sip_ports.specs.Ports.{GoesOn}
 use Rattle.sip_vector.specs.declared.update.Side.{Side}
+use Rattle.sip_vector.specs.declared.update.Side.TheVariants.{First, Second}
 use Rattle.sip_vector.specs.declared.update.Update.{Update}
-use Rattle.sip_vector.specs.Streams.{IsLegal}
+use Rattle.sip_vector.specs.Streams.{IsLegal, weight}
 use Rattle.sip_stream.specs.declared.fault.StreamFault.{StreamFault}
 use Rattle.sip_stream.specs.declared.fault.StreamFault.TheVariants as faults
-use Rattle.sip_stream.specs.Reading.{Reading, IsAfter, IsFair, HasRead, Reads}
+use Rattle.sip_stream.specs.Reading.{Reading, IsAfter, IsFair, HasRead, Reads, weight_of}
 use Rattle.sip_stream.specs.Layouts.{layout_of}
 use Rattle.sip_stream.specs.Records.{Records, records, records_from, pieces_of}
 use Rattle.sip_stream.proofs.Copies.{read_front}
@@ -26,6 +27,7 @@ use Rattle.sip_verifier.specs.declared.status.Port.TheVariants as ports
 use Rattle.sip_verifier.specs.declared.status.Status.{Status}
 use Rattle.sip_verifier.specs.declared.status.Status.TheVariants as statuses
 use Rattle.sip_verifier.specs.declared.task.Task.{Task}
+use Rattle.sip_verifier.specs.declared.weights.Weights.{Weights}
 use Rattle.sip_verifier.specs.inside.Drawing.{HasDrawn}
 use Rattle.sip_verifier.specs.Draws.{blocks}
 use Rattle.sip_verifier.specs.inside.Ending.{status_of_link, status_of_stream}
@@ -36,6 +38,7 @@ use Rattle.sip_verifier.specs.inside.Passing.{taken_with}
 use Rattle.sip_verifier.specs.QuerySeats.{HaveRoom}
 use Rattle.sip_verifier.specs.Seats.{AreSeats, Seating}
 use Rattle.sip_verifier.specs.inside.Sending.{IsSentBut, IsStopped, IsStoppedAtEnd}
+use Rattle.sip_verifier.specs.Weights.{AreWeights, weight_in}
 use Rattle.sip_verifier.specs.Talks.{whole_frames, opening_sent, stream_sent}
 use Rattle.sip_sums.proofs.HonestSums.{all_front}
 use Rattle.sip_verifier.proofs.SeatTotals.{legal_room}
@@ -210,6 +213,17 @@ module _ (task : Task) (bytes : List ℕ) (start : Option (List TalkEvent)) (fir
         talk = subst (λ (r : Records). GoesOn start new (stream_sent (version_of task) task.depth r.legal)) (sym is) said;
         stand = subst (λ l. AreSeats task.depth task.queries.items at_blocks l seats') (sym (ap (λ (r : Records). r.legal) is ∙ so.said.order)) stand;
       }
+
+  -- the weights that the reader has then are those of the stream
+  pub weighed : (left left' : Option (List ℕ)) (now : Option (List TalkEvent)) (reader : Reading) (seats : Seating) (waiting : List Update)
+      (so : IsUnderway task bytes at_blocks left start now reader seats waiting) → Reads task.depth task.form so.stream so.rest left' (Ok None) → (last : Reading) → IsAfter last so.stream → (w : Weights) → w.first ≡ weight_of last First → w.second ≡ weight_of last Second
+      → AreWeights (legal task bytes) w
+  weighed left left' now reader seats waiting so reads last after w first second side =
+      by_side side (after.weights side ∙ ap (λ (r : Records). weight r.legal side) (sym (ended left left' now reader seats waiting so reads)))
+    where
+      by_side : (s : Side) → weight_of last s ≡ weight (legal task bytes) s → weight_in w s ≡ weight (legal task bytes) s
+      by_side First e = first ∙ e
+      by_side Second e = second ∙ e
 
   -- ---- what is answered
 

@@ -5,11 +5,11 @@ use Rattle.std.proofs.lemmas.List.Elements.{All-head, All-tail}
 use Rattle.sip_ports.specs.declared.port.TalkEvent.{TalkEvent}
 use Rattle.sip_ports.specs.Ports.{heard}
 use Rattle.sip_ports.proofs.TalkLemmas.{heard-append, heard-outs}
-use Rattle.sip_vector.specs.declared.query.Query.{Query}
 use Rattle.sip_vector.specs.declared.update.Update.{Update}
 use Rattle.sip_vector.specs.Answers.{Answer}
 use Rattle.sip_wire.specs.Versions.{number_of}
 use Rattle.sip_wire.specs.declared.message.Message.TheVariants as messages
+use Rattle.sip_wire.specs.declared.message.Message.{Message}
 use Rattle.sip_wire.specs.declared.version.Version.{Version}
 use Rattle.sip_wire.specs.Spelling.{spelling}
 use Rattle.sip_replies.specs.Protocols.{Protocol}
@@ -20,15 +20,15 @@ use Rattle.sip_verifier.specs.Talks.{stream_sent, opening_sent, update_frames}
 use Rattle.sip_verifier.specs.Questions.{Question, said_for}
 
 -- where replies are accepted, they are what was heard
-pub heard_accepted : {S : Type 0} (P : Protocol S) (query : Query) (block : List ℕ)
+pub heard_accepted : {S : Type 0} (P : Protocol S) (request : Message) (block : List ℕ)
     (replies : List (List ℕ)) (given : Answer) (unasked : Option Answer)
     → elim unasked as (λ _. Type 0) [
       | None ↦ IsStated P block replies given
       | Some known ↦ (replies ≡ []) × (given ≡ known)
-    ] → heard (asked_unless unasked P.rules.version query block replies) ≡ joined replies
-heard_accepted P query block replies given None stated =
-    heard-asked P.rules.version query block replies (omega (arith, stated.all))
-heard_accepted P query block replies given (Some known) none = sym (ap joined none.0)
+    ] → heard (asked_unless unasked P.rules.version request block replies) ≡ joined replies
+heard_accepted P request block replies given None stated =
+    heard-asked P.rules.version request block replies (omega (arith, stated.all))
+heard_accepted P request block replies given (Some known) none = sym (ap joined none.0)
 
 -- what was heard in a question are its replies
 abbrev pub IsHeard : (version : Version) → ℕ → List Update → Question → Type 0

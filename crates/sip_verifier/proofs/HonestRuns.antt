@@ -9,6 +9,7 @@ use Rattle.sip_vector.specs.declared.query.Query.{Query}
 use Rattle.sip_vector.specs.declared.update.Update.{Update}
 use Rattle.sip_vector.specs.Answers.{Answer, Fits, answer}
 use Rattle.sip_vector.specs.Streams.{IsLegal}
+use Rattle.sip_wire.specs.declared.message.Message.TheVariants as messages
 use Rattle.sip_wire.specs.declared.message.Reason.TheVariants as reasons
 use Rattle.sip_replies.specs.Talks.{asked_unless}
 use Rattle.sip_replies.specs.Replies as replied
@@ -31,7 +32,7 @@ question_heard : (row : KindRow) (query : Query) (block : List ℕ) (replies : L
     ≡ joined replies
 question_heard (built kind) query block replies given accepted =
     let P = kind.protocol block in
-    heard_accepted P query block replies given P.unasked accepted
+    heard_accepted P (messages.Query query) block replies given P.unasked accepted
 question_heard missing query block replies given accepted = absurd accepted
 
 fault_heard : (row : KindRow) (query : Query) (block : List ℕ) (replies : List (List ℕ)) (fault : Fault)
@@ -40,9 +41,9 @@ fault_heard : (row : KindRow) (query : Query) (block : List ℕ) (replies : List
     ≡ joined replies
 fault_heard (built kind) query block replies fault faulty =
     let P = kind.protocol block in
-    ap (λ (u : Option Answer). heard (asked_unless u P.rules.version query block replies))
+    ap (λ (u : Option Answer). heard (asked_unless u P.rules.version (messages.Query query) block replies))
     faulty.asked
-    ∙ heard-asked P.rules.version query block replies (omega (arith, faulty.taken))
+    ∙ heard-asked P.rules.version (messages.Query query) block replies (omega (arith, faulty.taken))
 fault_heard missing query block replies fault faulty = absurd faulty
 
 pub faulty_heard : (version : Version) (depth : ℕ) (stream : List Update) (query : Query) (block : List ℕ)

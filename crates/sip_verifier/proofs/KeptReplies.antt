@@ -3,9 +3,9 @@ use Rattle.std.proofs.Common.{◌≡◌, ◌≤◌, ℕ, Option, Result, Ok, Err
 use Rattle.sip_ports.specs.declared.port.TalkEvent.{TalkEvent}
 use Rattle.sip_ports.specs.Ports.{GoesOn, heard, outs}
 use Rattle.sip_ports.proofs.TalkLemmas.{heard-append}
-use Rattle.sip_vector.specs.declared.query.Query.{Query}
 use Rattle.sip_vector.specs.declared.update.Entry.{Entry}
 use Rattle.sip_vector.specs.Answers.{Answer, number}
+use Rattle.sip_wire.specs.declared.message.Message.{Message}
 use Rattle.sip_wire.specs.declared.message.Reason.{Reason}
 use Rattle.sip_wire.specs.declared.message.Reason.TheVariants as reasons
 use Rattle.sip_replies.specs.declared.asking.AskStop.{AskStop}
@@ -31,50 +31,50 @@ pub heard-ended : {IsOpen : Type 0} (ended : List TalkEvent) → MayEnd IsOpen e
 heard-ended ended (inl none) = ap heard none
 heard-ended ended (inr (found, cut)) = ap heard found
 
-module _ {S : Type 0} (P : Protocol S) (query : Query) (block : List ℕ) (old new before now : Option (List TalkEvent)) where
+module _ {S : Type 0} (P : Protocol S) (request : Message) (block : List ℕ) (old new before now : Option (List TalkEvent)) where
   -- the replies are what is heard up to the end of the link
   heard_to_end : (replies : List (List ℕ)) (ended : List TalkEvent) → length replies ≤ length block → heard ended ≡ []
-      → heard (asked P.rules.version query block replies ++ ended) ≡ joined replies
+      → heard (asked P.rules.version request block replies ++ ended) ≡ joined replies
   heard_to_end replies ended few none =
-      heard-append (asked P.rules.version query block replies) ended
-      ∙ ap (λ (l : List ℕ). heard (asked P.rules.version query block replies) ++ l) none
-      ∙ append-nil (heard (asked P.rules.version query block replies))
-      ∙ heard-asked P.rules.version query block replies few
+      heard-append (asked P.rules.version request block replies) ended
+      ∙ ap (λ (l : List ℕ). heard (asked P.rules.version request block replies) ++ l) none
+      ∙ append-nil (heard (asked P.rules.version request block replies))
+      ∙ heard-asked P.rules.version request block replies few
 
-  answered_kept : (answer : Answer) → IsAnswered P query block old new before now answer → WholeIsKept old new before now P.rules.version
+  answered_kept : (answer : Answer) → IsAnswered P request block old new before now answer → WholeIsKept old new before now P.rules.version
   answered_kept answer a =
-      let came = sym (heard_accepted P query block a.replies answer P.unasked a.accepted) in
+      let came = sym (heard_accepted P request block a.replies answer P.unasked a.accepted) in
       record {
-        said = asked_unless P.unasked P.rules.version query block a.replies;
+        said = asked_unless P.unasked P.rules.version request block a.replies;
         talk = a.talk;
         frames = subst (AreFrames P.rules.version) came a.frames;
         wrote = subst (λ (l : List ℕ). GoesOn before now (outs l)) came a.kept;
       }
 
-  rejected_kept : (round : ℕ) (reason : Reason) → IsRejected P query block old new before now round reason → AllIsKept old new before now
+  rejected_kept : (round : ℕ) (reason : Reason) → IsRejected P request block old new before now round reason → AllIsKept old new before now
   rejected_kept round reason r = record {
-    said = asked P.rules.version query block r.replies ++ ending reason;
+    said = asked P.rules.version request block r.replies ++ ending reason;
     talk = r.talk;
     wrote = subst (λ (l : List ℕ). GoesOn before now (outs l)) (sym (heard_to_end r.replies (ending reason) (omega (arith, r.faulty.taken)) (heard-ending reason))) r.kept;
   }
 
-  interrupted_kept : IsInterrupted P query block old new before now → FramesAreKept old new before now P.rules.version
+  interrupted_kept : IsInterrupted P request block old new before now → FramesAreKept old new before now P.rules.version
   interrupted_kept i = record { said = i.said; talk = i.talk; wrote = i.kept }
 
   -- and so a front
-  interrupted_front : IsInterrupted P query block old new before now → FrontIsKept old new before now
+  interrupted_front : IsInterrupted P request block old new before now → FrontIsKept old new before now
   interrupted_front i = record { said = i.said; talk = i.talk; wrote = (i.kept.whole, (i.kept.part, i.kept.split), i.kept.kept) }
 
-  unrecorded_kept : IsUnrecorded P query block old new before now → FrontIsKept old new before now
+  unrecorded_kept : IsUnrecorded P request block old new before now → FrontIsKept old new before now
   unrecorded_kept u =
       let few : length u.replies ≤ length block = omega (arith, ap length u.unjudged.taken, length-append u.unjudged.earlier (u.unjudged.last ∷ []), u.unjudged.few) in
       record {
-        said = asked P.rules.version query block u.replies ++ u.ended;
+        said = asked P.rules.version request block u.replies ++ u.ended;
         talk = u.talk;
         wrote = subst (KeepsPart before now) (sym (heard_to_end u.replies u.ended few (heard-ended u.ended u.unjudged.may_end))) u.kept;
       }
 
-  pub replies_kept : (places : List Entry) (result : Result Said AskStop) → Answers P query block old new before now places result → KeepsReplies old new before now P.rules.version (verdict_of result)
+  pub replies_kept : (places : List Entry) (result : Result Said AskStop) → Answers P request block old new before now places result → KeepsReplies old new before now P.rules.version (verdict_of result)
   replies_kept places (Ok (saids.Number n)) a = answered_kept (number n) a
   replies_kept places (Ok (saids.Pairs found)) a = answered_kept (answer_of places (saids.Pairs found)) a
   replies_kept places (Err (stops.Rejected round reason)) a = rejected_kept round reason a

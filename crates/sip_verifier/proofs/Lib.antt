@@ -23,12 +23,14 @@ mod SessionAsks
 pub mod QueriesChecked
 pub mod RunTalks
 pub mod SeatedBehind
+pub mod GatheredRuns
 pub mod StreamPromises
 pub mod QueryPromises
 pub mod ShareAnswers
 mod SumAnswers
 mod SumLaws
 pub mod CountedQuestions
+pub mod WrittenReports
 pub mod CountedReports
 pub mod JointReports
 pub mod Blocks

@@ -7,6 +7,7 @@ use Rattle.sip_vector.specs.declared.query.Query.{Query}
 use Rattle.sip_vector.specs.declared.update.Entry.{Entry}
 use Rattle.sip_vector.specs.declared.update.Update.{Update}
 use Rattle.sip_vector.specs.Answers.{Answer, pairs, number}
+use Rattle.sip_wire.specs.declared.message.Message.TheVariants as messages
 use Rattle.sip_wire.specs.declared.message.Reason.{Reason}
 use Rattle.sip_replies.specs.declared.asking.AskStop.{AskStop}
 use Rattle.sip_replies.specs.declared.asking.AskStop.TheVariants as stops
@@ -30,13 +31,13 @@ take-min (suc n) (x ∷ xs) =
 
 module _ (version : Version) (depth : ℕ) (stream : List Update) (query : Query) (block : List ℕ) (old new before now : Option (List TalkEvent)) {S : Type 0} (P : Protocol S) (is : IsProtocol version depth stream query block P) where
   asked_is : P.unasked ≡ None → (replies : List (List ℕ))
-      → asked P.rules.version query block replies
+      → asked P.rules.version (messages.Query query) block replies
       ≡ said_for version depth stream (question_of query block replies)
   asked_is due replies =
-      ap (λ (u : Option Answer). asked_unless u P.rules.version query block replies) (sym due)
+      ap (λ (u : Option Answer). asked_unless u P.rules.version (messages.Query query) block replies) (sym due)
       ∙ is.said replies
 
-  answered : (answer : Answer) → general.IsAnswered P query block old new before now answer
+  answered : (answer : Answer) → general.IsAnswered P (messages.Query query) block old new before now answer
       → IsAnswered version depth stream query block old new answer
   answered answer a = record {
     replies = a.replies;
@@ -44,7 +45,7 @@ module _ (version : Version) (depth : ℕ) (stream : List Update) (query : Query
     accepted = is.accepts a.replies answer a.accepted;
   }
 
-  rejected : (round : ℕ) (reason : Reason) → general.IsRejected P query block old new before now
+  rejected : (round : ℕ) (reason : Reason) → general.IsRejected P (messages.Query query) block old new before now
       round reason → IsRejected version depth stream query block old new round reason
   rejected round reason r = record {
     replies = r.replies;
@@ -53,7 +54,7 @@ module _ (version : Version) (depth : ℕ) (stream : List Update) (query : Query
     faulty = is.faulty r.replies (record { round = round; reason = reason }) r.faulty;
   }
 
-  interrupted : general.IsInterrupted P query block old new before now
+  interrupted : general.IsInterrupted P (messages.Query query) block old new before now
       → IsInterrupted version depth stream query block old new
   interrupted i = record {
     replies = i.replies;
@@ -63,7 +64,7 @@ module _ (version : Version) (depth : ℕ) (stream : List Update) (query : Query
     waits = is.waits i.replies (i.due, i.unfinished, i.missing);
   }
 
-  unrecorded : general.IsUnrecorded P query block old new before now
+  unrecorded : general.IsUnrecorded P (messages.Query query) block old new before now
       → IsUnrecorded version depth stream query block old new
   unrecorded u = record {
     replies = u.replies;
@@ -75,7 +76,7 @@ module _ (version : Version) (depth : ℕ) (stream : List Update) (query : Query
 
   -- what was answered
   pub asks : (places : List Entry) (result : Result Said AskStop)
-      → general.Answers P query block old new before now places result
+      → general.Answers P (messages.Query query) block old new before now places result
       → Asks version depth stream query block old new
       (take (found_in (length places) result) places) (verdict_of result)
   asks places (Ok (saids.Number n)) a = answered (number n) a

@@ -45,7 +45,7 @@ interval_fits version depth lo hi order within shallow =
 abbrev pub RootAnswers : Version → ℕ → ℕ → List ℕ → ℕ → List ℕ → Option (List TalkEvent) → Option (List TalkEvent)
     → Option (List TalkEvent) → Option (List TalkEvent) → List Entry → Result Said AskStop → Type 0
 RootAnswers version lo hi block value at old new before now places result =
-    Answers (sub_protocol (sub_asked version m61_modulus value lo hi block)) (Sub lo hi) at old new before now places result
+    Answers (sub_protocol (sub_asked version m61_modulus value lo hi block)) (messages.Query (Sub lo hi)) at old new before now places result
 
 module _ (version : Version) (lo hi : ℕ) (block : List ℕ) (value : ℕ) (depth : ℕ) (stream : List Update)
     (stands : RootStandsFor m61_modulus block value (vector depth stream First)) where

@@ -82,13 +82,13 @@ pub sub_asks : (version : Version) (depth : ℕ) (stream : List Update) (s : Sea
     (result : Result Said AskStop)
     → s.query ≡ Sub lo hi → s.block ≡ block → s.running ≡ root_is value
     → at ≡ block → StandsFor depth stream s
-    → Answers (sub_protocol (sub_asked version m61_modulus value lo hi block)) s.query at old new before now
+    → Answers (sub_protocol (sub_asked version m61_modulus value lo hi block)) (messages.Query s.query) at old new before now
     places result → Asks version depth stream s.query s.block old new
     (take (found_in (length places) result) places) (verdict_of result)
 sub_asks version depth stream s lo hi value block at old new before now places result is own keeps
     same stands answers =
     let P : Protocol Stated = sub_protocol (sub_asked version m61_modulus value lo hi block) in
-    let given = subst (λ (b : List ℕ). Answers P s.query b old new before now places result) same
+    let given = subst (λ (b : List ℕ). Answers P (messages.Query s.query) b old new before now places result) same
     answers in
     let runs = subst (λ (r : RunningNumbers). RunsOn depth stream s.query block r) keeps
     (subst (λ (b : List ℕ). RunsOn depth stream s.query b s.running) own stands) in
@@ -141,12 +141,12 @@ pub sum_asks : (version : Version) (depth : ℕ) (stream : List Update) (s : Sea
     (result : Result Said AskStop)
     → lists_of depth stream s.query ≡ Some l → product ≡ product_at m61_modulus l.first l.second s.block
     → at ≡ s.block
-    → Answers (sum_protocol (sum_asked version m61_modulus product)) s.query at old new before now
+    → Answers (sum_protocol (sum_asked version m61_modulus product)) (messages.Query s.query) at old new before now
     places result → Asks version depth stream s.query s.block old new
     (take (found_in (length places) result) places) (verdict_of result)
 sum_asks version depth stream s l product at old new before now places result is product_is same answers =
     let P : Protocol SumState = sum_protocol (sum_asked version m61_modulus product) in
-    let given = subst (λ (b : List ℕ). Answers P s.query b old new before now places result) same
+    let given = subst (λ (b : List ℕ). Answers P (messages.Query s.query) b old new before now places result) same
     answers in
     asks version depth stream s.query s.block old new before now P
     (sum_is_protocol version depth stream s.query s.block l product is product_is)
@@ -269,10 +269,10 @@ share_protocol_is version depth stream s block side num den at_least hash sum is
 pub heavy_asks : (version : Version) (depth : ℕ) (stream : List Update) (query : Query) (at_least hash : ℕ) (sum : ℤ)
     (block at : List ℕ) (old new before now : Option (List TalkEvent)) (places : List Entry) (result : Result Said AskStop)
     → at ≡ block → IsProtocol version depth stream query block (heavy_protocol (heavy_asked version m61_modulus hash sum (length block) at_least))
-    → Answers (heavy_protocol (heavy_asked version m61_modulus hash sum (length block) at_least)) query at old new before now
+    → Answers (heavy_protocol (heavy_asked version m61_modulus hash sum (length block) at_least)) (messages.Query query) at old new before now
     places result → Asks version depth stream query block old new
     (take (found_in (length places) result) places) (verdict_of result)
 heavy_asks version depth stream query at_least hash sum block at old new before now places result same is answers =
     let P : Protocol HeavyState = heavy_protocol (heavy_asked version m61_modulus hash sum (length block) at_least) in
-    let given = subst (λ (b : List ℕ). Answers P query b old new before now places result) same answers in
+    let given = subst (λ (b : List ℕ). Answers P (messages.Query query) b old new before now places result) same answers in
     asks version depth stream query block old new before now P is places result given

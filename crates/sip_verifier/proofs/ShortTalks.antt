@@ -12,6 +12,8 @@ use Rattle.sip_vector.specs.declared.update.Update.{Update}
 use Rattle.sip_vector.specs.Answers.{Answer, number, pairs}
 use Rattle.sip_vector.specs.Streams.{int_sum, vector}
 use Rattle.sip_vector.specs.Thresholds.{share_of}
+use Rattle.sip_wire.specs.declared.message.Message.{Message}
+use Rattle.sip_wire.specs.declared.message.Message.TheVariants as messages
 use Rattle.sip_wire.specs.declared.message.Reason.{Reason}
 use Rattle.sip_wire.specs.declared.version.Version.{Version}
 use Rattle.sip_replies.specs.Protocols.{Protocol}
@@ -37,14 +39,14 @@ use Rattle.sip_verifier.proofs.NodeSizes.{nodes_short}
 use Rattle.sip_verifier.proofs.SumSizes.{sums_short}
 use Rattle.sip_verifier.proofs.TakenReplies.{AreTaken, faulty_taken, stated_taken, unfinished_taken, unjudged_taken}
 
-module _ {S : Type 0} (P : Protocol S) (query : Query) (block : List ℕ) (old new : Option (List TalkEvent)) (most : ℕ)
+module _ {S : Type 0} (P : Protocol S) (request : Message) (block : List ℕ) (old new : Option (List TalkEvent)) (most : ℕ)
     (short : (replies : List (List ℕ)) → P.unasked ≡ None → AreTaken P.rules block replies → length (joined replies) ≤ most) where
   abbrev said : List (List ℕ) → List TalkEvent
-  said replies = asked_unless P.unasked P.rules.version query block replies
+  said replies = asked_unless P.unasked P.rules.version request block replies
 
   -- what is heard in the talk of replies that were asked for
   heard_said : (replies : List (List ℕ)) → P.unasked ≡ None → length replies ≤ length block → heard (said replies) ≡ joined replies
-  heard_said replies due few = ap (λ (o : Option Answer). heard (asked_unless o P.rules.version query block replies)) due ∙ heard-asked P.rules.version query block replies few
+  heard_said replies due few = ap (λ (o : Option Answer). heard (asked_unless o P.rules.version request block replies)) due ∙ heard-asked P.rules.version request block replies few
 
   up_to_end : (replies : List (List ℕ)) (ended : List TalkEvent) → heard ended ≡ [] → P.unasked ≡ None → AreTaken P.rules block replies
       → GoesOn old new (said replies ++ ended) → HearsAtMost most old new
@@ -67,7 +69,7 @@ module _ {S : Type 0} (P : Protocol S) (query : Query) (block : List ℕ) (old n
   all_said replies answer None due accepted talk =
       up_to_end replies [] refl due (stated_taken P block replies answer (accepted_asked P block replies answer due accepted)) (subst (GoesOn old new) (sym (append-nil (said replies))) talk)
   all_said replies answer (Some known) is accepted talk =
-      ([], subst (GoesOn old new) (ap (λ (o : Option Answer). asked_unless o P.rules.version query block replies) is) talk, omega arith)
+      ([], subst (GoesOn old new) (ap (λ (o : Option Answer). asked_unless o P.rules.version request block replies) is) talk, omega arith)
 
 module _ (query : Query) (block : List ℕ) (old new : Option (List TalkEvent)) (most : ℕ) where
   -- replies of a query's kind are no longer
@@ -77,25 +79,25 @@ module _ (query : Query) (block : List ℕ) (old new : Option (List TalkEvent)) 
 
   row_answered : (row : KindRow) → ShortRow row → (replies : List (List ℕ)) (answer : Answer) → GoesOn old new (said_by_kind row (question_of query block replies))
       → Holds (λ kind. general.IsAccepted (kind.protocol block) block replies answer) row → HearsAtMost most old new
-  row_answered (built kind) short replies answer talk accepted = all_said (kind.protocol block) query block old new most short replies answer (kind.protocol block).unasked refl accepted talk
+  row_answered (built kind) short replies answer talk accepted = all_said (kind.protocol block) (messages.Query query) block old new most short replies answer (kind.protocol block).unasked refl accepted talk
   row_answered missing short replies answer talk accepted = absurd accepted
 
   row_rejected : (row : KindRow) → ShortRow row → (replies : List (List ℕ)) (fault : Fault) → GoesOn old new (said_by_kind row (question_of query block replies) ++ ending fault.reason)
       → Holds (λ kind. general.IsFaulty (kind.protocol block) block replies fault) row → HearsAtMost most old new
   row_rejected (built kind) short replies fault talk faulty =
-      up_to_end (kind.protocol block) query block old new most short replies (ending fault.reason) (heard-ending fault.reason) faulty.asked (faulty_taken (kind.protocol block) block replies fault faulty) talk
+      up_to_end (kind.protocol block) (messages.Query query) block old new most short replies (ending fault.reason) (heard-ending fault.reason) faulty.asked (faulty_taken (kind.protocol block) block replies fault faulty) talk
   row_rejected missing short replies fault talk faulty = absurd faulty
 
   row_interrupted : (row : KindRow) → ShortRow row → (replies : List (List ℕ)) (front : List TalkEvent) → GoesOn old new front → IsPrefix front (said_by_kind row (question_of query block replies))
       → Holds (λ kind. IsDue (kind.protocol block) block replies) row → HearsAtMost most old new
   row_interrupted (built kind) short replies front talk order waits =
-      a_front (kind.protocol block) query block old new most short replies front order waits.0 (unfinished_taken (kind.protocol block).rules block replies waits.1) talk
+      a_front (kind.protocol block) (messages.Query query) block old new most short replies front order waits.0 (unfinished_taken (kind.protocol block).rules block replies waits.1) talk
   row_interrupted missing short replies front talk order waits = absurd waits
 
   row_unrecorded : (row : KindRow) → ShortRow row → (replies : List (List ℕ)) (ended : List TalkEvent) → GoesOn old new (said_by_kind row (question_of query block replies) ++ ended)
       → Holds (λ kind. general.IsUnjudged (kind.protocol block) block replies ended) row → HearsAtMost most old new
   row_unrecorded (built kind) short replies ended talk unjudged =
-      up_to_end (kind.protocol block) query block old new most short replies ended (heard-ended ended unjudged.may_end) unjudged.asked (unjudged_taken (kind.protocol block) block replies ended unjudged) talk
+      up_to_end (kind.protocol block) (messages.Query query) block old new most short replies ended (heard-ended ended unjudged.may_end) unjudged.asked (unjudged_taken (kind.protocol block) block replies ended unjudged) talk
   row_unrecorded missing short replies ended talk unjudged = absurd unjudged
 
 -- heavy hitters are asked for where the total reaches the threshold

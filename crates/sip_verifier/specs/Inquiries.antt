@@ -1,4 +1,5 @@
 -- What is asked of a stream, and at which challenges.
+use Rattle.std.specs.Prelude.{List}
 use Rattle.sip_vector.specs.declared.query.Query.{Query}
 use Rattle.sip_verifier.specs.declared.task.Task.{Task}
 use Rattle.sip_verifier.specs.Draws.{drawn}
@@ -10,12 +11,16 @@ use Rattle.sip_verifier.specs.Tasks.{version_of}
 abbrev pub Inquiry : Type 0
 Inquiry = Run Query
 
--- what a run of a task asks: at the challenges that its seed gives
-abbrev pub inquiry_of : Task → Exchange → Inquiry
-inquiry_of task x = record {
+-- what is asked of a task's stream, at the challenges that its seed gives: these, of any sort
+abbrev pub run_over : {Q : Type 0} → Task → List Q → Exchange → Run Q
+run_over task queries x = record {
   version = version_of task;
   depth = task.depth;
   form = task.form;
-  queries = task.queries.items;
+  queries = queries;
   challenges = drawn task x.seed;
 }
+
+-- what a run of a task asks
+abbrev pub inquiry_of : Task → Exchange → Inquiry
+inquiry_of task x = run_over task task.queries.items x

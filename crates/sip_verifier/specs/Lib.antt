@@ -16,6 +16,7 @@ pub mod KeepClause
 pub mod Examples
 pub mod Tasks
 pub mod QuerySeats
+pub mod Weights
 pub mod Widths
 pub mod Seats
 pub mod SeatNumbers

@@ -64,7 +64,7 @@ IsUnjudged version depth stream q ended = OfKind version depth stream q.query
 -- what was said for a query by its row: nothing, where its answer is known without a reply
 abbrev pub said_by_kind : KindRow → Question → List TalkEvent
 said_by_kind (built kind) q = asked_unless (kind.protocol q.block).unasked
-    (kind.protocol q.block).rules.version q.query q.block q.replies
+    (kind.protocol q.block).rules.version (messages.Query q.query) q.block q.replies
 said_by_kind missing q = []
 
 -- what was said for a question

@@ -68,6 +68,13 @@ rejection query round reason =
     codes "rejected query " ++ decimal query ++ codes " round " ++ decimal round ++ codes " "
     ++ reason_name reason ++ 10 ∷ []
 
+-- the line of a helper that is dropped: its number, and the query's, the round and the reason of the
+-- fault; a line feed
+abbrev pub dropped : ℕ → ℕ → ℕ → Reason → List ℕ
+dropped helper query round reason =
+    codes "dropped helper " ++ decimal helper ++ codes " query " ++ decimal query
+    ++ codes " round " ++ decimal round ++ codes " " ++ reason_name reason ++ 10 ∷ []
+
 -- the report of a run whose queries were all accepted, with the answers that the stream's own
 -- vectors give
 abbrev pub report_of : ℕ → List Update → List Query → List ℕ

@@ -1,21 +1,18 @@
 -- What is seen of a session.
-use Rattle.std.specs.Prelude.{◌≡◌, ℕ, Bool, true, false, List, [], map, Some, None, Result, Ok, Err}
+use Rattle.std.specs.Prelude.{◌≡◌, ℕ, Bool, false, List, [], map, Some, None, Result, Ok, Err}
 use Rattle.sip_vector.specs.declared.query.Query.{Query}
 use Rattle.sip_vector.specs.declared.update.Entry.{Entry}
 use Rattle.sip_wire.specs.declared.version.Version.{Version}
-use Rattle.sip_verifier.specs.declared.session.SessionFault.{SessionFault}
 use Rattle.sip_verifier.specs.declared.session.SessionStart.{SessionStart}
 use Rattle.sip_verifier.specs.declared.session.SessionStart.TheVariants as starts
-use Rattle.sip_verifier.specs.declared.session.Verdict.{Verdict}
-use Rattle.sip_verifier.specs.declared.session.Verdict.TheVariants as verdicts
 use Rattle.sip_verifier.specs.QuerySeats.{Seated}
 use Rattle.sip_verifier.specs.runs.Askers.{Remaining}
 use Rattle.sip_verifier.specs.Seats.{Seating}
 use Rattle.sip_verifier.specs.Widths.{first_wide_seat}
 
--- The version of the talk, the depth, the seats whose queries were not asked yet, the entries of
--- the last answer of pairs, and whether the session is over before its time: a call failed, or
--- replies were rejected.
+-- The version of the talk, the depth, the seats whose queries were neither asked nor passed over
+-- yet, the entries of the last answer of pairs, and whether a call failed: then nothing more is
+-- asked. Replies that were rejected leave the next query to be asked.
 pub record Sitting : Type 0 where
   pub version : Version
   pub depth : ℕ
@@ -35,12 +32,6 @@ remaining_of s = record {
   left = asks_left s.left;
   spent = s.spent;
 }
-
--- the session is over with this verdict, or with this fault
-abbrev pub is_over : Result Verdict SessionFault → Bool
-is_over (Ok (verdicts.Rejected round reason)) = true
-is_over (Ok _) = false
-is_over (Err _) = true
 
 -- A session has all seats to ask and shows no entries yet; or this query is the first whose answer
 -- may be too wide; or there is no memory for it.

@@ -6,6 +6,7 @@ pub mod TalkClause
 pub mod CauseClause
 pub mod CountClause
 pub mod CompletenessClause
+pub mod Promises
 pub mod Asking
 pub mod Progress
 pub mod Concluding

@@ -1,6 +1,6 @@
 //! What asks the questions of a run, in whatever manner.
 
-ghost use Rattle.std.specs.Prelude.{◌≡◌, ◌<◌, ℕ, List, length, Err, false, is_err};
+ghost use Rattle.std.specs.Prelude.{◌≡◌, ◌⊎◌, ◌<◌, ℕ, List, length, Err, false};
 
 use crate::session::SessionFault;
 use sip_ports::{Link, PortStop, Sink};
@@ -25,7 +25,7 @@ pub trait Asker {
     ghost use Rattle.sip_ports.specs.Ports.{HasCause, Lasts, Rose, SendsWhole};
     ghost use Rattle.sip_vector.specs.declared.update.Update.{Update as AnyUpdate};
     ghost use Rattle.sip_wire.specs.declared.version.Version.{Version as AnyVersion};
-    ghost use Rattle.sip_verifier.specs.runs.Askers.{Asks, IsFirst, KeepsAsked, Remaining, behind};
+    ghost use Rattle.sip_verifier.specs.runs.Askers.{Asks, IsFirst, KeepsAsked, Remaining, behind, has_failed};
     ghost use Rattle.sip_verifier.specs.runs.Manners.{Asking, Question};
 
     /// An answer that was accepted, so that its line can be written.
@@ -60,8 +60,8 @@ pub trait Asker {
     ///
     /// # Errors
     ///
-    /// `Rejected` with the first fault of the replies; the others are those of the ports, each only
-    /// where that port's own count of them rose. It is over then.
+    /// `Rejected` with the first fault of the replies; the next query may be asked then. The others
+    /// are those of the ports, each only where that port's own count of them rose. It is over then.
     fn ask_next<L: Link, C: Sink>(
         &mut self,
         link: &mut L,
@@ -75,13 +75,16 @@ pub trait Asker {
             (L.talk link.old) (L.talk link.new) (λ given. states self.new given ask.0) result }
         ensures stands { (stream : List AnyUpdate) → stands stream self.old
             → stands stream self.new }
-        ensures remaining { remaining self.new ≡ behind (is_err result) (remaining self.old) }
+        ensures remaining { remaining self.new ≡ behind (has_failed result) (remaining self.old) }
         ensures kept { KeepsAsked (L.talk link.old) (L.talk link.new) (C.talk keep.old)
             (C.talk keep.new) (remaining self.old).version result }
         ensures cause { result ≡ Err (Unanswered.Fault SessionFault.PeerFault)
             → Rose (L.faults link.old) (L.faults link.new) }
         ensures keep_cause { result ≡ Err (Unanswered.Fault SessionFault.KeepFault)
             → Rose (C.faults keep.old) (C.faults keep.new) }
+        ensures memory { result ≡ Err (Unanswered.Fault SessionFault.OutOfMemory)
+            → Rose (L.wants link.old) (L.wants link.new)
+            ⊎ Rose (C.wants keep.old) (C.wants keep.new) }
         ensures link { Lasts L.faults L.wants L.is_sure link.old link.new }
         ensures keep { Lasts C.faults C.wants C.is_sure keep.old keep.new };
 

@@ -68,7 +68,7 @@ pub(crate) fn ask_seat<L: Link, C: Sink>(
             let levels = root.seat.depth();
             prove!(levels <= CAP);
             let mut check = SubAsking::start(root, *lo, *hi);
-            ask(&mut check, version, seat.query, entries, frame, link, keep)
+            ask(&mut check, version, &seat.query, entries, frame, link, keep)
         }
         (Query::Range { lo, hi, .. }, Running::Point(point)) => {
             let interval = interval_at(&point.seat, *lo, *hi);
@@ -140,7 +140,7 @@ fn ask_heavy<L: Link, C: Sink>(
         unreachable!()
     };
     let mut check = HeavyAsking::start(root, at_least, lent);
-    let asked = ask(&mut check, version, seat.query, entries, frame, link, keep);
+    let asked = ask(&mut check, version, &seat.query, entries, frame, link, keep);
     *space = Some(check.into_space());
     asked
 }
@@ -177,7 +177,7 @@ fn ask_sum<L: Link, C: Sink>(
         → Rose (C.wants keep.old) (C.wants keep.new) }
 {
     let mut check = SumAsking::start(seat.block(), product);
-    ask(&mut check, version, seat.query, entries, frame, link, keep)
+    ask(&mut check, version, &seat.query, entries, frame, link, keep)
 }
 
 /// How many of so many places have pairs of the answer.

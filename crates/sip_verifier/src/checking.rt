@@ -1,7 +1,7 @@
 //! A whole run of the verifier.
 
 ghost use Rattle.std.specs.Prelude.{◌≡◌, ◌⊎◌, ◌≤◌, ℕ, List, Ok, Err, false, length, map, All, IfOk, MatchResult};
-ghost use Rattle.sip_ports.specs.Ports.{Lasts};
+ghost use Rattle.sip_ports.specs.Ports.{Lasts, Rose};
 ghost use Rattle.sip_vector.specs.declared.update.Update.{Update as AnyUpdate};
 ghost use Rattle.sip_wire.specs.Table.{most_queries};
 ghost use Rattle.sip_wire.specs.Versions.{Speaks};
@@ -22,7 +22,7 @@ ghost use Rattle.sip_verifier.specs.Tasks.{CanBeDone};
 use crate::concluding::conclude_run;
 use crate::ending::status_of_start;
 use crate::gathering::gather_into;
-use crate::{Seats, Session, Status, Task};
+use crate::{Seats, Session, Status, Task, Weights};
 use sip_ports::{Link, Sink, Source};
 use sip_vector::{Depth, Query};
 use sip_wire::Version;
@@ -32,7 +32,7 @@ use std::mem;
 /// The session of the seats that were gathered, if they were. These are taken from where they stand:
 /// they are large, and an argument would be a second place for them on the stack of the run.
 #[inline(never)]
-fn open(
+pub fn open(
     alloc: Global,
     version: Version,
     gathered: &mut Result<Seats, Status>,
@@ -62,7 +62,8 @@ fn open(
 /// # Errors
 ///
 /// How the run ends: `Rejected`, behind the line of the rejection; `WriteFault` of the report, behind a front of a line; `WriteFault`
-/// of `keep` and `PeerFault`, behind the lines before. `OutOfMemory` is one of these three. The session is spent then.
+/// of `keep` and `PeerFault`, behind the lines before. `OutOfMemory` is one of these three, and comes only where a port that it was
+/// given wanted memory.
 #[inline(never)]
 pub fn conclude<L: Link, K: Sink, C: Sink>(
     session: &mut Session,
@@ -88,6 +89,9 @@ pub fn conclude<L: Link, K: Sink, C: Sink>(
         (counts first second (L.faults peer.old) (K.faults report.old) (C.faults keep.old))
         (counts firsts seconds (L.faults peer.new) (K.faults report.new) (C.faults keep.new))
         result }
+    ensures memory { result ≡ Err Status.OutOfMemory → Rose (L.wants peer.old) (L.wants peer.new)
+        ⊎ Rose (K.wants report.old) (K.wants report.new)
+        ⊎ Rose (C.wants keep.old) (C.wants keep.new) }
     ensures peer { Lasts L.faults L.wants L.is_sure peer.old peer.new }
     ensures report { Lasts K.faults K.wants K.is_sure report.old report.new }
     ensures keep { Lasts C.faults C.wants C.is_sure keep.old keep.new }
@@ -126,7 +130,15 @@ fn steps<A: Source, B: Source, L: Link, K: Sink, C: Sink>(
     let version = task.version();
     // Nothing is gathered yet. What is stays here until the session has it.
     let mut gathered = Err(Status::SeedSpent);
-    gather_into(task, first, second, peer, keep, &mut gathered);
+    gather_into(
+        task,
+        first,
+        second,
+        peer,
+        keep,
+        &mut gathered,
+        &mut Weights::default(),
+    );
     let mut session = open(alloc, version, &mut gathered)?;
     conclude(&mut *session, &task.queries, peer, report, keep)
 }

@@ -1,7 +1,7 @@
 //! All queries of a run, asked and reported.
 
-ghost use Rattle.std.specs.Prelude.{◌≡◌, ◌<◌, ◌≤◌, ℕ, List, false, length, OnOk};
-ghost use Rattle.sip_ports.specs.Ports.{Lasts};
+ghost use Rattle.std.specs.Prelude.{◌≡◌, ◌⊎◌, ◌<◌, ◌≤◌, ℕ, List, false, length, Err, OnOk};
+ghost use Rattle.sip_ports.specs.Ports.{Lasts, Rose};
 ghost use Rattle.sip_vector.specs.declared.update.Update.{Update as AnyUpdate};
 ghost use Rattle.sip_wire.specs.Table.{most_queries};
 ghost use Rattle.sip_verifier.specs.Exchanges.{Exchange};
@@ -45,6 +45,9 @@ fn check_next<Q: Asker, L: Link, K: Sink, C: Sink>(
         (counts first second (L.faults peer.old) (K.faults report.old) (C.faults keep.old))
         (counts firsts seconds (L.faults peer.new) (K.faults report.new) (C.faults keep.new))
         result }
+    ensures memory { result ≡ Err Status.OutOfMemory → Rose (L.wants peer.old) (L.wants peer.new)
+        ⊎ Rose (K.wants report.old) (K.wants report.new)
+        ⊎ Rose (C.wants keep.old) (C.wants keep.new) }
     ensures peer { Lasts L.faults L.wants L.is_sure peer.old peer.new }
     ensures report { Lasts K.faults K.wants K.is_sure report.old report.new }
     ensures keep { Lasts C.faults C.wants C.is_sure keep.old keep.new }
@@ -87,6 +90,9 @@ fn check_all<Q: Asker, L: Link, K: Sink, C: Sink>(
         (counts first second (L.faults peer.old) (K.faults report.old) (C.faults keep.old))
         (counts firsts seconds (L.faults peer.new) (K.faults report.new) (C.faults keep.new))
         result }
+    ensures memory { result ≡ Err Status.OutOfMemory → Rose (L.wants peer.old) (L.wants peer.new)
+        ⊎ Rose (K.wants report.old) (K.wants report.new)
+        ⊎ Rose (C.wants keep.old) (C.wants keep.new) }
     ensures peer { Lasts L.faults L.wants L.is_sure peer.old peer.new }
     ensures report { Lasts K.faults K.wants K.is_sure report.old report.new }
     ensures keep { Lasts C.faults C.wants C.is_sure keep.old keep.new }
@@ -109,7 +115,7 @@ fn check_all<Q: Asker, L: Link, K: Sink, C: Sink>(
 ///
 /// How the run ends: `Rejected`, behind the line of the rejection; `WriteFault` of the report,
 /// behind a front of a line; `WriteFault` of `keep` and `PeerFault`, behind the lines before.
-/// `OutOfMemory` is one of these three. The asker is over then.
+/// `OutOfMemory` is one of these three, and comes only where a port that it was given wanted memory.
 #[inline(never)]
 pub fn conclude_run<Q: Asker, L: Link, K: Sink, C: Sink>(
     asker: &mut Q,
@@ -132,6 +138,9 @@ pub fn conclude_run<Q: Asker, L: Link, K: Sink, C: Sink>(
         (counts first second (L.faults peer.old) (K.faults report.old) (C.faults keep.old))
         (counts firsts seconds (L.faults peer.new) (K.faults report.new) (C.faults keep.new))
         result }
+    ensures memory { result ≡ Err Status.OutOfMemory → Rose (L.wants peer.old) (L.wants peer.new)
+        ⊎ Rose (K.wants report.old) (K.wants report.new)
+        ⊎ Rose (C.wants keep.old) (C.wants keep.new) }
     ensures peer { Lasts L.faults L.wants L.is_sure peer.old peer.new }
     ensures report { Lasts K.faults K.wants K.is_sure report.old report.new }
     ensures keep { Lasts C.faults C.wants C.is_sure keep.old keep.new }

@@ -8,8 +8,8 @@ use crate::session::{SessionFault, SessionStart};
 use crate::{Port, Status};
 use sip_ports::PortStop;
 
-/// What a write to the report gave.
-pub(crate) fn on_report(written: Result<(), PortStop>) -> Result<(), Status>
+/// What a write to the report gave, with the status of a run that stopped there.
+pub fn on_report(written: Result<(), PortStop>) -> Result<(), Status>
     ensures { MatchResult result (λ x. written ≡ Ok x)
         (λ status. (port : AnyPortStop) × (written ≡ Err port) × (status ≡ status_of_report port)) }
 {
@@ -32,8 +32,8 @@ pub(crate) fn on_keep(written: Result<(), PortStop>) -> Result<(), Status>
     }
 }
 
-/// What sending on the link gave.
-pub(crate) fn on_link(sent: Result<(), PortStop>) -> Result<(), Status>
+/// What sending on the link gave, with the status of a run that stopped there.
+pub fn on_link(sent: Result<(), PortStop>) -> Result<(), Status>
     ensures { MatchResult result (λ x. sent ≡ Ok x)
         (λ status. (port : AnyPortStop) × (sent ≡ Err port) × (status ≡ status_of_link port)) }
 {
@@ -55,7 +55,7 @@ pub(crate) fn status_of_start(start: SessionStart) -> Status
 }
 
 /// The status of a run whose query has no verdict.
-pub(crate) fn status_of_fault(fault: SessionFault) -> Status
+pub fn status_of_fault(fault: SessionFault) -> Status
     ensures { result ≡ status_of_fault fault }
 {
     match fault {

@@ -164,6 +164,29 @@ impl Feed {
         sent
     }
 
+    /// Sends the updates that wait as a frame, in one write. They go on waiting, so that another sink can have them too.
+    ///
+    /// # Errors
+    ///
+    /// Those of the sink, which a front of the frame has then reached that is shorter than it.
+    pub fn copy_to<K: Sink>(&self, sink: &mut K) -> Result<(), PortStop>
+        requires some { 0 < length self.now.waiting }
+        ensures talk { SendsWhole (K.talk sink.old) (K.talk sink.new) result
+            (spelling self.now.version (messages.Updates (record { items = self.now.waiting }))) }
+        ensures cause { HasCause K.faults K.wants K.is_sure sink.old sink.new result }
+    {
+        encode_updates(&self.rows[..self.count], self.version, sink)
+    }
+
+    /// Nothing waits any more.
+    pub fn clear(&mut self)
+        ensures waiting { self.new.waiting ≡ [] }
+        ensures version { self.new.version ≡ self.old.version }
+        ensures spent { self.new.is_spent ≡ self.old.is_spent }
+    {
+        self.count = 0;
+    }
+
     /// Takes one more update of the stream, and sends a frame as soon as it is full, in one write: [`push`](Feed::push), and then
     /// [`send`](Feed::send) where those that wait fill a frame.
     ///

@@ -16,20 +16,21 @@ ghost use Rattle.sip_verifier.specs.QuerySeats.{HaveRoom};
 ghost use Rattle.sip_verifier.specs.Seats.{AreSeats};
 ghost use Rattle.std.specs.Result.{is_err};
 ghost use Rattle.sip_verifier.specs.Exchanges.{TakesAtMost};
-ghost use Rattle.sip_verifier.specs.Gathering.{AreOf, Gathers, PassesOn};
+ghost use Rattle.sip_verifier.specs.Gathering.{AreOf, Gathers, PassesOn, legal};
 ghost use Rattle.sip_verifier.specs.Keeping.{KeepsHead};
 ghost use Rattle.sip_verifier.specs.Moments.{counts};
 ghost use Rattle.sip_verifier.specs.Statuses.{Stops, stops_following, stops_gathering};
 ghost use Rattle.sip_verifier.specs.Tasks.{CanBeDone};
+ghost use Rattle.sip_verifier.specs.Weights.{AreWeights};
 
 use crate::ending::{on_keep, on_link};
-use crate::{Feed, Port, Seats, Status, Task};
+use crate::{Feed, Port, Seats, Status, Task, Weights};
 use sip_ports::{Link, PortStop, Sink, Source, read_exact_into};
 use sip_stream::{Reader, StreamFault};
-use sip_vector::{Depth, Update};
+use sip_vector::{Depth, Side, Update};
 
-/// What reading a record gave.
-fn on_stream(read: Result<Option<Update>, StreamFault>) -> Result<Option<Update>, Status>
+/// What reading a record of the stream gave, with the status of a run that stopped there.
+pub fn on_stream(read: Result<Option<Update>, StreamFault>) -> Result<Option<Update>, Status>
     ensures { MatchResult result (λ next. read ≡ Ok next)
         (λ status. (fault : AnyStreamFault) × (read ≡ Err fault)
         × (status ≡ status_of_stream fault)) }
@@ -45,7 +46,7 @@ fn on_stream(read: Result<Option<Update>, StreamFault>) -> Result<Option<Update>
 /// Reads 32 bytes of a seed, draws the challenges of a task from them, and leaves the seats in
 /// `drawn`.
 #[inline(never)]
-fn draw<B: Source>(
+pub fn draw<B: Source>(
     task: &Task,
     second: &mut B,
     drawn: &mut Result<Seats, Status>,
@@ -122,6 +123,54 @@ fn pass_on<K: Sink>(
     feed.send(peer)
 }
 
+/// [`follow`], which also leaves the weights of the stream's sides in `weights`, where it was read to
+/// its end.
+#[inline(never)]
+pub fn follow_weighed<A: Source, K: Sink>(
+    task: &Task,
+    seats: &mut Seats,
+    first: &mut A,
+    peer: &mut K,
+    weights: &mut Weights,
+) -> Result<(), Status>
+    requires { AreOf task.now [] seats.old }
+    ensures passes_on { (bytes : List ℕ) (at_blocks : List (List ℕ)) → A.left first.old ≡ Some bytes
+        → AreSeats task.now.depth task.now.queries.items at_blocks [] seats.old
+        → PassesOn task.now bytes at_blocks (A.left first.new) (K.talk peer.old)
+        (K.talk peer.new) seats.new result }
+    ensures seats { IfOk result (λ _. (stream : List AnyUpdate) × AreOf task.now stream seats.new) }
+    ensures weights { (bytes : List ℕ) → A.left first.old ≡ Some bytes
+        → OnOk result (AreWeights (legal task.now bytes) weights.new) }
+    ensures fault { (second seconds report reports keep keeps : ℕ) → Stops stops_following
+        (counts (A.faults first.old) second (K.faults peer.old) report keep)
+        (counts (A.faults first.new) seconds (K.faults peer.new) reports keeps) result }
+    ensures memory { result ≡ Err Status.OutOfMemory
+        → Rose (A.wants first.old) (A.wants first.new)
+        ⊎ Rose (K.wants peer.old) (K.wants peer.new) }
+    ensures told { IsSome (A.left first.old) → IsSome (A.left first.new) }
+    ensures first { Lasts A.faults A.wants A.is_sure first.old first.new }
+    ensures peer { Lasts K.faults K.wants K.is_sure peer.old peer.new }
+{
+    let levels = task.depth.get();
+    prove!(levels <= Depth::MOST);
+    let mut place = None;
+    let feed = Feed::new_in(&mut place, task.version());
+    on_link(feed.begin(peer, task.depth))?;
+    let mut reader = Reader::new(task.depth, task.form);
+    while let Some(update) = on_stream(reader.next(first))? {
+        on_link(pass_on(&update, feed, seats, peer))?;
+        feed.take_held(&mut reader, first);
+    }
+    let rest = feed.waiting();
+    seats.update_all(rest);
+    on_link(feed.finish(peer))?;
+    *weights = Weights {
+        first: reader.weight(Side::First),
+        second: reader.weight(Side::Second),
+    };
+    Ok(())
+}
+
 /// Opens the talk, reads the stream of `first` to its end, sends it on over `peer` and adds it to the seats. Nothing is heard, so a
 /// sink is enough. There is no allocator: see [`gather`], which draws the seats before.
 ///
@@ -153,20 +202,7 @@ pub fn follow<A: Source, K: Sink>(
     ensures first { Lasts A.faults A.wants A.is_sure first.old first.new }
     ensures peer { Lasts K.faults K.wants K.is_sure peer.old peer.new }
 {
-    let levels = task.depth.get();
-    prove!(levels <= Depth::MOST);
-    let mut place = None;
-    let feed = Feed::new_in(&mut place, task.version());
-    on_link(feed.begin(peer, task.depth))?;
-    let mut reader = Reader::new(task.depth, task.form);
-    while let Some(update) = on_stream(reader.next(first))? {
-        on_link(pass_on(&update, feed, seats, peer))?;
-        feed.take_held(&mut reader, first);
-    }
-    let rest = feed.waiting();
-    seats.update_all(rest);
-    on_link(feed.finish(peer))?;
-    Ok(())
+    follow_weighed(task, seats, first, peer, &mut Weights::default())
 }
 
 /// All steps of `gather`. The seats are left in `gathered`, as they are where the steps stop.
@@ -177,6 +213,7 @@ fn lead<A: Source, B: Source, L: Link, C: Sink>(
     peer: &mut L,
     keep: &mut C,
     gathered: &mut Result<Seats, Status>,
+    weights: &mut Weights,
 ) -> Result<(), Status>
     requires { CanBeDone task.now }
     ensures gathers { (bytes seed : List ℕ) → A.left first.old ≡ Some bytes
@@ -197,6 +234,8 @@ fn lead<A: Source, B: Source, L: Link, C: Sink>(
         ⊎ Rose (C.wants keep.old) (C.wants keep.new) }
     ensures seated { IfOk (left gathered.new result) (λ seats. (seats.depth ≡ task.now.depth)
         × (map (λ s. s.query) seats.seats ≡ task.now.queries.items)) }
+    ensures weights { (bytes : List ℕ) → A.left first.old ≡ Some bytes
+        → IfOk (left gathered.new result) (λ _. AreWeights (legal task.now bytes) weights.new) }
     ensures told { IsSome (A.left first.old) → IsSome (A.left first.new) }
     ensures also_told { IsSome (B.left second.old) → IsSome (B.left second.new) }
     ensures seed { TakesAtMost 32 (B.left second.old) (B.left second.new) }
@@ -208,13 +247,14 @@ fn lead<A: Source, B: Source, L: Link, C: Sink>(
     draw(task, second, gathered)?;
     if let Ok(seats) = gathered {
         on_keep(seats.put_transcript_head(keep))?;
-        follow(task, seats, first, peer)?;
+        follow_weighed(task, seats, first, peer, weights)?;
     }
     Ok(())
 }
 
 /// [`gather`], but what that answers is left in `gathered`, whatever stood there. So the seats stay
-/// where they were drawn: they are too large to be moved about.
+/// where they were drawn: they are too large to be moved about. The weights of the stream are left in
+/// `weights`.
 #[inline(never)]
 pub(crate) fn gather_into<A: Source, B: Source, L: Link, C: Sink>(
     task: &Task,
@@ -223,6 +263,7 @@ pub(crate) fn gather_into<A: Source, B: Source, L: Link, C: Sink>(
     peer: &mut L,
     keep: &mut C,
     gathered: &mut Result<Seats, Status>,
+    weights: &mut Weights,
 )
     requires { CanBeDone task.now }
     ensures gathers { (bytes seed : List ℕ) → A.left first.old ≡ Some bytes
@@ -243,6 +284,8 @@ pub(crate) fn gather_into<A: Source, B: Source, L: Link, C: Sink>(
         ⊎ Rose (C.wants keep.old) (C.wants keep.new) }
     ensures seated { IfOk gathered.new (λ seats. (seats.depth ≡ task.now.depth)
         × (map (λ s. s.query) seats.seats ≡ task.now.queries.items)) }
+    ensures weights { (bytes : List ℕ) → A.left first.old ≡ Some bytes
+        → IfOk gathered.new (λ _. AreWeights (legal task.now bytes) weights.new) }
     ensures told { IsSome (A.left first.old) → IsSome (A.left first.new) }
     ensures also_told { IsSome (B.left second.old) → IsSome (B.left second.new) }
     ensures seed { TakesAtMost 32 (B.left second.old) (B.left second.new) }
@@ -251,9 +294,55 @@ pub(crate) fn gather_into<A: Source, B: Source, L: Link, C: Sink>(
     ensures peer { Lasts L.faults L.wants L.is_sure peer.old peer.new }
     ensures keep { Lasts C.faults C.wants C.is_sure keep.old keep.new }
 {
-    if let Err(status) = lead(task, first, second, peer, keep, gathered) {
+    if let Err(status) = lead(task, first, second, peer, keep, gathered, weights) {
         *gathered = Err(status);
     }
+}
+
+/// [`gather`], which also leaves the weights of the stream's sides in `weights`, where it was read to
+/// its end.
+#[inline(never)]
+pub fn gather_weighed<A: Source, B: Source, L: Link, C: Sink>(
+    task: &Task,
+    first: &mut A,
+    second: &mut B,
+    peer: &mut L,
+    keep: &mut C,
+    weights: &mut Weights,
+) -> Result<Seats, Status>
+    requires { CanBeDone task.now }
+    ensures gathers { (bytes seed : List ℕ) → A.left first.old ≡ Some bytes
+        → B.left second.old ≡ Some seed
+        → Gathers task.now bytes seed (A.left first.new) (L.talk peer.old)
+        (L.talk peer.new) result }
+    ensures kept { (seed : List ℕ) → B.left second.old ≡ Some seed
+        → KeepsHead task.now seed (C.talk keep.old) (C.talk keep.new) result }
+    ensures fault { (report reports : ℕ) → Stops stops_gathering
+        (counts (A.faults first.old) (B.faults second.old) (L.faults peer.old) report
+        (C.faults keep.old))
+        (counts (A.faults first.new) (B.faults second.new) (L.faults peer.new) reports
+        (C.faults keep.new)) result }
+    ensures memory { result ≡ Err Status.OutOfMemory
+        → Rose (A.wants first.old) (A.wants first.new)
+        ⊎ Rose (B.wants second.old) (B.wants second.new)
+        ⊎ Rose (L.wants peer.old) (L.wants peer.new)
+        ⊎ Rose (C.wants keep.old) (C.wants keep.new) }
+    ensures seated { IfOk result (λ seats. (seats.depth ≡ task.now.depth)
+        × (map (λ s. s.query) seats.seats ≡ task.now.queries.items)) }
+    ensures weights { (bytes : List ℕ) → A.left first.old ≡ Some bytes
+        → IfOk result (λ _. AreWeights (legal task.now bytes) weights.new) }
+    ensures told { IsSome (A.left first.old) → IsSome (A.left first.new) }
+    ensures also_told { IsSome (B.left second.old) → IsSome (B.left second.new) }
+    ensures seed { TakesAtMost 32 (B.left second.old) (B.left second.new) }
+    ensures first { Lasts A.faults A.wants A.is_sure first.old first.new }
+    ensures second { Lasts B.faults B.wants B.is_sure second.old second.new }
+    ensures peer { Lasts L.faults L.wants L.is_sure peer.old peer.new }
+    ensures keep { Lasts C.faults C.wants C.is_sure keep.old keep.new }
+{
+    // Nothing is drawn yet.
+    let mut gathered = Err(Status::SeedSpent);
+    gather_into(task, first, second, peer, keep, &mut gathered, weights);
+    gathered
 }
 
 /// Draws the challenges from 32 bytes of `second`, writes the head of the run's transcript to `keep`, opens the talk, reads the
@@ -303,8 +392,5 @@ pub fn gather<A: Source, B: Source, L: Link, C: Sink>(
     ensures peer { Lasts L.faults L.wants L.is_sure peer.old peer.new }
     ensures keep { Lasts C.faults C.wants C.is_sure keep.old keep.new }
 {
-    // Nothing is drawn yet.
-    let mut gathered = Err(Status::SeedSpent);
-    gather_into(task, first, second, peer, keep, &mut gathered);
-    gathered
+    gather_weighed(task, first, second, peer, keep, &mut Weights::default())
 }

@@ -11,6 +11,7 @@ ghost use Rattle.sip_verifier.specs.Draws.{blocks};
 ghost use Rattle.sip_verifier.specs.Examples.{whole_talk, one_query, one_share, two_queries, share_head, transcript_head};
 ghost use Rattle.sip_verifier.specs.Transcripts.{transcript_of};
 ghost use Rattle.sip_ports.specs.Ports.{heard};
+ghost use Rattle.sip_wire.specs.declared.message.Message.TheVariants as messages;
 ghost use Rattle.sip_wire.specs.declared.message.Reason.TheVariants as reasons;
 ghost use Rattle.sip_wire.specs.declared.version.Version.TheVariants.{One, Two};
 ghost use Rattle.sip_verifier.specs.ReplyBound.{most_bytes};
@@ -20,8 +21,8 @@ ghost use Rattle.sip_verifier.specs.Talks.{stream_sent, update_frames, whole_fra
 
 /// A whole talk of one query is these bytes in this order.
 pub fn talk_of_one_query()
-    ensures { stream_sent One 2 stream ++ asked One (queries.Sub 1 2) (2 ∷ 10 ∷ [])
-        (reply_0 One ∷ reply_1 ∷ []) ++ bye_sent One ≡ whole_talk }
+    ensures { stream_sent One 2 stream ++ asked One (messages.Query (queries.Sub 1 2))
+        (2 ∷ 10 ∷ []) (reply_0 One ∷ reply_1 ∷ []) ++ bye_sent One ≡ whole_talk }
 {}
 
 /// The transcript of that run is a head of 35 bytes, and the replies: 76 bytes in all. Where a share

@@ -4,7 +4,7 @@ ghost use Rattle.std.specs.Prelude.{◌≡◌, ℕ, ◌+◌, ◌<◌, ◌≤◌,
 ghost use Rattle.arrayvec.specs.ArrayVec.{array_vec_len};
 ghost use Rattle.sip_ports.specs.Ports.{GoesOn, HasCause, SendsWhole, outs};
 ghost use Rattle.sip_vector.specs.Answers.{pairs, number};
-ghost use Rattle.sip_verifier.specs.Reports.{line, pair_text, parameter, query_word, reason_name, rejection, side_parameter};
+ghost use Rattle.sip_verifier.specs.Reports.{dropped, line, pair_text, parameter, query_word, reason_name, rejection, side_parameter};
 
 use arrayvec::ArrayVec;
 use itoa::Buffer;
@@ -219,4 +219,41 @@ pub(crate) fn write_rejection<K: Sink>(
     ensures cause { HasCause K.faults K.wants K.is_sure sink.old sink.new result }
 {
     write_whole(sink, rejection_line(query, round, reason).as_slice())
+}
+
+// The line of a helper that is dropped.
+fn dropped_line(helper: u8, query: u8, round: u8, reason: Reason) -> ArrayVec<u8, ROOM>
+    ensures { result.items ≡ dropped helper query round reason }
+{
+    let mut gathered = ArrayVec::new();
+    put(&mut gathered, b"dropped helper ");
+    put_number(&mut gathered, helper as u64);
+    put(&mut gathered, b" query ");
+    put_number(&mut gathered, query as u64);
+    put(&mut gathered, b" round ");
+    put_number(&mut gathered, round as u64);
+    put(&mut gathered, b" ");
+    put_reason(&mut gathered, reason);
+    put(&mut gathered, b"\n");
+    gathered
+}
+
+/// Writes the line of a helper that is dropped, `dropped helper I query K round J REASON`, in one piece and without memory beyond a
+/// fixed buffer. Helpers and queries are numbered from 1.
+///
+/// # Errors
+///
+/// Those of the sink, which a front of the line has then reached that is shorter than it.
+pub fn write_dropped<K: Sink>(
+    sink: &mut K,
+    helper: u8,
+    query: u8,
+    round: u8,
+    reason: Reason,
+) -> Result<(), PortStop>
+    ensures talk { SendsWhole (K.talk sink.old)
+        (K.talk sink.new) result (dropped helper query round reason) }
+    ensures cause { HasCause K.faults K.wants K.is_sure sink.old sink.new result }
+{
+    write_whole(sink, dropped_line(helper, query, round, reason).as_slice())
 }

@@ -1,6 +1,6 @@
 //! The queries of a run, asked one after another.
 
-ghost use Rattle.std.specs.Prelude.{◌≡◌, ◌≢◌, ◌⊎◌, ◌<◌, ◌≤◌, ◌^◌, All, ℕ, List, [], ◌∷◌, true, false, length, drop, vec_len, IsTrue, MatchResult, Ok, Err};
+ghost use Rattle.std.specs.Prelude.{◌≡◌, ◌≢◌, ◌⊎◌, ◌<◌, ◌≤◌, ◌^◌, All, ℕ, List, [], ◌∷◌, true, false, length, drop, vec_len, IsTrue, MatchResult, Ok, Err, is_err};
 ghost use Rattle.std.specs.List.{list_all};
 ghost use Rattle.sip_ports.specs.Ports.{Lasts, Rose};
 ghost use Rattle.sip_vector.specs.declared.query.Query.{Query as AnyQuery};
@@ -16,7 +16,7 @@ ghost use Rattle.sip_verifier.specs.QuerySeats.{Seated, is_seat};
 ghost use Rattle.sip_verifier.specs.ReplyBound.{ReplyBound};
 ghost use Rattle.sip_verifier.specs.Widths.{first_wide_seat};
 ghost use Rattle.sip_wire.specs.Table.{most_queries};
-ghost use Rattle.sip_verifier.specs.Sittings.{Starts, is_over};
+ghost use Rattle.sip_verifier.specs.Sittings.{Starts};
 
 use crate::Seats;
 use crate::asking::{ask_seat, found_in, verdict_of};
@@ -65,7 +65,7 @@ pub enum SessionFault {
 pub struct Session {
     seats: Seats,
     version: Version,
-    // The number of queries that were asked.
+    // The number of queries that were asked or passed over.
     asked: usize,
     frame: Frame,
     // Room for the entries of an answer, of which the first `found` are those of the last one.
@@ -213,7 +213,7 @@ impl Session {
         seat.query
     }
 
-    /// How many queries were not asked yet.
+    /// How many queries were neither asked nor passed over yet.
     pub fn left(&self) -> usize
         ensures { result ≡ length self.now.left }
     {
@@ -244,7 +244,7 @@ impl Session {
         ensures next { self.new.left ≡ drop 1 self.old.left }
         ensures version { self.new.version ≡ self.old.version }
         ensures depth { self.new.depth ≡ self.old.depth }
-        ensures spent { self.new.spent ≡ is_over result }
+        ensures spent { self.new.spent ≡ is_err result }
         ensures cleared { result ≢ Ok Verdict.Pairs → self.new.entries ≡ [] }
         ensures cause { result ≡ Err SessionFault.PeerFault
             → Rose (L.faults link.old) (L.faults link.new) }
@@ -271,8 +271,9 @@ impl Session {
         );
         self.asked += 1;
         self.found = found_in(self.entries.len(), &asked);
-        self.is_spent = asked.is_err();
-        verdict_of(asked)
+        let verdict = verdict_of(asked);
+        self.is_spent = verdict.is_err();
+        verdict
     }
 
     /// Asks the next query, takes the replies and judges them.
@@ -287,7 +288,7 @@ impl Session {
     ///
     /// `PeerFault`: a reply is then missing or not whole, and those before it have no fault. `KeepFault`: what came of the last reply
     /// was not judged. `OutOfMemory` is the one or the other. Each comes only where that port's own count of them rose. After an error
-    /// or a rejection the session is spent.
+    /// the session is spent; after a rejection the next query may be asked.
     pub fn ask<L: Link, C: Sink>(
         &mut self,
         link: &mut L,
@@ -311,7 +312,7 @@ impl Session {
         ensures next { self.new.left ≡ drop 1 self.old.left }
         ensures version { self.new.version ≡ self.old.version }
         ensures depth { self.new.depth ≡ self.old.depth }
-        ensures spent { self.new.spent ≡ is_over result }
+        ensures spent { self.new.spent ≡ is_err result }
         ensures cleared { result ≢ Ok Verdict.Pairs → self.new.entries ≡ [] }
         ensures cause { result ≡ Err SessionFault.PeerFault
             → Rose (L.faults link.old) (L.faults link.new) }
@@ -326,5 +327,19 @@ impl Session {
         ensures keep { Lasts C.faults C.wants C.is_sure keep.old keep.new }
     {
         self.judge(link, keep)
+    }
+
+    /// Passes over the next query: nothing is said for it, and its challenges stay unused.
+    pub fn skip(&mut self)
+        requires left { 0 < length self.old.left }
+        ensures next { self.new.left ≡ drop 1 self.old.left }
+        ensures version { self.new.version ≡ self.old.version }
+        ensures depth { self.new.depth ≡ self.old.depth }
+        ensures entries { self.new.entries ≡ self.old.entries }
+        ensures spent { self.new.spent ≡ self.old.spent }
+    {
+        let count = self.seats.all().len();
+        prove!(self.asked < count);
+        self.asked += 1;
     }
 }

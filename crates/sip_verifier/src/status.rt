@@ -57,6 +57,10 @@ pub enum Status {
     TooWide {
         query: u8,
     },
+    /// The side of this question's moment may have a moment that is too high for a claim.
+    TooHigh {
+        query: u8,
+    },
     /// Reading this port failed.
     ReadFault {
         port: Port,

@@ -86,7 +86,7 @@ pub fn ask_sub<L: Link, C: Sink>(
     };
     let mut check = SubAsking::start(root, lo, hi);
     let query = Query::Sub { lo, hi };
-    let asked = ask(&mut check, version, query, entries, frame, link, keep);
+    let asked = ask(&mut check, version, &query, entries, frame, link, keep);
     entries.truncate(found_in(entries.len(), &asked));
     verdict_of(asked)
 }

@@ -1,5 +1,5 @@
 -- How many turns a talk has left at most.
-use Rattle.std.specs.Prelude.{ℕ, ◌+◌, ◌-◌, ◌*◌, length, Option, Some, None}
+use Rattle.std.specs.Prelude.{ℕ, ◌+◌, ◌-◌, ◌*◌, ◌^◌, length, Option, Some, None}
 use Rattle.sip_vector.specs.Limits.{most_depth}
 use Rattle.sip_vector.specs.Streams.{most_weight}
 use Rattle.sip_wire.specs.Table.{most_queries}
@@ -23,3 +23,8 @@ abbrev pub turns_left : HelperState → ℕ
 turns_left s =
     stream_left s.heard + (most_weight - s.weights.first) + (most_weight - s.weights.second)
     + most_depth * (most_queries - s.queries) + challenges_left s.open_query
+
+-- the most turns that a talk may have left: that of a helper that has heard nothing, and room for a
+-- few questions around each query
+abbrev pub most_turns : ℕ
+most_turns = 2 ^ 32

@@ -4,6 +4,7 @@ use Rattle.sip_ports.specs.declared.port.TalkEvent.{TalkEvent}
 use Rattle.sip_vector.specs.declared.query.Query.{Query}
 use Rattle.sip_vector.specs.declared.update.Update.{Update}
 use Rattle.sip_vector.specs.Answers.{Answer}
+use Rattle.sip_wire.specs.declared.message.Message.TheVariants as messages
 use Rattle.sip_wire.specs.declared.version.Version.{Version}
 use Rattle.sip_replies.specs.Protocols.{Protocol}
 use Rattle.sip_replies.specs.Replies as replied
@@ -17,7 +18,7 @@ use Rattle.sip_verifier.specs.Questions.{Accepts, IsDue, IsFaulty, IsUnjudged, I
 pub record IsProtocol (version : Version) (depth : ℕ) (stream : List Update) (query : Query)
     (block : List ℕ) {S : Type 0} (P : Protocol S) : Type 0 where
   pub said : (replies : List (List ℕ))
-      → asked_unless P.unasked P.rules.version query block replies
+      → asked_unless P.unasked P.rules.version (messages.Query query) block replies
       ≡ said_for version depth stream (question_of query block replies)
   pub accepts : (replies : List (List ℕ)) (answer : Answer)
       → replied.IsAccepted P block replies answer

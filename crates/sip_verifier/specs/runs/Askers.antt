@@ -1,5 +1,5 @@
 -- What is seen of what asks the questions of a run, and what its calls did.
-use Rattle.std.specs.Prelude.{◌≡◌, ◌⊎◌, ℕ, Bool, List, [], ◌∷◌, ◌++◌, map, drop, Option, Some, Result, Ok, Err}
+use Rattle.std.specs.Prelude.{◌≡◌, ◌⊎◌, ℕ, Bool, true, false, List, [], ◌∷◌, ◌++◌, map, drop, Option, Some, Result, Ok, Err}
 use Rattle.sip_ports.specs.declared.port.TalkEvent.{TalkEvent}
 use Rattle.sip_ports.specs.Ports.{GoesOn, outs}
 use Rattle.sip_vector.specs.Pieces.{cut}
@@ -15,7 +15,7 @@ use Rattle.sip_verifier.specs.runs.Runs.{Run, manner, updates, IsLegalToEnd}
 use Rattle.sip_verifier.specs.Talks.{stream_sent}
 
 -- The version of the talk, the depth, the queries that were not asked yet, each with its block, and
--- whether it is over before its time: a call failed, or replies were rejected.
+-- whether a call failed: then nothing more is asked.
 pub record Remaining (Q : Type 0) : Type 0 where
   pub version : Version
   pub depth : ℕ
@@ -33,6 +33,12 @@ blocks_in left = map (λ ask. ask.1) left
 pub record IsFirst {Q : Type 0} (s : Remaining Q) (ask : Q × List ℕ) : Type 0 where
   pub more : List (Q × List ℕ)
   pub first : s.left ≡ ask ∷ more
+
+-- it has no verdict, since a call of a port failed
+abbrev pub has_failed : {G : Type 0} → Result G Unanswered → Bool
+has_failed (Err (unanswered.Fault fault)) = true
+has_failed (Err (unanswered.Rejected round reason)) = false
+has_failed (Ok given) = false
 
 -- what remains behind one query
 abbrev pub behind : {Q : Type 0} → Bool → Remaining Q → Remaining Q

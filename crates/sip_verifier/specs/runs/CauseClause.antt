@@ -40,6 +40,8 @@ module _ {Q A : Type 0} (asking : Asking Q A) (r : Run Q) (x : Exchange) where
       × ((records r.depth r.form x.stream).fault ≡ Some why)
   CauseClause before now (statuses.TooWide query) =
       HasGoodInput × (manner asking r x).Refuses r.queries (statuses.TooWide query)
+  CauseClause before now (statuses.TooHigh query) =
+      HasGoodInput × (manner asking r x).Refuses r.queries (statuses.TooHigh query)
   CauseClause before now statuses.BadSeed = length x.seed < 32
   CauseClause before now statuses.SeedSpent = (32 ≤ length x.seed) × (r.challenges ≡ None)
   CauseClause before now (statuses.ReadFault ports.First) =

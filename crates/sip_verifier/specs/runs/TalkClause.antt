@@ -81,6 +81,8 @@ module _ {Q A : Type 0} (asking : Asking Q A) (r : Run Q) (x : Exchange) where
   TalkClause statuses.SeedSpent = x.talk ≡ []
   TalkClause (statuses.TooWide query) =
       x.talk ≡ stream_sent r.version r.depth (updates r x)
+  TalkClause (statuses.TooHigh query) =
+      x.talk ≡ stream_sent r.version r.depth (updates r x)
   TalkClause (statuses.ReadFault ports.First) = IsUnderWay × IsPrefix x.talk (before_end r x)
   TalkClause (statuses.ReadFault ports.Second) = x.talk ≡ []
   TalkClause (statuses.WriteFault ports.Report) = Stopped

@@ -111,6 +111,7 @@ module _ {Q A : Type 0} (asking : Asking Q A) (r : Run Q) (x : Exchange) where
   VerdictClause statuses.BadSeed = x.report ≡ []
   VerdictClause statuses.SeedSpent = x.report ≡ []
   VerdictClause (statuses.TooWide query) = x.report ≡ []
+  VerdictClause (statuses.TooHigh query) = x.report ≡ []
   VerdictClause (statuses.ReadFault port) = x.report ≡ []
   VerdictClause (statuses.WriteFault ports.Report) = CutInLine
   VerdictClause (statuses.WriteFault ports.Keep) =

@@ -14,34 +14,34 @@ use Rattle.sip_replies.specs.Asking.{Takes}
 use Rattle.sip_replies.proofs.Saying.{reveal_fits}
 use Rattle.sip_replies.proofs.Entering.{ending_none}
 use Rattle.sip_replies.proofs.Turns.{Ready, Going, Ready-first, Ready-later, Answers-reply, Going-next}
-use Rattle.sip_replies.proofs.Ending.{IsInterrupted-query, IsInterrupted-reveal, Answers-port, IsAnswered-end, IsRejected-end}
+use Rattle.sip_replies.proofs.Ending.{IsInterrupted-request, IsInterrupted-reveal, Answers-port, IsAnswered-end, IsRejected-end}
 use Rattle.sip_replies.proofs.asking.ask.Given as given
 use Rattle.sip_replies.proofs.asking.ask.Goals as goal
-use Rattle.sip_replies.proofs.asking.ask.Goals.{In_default, In_ok-send_query, In_ok-send_reveal, After-reveal-challenge, After-take_reply-in-loop-round, After-finish}
+use Rattle.sip_replies.proofs.asking.ask.Goals.{In_default, In_ok-send, In_ok-send_reveal, After-reveal-challenge, After-take_reply-in-loop-round, After-finish}
 
 -- the answer isn't known without a reply
 due : (g : given.Over) (c : In_default g) (asked : g.C.Check.Asked) → g.C.Check.stands asked (g.C.Check.protocol asked).rules.start c.args.check.now c.args.places.now → (g.C.Check.protocol asked).unasked ≡ None
 due g c asked stands = sym (c.unasked.ensures asked (g.C.Check.protocol asked).rules.start c.args.places.now stands) ∙ ap (option_map (answer_of c.args.places.now)) c.in_default.is
 
-pub returns-in_err-send_query-clause-answers : goal.returns-in_err-send_query-clause-answers
-returns-in_err-send_query-clause-answers g c asked same stands =
+pub returns-in_err-send-clause-answers : goal.returns-in_err-send-clause-answers
+returns-in_err-send-clause-answers g c asked same stands =
     let P = g.C.Check.protocol asked in
-    let talk = c.in_err-send_query.ensures.talk in
-    Answers-port P c.args.query (g.C.Check.phase c.args.check.now).block _ _ _ _ c.args.places.now c.from_residual.result c.in_err-send_query.field-0.0 c.from_residual.ensures.1
-    (IsInterrupted-query P (due g (goal.at.returns-in_err-send_query-clause-answers g c).In_default asked stands) c.args.query (g.C.Check.phase c.args.check.now).block _ _ _ talk.0
-    (subst (λ (v : Version). GoesOn (g.L.Sink.talk c.args.link.now) (g.L.Sink.talk c.send_query.new.link) (outs (take talk.0 (spelling v (messages.Query c.args.query))))) (sym same) talk.2) c.requires.begins.some)
+    let talk = c.in_err-send.ensures.talk in
+    Answers-port P (g.Q.Request.message c.args.request.now) (g.C.Check.phase c.args.check.now).block _ _ _ _ c.args.places.now c.from_residual.result c.in_err-send.field-0.0 c.from_residual.ensures.1
+    (IsInterrupted-request P (due g (goal.at.returns-in_err-send-clause-answers g c).In_default asked stands) (g.Q.Request.message c.args.request.now) (g.C.Check.phase c.args.check.now).block _ _ _ talk.0
+    (subst (λ (v : Version). GoesOn (g.L.Sink.talk c.args.link.now) (g.L.Sink.talk c.send.new.link) (outs (take talk.0 (spelling v (g.Q.Request.message c.args.request.now))))) (sym same) talk.2) c.requires.begins.some)
 
--- the query was sent
-first_ready : (g : given.Over) (c : In_ok-send_query g) (asked : g.C.Check.Asked) → (g.C.Check.protocol asked).rules.version ≡ c.args.version
-    → Ready (g.C.Check.protocol asked) c.args.query (g.C.Check.phase c.args.check.now).block (g.L.Sink.talk c.args.link.now) (g.L.Sink.talk c.send_query.new.link) (g.K.Sink.talk c.args.keep.now) (g.K.Sink.talk c.args.keep.now) [] (g.C.Check.protocol asked).rules.start
-first_ready g c asked same = Ready-first (g.C.Check.protocol asked) c.args.query (g.C.Check.phase c.args.check.now).block _ _ _
-    (subst (λ (v : Version). GoesOn (g.L.Sink.talk c.args.link.now) (g.L.Sink.talk c.send_query.new.link) (outs (spelling v (messages.Query c.args.query)))) (sym same) c.in_ok-send_query.ensures.talk) c.requires.begins.some
+-- what is asked was sent
+first_ready : (g : given.Over) (c : In_ok-send g) (asked : g.C.Check.Asked) → (g.C.Check.protocol asked).rules.version ≡ c.args.version
+    → Ready (g.C.Check.protocol asked) (g.Q.Request.message c.args.request.now) (g.C.Check.phase c.args.check.now).block (g.L.Sink.talk c.args.link.now) (g.L.Sink.talk c.send.new.link) (g.K.Sink.talk c.args.keep.now) (g.K.Sink.talk c.args.keep.now) [] (g.C.Check.protocol asked).rules.start
+first_ready g c asked same = Ready-first (g.C.Check.protocol asked) (g.Q.Request.message c.args.request.now) (g.C.Check.phase c.args.check.now).block _ _ _
+    (subst (λ (v : Version). GoesOn (g.L.Sink.talk c.args.link.now) (g.L.Sink.talk c.send.new.link) (outs (spelling v (g.Q.Request.message c.args.request.now)))) (sym same) c.in_ok-send.ensures.talk) c.requires.begins.some
 
 pub returns-in_err-in_round-clause-answers : goal.returns-in_err-in_round-clause-answers
 returns-in_err-in_round-clause-answers g c asked same stands =
     let P = g.C.Check.protocol asked in
     let at = goal.at.returns-in_err-in_round-clause-answers g c in
-    Answers-reply P (due g at.In_default asked stands) c.args.query (g.C.Check.phase c.args.check.now).block _ _ _ _ _ _ [] P.rules.start (first_ready g at.In_ok-send_query asked same) 0
+    Answers-reply P (due g at.In_default asked stands) (g.Q.Request.message c.args.request.now) (g.C.Check.phase c.args.check.now).block _ _ _ _ _ _ [] P.rules.start (first_ready g at.In_ok-send asked same) 0
     (λ _ t. g.C.Check.stands asked t c.take_reply.new.check c.take_reply.new.places) c.take_reply.result c.take_reply.new.places
     c.from_residual-in_err-in_round.result c.in_err-in_round.field-0.0 refl c.from_residual-in_err-in_round.ensures.1 c.in_err-in_round.ensures.same (c.take_reply.ensures.took asked P.rules.start same stands)
 
@@ -56,9 +56,9 @@ loop-round-init g c =
     record {
       going = λ asked same stands.
           let P = g.C.Check.protocol asked in
-          let took = subst (λ r. Takes P.rules.version (read_reply P.rules P.rules.start) (g.L.Sink.talk c.send_query.new.link) (g.L.Sink.talk c.take_reply.new.link) (g.K.Sink.talk c.args.keep.now) (g.K.Sink.talk c.take_reply.new.keep)
+          let took = subst (λ r. Takes P.rules.version (read_reply P.rules P.rules.start) (g.L.Sink.talk c.send.new.link) (g.L.Sink.talk c.take_reply.new.link) (g.K.Sink.talk c.args.keep.now) (g.K.Sink.talk c.take_reply.new.keep)
           (λ _ t. g.C.Check.stands asked t c.take_reply.new.check c.take_reply.new.places) r) c.in_ok-in_round.ensures.same (c.take_reply.ensures.took asked P.rules.start same stands) in
-          Going-next P (due g at.In_default asked stands) c.args.query (g.C.Check.phase c.args.check.now).block _ _ _ _ _ _ [] P.rules.start (first_ready g at.In_ok-send_query asked same) 1
+          Going-next P (due g at.In_default asked stands) (g.Q.Request.message c.args.request.now) (g.C.Check.phase c.args.check.now).block _ _ _ _ _ _ [] P.rules.start (first_ready g at.In_ok-send asked same) 1
           (λ t. g.C.Check.stands asked t c.take_reply.new.check c.take_reply.new.places) took.0 (omega arith) took.1 took.2;
       stood = λ asked stands.
           subst (λ r. IfOk r (λ _. (t : g.C.Check.State) × g.C.Check.stands asked t c.take_reply.new.check c.take_reply.new.places)) c.in_ok-in_round.ensures.same
@@ -69,7 +69,7 @@ loop-round-init g c =
       within = omega (arith, some);
       lent = c.take_reply.ensures.lent;
       places = c.take_reply.ensures.places;
-      link = Lasts-trans faults wants is_sure c.args.link.now c.send_query.new.link c.take_reply.new.link (Lasts-of_HasCause faults wants is_sure c.args.link.now c.send_query.new.link c.send_query.result c.send_query.ensures.cause) c.take_reply.ensures.link;
+      link = Lasts-trans faults wants is_sure c.args.link.now c.send.new.link c.take_reply.new.link (Lasts-of_HasCause faults wants is_sure c.args.link.now c.send.new.link c.send.result c.send.ensures.cause) c.take_reply.ensures.link;
       keep = c.take_reply.ensures.keep;
     }
 
@@ -91,8 +91,8 @@ returns-in_err-send_reveal-clause-answers g c asked same stands =
     let block = (g.C.Check.phase c.args.check.now).block in
     let talk = c.in_err-send_reveal.ensures.talk in
     let r = challenge_is g at.After-reveal-challenge in
-    Answers-port P c.args.query block _ _ _ _ c.loop-round.places c.from_residual-in_err-send_reveal.result c.in_err-send_reveal.field-0.0 c.from_residual-in_err-send_reveal.ensures.1
-    (IsInterrupted-reveal P (due g at.In_default asked stands) c.args.query block _ _ _ _ _ c.loop-round.round (λ s. g.C.Check.stands asked s c.loop-round.check c.loop-round.places) (c.loop-round.invariant.going asked same stands)
+    Answers-port P (g.Q.Request.message c.args.request.now) block _ _ _ _ c.loop-round.places c.from_residual-in_err-send_reveal.result c.in_err-send_reveal.field-0.0 c.from_residual-in_err-send_reveal.ensures.1
+    (IsInterrupted-reveal P (due g at.In_default asked stands) (g.Q.Request.message c.args.request.now) block _ _ _ _ _ c.loop-round.round (λ s. g.C.Check.stands asked s c.loop-round.check c.loop-round.places) (c.loop-round.invariant.going asked same stands)
     (omega (arith, c.loop-round-test.true, c.depth-depth.ensures.exact)) talk.0
     (subst (λ (v : Version). GoesOn (g.L.Sink.talk c.loop-round.link) (g.L.Sink.talk c.send_reveal.new.link) (outs (take talk.0 (spelling v (messages.Reveal (slice_index block (c.loop-round.round - 1))))))) (sym same)
     (subst (λ (k : ℕ). GoesOn (g.L.Sink.talk c.loop-round.link) (g.L.Sink.talk c.send_reveal.new.link) (outs (take talk.0 (spelling c.args.version (messages.Reveal k))))) r talk.2)))
@@ -127,12 +127,12 @@ take_reply-requires-in-loop-round-clause-phase g c =
 
 -- the challenge was sent
 later_ready : (g : given.Over) (c : In_ok-send_reveal g) (asked : g.C.Check.Asked) (same : (g.C.Check.protocol asked).rules.version ≡ c.args.version)
-    (going : Going (g.C.Check.protocol asked) c.args.query (g.C.Check.phase c.args.check.now).block (g.L.Sink.talk c.args.link.now) (g.L.Sink.talk c.loop-round.link) (g.K.Sink.talk c.args.keep.now) (g.K.Sink.talk c.loop-round.keep) c.loop-round.round (λ s. g.C.Check.stands asked s c.loop-round.check c.loop-round.places))
-    → Ready (g.C.Check.protocol asked) c.args.query (g.C.Check.phase c.args.check.now).block (g.L.Sink.talk c.args.link.now) (g.L.Sink.talk c.send_reveal.new.link) (g.K.Sink.talk c.args.keep.now) (g.K.Sink.talk c.loop-round.keep) going.replies
+    (going : Going (g.C.Check.protocol asked) (g.Q.Request.message c.args.request.now) (g.C.Check.phase c.args.check.now).block (g.L.Sink.talk c.args.link.now) (g.L.Sink.talk c.loop-round.link) (g.K.Sink.talk c.args.keep.now) (g.K.Sink.talk c.loop-round.keep) c.loop-round.round (λ s. g.C.Check.stands asked s c.loop-round.check c.loop-round.places))
+    → Ready (g.C.Check.protocol asked) (g.Q.Request.message c.args.request.now) (g.C.Check.phase c.args.check.now).block (g.L.Sink.talk c.args.link.now) (g.L.Sink.talk c.send_reveal.new.link) (g.K.Sink.talk c.args.keep.now) (g.K.Sink.talk c.loop-round.keep) going.replies
     ((g.C.Check.protocol asked).rules.learn going.state (slice_index (g.C.Check.phase c.args.check.now).block (c.loop-round.round - 1)))
 later_ready g c asked same going =
     let r = challenge_is g (goal.at.In_ok-send_reveal g c).After-reveal-challenge in
-    Ready-later (g.C.Check.protocol asked) c.args.query (g.C.Check.phase c.args.check.now).block _ _ _ _ _ c.loop-round.round (λ s. g.C.Check.stands asked s c.loop-round.check c.loop-round.places) going
+    Ready-later (g.C.Check.protocol asked) (g.Q.Request.message c.args.request.now) (g.C.Check.phase c.args.check.now).block _ _ _ _ _ c.loop-round.round (λ s. g.C.Check.stands asked s c.loop-round.check c.loop-round.places) going
     (subst (λ (v : Version). GoesOn (g.L.Sink.talk c.loop-round.link) (g.L.Sink.talk c.send_reveal.new.link) (outs (spelling v (messages.Reveal (slice_index (g.C.Check.phase c.args.check.now).block (c.loop-round.round - 1)))))) (sym same)
     (subst (λ (k : ℕ). GoesOn (g.L.Sink.talk c.loop-round.link) (g.L.Sink.talk c.send_reveal.new.link) (outs (spelling c.args.version (messages.Reveal k)))) r c.in_ok-send_reveal.ensures.talk))
     (omega (arith, c.loop-round-test.true, c.depth-depth.ensures.exact))
@@ -154,7 +154,7 @@ returns-in_err-in_round-2-clause-answers g c asked same stands =
     let at = goal.at.returns-in_err-in_round-2-clause-answers g c in
     let P = g.C.Check.protocol asked in
     let going = c.loop-round.invariant.going asked same stands in
-    Answers-reply P (due g at.In_default asked stands) c.args.query (g.C.Check.phase c.args.check.now).block _ _ _ _ _ _ going.replies _ (later_ready g at.In_ok-send_reveal asked same going) _
+    Answers-reply P (due g at.In_default asked stands) (g.Q.Request.message c.args.request.now) (g.C.Check.phase c.args.check.now).block _ _ _ _ _ _ going.replies _ (later_ready g at.In_ok-send_reveal asked same going) _
     (λ _ t. g.C.Check.stands asked t c.take_reply-in-loop-round.new.check c.take_reply-in-loop-round.new.places) c.take_reply-in-loop-round.result c.take_reply-in-loop-round.new.places
     c.from_residual-in_err-in_round-2.result c.in_err-in_round-2.field-0.0 (sym going.counted) c.from_residual-in_err-in_round-2.ensures.1 c.in_err-in_round-2.ensures.same
     (later_took g at.After-take_reply-in-loop-round asked going.state same going.stands)
@@ -175,7 +175,7 @@ loop-round-preserved g c =
           (g.L.Sink.talk c.send_reveal.new.link) (g.L.Sink.talk c.take_reply-in-loop-round.new.link) (g.K.Sink.talk c.loop-round.keep) (g.K.Sink.talk c.take_reply-in-loop-round.new.keep)
           (λ _ t. g.C.Check.stands asked t c.take_reply-in-loop-round.new.check c.take_reply-in-loop-round.new.places) r) c.in_ok-in_round-2.ensures.same
           (later_took g at.After-take_reply-in-loop-round asked going.state same going.stands) in
-          Going-next P (due g at.In_default asked stands) c.args.query (g.C.Check.phase c.args.check.now).block _ _ _ _ _ _ going.replies _ (later_ready g at.In_ok-send_reveal asked same going) (c.loop-round.round + 1)
+          Going-next P (due g at.In_default asked stands) (g.Q.Request.message c.args.request.now) (g.C.Check.phase c.args.check.now).block _ _ _ _ _ _ going.replies _ (later_ready g at.In_ok-send_reveal asked same going) (c.loop-round.round + 1)
           (λ t. g.C.Check.stands asked t c.take_reply-in-loop-round.new.check c.take_reply-in-loop-round.new.places) took.0 (ap (λ (k : ℕ). k + 1) going.counted) took.1 took.2;
       stood = λ asked stands.
           let stood = c.loop-round.invariant.stood asked stands in
@@ -213,7 +213,7 @@ pub returns-in-Ok-clause-answers : goal.returns-in-Ok-clause-answers
 returns-in-Ok-clause-answers g c asked same stands =
     let at = goal.at.returns-in-Ok-clause-answers g c in
     let going = c.loop-round.invariant.going asked same stands in
-    IsAnswered-end (g.C.Check.protocol asked) (due g at.In_default asked stands) c.args.query (g.C.Check.phase c.args.check.now).block _ _ _ _ c.loop-round.round _ going
+    IsAnswered-end (g.C.Check.protocol asked) (due g at.In_default asked stands) (g.Q.Request.message c.args.request.now) (g.C.Check.phase c.args.check.now).block _ _ _ _ c.loop-round.round _ going
     (omega (arith, c.loop-round-test.false, c.depth-depth.ensures.exact, c.loop-round.invariant.within)) c.loop-round.places c.finish.result
     (ended_so g at.After-finish asked going.state going.stands) c.in-Ok.said c.in-Ok.is
 
@@ -225,7 +225,7 @@ returns-in-Err-clause-answers g c asked same stands =
     let block = (g.C.Check.phase c.args.check.now).block in
     let ended = ended_so g at.After-finish asked going.state going.stands in
     let other = g.met.C.Check.ends asked (P.rules.learn going.state (slice_index block (c.loop-round.round - 1))) c.in-Err.reason (sym ended ∙ ap (answered c.loop-round.places) c.in-Err.is) in
-    let rejected = IsRejected-end P (due g at.In_default asked stands) c.args.query block _ _ _ _ c.loop-round.round _ going
+    let rejected = IsRejected-end P (due g at.In_default asked stands) (g.Q.Request.message c.args.request.now) block _ _ _ _ c.loop-round.round _ going
     (omega (arith, c.loop-round-test.false, c.depth-depth.ensures.exact, c.loop-round.invariant.within)) c.loop-round.places c.finish.result
     ended c.in-Err.reason other (ending_none c.in-Err.reason other) c.in-Err.is in
     rw c.depth-depth.ensures.exact rejected

@@ -9,7 +9,9 @@ use Rattle.sip_verifier.specs.Inquiries.{inquiry_of}
 use Rattle.sip_verifier.specs.Sittings.{Sitting}
 use Rattle.sip_verifier.proofs.RunPromises.{kept, gathering_listed, asked_stops, start_caused, start_listed}
 use Rattle.sip_verifier.proofs.RunTalks.{tells, said_is, refuses_moves, nothing_reported, some_value}
-use Rattle.sip_verifier.proofs.StreamPromises.{after_gather, after_start, goes_behind}
+use Rattle.sip_verifier.proofs.StreamPromises.{after_start, goes_behind}
+use Rattle.sip_verifier.proofs.GatheredRuns.{after_gather}
+use Rattle.sip_verifier.specs.Questions.{asking}
 use Rattle.sip_verifier.proofs.SeatedBehind.{seats_left}
 use Rattle.sip_verifier.proofs.KeptRuns.{asked_kept, both_move, gather_kept, head_moves, replies_move, start_kept, talk_moves}
 use Rattle.sip_verifier.proofs.QueryPromises.{all_read}
@@ -31,7 +33,7 @@ returns-in_err-session-clause-keeps g c =
       | inl is ↦
           let stops = rw is at c.gather_into.ensures.fault _ _ in
           kept c.args.task.now c.requires some most
-          (λ x t. after_gather c.args.task.now x _ _ c.in_err-session.field-0.0 _ _ t.talk (nothing_reported _ _ t.report) (rw is at c.gather_into.ensures.gathers x.stream x.seed t.stream t.seed) stops.1)
+          (λ x t. after_gather asking c.args.task.now.queries.items c.args.task.now x _ _ c.in_err-session.field-0.0 _ _ t.talk (nothing_reported _ _ t.report) (rw is at c.gather_into.ensures.gathers x.stream x.seed t.stream t.seed) stops.1)
           (λ x t. gather_kept c.args.task.now x _ _ _ _ t.talk c.in_err-session.field-0.0 (rw is at c.gather_into.ensures.gathers x.stream x.seed t.stream t.seed) (rw is at c.gather_into.ensures.kept x.seed t.seed))
           (λ told.
           let bytes = some_value _ told.first in

@@ -1,30 +1,26 @@
 -- What holds of each side's update holds of the one that is counted.
-use Rattle.std.proofs.Common.{◌≡◌, ◌≤◌, ◌+◌, ◌%◌, nat_abs, bit_or, refl, rules, arith}
+use Rattle.std.proofs.Common.{◌≡◌, ◌≤◌, ◌+◌, ◌*◌, ◌%◌, nat_abs, bit_or, refl, rules, arith}
 use Rattle.sip_stream.specs.declared.tally.Tally.{Tally}
-use Rattle.sip_stream.proofs.Tallied.{bits_with, takes_first, takes_second, was_clean}
+use Rattle.sip_stream.specs.Spellings.{side_number}
+use Rattle.sip_stream.proofs.Tallied.{bits_with, takes_one, was_clean}
 use Rattle.sip_stream.proofs.tally.Tally.note.Goals as goal
-use Rattle.sip_stream.proofs.tally.Tally.note.Goals.{in-First, in-Second}
 
 pub returns : goal.returns
 returns c =
     let old = c.args.self.now in
     let u = c.args.update.now in
-    let number = c.args.number in
     let size = c.unsigned_abs-size.result in
-    let second = c.match-update.second in
+    let number = c.from.result in
     let new : Tally = record {
       count = (old.count + 1) % 18446744073709551616;
       total = (old.total + size) % 18446744073709551616;
-      second = (old.second + second) % 18446744073709551616;
-      sides = bit_or old.sides number;
+      second = (old.second + size * number % 18446744073709551616) % 18446744073709551616;
       items = bit_or old.items u.item;
       sizes = bits_with old.sizes size ((old.total + size) % 18446744073709551616);
     } in
+    let says : number ≡ side_number u.side = search rules in
     let is : size ≡ nat_abs u.delta = search rules in
     let short : size ≤ 9223372036854775808 = omega (arith, c.unsigned_abs-size.ensures.bound) in record {
-      clean = λ depth clean. was_clean old new number size u is short refl refl refl refl refl depth clean;
-      one = λ r clean light. elim c.match-update.branch [
-        | in-First w ↦ takes_first old new number size u is short refl refl refl refl refl r clean light w.in-First.is (omega (arith, w.second-is, light.second, light.total))
-        | in-Second w ↦ takes_second old new number size u is short refl refl refl refl refl r clean light w.in-Second.is (rw w.second-is refl)
-      ];
+      clean = λ depth clean. was_clean old new size u is short refl refl refl refl depth clean;
+      one = λ r clean light. takes_one old new size u is short refl refl refl refl r clean light number says refl;
     }

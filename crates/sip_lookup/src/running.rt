@@ -1,0 +1,82 @@
+//! A whole run of a verifier of lookups.
+
+ghost use Rattle.std.specs.Prelude.{None};
+ghost use Rattle.sip_ports.specs.Ports.{Lasts};
+ghost use Rattle.sip_verifier.specs.Exchanges.{TakesAtMost};
+ghost use Rattle.sip_verifier.specs.Moments.{moment};
+ghost use Rattle.sip_verifier.specs.runs.Concluding.{status_of};
+ghost use Rattle.sip_lookup.specs.Promises.{LookClause};
+ghost use Rattle.sip_lookup.specs.Tasks.{CanLookUp};
+
+use crate::asker::Looker;
+use crate::task::LookTask;
+use sip_ports::{Link, NullSink, Sink, Source};
+use sip_vector::Depth;
+use sip_verifier::{Status, conclude_run, gather};
+use std::alloc::Global;
+
+/// All that a run does, up to its first stop.
+fn steps<A: Source, B: Source, L: Link, K: Sink>(
+    alloc: Global,
+    task: &LookTask,
+    first: &mut A,
+    second: &mut B,
+    peer: &mut L,
+    report: &mut K,
+) -> Result<(), Status>
+    requires { CanLookUp task.now }
+    ensures keeps { LookClause task.now
+        (moment (A.left first.old) (A.faults first.old) (B.left second.old) (B.faults second.old)
+        (L.talk peer.old) (L.faults peer.old) (K.talk report.old) (K.faults report.old) None 0)
+        (moment (A.left first.new) (A.faults first.new) (B.left second.new) (B.faults second.new)
+        (L.talk peer.new) (L.faults peer.new) (K.talk report.new) (K.faults report.new) None 0)
+        (status_of result) }
+    ensures first { Lasts A.faults A.wants A.is_sure first.old first.new }
+    ensures seed { TakesAtMost 32 (B.left second.old) (B.left second.new) }
+    ensures second { Lasts B.faults B.wants B.is_sure second.old second.new }
+    ensures peer { Lasts L.faults L.wants L.is_sure peer.old peer.new }
+    ensures report { Lasts K.faults K.wants K.is_sure report.old report.new }
+{
+    let levels = task.depth.get();
+    prove!(levels >= 1 && levels <= Depth::MOST);
+    // A run of lookups keeps no record of its talk.
+    let mut keep = NullSink::new();
+    let seats = gather(&task.rooted(), first, second, peer, &mut keep)?;
+    let mut looker = Looker::new(alloc, task, seats)?;
+    conclude_run(&mut looker, peer, report, &mut keep)
+}
+
+/// Does a task: draws the challenges from `second`, reads the stream of `first` and sends it over
+/// `peer`, asks each lookup, judges the replies and writes a line for each to `report`.
+///
+/// After a rejection its line is written and nothing more is sent. The memory is a frame of 8,709
+/// bytes and room for 65,536 entries of 16 bytes, taken before the first Ask: it does not grow with
+/// the stream. The time is linear in the stream and the replies, with at most `depth`
+/// multiplications for each record and lookup. No record of the talk is kept.
+#[inline(never)]
+pub fn look_stream<A: Source, B: Source, L: Link, K: Sink>(
+    alloc: Global,
+    task: &LookTask,
+    first: &mut A,
+    second: &mut B,
+    peer: &mut L,
+    report: &mut K,
+) -> Status
+    requires { CanLookUp task.now }
+    ensures keeps { LookClause task.now
+        (moment (A.left first.old) (A.faults first.old) (B.left second.old) (B.faults second.old)
+        (L.talk peer.old) (L.faults peer.old) (K.talk report.old) (K.faults report.old) None 0)
+        (moment (A.left first.new) (A.faults first.new) (B.left second.new) (B.faults second.new)
+        (L.talk peer.new) (L.faults peer.new) (K.talk report.new) (K.faults report.new) None 0)
+        result }
+    ensures first { Lasts A.faults A.wants A.is_sure first.old first.new }
+    ensures seed { TakesAtMost 32 (B.left second.old) (B.left second.new) }
+    ensures second { Lasts B.faults B.wants B.is_sure second.old second.new }
+    ensures peer { Lasts L.faults L.wants L.is_sure peer.old peer.new }
+    ensures report { Lasts K.faults K.wants K.is_sure report.old report.new }
+{
+    match steps(alloc, task, first, second, peer, report) {
+        Ok(()) => Status::Accepted,
+        Err(status) => status,
+    }
+}

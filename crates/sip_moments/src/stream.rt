@@ -1,0 +1,144 @@
+//! A whole run that asks for moments.
+
+ghost use Rattle.std.specs.Prelude.{◌≡◌, ◌≤◌, List, None, length};
+ghost use Rattle.sip_ports.specs.Ports.{Lasts};
+ghost use Rattle.sip_vector.specs.declared.update.Update.{Update as AnyUpdate};
+ghost use Rattle.sip_wire.specs.Table.{most_queries};
+ghost use Rattle.sip_verifier.specs.Exchanges.{TakesAtMost};
+ghost use Rattle.sip_verifier.specs.Moments.{moment};
+ghost use Rattle.sip_verifier.specs.Weights.{AreWeights};
+ghost use Rattle.sip_verifier.specs.runs.Concluding.{status_of};
+ghost use Rattle.sip_moments.specs.Manner.{first_high};
+ghost use Rattle.sip_moments.specs.MomentClause.{MomentClause};
+ghost use Rattle.sip_moments.specs.Tasks.{CanBeDone, squares_of};
+
+use crate::asker::Questions;
+use crate::moment::Moment;
+use crate::room::is_too_high;
+use crate::task::MomentTask;
+use arrayvec::ArrayVec;
+use sip_ports::{Link, NullSink, Sink, Source};
+use sip_vector::{Depth, Query};
+use sip_verifier::{Status, Task, Weights, conclude_run, gather_weighed};
+use sip_wire::{Frame, MOST_QUERIES, Version};
+use std::alloc::Global;
+
+// The number of the first moment that may be too high, counted from 1.
+fn first_high(moments: &[Moment], weights: &Weights) -> Option<u8>
+    requires most { length moments.now ≤ most_queries }
+    ensures { (stream : List AnyUpdate) → AreWeights stream weights.now
+        → result ≡ first_high stream moments.now }
+{
+    for (index, moment) in moments.iter().enumerate() {
+        if is_too_high(weights.of(moment.side), moment.degree) {
+            return Some(index as u8 + 1);
+        }
+    }
+    None
+}
+
+// The task whose seats keep what these moments want of the stream: the extension of each one's
+// side, as a second moment wants it.
+fn squares(task: &MomentTask) -> Task
+    ensures { result ≡ squares_of task.now }
+{
+    let mut queries = ArrayVec::new();
+    for moment in task.moments.iter() {
+        queries.push(Query::F2 { side: moment.side });
+    }
+    Task {
+        depth: task.depth,
+        form: task.form,
+        queries,
+    }
+}
+
+// The moments of a task.
+fn moments_of(task: &MomentTask) -> ArrayVec<Moment, MOST_QUERIES>
+    ensures same { result.items ≡ task.now.moments.items }
+    ensures few { length result.items ≤ most_queries }
+{
+    let mut moments = ArrayVec::new();
+    for moment in task.moments.iter() {
+        moments.push(*moment);
+    }
+    moments
+}
+
+/// All that the run does, up to its first stop.
+fn steps<A: Source, B: Source, L: Link, K: Sink>(
+    alloc: Global,
+    task: &MomentTask,
+    first: &mut A,
+    second: &mut B,
+    peer: &mut L,
+    report: &mut K,
+) -> Result<(), Status>
+    requires { CanBeDone task.now }
+    ensures keeps { MomentClause task.now
+        (moment (A.left first.old) (A.faults first.old) (B.left second.old) (B.faults second.old)
+        (L.talk peer.old) (L.faults peer.old) (K.talk report.old) (K.faults report.old) None 0)
+        (moment (A.left first.new) (A.faults first.new) (B.left second.new) (B.faults second.new)
+        (L.talk peer.new) (L.faults peer.new) (K.talk report.new) (K.faults report.new) None 0)
+        (status_of result) }
+    ensures first { Lasts A.faults A.wants A.is_sure first.old first.new }
+    ensures seed { TakesAtMost 32 (B.left second.old) (B.left second.new) }
+    ensures second { Lasts B.faults B.wants B.is_sure second.old second.new }
+    ensures peer { Lasts L.faults L.wants L.is_sure peer.old peer.new }
+    ensures report { Lasts K.faults K.wants K.is_sure report.old report.new }
+{
+    let levels = task.depth.get();
+    prove!(levels >= 1 && levels <= Depth::MOST);
+    let mut weights = Weights::default();
+    // No record of the talk is kept.
+    let mut keep = NullSink::new();
+    let seats = gather_weighed(&squares(task), first, second, peer, &mut keep, &mut weights)?;
+    if let Some(query) = first_high(&task.moments, &weights) {
+        return Err(Status::TooHigh { query });
+    }
+    let Ok(frame) = Frame::new(alloc) else {
+        return Err(Status::OutOfMemory);
+    };
+    let version = Version::needed(task.depth, &[]);
+    let mut questions = Questions::new(version, moments_of(task), seats, frame);
+    conclude_run(&mut questions, peer, report, &mut keep)
+}
+
+/// Asks for moments of a stream: draws the challenges from `second`, reads the stream of `first`
+/// and sends it over `peer`, asks each moment, judges the replies and writes a line for each to
+/// `report`.
+///
+/// After a rejection its line is written and nothing more is sent. Nothing is asked, and the status
+/// is `TooHigh`, where the weight of a moment's side, to the power of the degree, is above
+/// 2^60 - 1: a claim may then have no room for it. The memory is a frame of 8,709 bytes, and doesn't grow
+/// with the stream; the time is linear in the stream and the replies, with at most `depth`
+/// multiplications for each record and moment.
+///
+/// No transcript is kept.
+#[inline(never)]
+pub fn moment_stream<A: Source, B: Source, L: Link, K: Sink>(
+    alloc: Global,
+    task: &MomentTask,
+    first: &mut A,
+    second: &mut B,
+    peer: &mut L,
+    report: &mut K,
+) -> Status
+    requires { CanBeDone task.now }
+    ensures keeps { MomentClause task.now
+        (moment (A.left first.old) (A.faults first.old) (B.left second.old) (B.faults second.old)
+        (L.talk peer.old) (L.faults peer.old) (K.talk report.old) (K.faults report.old) None 0)
+        (moment (A.left first.new) (A.faults first.new) (B.left second.new) (B.faults second.new)
+        (L.talk peer.new) (L.faults peer.new) (K.talk report.new) (K.faults report.new) None 0)
+        result }
+    ensures first { Lasts A.faults A.wants A.is_sure first.old first.new }
+    ensures seed { TakesAtMost 32 (B.left second.old) (B.left second.new) }
+    ensures second { Lasts B.faults B.wants B.is_sure second.old second.new }
+    ensures peer { Lasts L.faults L.wants L.is_sure peer.old peer.new }
+    ensures report { Lasts K.faults K.wants K.is_sure report.old report.new }
+{
+    match steps(alloc, task, first, second, peer, report) {
+        Ok(()) => Status::Accepted,
+        Err(status) => status,
+    }
+}

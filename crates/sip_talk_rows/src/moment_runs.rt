@@ -1,0 +1,127 @@
+//! Whole runs that ask for moments, over ports in memory, each at the challenges of 32 zero bytes.
+ghost use Rattle.std.specs.Prelude.{◌≤◌, IfOk};
+ghost use Rattle.sip_moments.specs.Tasks.{CanBeDone};
+
+use crate::session_facts::expect;
+use arrayvec::ArrayVec;
+use sip_moments::{Moment, MomentTask, moment_stream};
+use sip_ports::{MemoryLink, MemorySink, MemorySource, TalkEvent};
+use sip_stream::Form;
+use sip_vector::{Depth, Side};
+use sip_verifier::Status;
+use std::alloc::Global;
+use std::process::Abort;
+use std::test::Fail;
+
+/// A question for a moment: the claim, and for each round the challenge that was revealed before
+/// it, which reply 0 has not, with the polynomial.
+pub(crate) struct Asked {
+    pub(crate) side: Side,
+    pub(crate) degree: u8,
+    pub(crate) claim: i64,
+    pub(crate) rounds: &'static [(u64, &'static [u64])],
+}
+
+/// What is sent once all moments were accepted.
+pub(crate) const END: [u8; 3] = [0x23, 0, 0];
+
+/// The events of a talk, and the bytes that are heard in it.
+#[derive(Drop)]
+pub(crate) struct Talk {
+    pub(crate) events: Vec<TalkEvent>,
+    pub(crate) heard: Vec<u8>,
+}
+
+impl Talk {
+    pub(crate) fn new(alloc: Global) -> Talk {
+        Talk {
+            events: Vec::new(alloc),
+            heard: Vec::new(alloc),
+        }
+    }
+
+    pub(crate) fn say(&mut self, bytes: &[u8]) -> Result<(), Fail> {
+        for byte in bytes {
+            self.events.push(TalkEvent::Out(*byte))?;
+        }
+        Ok(())
+    }
+
+    pub(crate) fn hear(&mut self, bytes: &[u8]) -> Result<(), Fail> {
+        for byte in bytes {
+            self.events.push(TalkEvent::In(*byte))?;
+            self.heard.push(*byte)?;
+        }
+        Ok(())
+    }
+
+    /// A question, and all replies to it.
+    pub(crate) fn ask(&mut self, asked: &Asked) -> Result<(), Fail> {
+        let side = match asked.side {
+            Side::First => 0,
+            Side::Second => 1,
+        };
+        self.say(&[0x24, 0, 2, side, asked.degree])?;
+        for (round, (revealed, polynomial)) in asked.rounds.iter().enumerate() {
+            if round == 0 {
+                self.hear(&[0x11, 0, 8])?;
+                self.hear(&asked.claim.to_be_bytes())?;
+            } else {
+                self.say(&[5, 0, 8])?;
+                self.say(&revealed.to_be_bytes())?;
+            }
+            let coefficients = u8::try_from(polynomial.len()).map_err(|_| "a degree")?;
+            self.hear(&[0x25, 0, coefficients.checked_mul(8).ok_or("a degree")?])?;
+            for coefficient in *polynomial {
+                self.hear(&coefficient.to_be_bytes())?;
+            }
+        }
+        Ok(())
+    }
+}
+
+/// A task of one moment.
+pub(crate) fn one(depth: u8, side: Side, degree: u8) -> Result<MomentTask, Fail>
+    ensures { IfOk result CanBeDone }
+{
+    if degree < 3 || degree > 8 {
+        return Err("a degree")?;
+    }
+    let depth = Depth::new(depth).ok_or("a depth")?;
+    let mut moments = ArrayVec::new();
+    moments.push(Moment { side, degree });
+    Ok(MomentTask {
+        depth,
+        form: Form::Text,
+        moments,
+    })
+}
+
+/// Runs a task over a stream and a link that gives what is heard in the talk.
+pub(crate) fn check(
+    rt: &impl Abort,
+    alloc: Global,
+    name: &str,
+    task: &MomentTask,
+    stream: &[u8],
+    chunk: usize,
+    talk: &Talk,
+    want: Status,
+    report: &[u8],
+) -> Result<(), Fail>
+    requires task { CanBeDone task.now }
+    requires chunk { 1 ≤ chunk }
+{
+    let mut first = MemorySource::new(stream.to_vec(alloc)?, chunk, Vec::new(alloc));
+    let mut second = MemorySource::new(vec![in alloc; 0; 32]?, chunk, Vec::new(alloc));
+    let mut peer = MemoryLink::new(alloc, talk.heard.to_vec(alloc)?, chunk, Vec::new(alloc));
+    let mut lines = MemorySink::new(alloc, chunk, Vec::new(alloc));
+    let status = moment_stream(alloc, task, &mut first, &mut second, &mut peer, &mut lines);
+    let facts = [
+        status == want,
+        peer.talk() == talk.events.as_slice(),
+        lines.bytes() == report,
+    ];
+    expect(rt, name, &facts);
+    Ok(())
+}
