@@ -7,6 +7,8 @@ pub mod MadePorts
 pub mod Refusals
 pub mod Getting
 pub mod RunLemmas
+pub mod UnkeptRuns
+pub mod CommandKeeps
 pub mod PlayLemmas
 pub mod Alone
 pub mod Behind

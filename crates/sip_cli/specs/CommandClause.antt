@@ -1,12 +1,20 @@
 -- All that a command keeps, from the moment before it to the moment after, with the status that it
 -- answers.
-use Rattle.std.specs.Prelude.{◌≡◌, ℕ, List, Some}
+use Rattle.std.specs.Prelude.{◌≡◌, ℕ, List, Some, None}
 use Rattle.sip_cli.specs.CopyClause.{CopyClause}
 use Rattle.sip_cli.specs.declared.command.Command.{Command}
-use Rattle.sip_cli.specs.declared.command.Command.TheVariants.{Verify, Help, Audit, Show, Convert, Gen, Lines, Widen, Play}
+use Rattle.sip_cli.specs.declared.command.Command.TheVariants.{Verify, Help, Audit, Show, Convert, Gen, Lines, Widen, Play, Lookup, HelpLook, Moments, HelpMoments}
 use Rattle.sip_cli.specs.declared.helper_name.HelperName.{HelperName}
 use Rattle.sip_cli.specs.HelpClause.{HelpClause}
 use Rattle.sip_cli.specs.Statuses.{Ends}
+use Rattle.sip_helper.specs.Serving.{Serves}
+use Rattle.sip_lookup.specs.declared.task.LookTask.{LookTask}
+use Rattle.sip_lookup.specs.Promises.{LookPromises}
+use Rattle.sip_lookup.specs.Serving.{ServesLooks}
+use Rattle.sip_moments.specs.declared.task.MomentTask.{MomentTask}
+use Rattle.sip_moments.specs.Manner.{asking, counting, honesty}
+use Rattle.sip_moments.specs.Serving.{ServesMoments}
+use Rattle.sip_moments.specs.Tasks.{run_of}
 use Rattle.sip_stream.specs.declared.form.Form.{Form}
 use Rattle.sip_stream.specs.declared.form.Form.TheVariants.{Text, Wide}
 use Rattle.sip_stream.specs.Layouts.{made_form}
@@ -17,9 +25,19 @@ use Rattle.sip_transcript.specs.Writing.{Writes}
 use Rattle.sip_verifier.specs.declared.status.Status.{Status}
 use Rattle.sip_verifier.specs.declared.task.Task.{Task}
 use Rattle.sip_verifier.specs.Exchanges.{Exchange, Tells}
-use Rattle.sip_verifier.specs.Moments.{Moment, IsTold}
+use Rattle.sip_verifier.specs.Moments.{Counts, Moment, IsTold}
 use Rattle.sip_verifier.specs.Promises.{Promises}
+use Rattle.sip_verifier.specs.runs.Promises as runs
 use Rattle.sip_verifier.specs.Statuses.{FaultClause}
+
+-- an exchange without what is new on the record of the talk
+abbrev pub unkept : Exchange → Exchange
+unkept x = record x { kept = None }
+
+-- the five promises of a run that asks for moments
+abbrev pub MomentPromises : MomentTask → Exchange → Counts → Counts → Status → Type 0
+MomentPromises task x before now status =
+    runs.Promises asking counting honesty (run_of task x) x before now status
 
 -- `Is command` says which command it is
 pub record CommandClause (Is : Command → Type 0) (before now : Moment) (status : Status)
@@ -44,7 +62,7 @@ pub record CommandClause (Is : Command → Type 0) (before now : Moment) (status
       → (bytes : List ℕ) → before.first ≡ Some bytes
       → CopyClause depth form Wide bytes now.first before.report now.report status
   -- `help`: a talk is served
-  pub help : Is Help → HelpClause before.talk now.talk status
+  pub help : Is Help → HelpClause Serves before.talk now.talk status
   -- `audit`: a stored run is judged again, by what the ports tell
   pub audit : (form : Form) → Is (Audit form) → (a : Audited) → TellsAudit before now a
       → Audits form a before.faults now.faults status
@@ -54,6 +72,16 @@ pub record CommandClause (Is : Command → Type 0) (before now : Moment) (status
   -- `convert`: it is written in version 2
   pub convert : Is Convert → (bytes : List ℕ) → before.second ≡ Some bytes
       → Writes in_version_2 bytes now.second before.report now.report status
+  -- `lookup`: the five promises of lookups, on that exchange; no record of the talk is kept
+  pub look : (task : LookTask) → Is (Lookup task) → (x : Exchange) → Tells before now x
+      → LookPromises task (unkept x) before.faults now.faults status
+  -- `helplook`: a talk of lookups is served
+  pub help_look : Is HelpLook → HelpClause ServesLooks before.talk now.talk status
+  -- `moments`: the five promises of moments, in the same way
+  pub moments : (task : MomentTask) → Is (Moments task) → (x : Exchange) → Tells before now x
+      → MomentPromises task (unkept x) before.faults now.faults status
+  -- `helpmom`: a talk of moments is served
+  pub help_moments : Is HelpMoments → HelpClause ServesMoments before.talk now.talk status
   -- ports that tell go on telling, so there is an exchange that they tell
   pub moves : IsTold before → (x : Exchange) × Tells before now x
   -- whatever the ports tell, a fault of a port comes only where its own count rose

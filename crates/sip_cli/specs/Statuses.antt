@@ -5,6 +5,8 @@ use Rattle.sip_verifier.specs.declared.status.Port.TheVariants as ports
 use Rattle.sip_verifier.specs.declared.status.Status.{Status}
 use Rattle.sip_verifier.specs.declared.status.Status.TheVariants as statuses
 use Rattle.sip_verifier.specs.Statuses.{IsListed}
+use Rattle.sip_lookup.specs.Promises as lookups
+use Rattle.sip_moments.specs.MomentClause as moments
 use Rattle.sip_transcript.specs.Auditing.{EndsAudit}
 use Rattle.sip_transcript.specs.Writing.{EndsWriting}
 
@@ -17,7 +19,7 @@ EndsCopy (statuses.WriteFault ports.Report) = Unit {0}
 EndsCopy statuses.OutOfMemory = Unit {0}
 EndsCopy _ = ⊥
 
--- of `help`
+-- of `help`, `helplook` and `helpmom`
 abbrev pub EndsHelp : Status → Type 0
 EndsHelp statuses.Served = Unit {0}
 EndsHelp (statuses.BadFrame offset) = Unit {0}
@@ -36,6 +38,10 @@ Ends (command.Gen depth) status = EndsCopy status
 Ends (command.Lines form depth) status = EndsCopy status
 Ends (command.Widen form depth) status = EndsCopy status
 Ends (command.Play task name) status = IsListed status
+Ends (command.Lookup task) status = lookups.IsListed status
+Ends command.HelpLook status = EndsHelp status
+Ends (command.Moments task) status = moments.IsListed status
+Ends command.HelpMoments status = EndsHelp status
 
 -- the command copies a stream
 abbrev pub IsCopy : Command → Type 0
@@ -48,6 +54,10 @@ IsCopy (command.Gen depth) = Unit {0}
 IsCopy (command.Lines form depth) = Unit {0}
 IsCopy (command.Widen form depth) = Unit {0}
 IsCopy (command.Play task name) = ⊥
+IsCopy (command.Lookup task) = ⊥
+IsCopy command.HelpLook = ⊥
+IsCopy (command.Moments task) = ⊥
+IsCopy command.HelpMoments = ⊥
 
 -- the command reads a transcript
 abbrev pub ReadsTranscript : Command → Type 0
@@ -60,6 +70,10 @@ ReadsTranscript (command.Gen depth) = ⊥
 ReadsTranscript (command.Lines form depth) = ⊥
 ReadsTranscript (command.Widen form depth) = ⊥
 ReadsTranscript (command.Play task name) = ⊥
+ReadsTranscript (command.Lookup task) = ⊥
+ReadsTranscript command.HelpLook = ⊥
+ReadsTranscript (command.Moments task) = ⊥
+ReadsTranscript command.HelpMoments = ⊥
 
 -- the command writes what a transcript tells
 abbrev pub IsRendering : Command → Type 0
@@ -72,3 +86,39 @@ IsRendering (command.Gen depth) = ⊥
 IsRendering (command.Lines form depth) = ⊥
 IsRendering (command.Widen form depth) = ⊥
 IsRendering (command.Play task name) = ⊥
+IsRendering (command.Lookup task) = ⊥
+IsRendering command.HelpLook = ⊥
+IsRendering (command.Moments task) = ⊥
+IsRendering command.HelpMoments = ⊥
+
+-- the command serves a talk
+abbrev pub IsHelp : Command → Type 0
+IsHelp (command.Verify task) = ⊥
+IsHelp command.Help = Unit {0}
+IsHelp (command.Audit form) = ⊥
+IsHelp command.Show = ⊥
+IsHelp command.Convert = ⊥
+IsHelp (command.Gen depth) = ⊥
+IsHelp (command.Lines form depth) = ⊥
+IsHelp (command.Widen form depth) = ⊥
+IsHelp (command.Play task name) = ⊥
+IsHelp (command.Lookup task) = ⊥
+IsHelp command.HelpLook = Unit {0}
+IsHelp (command.Moments task) = ⊥
+IsHelp command.HelpMoments = Unit {0}
+
+-- the command asks a helper, and keeps no record of the talk
+abbrev pub IsUnkept : Command → Type 0
+IsUnkept (command.Verify task) = ⊥
+IsUnkept command.Help = ⊥
+IsUnkept (command.Audit form) = ⊥
+IsUnkept command.Show = ⊥
+IsUnkept command.Convert = ⊥
+IsUnkept (command.Gen depth) = ⊥
+IsUnkept (command.Lines form depth) = ⊥
+IsUnkept (command.Widen form depth) = ⊥
+IsUnkept (command.Play task name) = ⊥
+IsUnkept (command.Lookup task) = Unit {0}
+IsUnkept command.HelpLook = ⊥
+IsUnkept (command.Moments task) = Unit {0}
+IsUnkept command.HelpMoments = ⊥

@@ -1,22 +1,44 @@
-//! The command of the other side.
+//! The commands of the other side.
 
-ghost use Rattle.std.specs.Prelude.{ℕ, List};
+ghost use Rattle.std.specs.Prelude.{◌≡◌, ℕ, List};
 ghost use Rattle.sip_ports.specs.declared.port.TalkEvent.{TalkEvent as AnyTalkEvent};
-ghost use Rattle.sip_ports.specs.Ports.{GoesOn, Lasts};
-ghost use Rattle.sip_verifier.specs.Moments.{counts};
+ghost use Rattle.sip_ports.specs.Ports.{GoesOn, Lasts, Rose};
+ghost use Rattle.sip_helper.specs.Serving.{Serves};
+ghost use Rattle.sip_lookup.specs.Serving.{ServesLooks};
+ghost use Rattle.sip_moments.specs.Serving.{ServesMoments};
+ghost use Rattle.sip_verifier.specs.Moments.{Counts, counts};
 ghost use Rattle.sip_verifier.specs.Statuses.{FaultClause};
-ghost use Rattle.sip_cli.specs.HelpClause.{HelpClause};
+ghost use Rattle.sip_cli.specs.HelpClause.{HelpClause, status_of};
 ghost use Rattle.sip_cli.specs.Statuses.{EndsHelp};
 
 use sip_helper::{HelpStatus, serve};
+use sip_lookup::serve_look;
+use sip_moments::serve_moments;
 use sip_ports::Link;
 use sip_verifier::Status;
 use std::alloc::Global;
 
-/// Serves one talk.
+// The status of a command whose talk ended so. The link is at fault only where its count rose.
+fn status_of(how: HelpStatus) -> Status
+    ensures status { result ≡ status_of how }
+    ensures fault { (before now : Counts)
+        → (how ≡ HelpStatus.PeerFault → Rose before.peer now.peer)
+        → FaultClause before now result }
+    ensures listed { EndsHelp result }
+{
+    match how {
+        HelpStatus::Served => Status::Served,
+        HelpStatus::BadFrame { offset } => Status::BadFrame { offset },
+        HelpStatus::PeerClosed => Status::PeerClosed,
+        HelpStatus::PeerFault => Status::PeerFault,
+        HelpStatus::OutOfMemory => Status::OutOfMemory,
+    }
+}
+
+/// Serves one talk of queries.
 #[inline(never)]
 pub(crate) fn help<L: Link>(alloc: Global, peer: &mut L) -> Status
-    ensures help { HelpClause (L.talk peer.old) (L.talk peer.new) result }
+    ensures help { HelpClause Serves (L.talk peer.old) (L.talk peer.new) result }
     ensures said { (said : List AnyTalkEvent) × GoesOn (L.talk peer.old) (L.talk peer.new) said }
     ensures fault { (first firsts second seconds report reports keep keeps : ℕ)
         → FaultClause (counts first second (L.faults peer.old) report keep)
@@ -24,11 +46,33 @@ pub(crate) fn help<L: Link>(alloc: Global, peer: &mut L) -> Status
     ensures listed { EndsHelp result }
     ensures peer { Lasts L.faults L.wants L.is_sure peer.old peer.new }
 {
-    match serve(alloc, peer) {
-        HelpStatus::Served => Status::Served,
-        HelpStatus::BadFrame { offset } => Status::BadFrame { offset },
-        HelpStatus::PeerClosed => Status::PeerClosed,
-        HelpStatus::PeerFault => Status::PeerFault,
-        HelpStatus::OutOfMemory => Status::OutOfMemory,
-    }
+    status_of(serve(alloc, peer))
+}
+
+/// Serves one talk of lookups.
+#[inline(never)]
+pub(crate) fn help_look<L: Link>(alloc: Global, peer: &mut L) -> Status
+    ensures help { HelpClause ServesLooks (L.talk peer.old) (L.talk peer.new) result }
+    ensures said { (said : List AnyTalkEvent) × GoesOn (L.talk peer.old) (L.talk peer.new) said }
+    ensures fault { (first firsts second seconds report reports keep keeps : ℕ)
+        → FaultClause (counts first second (L.faults peer.old) report keep)
+        (counts firsts seconds (L.faults peer.new) reports keeps) result }
+    ensures listed { EndsHelp result }
+    ensures peer { Lasts L.faults L.wants L.is_sure peer.old peer.new }
+{
+    status_of(serve_look(alloc, peer))
+}
+
+/// Serves one talk of moments.
+#[inline(never)]
+pub(crate) fn help_moments<L: Link>(alloc: Global, peer: &mut L) -> Status
+    ensures help { HelpClause ServesMoments (L.talk peer.old) (L.talk peer.new) result }
+    ensures said { (said : List AnyTalkEvent) × GoesOn (L.talk peer.old) (L.talk peer.new) said }
+    ensures fault { (first firsts second seconds report reports keep keeps : ℕ)
+        → FaultClause (counts first second (L.faults peer.old) report keep)
+        (counts firsts seconds (L.faults peer.new) reports keeps) result }
+    ensures listed { EndsHelp result }
+    ensures peer { Lasts L.faults L.wants L.is_sure peer.old peer.new }
+{
+    status_of(serve_moments(alloc, peer))
 }

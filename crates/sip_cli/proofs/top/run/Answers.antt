@@ -1,12 +1,17 @@
 use Rattle.std.proofs.Common.{refl, sym, subst}
+use Rattle.sip_cli.proofs.CommandKeeps.{known_by, none_keeps}
 use Rattle.sip_cli.proofs.Refusals.{command_once, spelled_not_refused}
-use Rattle.sip_cli.proofs.RunLemmas.{served_task, played_task, usage_never, usage_at, never_usage, known_by, none_keeps}
-use Rattle.sip_cli.specs.declared.command.Command.TheVariants.{Help}
-use Rattle.sip_cli.specs.Statuses.{IsCopy}
+use Rattle.sip_cli.proofs.RunLemmas.{looked_task, never_usage, played_task, served_task, summed_task, usage_at, usage_never}
+use Rattle.sip_cli.specs.Statuses.{IsCopy, IsHelp, IsUnkept}
 use Rattle.sip_cli.proofs.top.run.Goals as goal
 
 pub obey-requires : goal.obey-requires
-obey-requires g c = record { served = served_task _ _ c.in-Ok.ensures.command; played = played_task _ _ c.in-Ok.ensures.command }
+obey-requires g c = record {
+  served = served_task _ _ c.in-Ok.ensures.command;
+  played = played_task _ _ c.in-Ok.ensures.command;
+  looked = looked_task _ _ c.in-Ok.ensures.command;
+  summed = summed_task _ _ c.in-Ok.ensures.command;
+}
 
 pub returns-in-Ok-clause-keeps : goal.returns-in-Ok-clause-keeps
 returns-in-Ok-clause-keeps g c = known_by (λ command spells. command_once _ _ command c.in-Ok.ensures.command spells) c.obey.ensures.keeps
@@ -18,7 +23,10 @@ pub returns-in-Ok-clause-copies_want : goal.returns-in-Ok-clause-copies_want
 returns-in-Ok-clause-copies_want g c = λ command spells is. c.obey.ensures.copies_want (subst IsCopy (sym (command_once _ _ command c.in-Ok.ensures.command spells)) is)
 
 pub returns-in-Ok-clause-helps_apart : goal.returns-in-Ok-clause-helps_apart
-returns-in-Ok-clause-helps_apart g c = λ spells. c.obey.ensures.helps_apart (command_once _ _ Help c.in-Ok.ensures.command spells)
+returns-in-Ok-clause-helps_apart g c = λ command spells is. c.obey.ensures.helps_apart (subst IsHelp (sym (command_once _ _ command c.in-Ok.ensures.command spells)) is)
+
+pub returns-in-Ok-clause-unkept : goal.returns-in-Ok-clause-unkept
+returns-in-Ok-clause-unkept g c = λ command spells is. c.obey.ensures.unkept (subst IsUnkept (sym (command_once _ _ command c.in-Ok.ensures.command spells)) is)
 
 pub returns-in-Ok-clause-usage : goal.returns-in-Ok-clause-usage
 returns-in-Ok-clause-usage g c = λ word. usage_never _ _ _ word c.in-Ok.ensures.command (c.obey.ensures.keeps.listed _ refl)
