@@ -13,12 +13,12 @@ use Rattle.sip_lookup.specs.Honest as looks
 use Rattle.sip_lookup.specs.Promises.{LookClause, LookPromises}
 use Rattle.sip_lookup.specs.Questions.{looking}
 use Rattle.sip_lookup.specs.Serving.{ServesLooks}
-use Rattle.sip_lookup.specs.Tasks as looks_tasks
+use Rattle.sip_lookup.specs.Tasks as look_tasks
 use Rattle.sip_moments.specs.declared.task.MomentTask.{MomentTask}
 use Rattle.sip_moments.specs.Manner as moments
 use Rattle.sip_moments.specs.MomentClause.{MomentClause}
 use Rattle.sip_moments.specs.Serving.{ServesMoments}
-use Rattle.sip_moments.specs.Tasks as moments_tasks
+use Rattle.sip_moments.specs.Tasks as moment_tasks
 use Rattle.sip_verifier.specs.declared.status.Status.{Status}
 use Rattle.sip_verifier.specs.declared.status.Status.TheVariants as statuses
 use Rattle.sip_verifier.specs.declared.task.Task.{Task}
@@ -57,21 +57,25 @@ module _ (before now : Moment) (status : Status) where
 
   -- what was asked kept the promises of a verifier
   abbrev Verified : Task → Type 0
-  Verified task = (x : Exchange) → Tells before now x → Promises task x before.faults now.faults status
+  Verified task = (x : Exchange) → Tells before now x
+      → Promises task x before.faults now.faults status
 
   abbrev pub Keeps : Command → Type 0
   Keeps (Verify task) = Verified task
   Keeps Help = HelpClause Serves before.talk now.talk status
-  Keeps (Audit form) = (a : Audited) → TellsAudit before now a → Audits form a before.faults now.faults status
+  Keeps (Audit form) = (a : Audited) → TellsAudit before now a
+      → Audits form a before.faults now.faults status
   Keeps Show = Rendered listing
   Keeps Convert = Rendered in_version_2
   Keeps (Gen depth) = Copied depth (made_form depth) (made_form depth)
   Keeps (Lines form depth) = Copied depth form Text
   Keeps (Widen form depth) = Copied depth form Wide
   Keeps (Play task name) = Verified task
-  Keeps (Lookup task) = (x : Exchange) → Tells before now x → LookPromises task (unkept x) before.faults now.faults status
+  Keeps (Lookup task) = (x : Exchange) → Tells before now x
+      → LookPromises task (unkept x) before.faults now.faults status
   Keeps HelpLook = HelpClause ServesLooks before.talk now.talk status
-  Keeps (Moments task) = (x : Exchange) → Tells before now x → MomentPromises task (unkept x) before.faults now.faults status
+  Keeps (Moments task) = (x : Exchange) → Tells before now x
+      → MomentPromises task (unkept x) before.faults now.faults status
   Keeps HelpMoments = HelpClause ServesMoments before.talk now.talk status
 
 module _ {before now : Moment} {status : Status} where
@@ -80,7 +84,8 @@ module _ {before now : Moment} {status : Status} where
       → (IsTold before → (x : Exchange) × Tells before now x)
       → FaultClause before.faults now.faults status → Ends d status
       → CommandClause (λ is. c ≡ is) before now status
-  obeys d e kept moves fault listed = subst (λ (c : Command). CommandClause (λ is. c ≡ is) before now status) (sym e) (record {
+  obeys d e kept moves fault listed = subst
+      (λ (c : Command). CommandClause (λ is. c ≡ is) before now status) (sym e) (record {
     verify = λ task is. subst (Keeps before now status) is kept;
     play = λ task name is. subst (Keeps before now status) is kept;
     made = λ depth is. subst (Keeps before now status) is kept;
@@ -117,34 +122,48 @@ module _ {before now : Moment} {status : Status} where
 
   -- the record is not kept
   look_promised : (task : LookTask) → LookClause task (untold before) (untold now) status
-      → (x : Exchange) → Tells before now x → LookPromises task (unkept x) before.faults now.faults status
-  look_promised task k x t = let p = k.promises (unkept x) (tells_rest t) in record {
-    verdict = p.verdict;
-    talk = p.talk;
-    cause = caused before.faults now.faults looking (looks_tasks.run_of task (unkept x)) (unkept x) status p.cause;
-    count = p.count;
-    complete = completed before.faults now.faults looking (looks_tasks.run_of task (unkept x)) (unkept x) looks.honesty status p.complete;
-  }
+      → (x : Exchange) → Tells before now x
+      → LookPromises task (unkept x) before.faults now.faults status
+  look_promised task k x t =
+      let p = k.promises (unkept x) (tells_rest t) in
+      let r = look_tasks.run_of task (unkept x) in
+      record {
+        verdict = p.verdict;
+        talk = p.talk;
+        cause = caused before.faults now.faults looking r (unkept x) status p.cause;
+        count = p.count;
+        complete = completed before.faults now.faults looking r (unkept x) looks.honesty status
+            p.complete;
+      }
 
   moment_promised : (task : MomentTask) → MomentClause task (untold before) (untold now) status
-      → (x : Exchange) → Tells before now x → MomentPromises task (unkept x) before.faults now.faults status
-  moment_promised task k x t = let p = k.promises (unkept x) (tells_rest t) in record {
-    verdict = p.verdict;
-    talk = p.talk;
-    cause = caused before.faults now.faults moments.asking (moments_tasks.run_of task (unkept x)) (unkept x) status p.cause;
-    count = p.count;
-    complete = completed before.faults now.faults moments.asking (moments_tasks.run_of task (unkept x)) (unkept x) moments.honesty status p.complete;
-  }
+      → (x : Exchange) → Tells before now x
+      → MomentPromises task (unkept x) before.faults now.faults status
+  moment_promised task k x t =
+      let p = k.promises (unkept x) (tells_rest t) in
+      let r = moment_tasks.run_of task (unkept x) in
+      record {
+        verdict = p.verdict;
+        talk = p.talk;
+        cause = caused before.faults now.faults moments.asking r (unkept x) status p.cause;
+        count = p.count;
+        complete = completed before.faults now.faults moments.asking r (unkept x) moments.honesty
+            status p.complete;
+      }
 
   pub look_keeps : {c : Command} (task : LookTask) → c ≡ Lookup task
       → LookClause task (untold before) (untold now) status → now.keep ≡ before.keep
       → CommandClause (λ is. c ≡ is) before now status
-  look_keeps task e k same = obeys (Lookup task) e (look_promised task k) (moves_all same k.moves) (faulted before.faults now.faults status k.fault) k.listed
+  look_keeps task e k same =
+      obeys (Lookup task) e (look_promised task k) (moves_all same k.moves)
+      (faulted before.faults now.faults status k.fault) k.listed
 
   pub moments_keeps : {c : Command} (task : MomentTask) → c ≡ Moments task
       → MomentClause task (untold before) (untold now) status → now.keep ≡ before.keep
       → CommandClause (λ is. c ≡ is) before now status
-  moments_keeps task e k same = obeys (Moments task) e (moment_promised task k) (moves_all same k.moves) (faulted before.faults now.faults status k.fault) k.listed
+  moments_keeps task e k same =
+      obeys (Moments task) e (moment_promised task k) (moves_all same k.moves)
+      (faulted before.faults now.faults status k.fault) k.listed
 
   -- ---- by another sign
 
@@ -187,7 +206,8 @@ none_keeps {m = m} word none = record {
   help_look = λ is. absurd (none HelpLook is);
   moments = λ task is. absurd (none (Moments task) is);
   help_moments = λ is. absurd (none HelpMoments is);
-  moves = λ is. tells m m is (λ some. some) [] (GoesOn-refl _) [] (GoesOn-refl _) [] (GoesOn-refl _);
+  moves = λ is. tells m m is (λ some. some) [] (GoesOn-refl _) [] (GoesOn-refl _) []
+      (GoesOn-refl _);
   fault = tt;
   listed = λ command is. absurd (none command is);
 }
@@ -195,12 +215,17 @@ none_keeps {m = m} word none = record {
 -- ---- ports that tell go on telling
 
 -- bytes that are new on a sink went on it
-went_on : (old new : Option (List TalkEvent)) (bytes : List ℕ) → Appends old new (Some bytes) → GoesOn old new (outs bytes)
+went_on : (old new : Option (List TalkEvent)) (bytes : List ℕ) → Appends old new (Some bytes)
+    → GoesOn old new (outs bytes)
 went_on old new bytes told = rw (told.1, told.2) refl
 
--- an audit, by whose ports there is an exchange, where the link and the record of a talk are as they were
-pub audit_moves : (form : Form) (before now : Moment) (status : Status) → AuditClause form before now status
-    → GoesOn before.talk now.talk [] → GoesOn before.keep now.keep [] → IsTold before → (x : Exchange) × Tells before now x
+-- an audit, by whose ports there is an exchange, where the link and the record of a talk are as
+-- they were
+pub audit_moves : (form : Form) (before now : Moment) (status : Status)
+    → AuditClause form before now status
+    → GoesOn before.talk now.talk [] → GoesOn before.keep now.keep []
+    → IsTold before → (x : Exchange) × Tells before now x
 audit_moves form before now status k link record_of is =
     let told = k.moves is.first is.second is.report in
-    tells before now is (λ some. rw told.1.unread refl) [] link told.0.report (went_on before.report now.report told.0.report told.1.report) [] record_of
+    tells before now is (λ some. rw told.1.unread refl) [] link told.0.report
+    (went_on before.report now.report told.0.report told.1.report) [] record_of

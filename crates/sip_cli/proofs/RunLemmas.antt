@@ -28,8 +28,9 @@ use Rattle.sip_cli.proofs.Refusals.{refused_once, spelled_not_refused}
 
 -- ---- tasks
 
-module _ {Q : Type 0} {IsWord : ℕ → Q → List ℕ → Type 0} {verb : Verb} {words : List (List ℕ)}
-    {depth : ℕ} {form : Form} {asked : List Q} (says : SaysAll IsWord verb words depth form asked) where
+module _ {Q : Type 0} {IsWord : ℕ → Q → List ℕ → Type 0} {verb : Verb}
+    {words : List (List ℕ)} {depth : ℕ} {form : Form} {asked : List Q}
+    (says : SaysAll IsWord verb words depth form asked) where
   -- where a verb asks something, its words do
   some_asked : least_asked verb ≡ 1 → IsCommandOf verb words → 0 < length asked
   some_asked one whole =
@@ -38,12 +39,15 @@ module _ {Q : Type 0} {IsWord : ℕ → Q → List ℕ → Type 0} {verb : Verb}
       omega arith
 
   -- what the word of each says of it holds of all
-  all_asked : (P : Q → Type 0) → ((q : Q) (word : List ℕ) → IsWord depth q word → P q) → All P asked
+  all_asked : (P : Q → Type 0) → ((q : Q) (word : List ℕ) → IsWord depth q word → P q)
+      → All P asked
   all_asked P told i default less =
-      told (get_or asked i default) _ (says.each i (get_or asked i default) (slice_get-get_or asked i default less))
+      let q = get_or asked i default in
+      told q _ (says.each i q (slice_get-get_or asked i default less))
 
 -- a task of queries that words say can be done
-served_by : (verb : Verb) (words : List (List ℕ)) (task : Task) → least_asked verb ≡ 1 → IsCommandOf verb words → SaysTask verb words task → CanBeDone task
+served_by : (verb : Verb) (words : List (List ℕ)) (task : Task) → least_asked verb ≡ 1
+    → IsCommandOf verb words → SaysTask verb words task → CanBeDone task
 served_by verb words task one whole says = record {
   some = some_asked says one whole;
   asked = all_asked says (CanBeAsked task.depth) (λ query word asks. (asks.0, asks.1));
@@ -53,7 +57,8 @@ served_by verb words task one whole says = record {
 pub served : (words : List (List ℕ)) (task : Task) → Spells words (Verify task) → CanBeDone task
 served words task (whole, says) = served_by verbs.Verify words task refl whole says
 
-pub played : (words : List (List ℕ)) (task : Task) (name : HelperName) → Spells words (Play task name) → CanBeDone task
+pub played : (words : List (List ℕ)) (task : Task) (name : HelperName)
+    → Spells words (Play task name) → CanBeDone task
 played words task name (whole, says, named) = served_by verbs.Play words task refl whole says
 
 looked : (words : List (List ℕ)) (task : LookTask) → Spells words (Lookup task) → CanLookUp task
@@ -62,23 +67,28 @@ looked words task (whole, says) = record {
   items = all_asked says (CanLook task.depth) (λ lookup word asks. asks.0);
 }
 
-summed : (words : List (List ℕ)) (task : MomentTask) → Spells words (Moments task) → moments.CanBeDone task
+summed : (words : List (List ℕ)) (task : MomentTask) → Spells words (Moments task)
+    → moments.CanBeDone task
 summed words task (whole, says) = record {
   some = some_asked says refl whole;
   degrees = all_asked says (λ m. IsDegree m.degree) (λ moment word asks. asks.0);
 }
 
 -- a command that words spell, if it has a task, has one that can be done
-pub served_task : (words : List (List ℕ)) (c : Command) → Spells words c → (task : Task) → c ≡ Verify task → CanBeDone task
+pub served_task : (words : List (List ℕ)) (c : Command) → Spells words c
+    → (task : Task) → c ≡ Verify task → CanBeDone task
 served_task words c s task e = served words task (subst (Spells words) e s)
 
-pub played_task : (words : List (List ℕ)) (c : Command) → Spells words c → (task : Task) (name : HelperName) → c ≡ Play task name → CanBeDone task
+pub played_task : (words : List (List ℕ)) (c : Command) → Spells words c
+    → (task : Task) (name : HelperName) → c ≡ Play task name → CanBeDone task
 played_task words c s task name e = played words task name (subst (Spells words) e s)
 
-pub looked_task : (words : List (List ℕ)) (c : Command) → Spells words c → (task : LookTask) → c ≡ Lookup task → CanLookUp task
+pub looked_task : (words : List (List ℕ)) (c : Command) → Spells words c
+    → (task : LookTask) → c ≡ Lookup task → CanLookUp task
 looked_task words c s task e = looked words task (subst (Spells words) e s)
 
-pub summed_task : (words : List (List ℕ)) (c : Command) → Spells words c → (task : MomentTask) → c ≡ Moments task → moments.CanBeDone task
+pub summed_task : (words : List (List ℕ)) (c : Command) → Spells words c
+    → (task : MomentTask) → c ≡ Moments task → moments.CanBeDone task
 summed_task words c s task e = summed words task (subst (Spells words) e s)
 
 -- ---- Usage
@@ -104,18 +114,26 @@ pub never_usage : (c : Command) (status : Status) (word : ℕ)
 never_usage c status word listed e = ends_otherwise c word (subst (Ends c) e listed)
 
 -- words that spell a command are refused nowhere, and it does not end with Usage
-pub usage_never : (words : List (List ℕ)) (c : Command) (status : Status) (word : ℕ) → Spells words c → Ends c status → (status ≡ statuses.Usage word) ↔ IsRefusedAt words word
-usage_never words c status word s listed = (λ e. absurd (never_usage c status word listed e), λ refused. absurd (spelled_not_refused words c word s refused))
+pub usage_never : (words : List (List ℕ)) (c : Command) (status : Status) (word : ℕ)
+    → Spells words c → Ends c status → (status ≡ statuses.Usage word) ↔ IsRefusedAt words word
+usage_never words c status word s listed = (
+  λ e. absurd (never_usage c status word listed e),
+  λ refused. absurd (spelled_not_refused words c word s refused),
+)
 
 -- refused words are refused at the number that is answered, and there alone
-pub usage_at : (words : List (List ℕ)) (word other : ℕ) → IsRefusedAt words word → (statuses.Usage word ≡ statuses.Usage other) ↔ IsRefusedAt words other
-usage_at words word other refused =
-    (λ e. let same : word ≡ other = cc in subst (IsRefusedAt words) same refused, λ also. ap statuses.Usage (refused_once words word other refused also))
+pub usage_at : (words : List (List ℕ)) (word other : ℕ) → IsRefusedAt words word
+    → (statuses.Usage word ≡ statuses.Usage other) ↔ IsRefusedAt words other
+usage_at words word other refused = (
+  λ e. let same : word ≡ other = cc in subst (IsRefusedAt words) same refused,
+  λ also. ap statuses.Usage (refused_once words word other refused also),
+)
 
 -- ---- copies
 
 -- only binary records have no room for the items of each depth
-pub room_for : (depth : ℕ) (to : Form) → depth ≤ most_depth → (to ≡ Binary → depth ≤ most_narrow_depth) → depth ≤ deepest_in to
+pub room_for : (depth : ℕ) (to : Form) → depth ≤ most_depth
+    → (to ≡ Binary → depth ≤ most_narrow_depth) → depth ≤ deepest_in to
 room_for depth Binary most narrow = narrow refl
 room_for depth Text most narrow = most
 room_for depth Wide most narrow = most

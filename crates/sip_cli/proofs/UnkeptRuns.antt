@@ -30,12 +30,16 @@ none_new : (old : Option (List TalkEvent)) → (kept : Option (List ℕ)) × App
 none_new None = (None, refl)
 none_new (Some had) = (Some [], (had, refl, ap Some (sym (append-nil had))))
 
-kept_on : (old new : Option (List TalkEvent)) → new ≡ old → (kept : Option (List ℕ)) × Appends old new kept
-kept_on old new same = subst (λ (o : Option (List TalkEvent)). (kept : Option (List ℕ)) × Appends old o kept) (sym same) (none_new old)
+kept_on : (old new : Option (List TalkEvent)) → new ≡ old
+    → (kept : Option (List ℕ)) × Appends old new kept
+kept_on old new same =
+    subst (λ (o : Option (List TalkEvent)). (kept : Option (List ℕ)) × Appends old o kept)
+    (sym same) (none_new old)
 
 module _ {before now : Moment} where
   -- what all ports tell, those but the record tell
-  pub tells_rest : {x : Exchange} → Tells before now x → Tells (untold before) (untold now) (unkept x)
+  pub tells_rest : {x : Exchange} → Tells before now x
+      → Tells (untold before) (untold now) (unkept x)
   tells_rest t = record {
     stream = t.stream;
     unread = t.unread;
@@ -64,19 +68,26 @@ module _ {before now : Moment} where
       → (IsTold (untold before) → (x : Exchange) × Tells (untold before) (untold now) x)
       → IsTold before → (x : Exchange) × Tells before now x
   moves_all same moves is =
-      let told = moves (record { first = is.first; second = is.second; talk = is.talk; report = is.report }) in
+      let told = moves (record {
+        first = is.first;
+        second = is.second;
+        talk = is.talk;
+        report = is.report;
+      }) in
       tells_all told.0 same told.1
 
 -- ---- clauses
 
 module _ (before now : Counts) where
   -- no fault of the record is answered
-  pub faulted : (status : Status) → FaultClause (uncounted before) (uncounted now) status → FaultClause before now status
+  pub faulted : (status : Status) → FaultClause (uncounted before) (uncounted now) status
+      → FaultClause before now status
   faulted (statuses.WriteFault ports.Keep) fault = absurd (Rose-positive 0 0 fault refl)
   faulted _ fault = fault
 
   module _ {Q A : Type 0} (asking : Asking Q A) (r : Run Q) (x : Exchange) where
-    pub caused : (status : Status) → CauseClause asking r x (uncounted before) (uncounted now) status
+    pub caused : (status : Status)
+        → CauseClause asking r x (uncounted before) (uncounted now) status
         → CauseClause asking r x before now status
     caused (statuses.WriteFault ports.Keep) cause = absurd (Rose-positive 0 0 cause.2 refl)
     caused _ cause = cause

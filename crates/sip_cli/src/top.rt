@@ -3,6 +3,10 @@
 ghost use Rattle.std.specs.Prelude.{◌≡◌, ◌↔◌, ◌⊎◌, ℕ};
 ghost use Rattle.sip_ports.specs.Ports.{Lasts, Rose};
 ghost use Rattle.sip_stream.specs.declared.form.Form.{Form as AnyForm};
+ghost use Rattle.sip_lookup.specs.declared.task.LookTask.{LookTask as AnyLookTask};
+ghost use Rattle.sip_lookup.specs.Tasks.{CanLookUp};
+ghost use Rattle.sip_moments.specs.declared.task.MomentTask.{MomentTask as AnyMomentTask};
+ghost use Rattle.sip_moments.specs.Tasks.{CanBeDone as CanBeSummed};
 ghost use Rattle.sip_verifier.specs.declared.task.Task.{Task as AnyTask};
 ghost use Rattle.sip_verifier.specs.Exchanges.{TakesAtMost};
 ghost use Rattle.sip_verifier.specs.Moments.{moment};
@@ -10,12 +14,14 @@ ghost use Rattle.sip_verifier.specs.Tasks.{CanBeDone};
 ghost use Rattle.sip_cli.specs.declared.command.Command.{Command as AnyCommand};
 ghost use Rattle.sip_cli.specs.declared.helper_name.HelperName.{HelperName as AnyName};
 ghost use Rattle.sip_cli.specs.CommandClause.{CommandClause};
-ghost use Rattle.sip_cli.specs.Statuses.{IsCopy, IsRendering, ReadsTranscript};
+ghost use Rattle.sip_cli.specs.Statuses.{IsCopy, IsHelp, IsRendering, IsUnkept, ReadsTranscript};
 ghost use Rattle.sip_cli.specs.Words.{Spells, IsRefusedAt};
 
 use crate::copying::copy_stream;
-use crate::helping::help;
+use crate::helping::{help, help_look, help_moments};
 use crate::{Command, Usage, Words, read_words};
+use sip_lookup::look_stream;
+use sip_moments::moment_stream;
 use sip_ports::{Link, Sink, Source};
 use sip_stream::Form;
 use sip_transcript::{audit, convert, show};
@@ -35,6 +41,9 @@ fn obey<A: Source, B: Source, L: Link, K: Sink, C: Sink>(
     requires served { (task : AnyTask) → command.now ≡ Command.Verify task → CanBeDone task }
     requires played { (task : AnyTask) (name : AnyName) → command.now ≡ Command.Play task name
         → CanBeDone task }
+    requires looked { (task : AnyLookTask) → command.now ≡ Command.Lookup task → CanLookUp task }
+    requires summed { (task : AnyMomentTask) → command.now ≡ Command.Moments task
+        → CanBeSummed task }
     ensures keeps { CommandClause (λ is. command.now ≡ is)
         (moment (A.left first.old) (A.faults first.old) (B.left second.old) (B.faults second.old)
         (L.talk peer.old) (L.faults peer.old) (K.talk report.old) (K.faults report.old)
@@ -48,8 +57,9 @@ fn obey<A: Source, B: Source, L: Link, K: Sink, C: Sink>(
     ensures copies_want { IsCopy command.now → result ≡ Status.OutOfMemory
         → Rose (A.wants first.old) (A.wants first.new)
         ⊎ Rose (K.wants report.old) (K.wants report.new) }
-    ensures helps_apart { command.now ≡ Command.Help → (first.new ≡ first.old)
+    ensures helps_apart { IsHelp command.now → (first.new ≡ first.old)
         × (second.new ≡ second.old) × (report.new ≡ report.old) × (keep.new ≡ keep.old) }
+    ensures unkept { IsUnkept command.now → keep.new ≡ keep.old }
     ensures audits_apart { (form : AnyForm) → command.now ≡ Command.Audit form
         → (peer.new ≡ peer.old) × (keep.new ≡ keep.old) }
     ensures shows_apart { IsRendering command.now → (first.new ≡ first.old)
@@ -75,9 +85,10 @@ fn obey<A: Source, B: Source, L: Link, K: Sink, C: Sink>(
         }
         Command::Lines { form, depth } => copy_stream(*depth, *form, Form::Text, first, report),
         Command::Widen { form, depth } => copy_stream(*depth, *form, Form::Wide, first, report),
-        Command::Lookup(_) | Command::HelpLook | Command::Moments(_) | Command::HelpMoments => {
-            Status::OutOfMemory
-        }
+        Command::Lookup(task) => look_stream(alloc, task, first, second, peer, report),
+        Command::HelpLook => help_look(alloc, peer),
+        Command::Moments(task) => moment_stream(alloc, task, first, second, peer, report),
+        Command::HelpMoments => help_moments(alloc, peer),
     }
 }
 
@@ -102,6 +113,19 @@ fn obey<A: Source, B: Source, L: Link, K: Sink, C: Sink>(
 ///
 /// `play STREAM SEED HELPER RECORD DEPTH QUERY..`: as `verify`, over the link that it is given, whatever
 /// helper is named. [`play_words`](crate::play_words) does such words over a link to that helper.
+///
+/// `lookup STREAM SEED FROM TO DEPTH LOOKUP..`: as `verify`, for the number at an item or the entry
+/// nearest to it that is not 0. The helper names the place of each answer, and its replies about the
+/// interval up to there prove it. `keep` gets nothing. The memory is that of a frame and of 65,536
+/// entries, and each record costs at most DEPTH multiplications for each lookup.
+///
+/// `moments STREAM SEED FROM TO DEPTH MOMENT..`: as `verify`, for the sum of a power, 3 to 8, of the
+/// numbers of a side. Nothing is asked where the side's weight to that power is above 2^60 - 1.
+/// `keep` gets nothing. The memory is that of a frame, and each record costs at most DEPTH
+/// multiplications for each moment.
+///
+/// `helplook FROM TO` and `helpmom FROM TO`: serve one talk of lookups, or of moments, over `peer`.
+/// Memory grows with the entries that are not 0.
 pub fn run<A: Source, B: Source, L: Link, K: Sink, C: Sink>(
     alloc: Global,
     words: &Words,
@@ -111,10 +135,11 @@ pub fn run<A: Source, B: Source, L: Link, K: Sink, C: Sink>(
     report: &mut K,
     keep: &mut C,
 ) -> Status
-    // Of `verify` and `play` the seven promises, of `gen`, `lines` and `widen` the copy that the
-    // report gets, of `help` the talk that it serves, of `audit` what a stored run is judged to be,
-    // and of `show` and `convert` what the report gets of the transcript; and whatever the command,
-    // its faults have their cause, and its status is one of its own.
+    // Of `verify` and `play` the seven promises, of `lookup` and `moments` their five, of `gen`,
+    // `lines` and `widen` the copy that the report gets, of `help`, `helplook` and `helpmom` the talk
+    // that it serves, of `audit` what a stored run is judged to be, and of `show` and `convert` what
+    // the report gets of the transcript; and whatever the command, its faults have their cause, and
+    // its status is one of its own.
     ensures keeps { CommandClause (Spells words.now)
         (moment (A.left first.old) (A.faults first.old) (B.left second.old) (B.faults second.old)
         (L.talk peer.old) (L.faults peer.old) (K.talk report.old) (K.faults report.old)
@@ -132,8 +157,12 @@ pub fn run<A: Source, B: Source, L: Link, K: Sink, C: Sink>(
         → result ≡ Status.OutOfMemory
         → Rose (A.wants first.old) (A.wants first.new)
         ⊎ Rose (K.wants report.old) (K.wants report.new) }
-    ensures helps_apart { Spells words.now Command.Help → (first.new ≡ first.old)
-        × (second.new ≡ second.old) × (report.new ≡ report.old) × (keep.new ≡ keep.old) }
+    ensures helps_apart { (command : AnyCommand) → Spells words.now command → IsHelp command
+        → (first.new ≡ first.old) × (second.new ≡ second.old) × (report.new ≡ report.old)
+        × (keep.new ≡ keep.old) }
+    // Lookups and moments keep no record of their talk.
+    ensures unkept { (command : AnyCommand) → Spells words.now command → IsUnkept command
+        → keep.new ≡ keep.old }
 
     // An audit leaves the link and the record of a talk alone, and to write what a transcript tells
     // all ports but that of the transcript and the report.

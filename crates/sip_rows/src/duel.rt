@@ -34,7 +34,7 @@ pub fn heard(alloc: Global, talk: &[TalkEvent]) -> Result<Vec<u8>, Fail> {
 }
 
 // What is drawn for 16 queries at depth 48.
-const MOST_CHALLENGES: usize = 768;
+pub const MOST_CHALLENGES: usize = 768;
 
 // The task that these words of `verify` ask for.
 fn task_of(alloc: Global, words: &str) -> Result<Task, Fail> {
@@ -56,7 +56,7 @@ fn help(alloc: Global, said: &[u8]) -> Result<Shown, Fail> {
 }
 
 // The frames that reveal all of these but the last.
-fn push_reveals(said: &mut Vec<u8>, challenges: &[M61]) -> Result<(), Fail> {
+pub fn push_reveals(said: &mut Vec<u8>, challenges: &[M61]) -> Result<(), Fail> {
     for challenge in challenges.iter().take(challenges.len().saturating_sub(1)) {
         said.extend_from_slice(&[0x05, 0, 8])?;
         said.extend_from_slice(&challenge.number().to_be_bytes())?;

@@ -16,6 +16,8 @@ mod audit_frames;
 #[cfg(test)]
 mod audit_tests;
 #[cfg(test)]
+mod both_ends_tests;
+#[cfg(test)]
 mod case;
 #[cfg(test)]
 mod command_tests;
@@ -52,9 +54,13 @@ mod help_tests;
 #[cfg(test)]
 mod hint_tests;
 #[cfg(test)]
+mod look_tests;
+#[cfg(test)]
 mod made_tests;
 #[cfg(test)]
 mod many_tests;
+#[cfg(test)]
+mod moment_tests;
 #[cfg(test)]
 mod ones;
 #[cfg(test)]
@@ -69,6 +75,8 @@ mod play_tests;
 mod progress_tests;
 #[cfg(test)]
 mod query_tests;
+#[cfg(test)]
+mod question_frames;
 #[cfg(test)]
 mod record_tests;
 #[cfg(test)]

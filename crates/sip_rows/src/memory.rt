@@ -11,12 +11,19 @@ ghost use Rattle.sip_verifier.specs.declared.status.Port.TheVariants as ports;
 ghost use Rattle.sip_verifier.specs.Exchanges.{Exchange};
 ghost use Rattle.sip_verifier.specs.Promises.{Promises};
 ghost use Rattle.sip_cli.specs.declared.command.Command.{Command};
-ghost use Rattle.sip_cli.specs.declared.command.Command.TheVariants.{Verify, Gen, Lines, Widen, Help, Audit, Play, Show, Convert};
+ghost use Rattle.sip_cli.specs.declared.command.Command.TheVariants.{Verify, Gen, Lines, Widen, Help, Audit, Play, Show, Convert, Lookup, HelpLook, Moments, HelpMoments};
 ghost use Rattle.sip_cli.specs.declared.helper_name.HelperName.{HelperName};
+ghost use Rattle.sip_cli.specs.CommandClause.{MomentPromises, unkept};
 ghost use Rattle.sip_cli.specs.CopyClause.{CopyClause};
 ghost use Rattle.sip_cli.specs.HelpClause.{HelpClause};
 ghost use Rattle.sip_cli.specs.Statuses.{Ends};
 ghost use Rattle.sip_cli.specs.Words.{Spells, IsRefusedAt};
+ghost use Rattle.sip_helper.specs.Serving.{Serves};
+ghost use Rattle.sip_lookup.specs.declared.task.LookTask.{LookTask};
+ghost use Rattle.sip_lookup.specs.Promises.{LookPromises};
+ghost use Rattle.sip_lookup.specs.Serving.{ServesLooks};
+ghost use Rattle.sip_moments.specs.declared.task.MomentTask.{MomentTask};
+ghost use Rattle.sip_moments.specs.Serving.{ServesMoments};
 ghost use Rattle.sip_transcript.specs.Auditing.{Audits};
 ghost use Rattle.sip_transcript.specs.Conversions.{in_version_2};
 ghost use Rattle.sip_transcript.specs.Listings.{listing};
@@ -56,6 +63,20 @@ pub fn run_in_memory(
         × Promises task x (faults_of first.old second.old peer.old report.old keep.old)
         (faults_of first.new second.new peer.new report.new keep.new) result }
 
+    // Of `lookup` and of `moments` it keeps the five promises.
+    ensures looked { (task : LookTask) → Spells words.now (Lookup task) → (x : Exchange)
+        × Moves (held_by first.old second.old peer.old report.old keep.old)
+        (held_by first.new second.new peer.new report.new keep.new) x
+        × LookPromises task (unkept x)
+        (faults_of first.old second.old peer.old report.old keep.old)
+        (faults_of first.new second.new peer.new report.new keep.new) result }
+    ensures summed { (task : MomentTask) → Spells words.now (Moments task) → (x : Exchange)
+        × Moves (held_by first.old second.old peer.old report.old keep.old)
+        (held_by first.new second.new peer.new report.new keep.new) x
+        × MomentPromises task (unkept x)
+        (faults_of first.old second.old peer.old report.old keep.old)
+        (faults_of first.new second.new peer.new report.new keep.new) result }
+
     // A copy is written to the report, and so is what there is of a transcript; a talk is served on
     // the link.
     ensures made { (depth : ℕ) → Spells words.now (Gen depth)
@@ -76,8 +97,12 @@ pub fn run_in_memory(
     ensures converted { Spells words.now Convert → Writes in_version_2 (source_left second.old)
         (Some (source_left second.new)) (Some (outs (sink_bytes report.old)))
         (Some (outs (sink_bytes report.new))) result }
-    ensures help { Spells words.now Help → HelpClause (Some (link_talk peer.old))
+    ensures help { Spells words.now Help → HelpClause Serves (Some (link_talk peer.old))
         (Some (link_talk peer.new)) result }
+    ensures help_look { Spells words.now HelpLook → HelpClause ServesLooks
+        (Some (link_talk peer.old)) (Some (link_talk peer.new)) result }
+    ensures help_moments { Spells words.now HelpMoments → HelpClause ServesMoments
+        (Some (link_talk peer.old)) (Some (link_talk peer.new)) result }
 
     // A stored run is judged again by what moved, and its lines are new on the report.
     ensures audited { (form : Form) → Spells words.now (Audit form) → (lines : List ℕ)

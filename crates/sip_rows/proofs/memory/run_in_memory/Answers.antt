@@ -18,6 +18,20 @@ returns-clause-played c = λ task name spells.
     let told = c.run.ensures.keeps.moves (all_told old _) in
     let x = told.0 in (x, Moves-told old new _ _ x told.1, c.run.ensures.keeps.play task name spells x told.1)
 
+pub returns-clause-looked : goal.returns-clause-looked
+returns-clause-looked c = λ task spells.
+    let old = held_by c.args.first.now c.args.second.now c.args.peer.now c.args.report.now c.args.keep.now in
+    let new = held_by c.run.new.first c.run.new.second c.run.new.peer c.run.new.report c.run.new.keep in
+    let told = c.run.ensures.keeps.moves (all_told old _) in
+    let x = told.0 in (x, Moves-told old new _ _ x told.1, c.run.ensures.keeps.look task spells x told.1)
+
+pub returns-clause-summed : goal.returns-clause-summed
+returns-clause-summed c = λ task spells.
+    let old = held_by c.args.first.now c.args.second.now c.args.peer.now c.args.report.now c.args.keep.now in
+    let new = held_by c.run.new.first c.run.new.second c.run.new.peer c.run.new.report c.run.new.keep in
+    let told = c.run.ensures.keeps.moves (all_told old _) in
+    let x = told.0 in (x, Moves-told old new _ _ x told.1, c.run.ensures.keeps.moments task spells x told.1)
+
 pub returns-clause-made : goal.returns-clause-made
 returns-clause-made c = λ depth spells. c.run.ensures.keeps.made depth spells _ refl
 
@@ -46,6 +60,12 @@ returns-clause-audited c = λ form spells.
 
 pub returns-clause-help : goal.returns-clause-help
 returns-clause-help c = c.run.ensures.keeps.help
+
+pub returns-clause-help_look : goal.returns-clause-help_look
+returns-clause-help_look c = c.run.ensures.keeps.help_look
+
+pub returns-clause-help_moments : goal.returns-clause-help_moments
+returns-clause-help_moments c = c.run.ensures.keeps.help_moments
 
 pub returns-clause-listed : goal.returns-clause-listed
 returns-clause-listed c = c.run.ensures.keeps.listed

@@ -1,0 +1,397 @@
+// Worked runs of `lookup`, and talks of `helplook`, by the bytes that go in and those that come out.
+
+use crate::frames::*;
+use crate::question_frames::*;
+use crate::row::{Given, Row, Said, check_rows};
+use sip_verifier::Status;
+use sip_wire::Reason;
+use std::test::Fail;
+
+// The numbers 3, 0, 5, 1, whose entry from 1 on is 5 at item 2.
+const GIVEN: Given<'static> = Given {
+    words: "lookup s seed a b 2 succ:1",
+    stream: &THREE_RECORDS,
+    seed: &ZERO_SEED,
+    replies: &[&FOUND_2, &ENTRY_2, &SIBLINGS_3_1, &NO_SIBLINGS],
+};
+
+const SUCCESSOR: Row<'static> = Row {
+    name: "the entry from 1 on",
+    given: GIVEN,
+    status: Status::Accepted,
+    code: 0,
+    report: b"succ:1 2:5\n",
+    sent: &[
+        Said::Out(&OPEN_2),
+        Said::Out(&UPDATES_OF_THREE),
+        Said::Out(&THREE_RECORDS),
+        Said::Out(&END_STREAM),
+        Said::Out(&ASK_SUCC_1),
+    ],
+    then: &[
+        Said::In(&FOUND_2),
+        Said::Out(&SUB_1_2),
+        Said::In(&ENTRY_2),
+        Said::In(&SIBLINGS_3_1),
+        Said::Out(&REVEAL),
+        Said::In(&NO_SIBLINGS),
+        Said::Out(&END),
+    ],
+};
+
+const ACCEPTED: &[Row<'static>] = &[
+    SUCCESSOR,
+    Row {
+        name: "three lookups",
+        given: Given {
+            words: "lookup s seed a b 2 index:1 pred:1 succ:1",
+            replies: &[
+                &FOUND_1,
+                &LEFT_SIBLING_3,
+                &RIGHT_NODE,
+                &FOUND_0,
+                &ENTRY_0,
+                &NO_SIBLINGS,
+                &RIGHT_NODE_FOR_QUERY_2,
+                &FOUND_2,
+                &ENTRY_2,
+                &SIBLINGS_3_1,
+                &NO_SIBLINGS,
+            ],
+            ..GIVEN
+        },
+        report: b"index:1 0\npred:1 0:3\nsucc:1 2:5\n",
+        sent: &[
+            Said::Out(&OPEN_2),
+            Said::Out(&UPDATES_OF_THREE),
+            Said::Out(&THREE_RECORDS),
+            Said::Out(&END_STREAM),
+            Said::Out(&ASK_INDEX_1),
+        ],
+        then: &[
+            Said::In(&FOUND_1),
+            Said::Out(&SUB_1_1),
+            Said::In(&LEFT_SIBLING_3),
+            Said::Out(&REVEAL),
+            Said::In(&RIGHT_NODE),
+            Said::Out(&ASK_PRED_1),
+            Said::In(&FOUND_0),
+            Said::Out(&SUB_0_1),
+            Said::In(&ENTRY_0),
+            Said::In(&NO_SIBLINGS),
+            Said::Out(&REVEAL_FOR_QUERY_2),
+            Said::In(&RIGHT_NODE_FOR_QUERY_2),
+            Said::Out(&ASK_SUCC_1),
+            Said::In(&FOUND_2),
+            Said::Out(&SUB_1_2),
+            Said::In(&ENTRY_2),
+            Said::In(&SIBLINGS_3_1),
+            Said::Out(&REVEAL_FOR_QUERY_3),
+            Said::In(&NO_SIBLINGS),
+            Said::Out(&END),
+        ],
+        ..SUCCESSOR
+    },
+    Row {
+        name: "no entry up to 3",
+        given: Given {
+            words: "lookup s seed a b 2 pred:3",
+            stream: &[],
+            replies: &[&FOUND_NONE, &NO_SIBLINGS, &NO_SIBLINGS],
+            ..GIVEN
+        },
+        report: b"pred:3 none\n",
+        sent: &[
+            Said::Out(&OPEN_2),
+            Said::Out(&END_STREAM),
+            Said::Out(&ASK_PRED_3),
+        ],
+        then: &[
+            Said::In(&FOUND_NONE),
+            Said::Out(&SUB_0_3),
+            Said::In(&NO_SIBLINGS),
+            Said::Out(&REVEAL),
+            Said::In(&NO_SIBLINGS),
+            Said::Out(&END),
+        ],
+        ..SUCCESSOR
+    },
+];
+
+// Nothing is said behind a place that can't be, and nothing behind the reply whose fault shows.
+const REJECTED: &[Row<'static>] = &[
+    Row {
+        name: "a place below the item",
+        given: Given {
+            replies: &[&FOUND_0],
+            ..GIVEN
+        },
+        status: Status::Rejected {
+            query: 1,
+            round: 0,
+            reason: Reason::BadFound,
+        },
+        code: 1,
+        report: b"rejected query 1 round 0 BadFound\n",
+        then: &[Said::In(&FOUND_0)],
+        ..SUCCESSOR
+    },
+    Row {
+        name: "another entry is nearer",
+        given: Given {
+            replies: &[&FOUND_3, &ENTRIES_2_3, &LEFT_SIBLING_3, &NO_SIBLINGS],
+            ..GIVEN
+        },
+        status: Status::Rejected {
+            query: 1,
+            round: 2,
+            reason: Reason::NotAlone,
+        },
+        code: 1,
+        report: b"rejected query 1 round 2 NotAlone\n",
+        then: &[
+            Said::In(&FOUND_3),
+            Said::Out(&SUB_1_3),
+            Said::In(&ENTRIES_2_3),
+            Said::In(&LEFT_SIBLING_3),
+            Said::Out(&REVEAL),
+            Said::In(&NO_SIBLINGS),
+        ],
+        ..SUCCESSOR
+    },
+    Row {
+        name: "an entry from 1 on, and none was found",
+        given: Given {
+            replies: &[&FOUND_NONE, &ENTRIES_2_3, &LEFT_SIBLING_3, &NO_SIBLINGS],
+            ..GIVEN
+        },
+        status: Status::Rejected {
+            query: 1,
+            round: 2,
+            reason: Reason::NotAlone,
+        },
+        code: 1,
+        report: b"rejected query 1 round 2 NotAlone\n",
+        then: &[
+            Said::In(&FOUND_NONE),
+            Said::Out(&SUB_1_3),
+            Said::In(&ENTRIES_2_3),
+            Said::In(&LEFT_SIBLING_3),
+            Said::Out(&REVEAL),
+            Said::In(&NO_SIBLINGS),
+        ],
+        ..SUCCESSOR
+    },
+    Row {
+        name: "none was found, and yet there is an index",
+        given: Given {
+            replies: &[&FOUND_NONE_AT_1],
+            ..GIVEN
+        },
+        status: Status::Rejected {
+            query: 1,
+            round: 0,
+            reason: Reason::BadNumber,
+        },
+        code: 1,
+        report: b"rejected query 1 round 0 BadNumber\n",
+        then: &[Said::In(&FOUND_NONE_AT_1)],
+        ..SUCCESSOR
+    },
+    Row {
+        name: "the helper has no memory",
+        given: Given {
+            replies: &[&REFUSE_1],
+            ..GIVEN
+        },
+        status: Status::Rejected {
+            query: 1,
+            round: 0,
+            reason: Reason::Refused(1),
+        },
+        code: 1,
+        report: b"rejected query 1 round 0 Refused(1)\n",
+        then: &[Said::In(&REFUSE_1)],
+        ..SUCCESSOR
+    },
+    Row {
+        name: "the helper leaves",
+        given: Given {
+            replies: &[&FOUND_2],
+            ..GIVEN
+        },
+        status: Status::Rejected {
+            query: 1,
+            round: 0,
+            reason: Reason::Closed,
+        },
+        code: 1,
+        report: b"rejected query 1 round 0 Closed\n",
+        then: &[Said::In(&FOUND_2), Said::Out(&SUB_1_2), Said::Ended],
+        ..SUCCESSOR
+    },
+];
+
+// The stream, the seed and the report are left alone.
+const HELPING: Given<'static> = Given {
+    words: "helplook from to",
+    stream: &THREE_RECORDS,
+    seed: &ZERO_SEED,
+    replies: &[],
+};
+
+const SERVED: Row<'static> = Row {
+    name: "",
+    given: HELPING,
+    status: Status::Served,
+    code: 0,
+    report: b"",
+    sent: &[],
+    then: &[],
+};
+
+const TALKS: &[Row<'static>] = &[
+    Row {
+        name: "a whole talk",
+        given: Given {
+            replies: &[
+                &OPEN_2,
+                &UPDATES_OF_THREE,
+                &THREE_RECORDS,
+                &END_STREAM,
+                &ASK_SUCC_1,
+                &SUB_1_2,
+                &REVEAL_OF_2,
+                &END,
+            ],
+            ..HELPING
+        },
+        then: &[
+            Said::In(&OPEN_2),
+            Said::In(&UPDATES_OF_THREE),
+            Said::In(&THREE_RECORDS),
+            Said::In(&END_STREAM),
+            Said::In(&ASK_SUCC_1),
+            Said::Out(&FOUND_2),
+            Said::In(&SUB_1_2),
+            Said::Out(&ENTRY_2),
+            Said::Out(&SIBLINGS_3_1),
+            Said::In(&REVEAL_OF_2),
+            Said::Out(&NO_SIBLINGS),
+            Said::In(&END),
+        ],
+        ..SERVED
+    },
+    Row {
+        name: "a whole talk in version 2",
+        given: Given {
+            replies: &[
+                &OPEN_2_WIDE,
+                &UPDATES_OF_THREE_WIDE,
+                &THREE_WIDE_RECORDS,
+                &END_STREAM,
+                &ASK_SUCC_1,
+                &SUB_1_2_WIDE,
+                &REVEAL_OF_2,
+                &END,
+            ],
+            ..HELPING
+        },
+        then: &[
+            Said::In(&OPEN_2_WIDE),
+            Said::In(&UPDATES_OF_THREE_WIDE),
+            Said::In(&THREE_WIDE_RECORDS),
+            Said::In(&END_STREAM),
+            Said::In(&ASK_SUCC_1),
+            Said::Out(&FOUND_2),
+            Said::In(&SUB_1_2_WIDE),
+            Said::Out(&ENTRY_2_WIDE),
+            Said::Out(&SIBLINGS_3_1),
+            Said::In(&REVEAL_OF_2),
+            Said::Out(&NO_SIBLINGS),
+            Said::In(&END),
+        ],
+        ..SERVED
+    },
+    Row {
+        name: "the verifier leaves where a lookup is due",
+        given: Given {
+            replies: &[&OPEN_2, &END_STREAM],
+            ..HELPING
+        },
+        status: Status::PeerClosed,
+        code: 4,
+        then: &[Said::In(&OPEN_2), Said::In(&END_STREAM), Said::Ended],
+        ..SERVED
+    },
+    Row {
+        name: "item 4 is none of 4",
+        given: Given {
+            replies: &[&OPEN_2, &END_STREAM, &ASK_INDEX_4],
+            ..HELPING
+        },
+        status: Status::BadFrame { offset: 8 },
+        code: 3,
+        then: &[
+            Said::In(&OPEN_2),
+            Said::In(&END_STREAM),
+            Said::In(&ASK_INDEX_4),
+            Said::Out(&REFUSE_4),
+        ],
+        ..SERVED
+    },
+    Row {
+        name: "code 4 is none",
+        given: Given {
+            replies: &[&OPEN_2, &END_STREAM, &ASK_CODE_4],
+            ..HELPING
+        },
+        status: Status::BadFrame { offset: 8 },
+        code: 3,
+        then: &[
+            Said::In(&OPEN_2),
+            Said::In(&END_STREAM),
+            Said::In(&ASK_CODE_4),
+            Said::Out(&REFUSE_4),
+        ],
+        ..SERVED
+    },
+    Row {
+        name: "a moment where a lookup is due",
+        given: Given {
+            replies: &[&OPEN_2, &END_STREAM, &ASK_THIRD],
+            ..HELPING
+        },
+        status: Status::BadFrame { offset: 8 },
+        code: 3,
+        then: &[
+            Said::In(&OPEN_2),
+            Said::In(&END_STREAM),
+            Said::In(&ASK_MOMENT_HEADER),
+        ],
+        ..SERVED
+    },
+    Row {
+        name: "a lookup where a query is due",
+        given: Given {
+            words: "help from to",
+            replies: &[&OPEN_2, &END_STREAM, &ASK_SUCC_1],
+            ..HELPING
+        },
+        status: Status::BadFrame { offset: 8 },
+        code: 3,
+        then: &[
+            Said::In(&OPEN_2),
+            Said::In(&END_STREAM),
+            Said::In(&ASK_HEADER),
+        ],
+        ..SERVED
+    },
+];
+
+#[test]
+fn runs_and_talks_of_lookups(rt: HostRuntime) -> Result<(), Fail> {
+    check_rows(&rt, rt.alloc(), ACCEPTED)?;
+    check_rows(&rt, rt.alloc(), REJECTED)?;
+    check_rows(&rt, rt.alloc(), TALKS)
+}

@@ -1,0 +1,287 @@
+// Worked runs of `moments`, and talks of `helpmom`, by the bytes that go in and those that come out.
+
+use crate::frames::*;
+use crate::question_frames::*;
+use crate::row::{Given, Row, Said, check_rows};
+use sip_verifier::Status;
+use sip_wire::Reason;
+use std::test::Fail;
+
+// The numbers 3, 0, 5, 1, whose cubes are 153.
+const GIVEN: Given<'static> = Given {
+    words: "moments s seed a b 2 moment:0:3",
+    stream: &THREE_RECORDS,
+    seed: &ZERO_SEED,
+    replies: &[&CLAIM_153, &CUBES_1, &CUBES_2_AT_ZERO_SEED],
+};
+
+const CUBES: Row<'static> = Row {
+    name: "the cubes",
+    given: GIVEN,
+    status: Status::Accepted,
+    code: 0,
+    report: b"moment:0:3 153\n",
+    sent: &[
+        Said::Out(&OPEN_2),
+        Said::Out(&UPDATES_OF_THREE),
+        Said::Out(&THREE_RECORDS),
+        Said::Out(&END_STREAM),
+        Said::Out(&ASK_THIRD),
+    ],
+    then: &[
+        Said::In(&CLAIM_153),
+        Said::In(&CUBES_1),
+        Said::Out(&REVEAL),
+        Said::In(&CUBES_2_AT_ZERO_SEED),
+        Said::Out(&END),
+    ],
+};
+
+// The eighth power of 181 fits a claim, and that of 182 does not.
+const EIGHTH: Row<'static> = Row {
+    name: "the eighth power of 181",
+    given: Given {
+        words: "moments s seed a b 1 moment:0:8",
+        stream: &RECORD_OF_181,
+        replies: &[&CLAIM_OF_181, &EIGHTH_OF_181],
+        ..GIVEN
+    },
+    status: Status::Accepted,
+    code: 0,
+    report: b"moment:0:8 1151936657823500641\n",
+    sent: &[
+        Said::Out(&OPEN_1),
+        Said::Out(&UPDATES_OF_ONE),
+        Said::Out(&RECORD_OF_181),
+        Said::Out(&END_STREAM),
+        Said::Out(&ASK_EIGHTH),
+    ],
+    then: &[
+        Said::In(&CLAIM_OF_181),
+        Said::In(&EIGHTH_OF_181),
+        Said::Out(&END),
+    ],
+};
+
+const OF_182: Given<'static> = Given {
+    words: "moments s seed a b 1 moment:0:8",
+    stream: &RECORD_OF_182,
+    replies: &[],
+    ..GIVEN
+};
+
+const TOO_HIGH: Row<'static> = Row {
+    name: "that of 182",
+    given: OF_182,
+    status: Status::TooHigh { query: 1 },
+    code: 3,
+    report: b"",
+    sent: &[
+        Said::Out(&OPEN_1),
+        Said::Out(&UPDATES_OF_ONE),
+        Said::Out(&RECORD_OF_182),
+        Said::Out(&END_STREAM),
+    ],
+    then: &[],
+};
+
+const RUNS: &[Row<'static>] = &[
+    CUBES,
+    EIGHTH,
+    TOO_HIGH,
+    Row {
+        name: "the other side weighs nothing, and the seventh power fits",
+        given: Given {
+            words: "moments s seed a b 1 moment:1:8 moment:0:7 moment:0:8",
+            ..OF_182
+        },
+        status: Status::TooHigh { query: 3 },
+        ..TOO_HIGH
+    },
+    Row {
+        name: "the polynomials of another challenge",
+        given: Given {
+            replies: &[&CLAIM_153, &CUBES_1, &CUBES_2],
+            ..GIVEN
+        },
+        status: Status::Rejected {
+            query: 1,
+            round: 1,
+            reason: Reason::Sum,
+        },
+        code: 1,
+        report: b"rejected query 1 round 1 Sum\n",
+        then: &[
+            Said::In(&CLAIM_153),
+            Said::In(&CUBES_1),
+            Said::Out(&REVEAL),
+            Said::In(&CUBES_2),
+        ],
+        ..CUBES
+    },
+    Row {
+        name: "the helper has no memory",
+        given: Given {
+            replies: &[&REFUSE_1],
+            ..GIVEN
+        },
+        status: Status::Rejected {
+            query: 1,
+            round: 0,
+            reason: Reason::Refused(1),
+        },
+        code: 1,
+        report: b"rejected query 1 round 0 Refused(1)\n",
+        then: &[Said::In(&REFUSE_1)],
+        ..CUBES
+    },
+];
+
+// The stream, the seed and the report are left alone.
+const HELPING: Given<'static> = Given {
+    words: "helpmom from to",
+    stream: &THREE_RECORDS,
+    seed: &ZERO_SEED,
+    replies: &[],
+};
+
+const SERVED: Row<'static> = Row {
+    name: "",
+    given: HELPING,
+    status: Status::Served,
+    code: 0,
+    report: b"",
+    sent: &[],
+    then: &[],
+};
+
+const TALKS: &[Row<'static>] = &[
+    Row {
+        name: "a whole talk",
+        given: Given {
+            replies: &[
+                &OPEN_2,
+                &UPDATES_OF_THREE,
+                &THREE_RECORDS,
+                &END_STREAM,
+                &ASK_THIRD,
+                &REVEAL_OF_2,
+                &END,
+            ],
+            ..HELPING
+        },
+        then: &[
+            Said::In(&OPEN_2),
+            Said::In(&UPDATES_OF_THREE),
+            Said::In(&THREE_RECORDS),
+            Said::In(&END_STREAM),
+            Said::In(&ASK_THIRD),
+            Said::Out(&CLAIM_153),
+            Said::Out(&CUBES_1),
+            Said::In(&REVEAL_OF_2),
+            Said::Out(&CUBES_2),
+            Said::In(&END),
+        ],
+        ..SERVED
+    },
+    Row {
+        name: "a whole talk in version 2",
+        given: Given {
+            replies: &[
+                &OPEN_2_WIDE,
+                &UPDATES_OF_THREE_WIDE,
+                &THREE_WIDE_RECORDS,
+                &END_STREAM,
+                &ASK_THIRD,
+                &REVEAL_OF_2,
+                &END,
+            ],
+            ..HELPING
+        },
+        then: &[
+            Said::In(&OPEN_2_WIDE),
+            Said::In(&UPDATES_OF_THREE_WIDE),
+            Said::In(&THREE_WIDE_RECORDS),
+            Said::In(&END_STREAM),
+            Said::In(&ASK_THIRD),
+            Said::Out(&CLAIM_153),
+            Said::Out(&CUBES_1),
+            Said::In(&REVEAL_OF_2),
+            Said::Out(&CUBES_2),
+            Said::In(&END),
+        ],
+        ..SERVED
+    },
+    Row {
+        name: "the verifier leaves where a moment is due",
+        given: Given {
+            replies: &[&OPEN_2, &END_STREAM],
+            ..HELPING
+        },
+        status: Status::PeerClosed,
+        code: 4,
+        then: &[Said::In(&OPEN_2), Said::In(&END_STREAM), Said::Ended],
+        ..SERVED
+    },
+    Row {
+        name: "side 2 is none",
+        given: Given {
+            replies: &[&OPEN_2, &END_STREAM, &ASK_SIDE_2],
+            ..HELPING
+        },
+        status: Status::BadFrame { offset: 8 },
+        code: 3,
+        then: &[
+            Said::In(&OPEN_2),
+            Said::In(&END_STREAM),
+            Said::In(&ASK_SIDE_2),
+            Said::Out(&REFUSE_4),
+        ],
+        ..SERVED
+    },
+    Row {
+        name: "a claim has no room for the eighth power of 182",
+        given: Given {
+            replies: &[
+                &OPEN_1,
+                &UPDATES_OF_ONE,
+                &RECORD_OF_182,
+                &END_STREAM,
+                &ASK_EIGHTH,
+            ],
+            ..HELPING
+        },
+        status: Status::BadFrame { offset: 26 },
+        code: 3,
+        then: &[
+            Said::In(&OPEN_1),
+            Said::In(&UPDATES_OF_ONE),
+            Said::In(&RECORD_OF_182),
+            Said::In(&END_STREAM),
+            Said::In(&ASK_EIGHTH),
+            Said::Out(&REFUSE_4),
+        ],
+        ..SERVED
+    },
+    Row {
+        name: "a lookup where a moment is due",
+        given: Given {
+            replies: &[&OPEN_2, &END_STREAM, &ASK_SUCC_1],
+            ..HELPING
+        },
+        status: Status::BadFrame { offset: 8 },
+        code: 3,
+        then: &[
+            Said::In(&OPEN_2),
+            Said::In(&END_STREAM),
+            Said::In(&ASK_HEADER),
+        ],
+        ..SERVED
+    },
+];
+
+#[test]
+fn runs_and_talks_of_moments(rt: HostRuntime) -> Result<(), Fail> {
+    check_rows(&rt, rt.alloc(), RUNS)?;
+    check_rows(&rt, rt.alloc(), TALKS)
+}
