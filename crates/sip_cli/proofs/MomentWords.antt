@@ -5,7 +5,6 @@ use Rattle.sip_vector.specs.declared.update.Side.{Side}
 use Rattle.sip_vector.specs.declared.update.Side.TheVariants.{First, Second}
 use Rattle.sip_vector.specs.Limits.{most_depth}
 use Rattle.sip_moments.specs.declared.moment.Moment.{Moment}
-use Rattle.sip_moments.specs.Moments.{IsDegree}
 use Rattle.sip_cli.specs.Shapes.{AsksMoment, moment_word}
 
 -- the moment of a side and a degree
