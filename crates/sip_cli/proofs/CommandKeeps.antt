@@ -86,23 +86,23 @@ module _ {before now : Moment} {status : Status} where
       → CommandClause (λ is. c ≡ is) before now status
   obeys d e kept moves fault listed = subst
       (λ (c : Command). CommandClause (λ is. c ≡ is) before now status) (sym e) (record {
-    verify = λ task is. subst (Keeps before now status) is kept;
-    play = λ task name is. subst (Keeps before now status) is kept;
-    made = λ depth is. subst (Keeps before now status) is kept;
-    lines = λ form depth is. subst (Keeps before now status) is kept;
-    wide = λ form depth is. subst (Keeps before now status) is kept;
-    help = λ is. subst (Keeps before now status) is kept;
-    audit = λ form is. subst (Keeps before now status) is kept;
-    show = λ is. subst (Keeps before now status) is kept;
-    convert = λ is. subst (Keeps before now status) is kept;
-    look = λ task is. subst (Keeps before now status) is kept;
-    help_look = λ is. subst (Keeps before now status) is kept;
-    moments = λ task is. subst (Keeps before now status) is kept;
-    help_moments = λ is. subst (Keeps before now status) is kept;
-    moves = moves;
-    fault = fault;
-    listed = λ command is. subst (λ (c : Command). Ends c status) is listed;
-  })
+        verify = λ task is. subst (Keeps before now status) is kept;
+        play = λ task name is. subst (Keeps before now status) is kept;
+        made = λ depth is. subst (Keeps before now status) is kept;
+        lines = λ form depth is. subst (Keeps before now status) is kept;
+        wide = λ form depth is. subst (Keeps before now status) is kept;
+        help = λ is. subst (Keeps before now status) is kept;
+        audit = λ form is. subst (Keeps before now status) is kept;
+        show = λ is. subst (Keeps before now status) is kept;
+        convert = λ is. subst (Keeps before now status) is kept;
+        look = λ task is. subst (Keeps before now status) is kept;
+        help_look = λ is. subst (Keeps before now status) is kept;
+        moments = λ task is. subst (Keeps before now status) is kept;
+        help_moments = λ is. subst (Keeps before now status) is kept;
+        moves = moves;
+        fault = fault;
+        listed = λ command is. subst (λ (c : Command). Ends c status) is listed;
+      })
 
   -- ---- by the clauses of the calls
 

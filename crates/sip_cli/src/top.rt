@@ -94,33 +94,38 @@ fn obey<A: Source, B: Source, L: Link, K: Sink, C: Sink>(
 
 /// Does what the words say.
 ///
-/// `verify STREAM SEED FROM TO RECORD DEPTH QUERY..`: reads a seed from `second` and a stream from `first`, talks to the helper
-/// over `peer`, and writes the line of each query to `report` once its replies were accepted, or the line of the rejection
-/// once they show a fault. `keep` gets the transcript of the run. Neither the stream nor a vector is kept: memory grows
-/// with the entries of one answer alone, and each record costs at most DEPTH multiplications for each query.
+/// `verify STREAM SEED FROM TO RECORD DEPTH QUERY..`: reads a seed from `second` and a stream from
+/// `first`, talks to the helper over `peer`, and writes the line of each query to `report` once its
+/// replies were accepted, or the line of the rejection once they show a fault. `keep` gets the
+/// transcript of the run. Neither the stream nor a vector is kept: memory grows with the entries of
+/// one answer alone, and each record costs at most DEPTH multiplications for each query.
 ///
 /// `help FROM TO`: serves one talk over `peer`. Memory grows with the entries that are not 0.
 ///
-/// `audit STORED TRANSCRIPT`: reads the head of the transcript of `second`, and then the stream of `first`, and judges the
-/// replies behind the head at its challenges. It writes the lines that the run wrote, a byte behind the replies that were
-/// judged is refused, and memory and cost are those of `verify`.
+/// `audit STORED TRANSCRIPT`: reads the head of the transcript of `second`, and then the stream of
+/// `first`, and judges the replies behind the head at its challenges. It writes the lines that the
+/// run wrote, a byte behind the replies that were judged is refused, and memory and cost are those
+/// of `verify`.
 ///
-/// `show TRANSCRIPT`: lists the transcript of `second`. `convert TRANSCRIPT`: writes it in version 2. Nothing is written
-/// before the whole head was read, and then all up to the first frame that has no spelling. The memory is that of a frame.
+/// `show TRANSCRIPT`: lists the transcript of `second`. `convert TRANSCRIPT`: writes it in
+/// version 2. Nothing is written before the whole head was read, and then all up to the first frame
+/// that has no spelling. The memory is that of a frame.
 ///
-/// `gen NUMBER COUNT DEPTH`, `lines STREAM DEPTH` and `widen STREAM DEPTH`: write the legal records of `first` to `report`,
-/// as they were made, as lines of text or as wide records, up to the first record that is not legal. They take no memory.
+/// `gen NUMBER COUNT DEPTH`, `lines STREAM DEPTH` and `widen STREAM DEPTH`: write the legal records
+/// of `first` to `report`, as they were made, as lines of text or as wide records, up to the first
+/// record that is not legal. They take no memory.
 ///
-/// `play STREAM SEED HELPER RECORD DEPTH QUERY..`: as `verify`, over the link that it is given, whatever
-/// helper is named. [`play_words`](crate::play_words) does such words over a link to that helper.
+/// `play STREAM SEED HELPER RECORD DEPTH QUERY..`: as `verify`, over the link that it is given,
+/// whatever helper is named. [`play_words`](crate::play_words) does such words over a link to that
+/// helper.
 ///
 /// `lookup STREAM SEED FROM TO DEPTH LOOKUP..`: as `verify`, for the number at an item or the entry
-/// nearest to it that is not 0. The helper names the place of each answer, and its replies about the
-/// interval up to there prove it. `keep` gets nothing. The memory is that of a frame and of 65,536
-/// entries, and each record costs at most DEPTH multiplications for each lookup.
+/// nearest to it that is not 0. The helper names the place of each answer, and its replies about
+/// the interval up to there prove it. `keep` gets nothing. The memory is that of a frame and of
+/// 65,536 entries, and each record costs at most DEPTH multiplications for each lookup.
 ///
-/// `moments STREAM SEED FROM TO DEPTH MOMENT..`: as `verify`, for the sum of a power, 3 to 8, of the
-/// numbers of a side. Nothing is asked where the side's weight to that power is above 2^60 - 1.
+/// `moments STREAM SEED FROM TO DEPTH MOMENT..`: as `verify`, for the sum of a power, 3 to 8, of
+/// the numbers of a side. Nothing is asked where the side's weight to that power is above 2^60 - 1.
 /// `keep` gets nothing. The memory is that of a frame, and each record costs at most DEPTH
 /// multiplications for each moment.
 ///
@@ -136,10 +141,10 @@ pub fn run<A: Source, B: Source, L: Link, K: Sink, C: Sink>(
     keep: &mut C,
 ) -> Status
     // Of `verify` and `play` the seven promises, of `lookup` and `moments` their five, of `gen`,
-    // `lines` and `widen` the copy that the report gets, of `help`, `helplook` and `helpmom` the talk
-    // that it serves, of `audit` what a stored run is judged to be, and of `show` and `convert` what
-    // the report gets of the transcript; and whatever the command, its faults have their cause, and
-    // its status is one of its own.
+    // `lines` and `widen` the copy that the report gets, of `help`, `helplook` and `helpmom` the
+    // talk that it serves, of `audit` what a stored run is judged to be, and of `show` and
+    // `convert` what the report gets of the transcript; and whatever the command, its faults have
+    // their cause, and its status is one of its own.
     ensures keeps { CommandClause (Spells words.now)
         (moment (A.left first.old) (A.faults first.old) (B.left second.old) (B.faults second.old)
         (L.talk peer.old) (L.faults peer.old) (K.talk report.old) (K.faults report.old)

@@ -71,7 +71,8 @@ const ENDS: &[Ends<'static>] = &[
     },
 ];
 
-// The depth of a run, how many questions it asks, and whether the place of an answer comes before the query about it.
+// The depth of a run, how many questions it asks, and whether the place of an answer comes before
+// the query about it.
 fn questions_of(alloc: Global, words: &str) -> Result<(Depth, usize, bool), Fail> {
     match read_words(&words_of(alloc, words)?) {
         Ok(Command::Lookup(task)) => Ok((task.depth, task.lookups.len(), true)),
@@ -102,20 +103,17 @@ fn help(alloc: Global, ends: Ends, said: &[u8]) -> Result<Shown, Fail> {
     helping.run(alloc, 10_000, None)
 }
 
-// What the helping end replies to what the asking end says over these replies, and to the challenges of a block.
-fn reply(
-    alloc: Global,
-    ends: Ends,
-    replies: &[u8],
-    block: &[M61],
-) -> Result<Vec<u8>, Fail> {
+// What the helping end replies to what the asking end says over these replies, and to the
+// challenges of a block.
+fn reply(alloc: Global, ends: Ends, replies: &[u8], block: &[M61]) -> Result<Vec<u8>, Fail> {
     let mut said = sent(alloc, ask(alloc, ends, replies)?.peer.talk())?;
     push_reveals(&mut said, block)?;
     sent(alloc, help(alloc, ends, &said)?.peer.talk())
 }
 
-// The asking end once all was answered, question by question: a run that lacks replies ends behind the first question that has
-// none, and the challenges that are to be revealed for it are those of the seed of zeros.
+// The asking end once all was answered, question by question: a run that lacks replies ends behind
+// the first question that has none, and the challenges that are to be revealed for it are those of
+// the seed of zeros.
 fn converse(alloc: Global, ends: Ends) -> Result<Shown, Fail> {
     let (depth, count, places) = questions_of(alloc, ends.asking)?;
     let Ok(challenges) = draw_challenges::<MOST_CHALLENGES>(ZERO_SEED, MOST_CHALLENGES) else {

@@ -1,4 +1,5 @@
-// Worked runs of `lookup`, and talks of `helplook`, by the bytes that go in and those that come out.
+// Worked runs of `lookup`, and talks of `helplook`, by the bytes that go in and those that come
+// out.
 
 use crate::frames::*;
 use crate::question_frames::*;

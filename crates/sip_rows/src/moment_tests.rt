@@ -1,4 +1,5 @@
-// Worked runs of `moments`, and talks of `helpmom`, by the bytes that go in and those that come out.
+// Worked runs of `moments`, and talks of `helpmom`, by the bytes that go in and those that come
+// out.
 
 use crate::frames::*;
 use crate::question_frames::*;

@@ -1,5 +1,6 @@
-// The bytes of the worked runs about lookups and moments, written out by hand. A polynomial has its coefficients from the
-// lowest on, and an element is below p = 2^61 - 1, so that p - 27 stands for -27.
+// The bytes of the worked runs about lookups and moments, written out by hand. A polynomial has its
+// coefficients from the lowest on, and an element is below p = 2^61 - 1, so that p - 27 stands for
+// -27.
 
 // The end of a talk of either.
 pub const END: [u8; 3] = [0x23, 0, 0];
@@ -47,7 +48,8 @@ pub const ENTRIES_2_3: [u8; 29] = [
     0x13, 0, 0x1a, 0, 2, 0, 0, 0, 2, 0, 0, 0, 0, 0, 0, 0, 5, 0, 0, 0, 3, 0, 0, 0, 0, 0, 0, 0, 1,
 ];
 
-// The node above the entries 5 and 1 at the first challenge of the zero seed, and at its third: each is 5 more than it.
+// The node above the entries 5 and 1 at the first challenge of the zero seed, and at its third: each
+// is 5 more than it.
 pub const RIGHT_NODE: [u8; 12] = [
     0x14, 0, 9, 2, 0x12, 0x07, 0xbe, 0x34, 0x15, 0xbc, 0x17, 0x13,
 ];
@@ -67,7 +69,8 @@ pub const ASK_SIDE_2: [u8; 5] = [0x24, 0, 2, 2, 3];
 
 pub const ASK_MOMENT_HEADER: [u8; 3] = [0x24, 0, 2];
 
-// The cubes of 3, 0, 5 and 1 are 153. The polynomial (3 - 3x)^3 + (5 - 4x)^3 is 152 - 381x + 321x^2 - 91x^3.
+// The cubes of 3, 0, 5 and 1 are 153. The polynomial (3 - 3x)^3 + (5 - 4x)^3 is
+// 152 - 381x + 321x^2 - 91x^3.
 pub const CLAIM_153: [u8; 11] = [0x11, 0, 8, 0, 0, 0, 0, 0, 0, 0, 153];
 
 pub const CUBES_1: [u8; 35] = [
@@ -81,8 +84,8 @@ pub const CUBES_2: [u8; 35] = [
     0, 0, 0, 0, 0, 0, 0, 0, 0, 0, 0, 0, 0,
 ];
 
-// At the challenge z = 1299216148431902478 the two numbers are u = 3 - 3z and w = 5 - 4z; these are the coefficients of
-// (u + (w - u)x)^3.
+// At the challenge z = 1299216148431902478 the two numbers are u = 3 - 3z and w = 5 - 4z; these are
+// the coefficients of (u + (w - u)x)^3.
 pub const CUBES_2_AT_ZERO_SEED: [u8; 35] = [
     0x25, 0, 0x20, 0x1c, 0x3c, 0x38, 0x11, 0x81, 0xc8, 0x8e, 0x50, 0x18, 0x7e, 0x38, 0x0b, 0x83,
     0x71, 0x55, 0xce, 0x04, 0xa5, 0x0d, 0x82, 0x68, 0xc1, 0x3a, 0x4a, 0x10, 0x77, 0x13, 0x50, 0xc3,

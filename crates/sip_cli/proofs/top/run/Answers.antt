@@ -14,28 +14,40 @@ obey-requires g c = record {
 }
 
 pub returns-in-Ok-clause-keeps : goal.returns-in-Ok-clause-keeps
-returns-in-Ok-clause-keeps g c = known_by (λ command spells. command_once _ _ command c.in-Ok.ensures.command spells) c.obey.ensures.keeps
+returns-in-Ok-clause-keeps g c =
+    known_by (λ command spells. command_once _ _ command c.in-Ok.ensures.command spells) c.obey.ensures.keeps
 
 pub returns-in-Ok-clause-copies_apart : goal.returns-in-Ok-clause-copies_apart
-returns-in-Ok-clause-copies_apart g c = λ command spells is. c.obey.ensures.copies_apart (subst IsCopy (sym (command_once _ _ command c.in-Ok.ensures.command spells)) is)
+returns-in-Ok-clause-copies_apart g c =
+    λ command spells is. c.obey.ensures.copies_apart
+    (subst IsCopy (sym (command_once _ _ command c.in-Ok.ensures.command spells)) is)
 
 pub returns-in-Ok-clause-copies_want : goal.returns-in-Ok-clause-copies_want
-returns-in-Ok-clause-copies_want g c = λ command spells is. c.obey.ensures.copies_want (subst IsCopy (sym (command_once _ _ command c.in-Ok.ensures.command spells)) is)
+returns-in-Ok-clause-copies_want g c =
+    λ command spells is. c.obey.ensures.copies_want
+    (subst IsCopy (sym (command_once _ _ command c.in-Ok.ensures.command spells)) is)
 
 pub returns-in-Ok-clause-helps_apart : goal.returns-in-Ok-clause-helps_apart
-returns-in-Ok-clause-helps_apart g c = λ command spells is. c.obey.ensures.helps_apart (subst IsHelp (sym (command_once _ _ command c.in-Ok.ensures.command spells)) is)
+returns-in-Ok-clause-helps_apart g c =
+    λ command spells is. c.obey.ensures.helps_apart
+    (subst IsHelp (sym (command_once _ _ command c.in-Ok.ensures.command spells)) is)
 
 pub returns-in-Ok-clause-unkept : goal.returns-in-Ok-clause-unkept
-returns-in-Ok-clause-unkept g c = λ command spells is. c.obey.ensures.unkept (subst IsUnkept (sym (command_once _ _ command c.in-Ok.ensures.command spells)) is)
+returns-in-Ok-clause-unkept g c =
+    λ command spells is. c.obey.ensures.unkept
+    (subst IsUnkept (sym (command_once _ _ command c.in-Ok.ensures.command spells)) is)
 
 pub returns-in-Ok-clause-usage : goal.returns-in-Ok-clause-usage
-returns-in-Ok-clause-usage g c = λ word. usage_never _ _ _ word c.in-Ok.ensures.command (c.obey.ensures.keeps.listed _ refl)
+returns-in-Ok-clause-usage g c =
+    λ word. usage_never _ _ _ word c.in-Ok.ensures.command (c.obey.ensures.keeps.listed _ refl)
 
 pub returns-in-Ok-clause-untouched : goal.returns-in-Ok-clause-untouched
-returns-in-Ok-clause-untouched g c = λ word e. absurd (never_usage _ c.obey.result word (c.obey.ensures.keeps.listed _ refl) e)
+returns-in-Ok-clause-untouched g c =
+    λ word e. absurd (never_usage _ c.obey.result word (c.obey.ensures.keeps.listed _ refl) e)
 
 pub returns-in-Err-clause-keeps : goal.returns-in-Err-clause-keeps
-returns-in-Err-clause-keeps g c = none_keeps _ (λ command spells. spelled_not_refused _ command _ spells c.in-Err.ensures.refused)
+returns-in-Err-clause-keeps g c =
+    none_keeps _ (λ command spells. spelled_not_refused _ command _ spells c.in-Err.ensures.refused)
 
 pub returns-in-Err-clause-usage : goal.returns-in-Err-clause-usage
 returns-in-Err-clause-usage g c = λ word. usage_at _ _ word c.in-Err.ensures.refused
