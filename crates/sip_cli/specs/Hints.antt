@@ -7,7 +7,7 @@ use Rattle.sip_cli.specs.declared.place.Place.{Place}
 use Rattle.sip_cli.specs.declared.place.Place.TheVariants as place
 use Rattle.sip_cli.specs.declared.stream.Stream.TheVariants.{File}
 use Rattle.sip_cli.specs.declared.verb.Verb.{Verb}
-use Rattle.sip_cli.specs.declared.verb.Verb.TheVariants.{Verify, Help, Audit, Show, Convert, Gen, Lines, Widen, Play}
+use Rattle.sip_cli.specs.declared.verb.Verb.TheVariants.{Verify, Help, Audit, Show, Convert, Gen, Lines, Widen, Play, Lookup, HelpLook, Moments, HelpMoments}
 use Rattle.sip_cli.specs.Shapes.{IsStreamWord}
 use Rattle.sip_cli.specs.Verbs.{verb_word, most_asked}
 use Rattle.sip_cli.specs.Words.{word}
@@ -30,6 +30,10 @@ places Lines = place.Verb ∷ place.Stream ∷ place.Depth ∷ []
 places Widen = place.Verb ∷ place.Stream ∷ place.Depth ∷ []
 places Play = place.Verb ∷ place.Stream ∷ place.Seed ∷ place.Helper ∷ place.Record ∷ place.Depth
     ∷ []
+places Lookup = place.Verb ∷ place.Stream ∷ place.Seed ∷ place.From ∷ place.To ∷ place.Depth ∷ []
+places HelpLook = place.Verb ∷ place.From ∷ place.To ∷ []
+places Moments = place.Verb ∷ place.Stream ∷ place.Seed ∷ place.From ∷ place.To ∷ place.Depth ∷ []
+places HelpMoments = place.Verb ∷ place.From ∷ place.To ∷ []
 
 -- the number of the word behind the last query that a verb may have
 abbrev pub behind_queries : Verb → ℕ

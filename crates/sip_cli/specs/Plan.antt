@@ -37,7 +37,8 @@ source_ports first =
 abbrev pub no_ports : PortPlan
 no_ports = source_ports Nothing
 
--- verify STREAM SEED FROM TO RECORD DEPTH QUERY..
+-- verify STREAM SEED FROM TO RECORD DEPTH QUERY.., and lookup STREAM SEED FROM TO DEPTH LOOKUP..
+-- and moments STREAM SEED FROM TO DEPTH MOMENT.., which keep nothing
 abbrev pub verify_ports : Opening → Opening → PortPlan
 verify_ports first keep =
     record { first = first; second = Path 2 0; from = Path 3 0; to = Path 4 0; keep = keep }
@@ -52,7 +53,7 @@ IsRecord word n keep =
 abbrev pub play_ports : Opening → Opening → PortPlan
 play_ports first keep = record no_ports { first = first; second = Path 2 0; keep = keep }
 
--- help FROM TO
+-- help FROM TO, helplook FROM TO and helpmom FROM TO
 abbrev pub help_ports : PortPlan
 help_ports = record no_ports { from = Path 1 0; to = Path 2 0 }
 
@@ -63,6 +64,12 @@ audit_ports first = record no_ports { first = first; second = Path 2 0 }
 -- show TRANSCRIPT and convert TRANSCRIPT
 abbrev pub transcript_ports : PortPlan
 transcript_ports = record no_ports { second = Path 1 0 }
+
+-- the ports of `lookup` or `moments` at a depth: those of `verify`, and no file keeps the talk
+abbrev pub OpensUnkept : List (List ℕ) → ℕ → PortPlan → Type 0
+OpensUnkept words depth plan =
+    (s : Stream) × IsStreamWord s (word words 1)
+    × (plan ≡ verify_ports (opening_of s depth) Nothing)
 
 -- the ports of a command whose words these are
 abbrev pub Opens : List (List ℕ) → Command → PortPlan → Type 0
@@ -86,6 +93,10 @@ Opens words (command.Play task name) plan =
     (s : Stream) × IsStreamWord s (word words 1)
     × (keep : Opening) × IsRecord (word words 4) 4 keep
     × (plan ≡ play_ports (opening_of s task.depth) keep)
+Opens words (command.Lookup task) plan = OpensUnkept words task.depth plan
+Opens words command.HelpLook plan = plan ≡ help_ports
+Opens words (command.Moments task) plan = OpensUnkept words task.depth plan
+Opens words command.HelpMoments plan = plan ≡ help_ports
 
 -- the name of the file that an opening is on: a word without its first bytes, if there is such a
 -- word

@@ -24,6 +24,10 @@ stream_form (command.Widen form depth) = form
 stream_form command.Help = Binary
 stream_form command.Show = Binary
 stream_form command.Convert = Binary
+stream_form (command.Lookup task) = task.form
+stream_form command.HelpLook = Binary
+stream_form (command.Moments task) = task.form
+stream_form command.HelpMoments = Binary
 
 -- nothing was read, and a line is due
 abbrev pub unread : Form → Reading

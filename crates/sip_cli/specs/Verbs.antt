@@ -3,7 +3,7 @@ use Rattle.std.specs.Prelude.{ℕ, List, [], ◌∷◌, codes, length}
 use Rattle.sip_cli.specs.declared.shape.Shape.{Shape}
 use Rattle.sip_cli.specs.declared.shape.Shape.TheVariants.{Name, Stream, Stored, Helper, Number, Depth}
 use Rattle.sip_cli.specs.declared.verb.Verb.{Verb}
-use Rattle.sip_cli.specs.declared.verb.Verb.TheVariants.{Verify, Help, Audit, Show, Convert, Gen, Lines, Widen, Play}
+use Rattle.sip_cli.specs.declared.verb.Verb.TheVariants.{Verify, Help, Audit, Show, Convert, Gen, Lines, Widen, Play, Lookup, HelpLook, Moments, HelpMoments}
 use Rattle.sip_stream.specs.Made.{most_made}
 use Rattle.sip_wire.specs.Table.{most_queries}
 
@@ -18,6 +18,10 @@ verb_word Gen = codes "gen"
 verb_word Lines = codes "lines"
 verb_word Widen = codes "widen"
 verb_word Play = codes "play"
+verb_word Lookup = codes "lookup"
+verb_word HelpLook = codes "helplook"
+verb_word Moments = codes "moments"
+verb_word HelpMoments = codes "helpmom"
 
 -- The words behind the verb, and before the queries.
 --   verify STREAM SEED FROM TO RECORD DEPTH
@@ -29,6 +33,10 @@ verb_word Play = codes "play"
 --   lines STREAM DEPTH
 --   widen STREAM DEPTH
 --   play STREAM SEED HELPER RECORD DEPTH
+--   lookup STREAM SEED FROM TO DEPTH
+--   helplook FROM TO
+--   moments STREAM SEED FROM TO DEPTH
+--   helpmom FROM TO
 abbrev pub shapes : Verb → List Shape
 shapes Verify = Stream ∷ Name ∷ Name ∷ Name ∷ Name ∷ Depth ∷ []
 shapes Help = Name ∷ Name ∷ []
@@ -39,6 +47,10 @@ shapes Gen = Number 18446744073709551615 ∷ Number most_made ∷ Depth ∷ []
 shapes Lines = Stream ∷ Depth ∷ []
 shapes Widen = Stream ∷ Depth ∷ []
 shapes Play = Stream ∷ Name ∷ Helper ∷ Name ∷ Depth ∷ []
+shapes Lookup = Stream ∷ Name ∷ Name ∷ Name ∷ Depth ∷ []
+shapes HelpLook = Name ∷ Name ∷ []
+shapes Moments = Stream ∷ Name ∷ Name ∷ Name ∷ Depth ∷ []
+shapes HelpMoments = Name ∷ Name ∷ []
 
 -- The number of the last of these words. Where queries stand behind it, it is their depth.
 abbrev pub depth_at : Verb → ℕ
@@ -55,6 +67,10 @@ least_asked Gen = 0
 least_asked Lines = 0
 least_asked Widen = 0
 least_asked Play = 1
+least_asked Lookup = 1
+least_asked HelpLook = 0
+least_asked Moments = 1
+least_asked HelpMoments = 0
 
 -- and at most so many
 abbrev pub most_asked : Verb → ℕ
@@ -67,3 +83,7 @@ most_asked Gen = 0
 most_asked Lines = 0
 most_asked Widen = 0
 most_asked Play = most_queries
+most_asked Lookup = most_queries
+most_asked HelpLook = 0
+most_asked Moments = most_queries
+most_asked HelpMoments = 0

@@ -18,6 +18,8 @@ use crate::stream::{stored_of, stream_of};
 use crate::verb::Verb;
 use crate::{HelperName, Usage, Words};
 use arrayvec::ArrayVec;
+use sip_lookup::LookTask;
+use sip_moments::MomentTask;
 use sip_stream::Form;
 use sip_vector::{Depth, Query};
 use sip_verifier::Task;
@@ -44,6 +46,14 @@ pub enum Command {
     Widen { form: Form, depth: Depth },
     /// To verify answers of a helper in the program: `play STREAM SEED HELPER RECORD DEPTH QUERY..`.
     Play(Task, HelperName),
+    /// To look up entries of a stream: `lookup STREAM SEED FROM TO DEPTH LOOKUP..`.
+    Lookup(LookTask),
+    /// To help another side to look up: `helplook FROM TO`.
+    HelpLook,
+    /// To verify moments of a stream: `moments STREAM SEED FROM TO DEPTH MOMENT..`.
+    Moments(MomentTask),
+    /// To help another side to verify moments: `helpmom FROM TO`.
+    HelpMoments,
 }
 
 impl Command {
@@ -62,7 +72,11 @@ impl Command {
             | Command::Convert
             | Command::Gen { .. }
             | Command::Lines { .. }
-            | Command::Widen { .. } => None,
+            | Command::Widen { .. }
+            | Command::Lookup(_)
+            | Command::HelpLook
+            | Command::Moments(_)
+            | Command::HelpMoments => None,
         }
     }
 }
@@ -343,5 +357,8 @@ pub fn read_words(words: &Words) -> Result<Command, Usage>
             Ok(Command::Widen { form, depth })
         }
         Verb::Play => read_play(words),
+        Verb::Lookup | Verb::HelpLook | Verb::Moments | Verb::HelpMoments => {
+            Err(Usage { word: 0 })
+        }
     }
 }

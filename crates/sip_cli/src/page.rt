@@ -49,6 +49,7 @@ fn part(verb: Verb) -> &'static str
         Verb::Lines => LINES_PART,
         Verb::Widen => WIDEN_PART,
         Verb::Play => PLAY_PART,
+        Verb::Lookup | Verb::HelpLook | Verb::Moments | Verb::HelpMoments => HELP_PART,
     }
 }
 

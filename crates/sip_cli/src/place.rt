@@ -68,6 +68,15 @@ const PLAY: [Place; 6] = [
     Place::Depth,
 ];
 
+const LOOKUP: [Place; 6] = [
+    Place::Verb,
+    Place::Stream,
+    Place::Seed,
+    Place::From,
+    Place::To,
+    Place::Depth,
+];
+
 // The places of a verb's words, the verb among them, and before the queries.
 fn places_of(verb: Verb) -> &'static [Place]
     ensures { result.now ≡ places verb }
@@ -82,6 +91,8 @@ fn places_of(verb: Verb) -> &'static [Place]
         Verb::Lines => &LINES,
         Verb::Widen => &WIDEN,
         Verb::Play => &PLAY,
+        Verb::Lookup | Verb::Moments => &LOOKUP,
+        Verb::HelpLook | Verb::HelpMoments => &HELP,
     }
 }
 
@@ -90,14 +101,16 @@ fn behind_queries(verb: Verb) -> usize
     ensures { result ≡ behind_queries verb }
 {
     let queries = match verb {
-        Verb::Verify | Verb::Play => MOST_QUERIES,
+        Verb::Verify | Verb::Play | Verb::Lookup | Verb::Moments => MOST_QUERIES,
         Verb::Help
         | Verb::Audit
         | Verb::Show
         | Verb::Convert
         | Verb::Gen
         | Verb::Lines
-        | Verb::Widen => 0,
+        | Verb::Widen
+        | Verb::HelpLook
+        | Verb::HelpMoments => 0,
     };
     places_of(verb).len() + queries
 }

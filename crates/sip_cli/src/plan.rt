@@ -13,6 +13,8 @@ ghost use Rattle.sip_cli.specs.Words.{Spells, IsRefusedAt, word, word as word_at
 use crate::decimal::read_decimal;
 use crate::stream::{Stream, stream_of};
 use crate::{Command, Words, read_words};
+use sip_lookup::LookTask;
+use sip_moments::MomentTask;
 use sip_stream::Form;
 use sip_vector::Depth;
 
@@ -283,6 +285,12 @@ impl PortPlan {
                 let stream = Opening::stream(words, task.depth);
                 PortPlan::play(stream, Opening::keep(words, 4))
             }
+            Command::Lookup(LookTask { depth, .. }) | Command::Moments(MomentTask { depth, .. }) =>
+                {
+                    let stream = Opening::stream(words, *depth);
+                    PortPlan::verify(stream, Opening::Nothing)
+                }
+            Command::HelpLook | Command::HelpMoments => PortPlan::help(),
         }
     }
 }

@@ -24,7 +24,13 @@ fn form_of(command: &Command) -> Form
         Command::Gen { depth } => Form::made(*depth),
         Command::Audit { form } | Command::Lines { form, .. } | Command::Widen { form, .. } =>
             *form,
-        Command::Help | Command::Show | Command::Convert => Form::Binary,
+        Command::Lookup(task) => task.form,
+        Command::Moments(task) => task.form,
+        Command::Help
+        | Command::HelpLook
+        | Command::HelpMoments
+        | Command::Show
+        | Command::Convert => Form::Binary,
     }
 }
 

@@ -75,6 +75,9 @@ fn obey<A: Source, B: Source, L: Link, K: Sink, C: Sink>(
         }
         Command::Lines { form, depth } => copy_stream(*depth, *form, Form::Text, first, report),
         Command::Widen { form, depth } => copy_stream(*depth, *form, Form::Wide, first, report),
+        Command::Lookup(_) | Command::HelpLook | Command::Moments(_) | Command::HelpMoments => {
+            Status::OutOfMemory
+        }
     }
 }
 

@@ -28,6 +28,14 @@ pub(crate) enum Verb {
     Widen,
     /// To verify answers of a helper in the program.
     Play,
+    /// To look up entries of a stream.
+    Lookup,
+    /// To help another side to look up.
+    HelpLook,
+    /// To verify moments of a stream.
+    Moments,
+    /// To help another side to verify moments.
+    HelpMoments,
 }
 
 const VERIFY: [Shape; 6] = [
@@ -67,6 +75,26 @@ const PLAY: [Shape; 5] = [
     Shape::Depth,
 ];
 
+const LOOKUP: [Shape; 5] = [
+    Shape::Stream,
+    Shape::Name,
+    Shape::Name,
+    Shape::Name,
+    Shape::Depth,
+];
+
+const HELP_LOOK: [Shape; 2] = [Shape::Name, Shape::Name];
+
+const MOMENTS: [Shape; 5] = [
+    Shape::Stream,
+    Shape::Name,
+    Shape::Name,
+    Shape::Name,
+    Shape::Depth,
+];
+
+const HELP_MOMENTS: [Shape; 2] = [Shape::Name, Shape::Name];
+
 impl Verb {
     /// The verb that a word is.
     pub(crate) fn of(word: &str) -> Option<Verb>
@@ -84,6 +112,10 @@ impl Verb {
             "lines" => Some(Verb::Lines),
             "widen" => Some(Verb::Widen),
             "play" => Some(Verb::Play),
+            "lookup" => Some(Verb::Lookup),
+            "helplook" => Some(Verb::HelpLook),
+            "moments" => Some(Verb::Moments),
+            "helpmom" => Some(Verb::HelpMoments),
             _ => None,
         }
     }
@@ -102,6 +134,10 @@ impl Verb {
             Verb::Lines => &LINES,
             Verb::Widen => &WIDEN,
             Verb::Play => &PLAY,
+            Verb::Lookup => &LOOKUP,
+            Verb::HelpLook => &HELP_LOOK,
+            Verb::Moments => &MOMENTS,
+            Verb::HelpMoments => &HELP_MOMENTS,
         }
     }
 }

@@ -66,7 +66,14 @@ fn form_and_depth(command: &Command) -> (Option<Form>, u8) {
             (Some(*form), depth.get())
         }
         Command::Audit { form } => (Some(*form), 0),
-        Command::Play(..) | Command::Help | Command::Show | Command::Convert => (None, 0),
+        Command::Play(..)
+        | Command::Help
+        | Command::Show
+        | Command::Convert
+        | Command::Lookup(_)
+        | Command::HelpLook
+        | Command::Moments(_)
+        | Command::HelpMoments => (None, 0),
     }
 }
 
