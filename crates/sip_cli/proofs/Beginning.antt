@@ -5,17 +5,24 @@ use Rattle.std.proofs.lemmas.Bool.{cases_lt}
 use Rattle.std.proofs.lemmas.List.{length-take-le, length-drop, length-append, get_or-take, get_or-drop, get_or_append_left, get_or-append_right}
 use Rattle.std.proofs.lemmas.Nat.{pow_pos}
 use Rattle.sip_stream.specs.declared.form.Form.TheVariants.{Binary}
-use Rattle.sip_vector.specs.declared.query.Query.{Query}
+use Rattle.sip_vector.specs.declared.update.Side.TheVariants.{First}
 use Rattle.sip_vector.specs.declared.query.Query.TheVariants.{Sub}
+use Rattle.sip_lookup.specs.declared.lookup.Lookup.TheVariants as lookups
+use Rattle.sip_lookup.specs.Reports.{look_word}
+use Rattle.sip_moments.specs.declared.moment.Moment.{Moment}
 use Rattle.sip_verifier.specs.Reports.{query_word}
 use Rattle.sip_cli.specs.declared.helper_name.HelperName.TheVariants.{Mute}
 use Rattle.sip_cli.specs.declared.shape.Shape.TheVariants.{Name}
 use Rattle.sip_cli.specs.declared.stream.Stream.TheVariants as stream
 use Rattle.sip_cli.specs.declared.verb.Verb.{Verb}
-use Rattle.sip_cli.specs.declared.verb.Verb.TheVariants.{Verify, Help, Audit, Show, Convert, Gen, Lines, Widen, Play}
-use Rattle.sip_cli.specs.Shapes.{IsOf, IsDepth, Asks}
+use Rattle.sip_cli.specs.declared.verb.Verb.TheVariants.{Verify, Help, Audit, Show, Convert, Gen, Lines, Widen, Play, Lookup, HelpLook, Moments, HelpMoments}
+use Rattle.sip_cli.specs.Shapes.{IsOf, IsDepth, moment_word}
 use Rattle.sip_cli.specs.Verbs.{verb_word, shapes, depth_at, least_asked, most_asked}
-use Rattle.sip_cli.specs.Words.{word, IsCommandOf, BeginCommand, IsRefusedAt}
+use Rattle.sip_cli.specs.Words.{word, AsksOf, IsCommandOf, BeginCommand, IsRefusedAt}
+
+-- a moment to end with
+abbrev pub example_moment : Moment
+example_moment = record { side = First; degree = 3 }
 
 -- words of a command to end with
 abbrev pub examples : Verb → List (List ℕ)
@@ -28,6 +35,10 @@ examples Gen = codes "gen" ∷ decimal 0 ∷ decimal 0 ∷ decimal 1 ∷ []
 examples Lines = codes "lines" ∷ codes "s" ∷ decimal 1 ∷ []
 examples Widen = codes "widen" ∷ codes "s" ∷ decimal 1 ∷ []
 examples Play = codes "play" ∷ codes "s" ∷ codes "s" ∷ codes "mute" ∷ codes "-" ∷ decimal 1 ∷ query_word (Sub 0 0) ∷ []
+examples Lookup = codes "lookup" ∷ codes "s" ∷ codes "s" ∷ codes "f" ∷ codes "t" ∷ decimal 1 ∷ look_word (lookups.Index 0) ∷ []
+examples HelpLook = codes "helplook" ∷ codes "f" ∷ codes "t" ∷ []
+examples Moments = codes "moments" ∷ codes "s" ∷ codes "s" ∷ codes "f" ∷ codes "t" ∷ decimal 1 ∷ moment_word example_moment ∷ []
+examples HelpMoments = codes "helpmom" ∷ codes "f" ∷ codes "t" ∷ []
 
 -- they are as many as there have to be
 pub examples_long : (verb : Verb) → length (examples verb) ≡ 1 + length (shapes verb) + least_asked verb
@@ -40,6 +51,10 @@ examples_long Gen = refl
 examples_long Lines = refl
 examples_long Widen = refl
 examples_long Play = refl
+examples_long Lookup = refl
+examples_long HelpLook = refl
+examples_long Moments = refl
+examples_long HelpMoments = refl
 
 -- each has its shape
 pub examples_fit : (verb : Verb) (n : ℕ) → n < length (shapes verb) → IsOf (get_or (shapes verb) n Name) (word (examples verb) (n + 1))
@@ -76,10 +91,28 @@ examples_fit Play (suc (suc zero)) h = (Mute, refl)
 examples_fit Play (suc (suc (suc zero))) h = λ e. cc
 examples_fit Play (suc (suc (suc (suc zero)))) h = (1, (omega arith, omega arith, refl))
 examples_fit Play (suc (suc (suc (suc (suc n))))) h = absurd (omega arith)
+examples_fit Lookup zero h = (stream.File, (λ e. cc, refl, refl, refl))
+examples_fit Lookup (suc zero) h = λ e. cc
+examples_fit Lookup (suc (suc zero)) h = λ e. cc
+examples_fit Lookup (suc (suc (suc zero))) h = λ e. cc
+examples_fit Lookup (suc (suc (suc (suc zero)))) h = (1, (omega arith, omega arith, refl))
+examples_fit Lookup (suc (suc (suc (suc (suc n))))) h = absurd (omega arith)
+examples_fit HelpLook zero h = λ e. cc
+examples_fit HelpLook (suc zero) h = λ e. cc
+examples_fit HelpLook (suc (suc n)) h = absurd (omega arith)
+examples_fit Moments zero h = (stream.File, (λ e. cc, refl, refl, refl))
+examples_fit Moments (suc zero) h = λ e. cc
+examples_fit Moments (suc (suc zero)) h = λ e. cc
+examples_fit Moments (suc (suc (suc zero))) h = λ e. cc
+examples_fit Moments (suc (suc (suc (suc zero)))) h = (1, (omega arith, omega arith, refl))
+examples_fit Moments (suc (suc (suc (suc (suc n))))) h = absurd (omega arith)
+examples_fit HelpMoments zero h = λ e. cc
+examples_fit HelpMoments (suc zero) h = λ e. cc
+examples_fit HelpMoments (suc (suc n)) h = absurd (omega arith)
 
--- the query of the example fits each depth
-pub example_asks : (verb : Verb) (n d : ℕ) → length (shapes verb) < n → n < length (examples verb) → Asks d (Sub 0 0) (word (examples verb) n)
-example_asks Verify n d low high = let one : n ≡ 7 = omega arith in let item = pow_pos d in rw one (refl, (omega arith, omega arith), refl)
+-- the example asks something at each depth
+pub example_asks : (verb : Verb) (n d : ℕ) → length (shapes verb) < n → n < length (examples verb) → AsksOf verb d (word (examples verb) n)
+example_asks Verify n d low high = let one : n ≡ 7 = omega arith in let item = pow_pos d in rw one (Sub 0 0, (refl, (omega arith, omega arith), refl))
 example_asks Help n d low high = absurd (omega arith)
 example_asks Audit n d low high = absurd (omega arith)
 example_asks Show n d low high = absurd (omega arith)
@@ -87,9 +120,13 @@ example_asks Convert n d low high = absurd (omega arith)
 example_asks Gen n d low high = absurd (omega arith)
 example_asks Lines n d low high = absurd (omega arith)
 example_asks Widen n d low high = absurd (omega arith)
-example_asks Play n d low high = let one : n ≡ 6 = omega arith in let item = pow_pos d in rw one (refl, (omega arith, omega arith), refl)
+example_asks Play n d low high = let one : n ≡ 6 = omega arith in let item = pow_pos d in rw one (Sub 0 0, (refl, (omega arith, omega arith), refl))
+example_asks Lookup n d low high = let one : n ≡ 6 = omega arith in let item = pow_pos d in rw one (lookups.Index 0, (omega arith, refl))
+example_asks HelpLook n d low high = absurd (omega arith)
+example_asks Moments n d low high = let one : n ≡ 6 = omega arith in rw one (example_moment, (record { least = omega arith; most = omega arith }, refl))
+example_asks HelpMoments n d low high = absurd (omega arith)
 
--- a verb with queries has a depth before them
+-- a verb that asks something has a depth before it
 pub depth_shape : (verb : Verb) (n : ℕ) → length (shapes verb) < n → n < 1 + length (shapes verb) + most_asked verb → (words : List (List ℕ)) → IsOf (get_or (shapes verb) (length (shapes verb) - 1) Name) (word words (depth_at verb)) → (d : ℕ) × IsDepth d (word words (depth_at verb))
 depth_shape Verify n low high words is = is
 depth_shape Help n low high words is = absurd (omega arith)
@@ -100,6 +137,10 @@ depth_shape Gen n low high words is = absurd (omega arith)
 depth_shape Lines n low high words is = absurd (omega arith)
 depth_shape Widen n low high words is = absurd (omega arith)
 depth_shape Play n low high words is = is
+depth_shape Lookup n low high words is = is
+depth_shape HelpLook n low high words is = absurd (omega arith)
+depth_shape Moments n low high words is = is
+depth_shape HelpMoments n low high words is = absurd (omega arith)
 
 -- each verb has words behind it
 pub has_shapes : (verb : Verb) → 1 ≤ length (shapes verb)
@@ -112,6 +153,10 @@ has_shapes Gen = omega arith
 has_shapes Lines = omega arith
 has_shapes Widen = omega arith
 has_shapes Play = omega arith
+has_shapes Lookup = omega arith
+has_shapes HelpLook = omega arith
+has_shapes Moments = omega arith
+has_shapes HelpMoments = omega arith
 
 pub least_below_most : (verb : Verb) → least_asked verb ≤ most_asked verb
 least_below_most Verify = omega arith
@@ -123,6 +168,10 @@ least_below_most Gen = omega arith
 least_below_most Lines = omega arith
 least_below_most Widen = omega arith
 least_below_most Play = omega arith
+least_below_most Lookup = omega arith
+least_below_most HelpLook = omega arith
+least_below_most Moments = omega arith
+least_below_most HelpMoments = omega arith
 
 -- the first n words are those of a command of this verb, which is not yet too long
 pub record Begun (verb : Verb) (words : List (List ℕ)) (n : ℕ) : Type 0 where
@@ -131,7 +180,7 @@ pub record Begun (verb : Verb) (words : List (List ℕ)) (n : ℕ) : Type 0 wher
   pub within : n ≤ length words
   pub most : n ≤ 1 + length (shapes verb) + most_asked verb
   pub shaped : (i : ℕ) → i < length (shapes verb) → i + 1 < n → IsOf (get_or (shapes verb) i Name) (word words (i + 1))
-  pub asked : (i : ℕ) → length (shapes verb) < i → i < n → (d : ℕ) × IsDepth d (word words (depth_at verb)) × (query : Query) × Asks d query (word words i)
+  pub asked : (i : ℕ) → length (shapes verb) < i → i < n → (d : ℕ) × IsDepth d (word words (depth_at verb)) × AsksOf verb d (word words i)
 
 -- the words up to n, and the example's from there on
 abbrev pub ended : Verb → List (List ℕ) → ℕ → List (List ℕ)
@@ -162,8 +211,8 @@ ended_shaped verb words n b i less =
       | inr after ↦ subst (IsOf (get_or (shapes verb) i Name)) (sym (ended_after verb words n (i + 1) b.within after)) (examples_fit verb i less)
     ]
 
--- and asks its query
-pub ended_asked : (verb : Verb) (words : List (List ℕ)) (n : ℕ) → Begun verb words n → (i : ℕ) → length (shapes verb) < i → i < length (ended verb words n) → (d : ℕ) × IsDepth d (word (ended verb words n) (depth_at verb)) × (query : Query) × Asks d query (word (ended verb words n) i)
+-- and asks something
+pub ended_asked : (verb : Verb) (words : List (List ℕ)) (n : ℕ) → Begun verb words n → (i : ℕ) → length (shapes verb) < i → i < length (ended verb words n) → (d : ℕ) × IsDepth d (word (ended verb words n) (depth_at verb)) × AsksOf verb d (word (ended verb words n) i)
 ended_asked verb words n b i low high =
     let long = ended_long verb words n b.within in
     let examples_are = examples_long verb in
@@ -174,11 +223,11 @@ ended_asked verb words n b i low high =
     elim (cases_lt i n) [
       | inl before ↦ (
           let a = b.asked i low before in
-          (a.0, subst (IsDepth a.0) (sym (ended_before verb words n (depth_at verb) b.within (omega arith))) a.1, a.2, subst (Asks a.0 a.2) (sym (ended_before verb words n i b.within before)) a.3))
+          (a.0, subst (IsDepth a.0) (sym (ended_before verb words n (depth_at verb) b.within (omega arith))) a.1, subst (AsksOf verb a.0) (sym (ended_before verb words n i b.within before)) a.2))
       | inr after ↦ (
           let shaped = subst (λ k. IsOf (get_or (shapes verb) (length (shapes verb) - 1) Name) (word (ended verb words n) k)) last (ended_shaped verb words n b (length (shapes verb) - 1) (omega arith)) in
           let deep = depth_shape verb i low most (ended verb words n) shaped in
-          (deep.0, deep.1, Sub 0 0, subst (Asks deep.0 (Sub 0 0)) (sym (ended_after verb words n i b.within after)) (example_asks verb i deep.0 low (omega arith))))
+          (deep.0, deep.1, subst (AsksOf verb deep.0) (sym (ended_after verb words n i b.within after)) (example_asks verb i deep.0 low (omega arith))))
     ]
 
 -- words that are begun begin a command
@@ -206,25 +255,27 @@ begins_none words = (
   record {
     first = refl;
     shaped = examples_fit Verify;
-    asked = λ n low high. (1, (omega arith, omega arith, refl), Sub 0 0, example_asks Verify n 1 low high);
+    asked = λ n low high. (1, (omega arith, omega arith, refl), example_asks Verify n 1 low high);
     least = omega arith;
     most = omega arith;
   },
 )
 
--- the verb whose word begins with this letter
-abbrev lettered : ℕ → Verb
-lettered letter =
-    if letter == 118 then Verify else (
-    if letter == 104 then Help else (
-    if letter == 103 then Gen else (
-    if letter == 108 then Lines else (
-    if letter == 112 then Play else (
-    if letter == 115 then Show else (
-    if letter == 97 then Audit else (
-    if letter == 99 then Convert else Widen)))))))
+-- the verb that a word is, by its first letter and by one behind it
+abbrev pub lettered : List ℕ → Verb
+lettered w =
+    let first = get_or w 0 0 in
+    if first == 118 then Verify else (
+    if first == 104 then (if get_or w 4 0 == 108 then HelpLook else (if get_or w 4 0 == 109 then HelpMoments else Help)) else (
+    if first == 103 then Gen else (
+    if first == 108 then (if get_or w 1 0 == 111 then Lookup else Lines) else (
+    if first == 109 then Moments else (
+    if first == 112 then Play else (
+    if first == 115 then Show else (
+    if first == 97 then Audit else (
+    if first == 99 then Convert else Widen))))))))
 
-lettered_word : (verb : Verb) → lettered (get_or (verb_word verb) 0 0) ≡ verb
+lettered_word : (verb : Verb) → lettered (verb_word verb) ≡ verb
 lettered_word Verify = refl
 lettered_word Help = refl
 lettered_word Audit = refl
@@ -234,10 +285,14 @@ lettered_word Gen = refl
 lettered_word Lines = refl
 lettered_word Widen = refl
 lettered_word Play = refl
+lettered_word Lookup = refl
+lettered_word HelpLook = refl
+lettered_word Moments = refl
+lettered_word HelpMoments = refl
 
 -- one word has one verb
 pub verb_once : (verb other : Verb) → verb_word verb ≡ verb_word other → verb ≡ other
-verb_once verb other same = sym (lettered_word verb) ∙ (ap (λ w. lettered (get_or w 0 0)) same ∙ lettered_word other)
+verb_once verb other same = sym (lettered_word verb) ∙ (ap lettered same ∙ lettered_word other)
 
 -- the words of a command that begins with the words up to n
 pub reads_from : (words whole rest : List (List ℕ)) (n : ℕ) → n < length words → whole ≡ take (n + 1) words ++ rest → (k : ℕ) → k ≤ n → word whole k ≡ word words k

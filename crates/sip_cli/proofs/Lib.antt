@@ -1,5 +1,7 @@
 pub mod Decimals
 pub mod QueryWords
+pub mod LookWords
+pub mod MomentWords
 pub mod Beginning
 pub mod Stopping
 pub mod StreamWords

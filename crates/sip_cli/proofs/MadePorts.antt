@@ -7,7 +7,7 @@ use Rattle.sip_cli.specs.declared.plan.Opening.TheVariants.{Nothing, Spared, Pat
 use Rattle.sip_cli.specs.declared.plan.PortPlan.{PortPlan}
 use Rattle.sip_cli.specs.declared.stream.Stream.{Stream}
 use Rattle.sip_cli.specs.declared.stream.Stream.TheVariants as stream
-use Rattle.sip_cli.specs.Plan.{Opens, opening_of, source_ports, stored_opening}
+use Rattle.sip_cli.specs.Plan.{Opens, OpensUnkept, help_ports, opening_of, source_ports, stored_opening}
 use Rattle.sip_cli.specs.Shapes.{IsStreamWord}
 use Rattle.sip_cli.specs.Words.{word}
 use Rattle.sip_stream.specs.declared.form.Form.{Form}
@@ -35,6 +35,18 @@ source_counted words s depth plan names is =
     let few = stream_counted s (word words 1) depth names in
     omega arith
 
+-- so is that of a run whose talk is not kept
+unkept_counted : (words : List (List ℕ)) (depth : ℕ) (plan : PortPlan) → OpensUnkept words depth plan → count_of plan.first ≤ most_made
+unkept_counted words depth plan (s, names, is) =
+    let same : count_of plan.first ≡ count_of (opening_of s depth) = ap (λ (p : PortPlan). count_of p.first) is in
+    let few = stream_counted s (word words 1) depth names in
+    omega arith
+
+-- nothing is opened first for a helper
+help_counted : (plan : PortPlan) → plan ≡ help_ports → count_of plan.first ≤ most_made
+help_counted plan is =
+    let same : count_of plan.first ≡ 0 = ap (λ (p : PortPlan). count_of p.first) is in omega arith
+
 -- a file has none
 stored_counted : (form : Form) → count_of (stored_opening form) ≡ 0
 stored_counted Binary = refl
@@ -47,8 +59,7 @@ first_counted words (command.Verify task) plan (s, names, keep, record_is, is) =
     let same : count_of plan.first ≡ count_of (opening_of s task.depth) = ap (λ (p : PortPlan). count_of p.first) is in
     let few = stream_counted s (word words 1) task.depth names in
     omega arith
-first_counted words command.Help plan is =
-    let same : count_of plan.first ≡ 0 = ap (λ (p : PortPlan). count_of p.first) is in omega arith
+first_counted words command.Help plan is = help_counted plan is
 first_counted words (command.Audit form) plan is =
     let same : count_of plan.first ≡ 0 = ap (λ (p : PortPlan). count_of p.first) is ∙ stored_counted form in omega arith
 first_counted words command.Show plan is =
@@ -63,6 +74,10 @@ first_counted words (command.Play task name) plan (s, names, keep, record_is, is
     let same : count_of plan.first ≡ count_of (opening_of s task.depth) = ap (λ (p : PortPlan). count_of p.first) is in
     let few = stream_counted s (word words 1) task.depth names in
     omega arith
+first_counted words (command.Lookup task) plan opens = unkept_counted words task.depth plan opens
+first_counted words command.HelpLook plan is = help_counted plan is
+first_counted words (command.Moments task) plan opens = unkept_counted words task.depth plan opens
+first_counted words command.HelpMoments plan is = help_counted plan is
 
 pub opens_counted : (words : List (List ℕ)) (c : Command) (plan : PortPlan) → Opens words c plan → (number count depth : ℕ) → plan.first ≡ Made number count depth → count ≤ most_made
 opens_counted words c plan opens number count depth is =

@@ -13,7 +13,7 @@ use Rattle.sip_cli.specs.declared.stream.Stream.{Stream}
 use Rattle.sip_cli.specs.declared.stream.Stream.TheVariants as stream
 use Rattle.sip_stream.specs.declared.form.Form.{Form}
 use Rattle.sip_stream.specs.declared.form.Form.TheVariants.{Binary, Text, Wide}
-use Rattle.sip_cli.specs.Plan.{HasName, HaveNames, IsMarked, IsRecord, Opens, opening_of, source_ports, stored_opening, transcript_ports}
+use Rattle.sip_cli.specs.Plan.{HasName, HaveNames, IsMarked, IsRecord, Opens, OpensUnkept, help_ports, opening_of, source_ports, stored_opening, transcript_ports}
 use Rattle.sip_cli.specs.Shapes.{IsStoredWord, IsStreamWord}
 use Rattle.sip_cli.specs.Words.{word, Spells}
 
@@ -59,6 +59,26 @@ transcript_named words plan more is = subst (HaveNames words) (sym is) (record {
   keep = tt;
 })
 
+-- so do those of a run whose talk is not kept
+unkept_named : (words : List (List ℕ)) (depth : ℕ) (plan : PortPlan) → 4 < length words → OpensUnkept words depth plan → HaveNames words plan
+unkept_named words depth plan more (s, names, is) = subst (HaveNames words) (sym is) (record {
+  first = stream_named words s depth (omega arith) names;
+  second = file_named words 2 (omega arith);
+  from = file_named words 3 (omega arith);
+  to = file_named words 4 (omega arith);
+  keep = tt;
+})
+
+-- so do the two ends of a helper's link
+help_named : (words : List (List ℕ)) (plan : PortPlan) → 2 < length words → plan ≡ help_ports → HaveNames words plan
+help_named words plan more is = subst (HaveNames words) (sym is) (record {
+  first = tt;
+  second = tt;
+  from = file_named words 1 (omega arith);
+  to = file_named words 2 (omega arith);
+  keep = tt;
+})
+
 -- all files of a command have their names
 pub opens_named : (words : List (List ℕ)) (c : Command) (plan : PortPlan) → Spells words c → Opens words c plan → HaveNames words plan
 opens_named words (command.Verify task) plan spells (s, names, keep, record_is, is) =
@@ -71,14 +91,7 @@ opens_named words (command.Verify task) plan spells (s, names, keep, record_is, 
       keep = record_named words 5 keep (omega arith) record_is;
     })
 opens_named words command.Help plan spells is =
-    let least = spells.least in
-    subst (HaveNames words) (sym is) (record {
-      first = tt;
-      second = tt;
-      from = file_named words 1 (omega arith);
-      to = file_named words 2 (omega arith);
-      keep = tt;
-    })
+    let least = spells.least in help_named words plan (omega arith) is
 opens_named words (command.Audit form) plan spells is =
     let least = spells.0.least in
     subst (HaveNames words) (sym is) (record {
@@ -107,6 +120,14 @@ opens_named words (command.Play task name) plan spells (s, names, keep, record_i
       to = tt;
       keep = record_named words 4 keep (omega arith) record_is;
     })
+opens_named words (command.Lookup task) plan spells opens =
+    let least = spells.0.least in unkept_named words task.depth plan (omega arith) opens
+opens_named words command.HelpLook plan spells is =
+    let least = spells.least in help_named words plan (omega arith) is
+opens_named words (command.Moments task) plan spells opens =
+    let least = spells.0.least in unkept_named words task.depth plan (omega arith) opens
+opens_named words command.HelpMoments plan spells is =
+    let least = spells.least in help_named words plan (omega arith) is
 
 -- a text with a colon behind four bytes can be cut there
 cut_behind_colon : (text : List ℕ) → IsUtf8 text → 5 ≤ length text → get_or text 4 0 ≡ 58 → IsCharBoundary text 5

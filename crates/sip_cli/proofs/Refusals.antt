@@ -1,22 +1,29 @@
 -- Words are refused at one number at most, and words of a command at none; the words tell the task.
-use Rattle.std.proofs.Common.{◌≡◌, ℕ, ◌+◌, ◌<◌, ◌≤◌, List, ◌++◌, length, get_or, take, drop, sym, refl, ap, subst, ◌∙◌, inl, inr, arith}
+use Rattle.std.proofs.Common.{◌≡◌, ℕ, suc, ◌+◌, ◌<◌, ◌≤◌, List, [], ◌∷◌, ◌++◌, Some, length, get_or, take, drop, sym, refl, ap, subst, ◌∙◌, inl, inr, arith}
 use Rattle.std.specs.Prelude.{◌==◌, if◌then◌else◌}
+use Rattle.std.specs.List.{slice_get}
 use Rattle.std.proofs.lemmas.Bool.{cases_lt}
-use Rattle.std.proofs.lemmas.List.{take-append-drop, take-take, append_assoc, ext_get_or}
+use Rattle.std.proofs.lemmas.List.{take-append-drop, take-take, append_assoc}
 use Rattle.sip_stream.specs.declared.form.Form.{Form}
 use Rattle.sip_vector.specs.declared.query.Query.{Query}
-use Rattle.sip_vector.specs.declared.query.Query.TheVariants.{Inner}
+use Rattle.sip_vector.specs.Limits.{most_depth}
 use Rattle.sip_verifier.specs.declared.task.Task.{Task}
+use Rattle.sip_lookup.specs.declared.lookup.Lookup.{Lookup}
+use Rattle.sip_lookup.specs.declared.task.LookTask.{LookTask}
+use Rattle.sip_moments.specs.declared.moment.Moment.{Moment}
+use Rattle.sip_moments.specs.declared.task.MomentTask.{MomentTask}
 use Rattle.sip_cli.specs.declared.command.Command.{Command}
 use Rattle.sip_cli.specs.declared.command.Command.TheVariants as command
 use Rattle.sip_cli.specs.declared.helper_name.HelperName.{HelperName}
 use Rattle.sip_cli.specs.declared.helper_name.HelperName.TheVariants.{Honest, Skewed, Mute}
 use Rattle.sip_cli.specs.declared.verb.Verb.{Verb}
 use Rattle.sip_cli.specs.declared.verb.Verb.TheVariants as verb
-use Rattle.sip_cli.specs.Shapes.{Asks, HasForm, IsDepth, helper_word}
+use Rattle.sip_cli.specs.Shapes.{Asks, AsksLook, AsksMoment, HasForm, IsDepth, helper_word}
 use Rattle.sip_cli.specs.Verbs.{depth_at}
-use Rattle.sip_cli.specs.Words.{word, IsCommandOf, SaysTask, Spells, BeginCommand, IsRefusedAt}
+use Rattle.sip_cli.specs.Words.{word, IsCommandOf, SaysAll, SaysLooks, SaysMoments, SaysTask, Spells, BeginCommand, IsRefusedAt}
 use Rattle.sip_cli.proofs.QueryWords.{query_once}
+use Rattle.sip_cli.proofs.LookWords.{lookup_once}
+use Rattle.sip_cli.proofs.MomentWords.{moment_once}
 use Rattle.sip_cli.proofs.StreamWords.{form_once, stored_once}
 use Rattle.sip_cli.proofs.Beginning.{verb_once}
 use Rattle.sip_cli.proofs.Stopping.{depth_once}
@@ -59,6 +66,10 @@ verb_of (command.Gen depth) = verb.Gen
 verb_of (command.Lines form depth) = verb.Lines
 verb_of (command.Widen form depth) = verb.Widen
 verb_of (command.Play task name) = verb.Play
+verb_of (command.Lookup task) = verb.Lookup
+verb_of command.HelpLook = verb.HelpLook
+verb_of (command.Moments task) = verb.Moments
+verb_of command.HelpMoments = verb.HelpMoments
 
 -- the words of a command are whole
 pub whole_of : (words : List (List ℕ)) (c : Command) → Spells words c → IsCommandOf (verb_of c) words
@@ -71,6 +82,10 @@ whole_of words (command.Gen depth) s = s.0
 whole_of words (command.Lines form depth) s = s.0
 whole_of words (command.Widen form depth) s = s.0
 whole_of words (command.Play task name) s = s.0
+whole_of words (command.Lookup task) s = s.0
+whole_of words command.HelpLook s = s
+whole_of words (command.Moments task) s = s.0
+whole_of words command.HelpMoments s = s
 
 -- and are refused at no number
 pub spelled_not_refused : (words : List (List ℕ)) (c : Command) (n : ℕ) → Spells words c → IsRefusedAt words n → ⊥
@@ -81,21 +96,48 @@ spelled_not_refused words c n s refused =
       | inr least ↦ (refused.short least).1 (verb_of c) whole
     ]
 
--- a task of these parts
-abbrev pub task_of : ℕ → Form → List Query → Task
-task_of depth form items = record { depth = depth; form = form; queries = record { items = items } }
+-- two lists are one where they have the same at each place
+lists_once : {X : Type 0} (xs ys : List X) → length xs ≡ length ys → ((i : ℕ) (x y : X) → slice_get xs i ≡ Some x → slice_get ys i ≡ Some y → x ≡ y) → xs ≡ ys
+lists_once [] [] long same = refl
+lists_once [] (y ∷ ys) long same = absurd (omega (arith, long))
+lists_once (x ∷ xs) [] long same = absurd (omega (arith, long))
+lists_once (x ∷ xs) (y ∷ ys) long same =
+    let first : x ≡ y = same 0 x y refl refl in
+    let rest : xs ≡ ys = lists_once xs ys (omega (arith, long)) (λ i. same (suc i)) in
+    cc
+
+-- words say one depth, one form and one list, where a word asks one thing
+all_once : {Q : Type 0} (IsWord : ℕ → Q → List ℕ → Type 0) → ((d : ℕ) (q r : Q) (w : List ℕ) → d ≤ most_depth → IsWord d q w → IsWord d r w → q ≡ r)
+    → (v : Verb) (words : List (List ℕ)) (d e : ℕ) (f g : Form) (asked other : List Q) → SaysAll IsWord v words d f asked → SaysAll IsWord v words e g other → (d ≡ e) × (f ≡ g) × (asked ≡ other)
+all_once IsWord once v words d e f g asked other s t =
+    let depth : d ≡ e = depth_once (word words (depth_at v)) d e s.depth t.depth in
+    let u = subst (λ k. SaysAll IsWord v words k g other) (sym depth) t in
+    let count = s.count in
+    let count' = u.count in (
+      depth,
+      form_once d f g (word words 1) s.form u.form,
+      lists_once asked other (omega arith) (λ i q r here there. once d q r (word words (1 + depth_at v + i)) s.depth.1 (s.each i q here) (u.each i r there)),
+    )
+
+-- what is made of equal parts is equal
+alike : {Q T : Type 0} (of : ℕ → Form → List Q → T) (d e : ℕ) (f g : Form) (asked other : List Q) → (d ≡ e) × (f ≡ g) × (asked ≡ other) → of d f asked ≡ of e g other
+alike of d e f g asked other (depth, form, same) = rw (depth, form, same) refl
 
 -- words say one task at most
 pub task_once : (v : Verb) (words : List (List ℕ)) (task other : Task) → SaysTask v words task → SaysTask v words other → task ≡ other
 task_once v words task other s t =
-    let depth : task.depth ≡ other.depth = depth_once (word words (depth_at v)) task.depth other.depth s.depth t.depth in
-    let form : task.form ≡ other.form = form_once task.depth task.form other.form (word words 1) s.form (subst (λ d. HasForm d other.form (word words 1)) (sym depth) t.form) in
-    let count = s.count in
-    let count' = t.count in
-    let items : task.queries.items ≡ other.queries.items = ext_get_or Inner task.queries.items other.queries.items (omega arith)
-    (λ i less. query_once task.depth (get_or task.queries.items i Inner) (get_or other.queries.items i Inner) (word words (1 + depth_at v + i)) (omega (arith, s.depth.1)) (s.queries i less)
-    (subst (λ d. Asks d (get_or other.queries.items i Inner) (word words (1 + depth_at v + i))) (sym depth) (t.queries i (omega arith)))) in
-    ap (λ d. task_of d task.form task.queries.items) depth ∙ (ap (λ f. task_of other.depth f task.queries.items) form ∙ ap (λ qs. task_of other.depth other.form qs) items)
+    let of : ℕ → Form → List Query → Task = λ depth form items. record { depth = depth; form = form; queries = record { items = items } } in
+    alike of _ _ _ _ _ _ (all_once Asks query_once v words _ _ _ _ _ _ s t)
+
+looks_once : (words : List (List ℕ)) (task other : LookTask) → SaysLooks words task → SaysLooks words other → task ≡ other
+looks_once words task other s t =
+    let of : ℕ → Form → List Lookup → LookTask = λ depth form items. record { depth = depth; form = form; lookups = record { items = items } } in
+    alike of _ _ _ _ _ _ (all_once AsksLook lookup_once verb.Lookup words _ _ _ _ _ _ s t)
+
+moments_once : (words : List (List ℕ)) (task other : MomentTask) → SaysMoments words task → SaysMoments words other → task ≡ other
+moments_once words task other s t =
+    let of : ℕ → Form → List Moment → MomentTask = λ depth form items. record { depth = depth; form = form; moments = record { items = items } } in
+    alike of _ _ _ _ _ _ (all_once AsksMoment moment_once verb.Moments words _ _ _ _ _ _ s t)
 
 -- words have one verb
 pub verbs_agree : (words : List (List ℕ)) (c d : Command) → Spells words c → Spells words d → verb_of c ≡ verb_of d
@@ -139,4 +181,8 @@ command_once words (command.Play task name) (command.Play other called) s t =
     let one = task_once verb.Play words task other s.1 t.1 in
     let same = helper_once (word words 3) name called s.2 t.2 in
     rw (one, same) refl
+command_once words (command.Lookup task) (command.Lookup other) s t = ap command.Lookup (looks_once words task other s.1 t.1)
+command_once words command.HelpLook command.HelpLook s t = refl
+command_once words (command.Moments task) (command.Moments other) s t = ap command.Moments (moments_once words task other s.1 t.1)
+command_once words command.HelpMoments command.HelpMoments s t = refl
 command_once words c d s t = absurd (let same = verbs_agree words c d s t in cc)

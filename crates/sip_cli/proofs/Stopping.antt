@@ -1,12 +1,10 @@
 -- Where the words behind a verb stop to be a command.
-use Rattle.std.proofs.Common.{◌≡◌, ◌↔◌, Bool, true, false, true≢false, IsTrue, ℕ, ◌+◌, ◌-◌, ◌<◌, ◌≤◌, List, [], ◌∷◌, ◌++◌, Result, Ok, Err, IfErr, length, get_or, sym, refl, subst, ◌∙◌, inl, inr, arith}
+use Rattle.std.proofs.Common.{◌≡◌, ◌↔◌, Bool, true, false, true≢false, IsTrue, ℕ, zero, suc, ◌+◌, ◌-◌, ◌<◌, ◌≤◌, List, [], ◌∷◌, ◌++◌, ◌⊎◌, None, Some, Result, Ok, Err, IfErr, length, get_or, sym, refl, subst, ◌∙◌, inl, inr, arith}
+use Rattle.std.specs.List.{slice_get}
 use Rattle.std.proofs.lemmas.Bool.{cases_lt}
 use Rattle.std.proofs.lemmas.Fmt.{decimal_injective}
-use Rattle.std.proofs.lemmas.List.{length-append, get_or_append_left}
-use Rattle.std.proofs.Math.Seq.{get_or-append_seam}
-use Rattle.sip_vector.specs.declared.query.Query.{Query}
-use Rattle.sip_vector.specs.declared.query.Query.TheVariants.{Inner}
-use Rattle.sip_verifier.specs.declared.task.Task.{Task}
+use Rattle.std.proofs.lemmas.List.{length-append}
+use Rattle.sip_stream.specs.declared.form.Form.{Form}
 use Rattle.sip_wire.specs.Table.{most_queries}
 use Rattle.sip_cli.specs.declared.command.Command.{Command}
 use Rattle.sip_cli.specs.declared.shape.Shape.{Shape}
@@ -14,11 +12,11 @@ use Rattle.sip_cli.specs.declared.shape.Shape.TheVariants.{Name, Depth}
 use Rattle.sip_cli.specs.declared.stream.Stream.{Stream}
 use Rattle.sip_cli.specs.declared.words.Usage.{Usage}
 use Rattle.sip_cli.specs.declared.verb.Verb.{Verb}
-use Rattle.sip_cli.specs.declared.verb.Verb.TheVariants.{Verify, Play}
-use Rattle.sip_cli.specs.Shapes.{IsOf, IsDepth, HasForm, IsStreamWord, Asks}
+use Rattle.sip_cli.specs.declared.verb.Verb.TheVariants.{Verify, Play, Lookup, Moments}
+use Rattle.sip_cli.specs.Shapes.{IsOf, IsDepth, HasForm, IsStreamWord, Asks, AsksLook, AsksMoment}
 use Rattle.sip_cli.specs.Verbs.{verb_word, shapes, depth_at, least_asked, most_asked}
-use Rattle.sip_cli.specs.Words.{word, IsCommandOf, SaysTask, IsRefusedAt}
-use Rattle.sip_cli.specs.inside.Progress.{HaveShapes, StopsInShapes, Fitted, TakesStream, TakesTask, AreAsked, StopsInQueries}
+use Rattle.sip_cli.specs.Words.{word, AsksOf, IsCommandOf, SaysAll, IsRefusedAt}
+use Rattle.sip_cli.specs.inside.Progress.{HaveShapes, StopsInShapes, Fitted, TakesStream, TakesAll, AreAsked, StopsInAsked}
 use Rattle.sip_cli.proofs.Beginning.{Begun, refused}
 
 -- a word has one depth
@@ -50,62 +48,146 @@ pub refused_end : (verb : Verb) (words : List (List ℕ)) (n : ℕ) → Begun ve
 refused_end verb words n begun last more =
     refused verb words n begun (λ _ whole is longer reads. let most = is.most in omega arith) (λ least. absurd (omega arith))
 
--- a verb with a stream, a depth and queries
-pub takes_verify : TakesTask Verify 6
-takes_verify = record { last_is = refl; some = omega arith; stream = refl; depth = refl; least = refl; most = refl }
+-- the verbs with a stream, a depth and words that ask something
+pub takes_verify : TakesAll Asks Verify 6
+takes_verify = record { last_is = refl; some = omega arith; stream = refl; depth = refl; least = refl; most = refl; asks = λ d q w is. (q, is); asked = λ d w is. is }
 
-pub takes_play : TakesTask Play 5
-takes_play = record { last_is = refl; some = omega arith; stream = refl; depth = refl; least = refl; most = refl }
+pub takes_play : TakesAll Asks Play 5
+takes_play = record { last_is = refl; some = omega arith; stream = refl; depth = refl; least = refl; most = refl; asks = λ d q w is. (q, is); asked = λ d w is. is }
 
--- behind such a verb stand a stream and a depth
-pub stream_and_last : (verb : Verb) (words : List (List ℕ)) (last : ℕ) → TakesTask verb last → Fitted verb words → (last < length words) × ((s : Stream) × IsStreamWord s (word words 1)) × ((d : ℕ) × IsDepth d (word words last))
-stream_and_last verb words last takes fitted =
-    let long = takes.last_is in
-    let some = takes.some in
-    let more = fitted.1.0 in
-    let sum : last - 1 + 1 ≡ last = omega arith in (
-      omega arith,
-      subst (λ s. IsOf s (word words 1)) takes.stream (fitted.1.1 0 (omega arith)),
-      subst (λ k. IsOf Depth (word words k)) sum (subst (λ s. IsOf s (word words (last - 1 + 1))) takes.depth (fitted.1.1 (last - 1) (omega arith))),
-    )
+pub takes_lookup : TakesAll AsksLook Lookup 5
+takes_lookup = record { last_is = refl; some = omega arith; stream = refl; depth = refl; least = refl; most = refl; asks = λ d q w is. (q, is); asked = λ d w is. is }
 
--- the queries of such a verb as far as they were read are begun
-pub begun_queries : (verb : Verb) (words : List (List ℕ)) (last d n : ℕ) (queries : List Query) → TakesTask verb last → Fitted verb words → IsDepth d (word words last) → n ≤ last + 1 + most_queries → AreAsked words d (last + 1) queries n → Begun verb words n
-begun_queries verb words last d n queries takes fitted deep most asked =
-    let long = takes.last_is in
-    let room = takes.most in
-    let count = asked.count in
-    record {
-      first = fitted.0;
-      some_words = omega arith;
-      within = asked.within;
-      most = omega arith;
-      shaped = λ i less before. fitted.1.1 i less;
-      asked = λ i low high.
-          let sum : last + 1 + (i - (last + 1)) ≡ i = omega arith in (
-            d,
-            subst (λ k. IsDepth d (word words k)) (sym long) deep,
-            get_or queries (i - (last + 1)) Inner,
-            subst (λ k. Asks d (get_or queries (i - (last + 1)) Inner) (word words k)) sum (asked.each (i - (last + 1)) (omega arith)),
-          );
-    }
+pub takes_moments : TakesAll AsksMoment Moments 5
+takes_moments = record { last_is = refl; some = omega arith; stream = refl; depth = refl; least = refl; most = refl; asks = λ d q w is. (q, is); asked = λ d w is. is }
 
--- a word that asks no query is refused, and so is one too many
-pub refused_query : (verb : Verb) (words : List (List ℕ)) (last d n : ℕ) → TakesTask verb last → Fitted verb words → IsDepth d (word words last) → StopsInQueries words d (last + 1) n → IsRefusedAt words n
-refused_query verb words last d n takes fitted deep stops =
-    let begun = begun_queries verb words last d n stops.queries takes fitted deep stops.most stops.before in
-    let count = stops.before.count in
-    let long = takes.last_is in
-    let room = takes.most in
-    let needs = takes.least in
-    refused verb words n begun
-    (λ more whole is longer reads.
-    let fewer : n < last + 1 + most_queries = let most = is.most in omega arith in
-    let a = is.asked n (omega arith) longer in
-    let there : IsDepth a.0 (word whole last) = subst (λ k. IsDepth a.0 (word whole k)) long a.1 in
-    let same : a.0 ≡ d = depth_once (word words last) a.0 d (subst (IsDepth a.0) (reads last (omega arith)) there) deep in
-    stops.here fewer more a.2 (subst (λ e. Asks e a.2 (word words n)) same (subst (Asks a.0 a.2) (reads n (omega arith)) a.3)))
-    (λ least is. let enough = is.least in let missing = stops.missing least in omega arith)
+-- at each place of a list stands one
+pub one_at : {X : Type 0} (xs : List X) (i : ℕ) → i < length xs → (x : X) × (slice_get xs i ≡ Some x)
+one_at [] i less = absurd (omega arith)
+one_at (x ∷ xs) zero less = (x, refl)
+one_at (x ∷ xs) (suc i) less = one_at xs i (omega arith)
+
+-- in a list with one more at its end, each stands in the list before or is that one
+at_end : {X : Type 0} (xs : List X) (x : X) (i : ℕ) (y : X) → slice_get (xs ++ x ∷ []) i ≡ Some y → (slice_get xs i ≡ Some y) ⊎ ((i ≡ length xs) × (x ≡ y))
+at_end [] x zero y is = inr (refl, let one : Some x ≡ Some y = is in cc)
+at_end [] x (suc i) y is = absurd (let one : None ≡ Some y = is in cc)
+at_end (z ∷ xs) x zero y is = inl is
+at_end (z ∷ xs) x (suc i) y is =
+    elim (at_end xs x i y is) [
+      | inl before ↦ inl before
+      | inr (last, same) ↦ inr (omega (arith, last), same)
+    ]
+
+-- What is said of words each of which asks something, by how a word asks it.
+module _ {Q : Type 0} (IsWord : ℕ → Q → List ℕ → Type 0) where
+  -- behind the verb stand a stream and a depth
+  pub stream_and_last : (verb : Verb) (words : List (List ℕ)) (last : ℕ) → TakesAll IsWord verb last → Fitted verb words → (last < length words) × ((s : Stream) × IsStreamWord s (word words 1)) × ((d : ℕ) × IsDepth d (word words last))
+  stream_and_last verb words last takes fitted =
+      let long = takes.last_is in
+      let some = takes.some in
+      let more = fitted.1.0 in
+      let sum : last - 1 + 1 ≡ last = omega arith in (
+        omega arith,
+        subst (λ s. IsOf s (word words 1)) takes.stream (fitted.1.1 0 (omega arith)),
+        subst (λ k. IsOf Depth (word words k)) sum (subst (λ s. IsOf s (word words (last - 1 + 1))) takes.depth (fitted.1.1 (last - 1) (omega arith))),
+      )
+
+  -- the words of the verb as far as they were read are begun
+  pub begun_asked : (verb : Verb) (words : List (List ℕ)) (last d n : ℕ) (asked : List Q) → TakesAll IsWord verb last → Fitted verb words → IsDepth d (word words last) → n ≤ last + 1 + most_queries → AreAsked IsWord words d (last + 1) asked n → Begun verb words n
+  begun_asked verb words last d n asked takes fitted deep most are =
+      let long = takes.last_is in
+      let room = takes.most in
+      let count = are.count in
+      record {
+        first = fitted.0;
+        some_words = omega arith;
+        within = are.within;
+        most = omega arith;
+        shaped = λ i less before. fitted.1.1 i less;
+        asked = λ i low high.
+            let sum : last + 1 + (i - (last + 1)) ≡ i = omega arith in
+            let one = one_at asked (i - (last + 1)) (omega arith) in (
+              d,
+              subst (λ k. IsDepth d (word words k)) (sym long) deep,
+              takes.asks d one.0 (word words i) (subst (λ k. IsWord d one.0 (word words k)) sum (are.each (i - (last + 1)) one.0 one.1)),
+            );
+      }
+
+  -- a word that asks nothing is refused, and so is one too many
+  pub refused_asked : (verb : Verb) (words : List (List ℕ)) (last d n : ℕ) → TakesAll IsWord verb last → Fitted verb words → IsDepth d (word words last) → StopsInAsked IsWord words d (last + 1) n → IsRefusedAt words n
+  refused_asked verb words last d n takes fitted deep stops =
+      let begun = begun_asked verb words last d n stops.asked takes fitted deep stops.most stops.before in
+      let count = stops.before.count in
+      let long = takes.last_is in
+      let room = takes.most in
+      let needs = takes.least in
+      refused verb words n begun
+      (λ more whole is longer reads.
+      let fewer : n < last + 1 + most_queries = let most = is.most in omega arith in
+      let a = is.asked n (omega arith) longer in
+      let there : IsDepth a.0 (word whole last) = subst (λ k. IsDepth a.0 (word whole k)) long a.1 in
+      let same : a.0 ≡ d = depth_once (word words last) a.0 d (subst (IsDepth a.0) (reads last (omega arith)) there) deep in
+      let asks : AsksOf verb d (word words n) = subst (λ e. AsksOf verb e (word words n)) same (subst (AsksOf verb a.0) (reads n (omega arith)) a.2) in
+      let one = takes.asked d (word words n) asks in
+      stops.here fewer more one.0 one.1)
+      (λ least is. let enough = is.least in let missing = stops.missing least in omega arith)
+
+  -- words of such a verb with all that they ask are whole
+  pub whole_asked : (verb : Verb) (words : List (List ℕ)) (last d : ℕ) (asked : List Q) → TakesAll IsWord verb last → Fitted verb words → IsDepth d (word words last) → AreAsked IsWord words d (last + 1) asked (length words) → last + 1 < length words → length words ≤ last + 1 + most_queries → IsCommandOf verb words
+  whole_asked verb words last d asked takes fitted deep are enough few =
+      let long = takes.last_is in
+      let room = takes.most in
+      let needs = takes.least in
+      record {
+        first = fitted.0;
+        shaped = fitted.1.1;
+        asked = (begun_asked verb words last d (length words) asked takes fitted deep few are).asked;
+        least = omega arith;
+        most = omega arith;
+      }
+
+  -- and they say it all
+  pub says_all : (verb : Verb) (words : List (List ℕ)) (last d : ℕ) (form : Form) (asked : List Q) → TakesAll IsWord verb last → HasForm d form (word words 1) → IsDepth d (word words last) → AreAsked IsWord words d (last + 1) asked (length words) → SaysAll IsWord verb words d form asked
+  says_all verb words last d form asked takes has deep are =
+      let long = takes.last_is in
+      let count = are.count in
+      record {
+        form = has;
+        depth = subst (λ k. IsDepth d (word words k)) (sym long) deep;
+        count = omega arith;
+        each = λ i q is.
+            let sum : last + 1 + i ≡ 1 + depth_at verb + i = omega arith in
+            subst (λ k. IsWord d q (word words k)) sum (are.each i q is);
+      }
+
+  -- nothing yet
+  pub asked_none : (words : List (List ℕ)) (d first : ℕ) → first ≤ length words → AreAsked IsWord words d first [] first
+  asked_none words d first enough = record { within = enough; count = omega arith; each = λ i q is. absurd (let none : None ≡ Some q = is in cc) }
+
+  -- one more
+  pub asked_more : (words : List (List ℕ)) (d first n : ℕ) (asked : List Q) (read : Q) → AreAsked IsWord words d first asked n → n < length words → IsWord d read (word words n) → AreAsked IsWord words d first (asked ++ read ∷ []) (n + 1)
+  asked_more words d first n asked read are more asks =
+      let count = are.count in
+      let longer = length-append asked (read ∷ []) in
+      record {
+        within = omega arith;
+        count = omega arith;
+        each = λ i q is.
+            elim (at_end asked read i q is) [
+              | inl before ↦ are.each i q before
+              | inr (last, same) ↦ (
+                  let place : n ≡ first + i = omega (arith, last) in
+                  subst (λ k. IsWord d q (word words k)) place (subst (λ x. IsWord d x (word words n)) same asks))
+            ];
+      }
+
+  -- the word asks nothing
+  pub stops_asking : (words : List (List ℕ)) (d first n : ℕ) (asked : List Q) → AreAsked IsWord words d first asked n → n ≤ first + most_queries → (n < length words → (q : Q) → IsWord d q (word words n) → ⊥) → (length words ≤ n → n ≡ first) → StopsInAsked IsWord words d first n
+  stops_asking words d first n asked are most none missing = record { asked = asked; before = are; most = most; here = λ _ more. none more; missing = missing }
+
+  -- the words have all that they ask
+  pub asked_all : (words : List (List ℕ)) (d first n : ℕ) (asked : List Q) → AreAsked IsWord words d first asked n → length words ≤ n → AreAsked IsWord words d first asked (length words)
+  asked_all words d first n asked are least = let within = are.within in let same : n ≡ length words = omega arith in rw same at are
 
 -- words with all their shapes and no more are whole, where the verb asks no query
 pub whole_end : (verb : Verb) (words : List (List ℕ)) → Fitted verb words → least_asked verb ≡ 0 → length words ≤ 1 + length (shapes verb) → IsCommandOf verb words
@@ -116,64 +198,6 @@ whole_end verb words fitted none few = record {
   least = let more = fitted.1.0 in omega arith;
   most = omega arith;
 }
-
--- words of such a verb with all their queries are whole
-pub whole_asked : (verb : Verb) (words : List (List ℕ)) (last d : ℕ) (queries : List Query) → TakesTask verb last → Fitted verb words → IsDepth d (word words last) → AreAsked words d (last + 1) queries (length words) → last + 1 < length words → length words ≤ last + 1 + most_queries → IsCommandOf verb words
-whole_asked verb words last d queries takes fitted deep asked enough few =
-    let long = takes.last_is in
-    let room = takes.most in
-    let needs = takes.least in
-    record {
-      first = fitted.0;
-      shaped = fitted.1.1;
-      asked = (begun_queries verb words last d (length words) queries takes fitted deep few asked).asked;
-      least = omega arith;
-      most = omega arith;
-    }
-
--- and they say a task
-pub says_task : (verb : Verb) (words : List (List ℕ)) (last : ℕ) (task : Task) → TakesTask verb last → HasForm task.depth task.form (word words 1) → IsDepth task.depth (word words last) → AreAsked words task.depth (last + 1) task.queries.items (length words) → SaysTask verb words task
-says_task verb words last task takes form deep asked =
-    let long = takes.last_is in
-    let count = asked.count in
-    record {
-      form = form;
-      depth = subst (λ k. IsDepth task.depth (word words k)) (sym long) deep;
-      count = omega arith;
-      queries = λ i less.
-          let sum : last + 1 + i ≡ 1 + depth_at verb + i = omega arith in
-          subst (λ k. Asks task.depth (get_or task.queries.items i Inner) (word words k)) sum (asked.each i less);
-    }
-
--- no query yet
-pub asked_none : (words : List (List ℕ)) (d first : ℕ) → first ≤ length words → AreAsked words d first [] first
-asked_none words d first enough = record { within = enough; count = omega arith; each = λ i less. absurd (omega arith) }
-
--- one query more
-pub asked_more : (words : List (List ℕ)) (d first n : ℕ) (queries : List Query) (query : Query) → AreAsked words d first queries n → n < length words → Asks d query (word words n) → AreAsked words d first (queries ++ query ∷ []) (n + 1)
-asked_more words d first n queries query asked more asks =
-    let count = asked.count in
-    let longer = length-append queries (query ∷ []) in
-    record {
-      within = omega arith;
-      count = omega arith;
-      each = λ i less.
-          elim (cases_lt i (length queries)) [
-            | inl before ↦ subst (λ q. Asks d q (word words (first + i))) (sym (get_or_append_left queries (query ∷ []) Inner i before)) (asked.each i before)
-            | inr after ↦ (
-                let last : i ≡ length queries = omega arith in
-                let place : first + i ≡ n = omega arith in
-                rw (place, last, get_or-append_seam queries query [] Inner) asks)
-          ];
-    }
-
--- the word asks no query
-pub stops_asking : (words : List (List ℕ)) (d first n : ℕ) (queries : List Query) → AreAsked words d first queries n → n ≤ first + most_queries → (n < length words → (query : Query) → Asks d query (word words n) → ⊥) → (length words ≤ n → n ≡ first) → StopsInQueries words d first n
-stops_asking words d first n queries asked most none missing = record { queries = queries; before = asked; most = most; here = λ _ more. none more; missing = missing }
-
--- the words have all their queries
-pub asked_all : (words : List (List ℕ)) (d first n : ℕ) (queries : List Query) → AreAsked words d first queries n → length words ≤ n → AreAsked words d first queries (length words)
-asked_all words d first n queries asked least = let within = asked.within in let same : n ≡ length words = omega arith in rw same at asked
 
 -- a word too many behind a verb without queries is refused
 pub refused_more : (verb : Verb) (words : List (List ℕ)) (n : ℕ) → Fitted verb words → most_asked verb ≡ 0 → n ≡ 1 + length (shapes verb) → n < length words → IsRefusedAt words n

@@ -39,12 +39,12 @@ pub record IsCommandOf (verb : Verb) (words : List (List ℕ)) : Type 0 where
 -- The words of a verb that asks something say a depth, the form of a stream, and behind the depth
 -- what is asked, each by its word and in this order. `IsWord` says which word asks which.
 pub record SaysAll {Q : Type 0} (IsWord : ℕ → Q → List ℕ → Type 0) (verb : Verb)
-    (words : List (List ℕ)) (depth : ℕ) (form : Form) (asked : List Q) : Type 0 where
-  pub form : HasForm depth form (word words 1)
-  pub depth : IsDepth depth (word words (depth_at verb))
+    (words : List (List ℕ)) (d : ℕ) (f : Form) (asked : List Q) : Type 0 where
+  pub form : HasForm d f (word words 1)
+  pub depth : IsDepth d (word words (depth_at verb))
   pub count : length words ≡ 1 + depth_at verb + length asked
   pub each : (i : ℕ) (q : Q) → slice_get asked i ≡ Some q
-      → IsWord depth q (word words (1 + depth_at verb + i))
+      → IsWord d q (word words (1 + depth_at verb + i))
 
 -- the words of a verb that asks queries say this task
 abbrev pub SaysTask : Verb → List (List ℕ) → Task → Type 0

@@ -4,22 +4,21 @@ ghost use Rattle.std.specs.Prelude.{◌≡◌, ◌≢◌, ℕ, ◌+◌, ◌<◌,
 ghost use Rattle.sip_verifier.specs.declared.task.Task.{Task as AnyTask};
 ghost use Rattle.sip_cli.specs.declared.stream.Stream.{Stream as AnyStream};
 ghost use Rattle.sip_cli.specs.declared.helper_name.HelperName.{HelperName as AnyName};
-ghost use Rattle.sip_cli.specs.Shapes.{IsDepth, HasForm, IsStreamWord, helper_word};
-ghost use Rattle.sip_cli.specs.Words.{IsCommandOf, SaysTask, Spells, IsRefusedAt, word};
+ghost use Rattle.sip_cli.specs.Shapes.{Asks, IsDepth, HasForm, IsStreamWord, helper_word};
+ghost use Rattle.sip_cli.specs.Words.{IsCommandOf, SaysAll, SaysTask, Spells, IsRefusedAt, word};
 ghost use Rattle.sip_cli.specs.Verbs.{verb_word};
-ghost use Rattle.sip_cli.specs.inside.Progress.{Fitted, HaveShapes, TakesName, TakesStream, TakesTask, AreAsked, StopsInShapes, StopsInQueries};
+ghost use Rattle.sip_cli.specs.inside.Progress.{Fitted, HaveShapes, TakesAll, TakesLink, TakesName, TakesStream, StopsInShapes};
 ghost use Rattle.sip_cli.specs.declared.verb.Verb.{Verb as AnyVerb};
-ghost use Rattle.sip_wire.specs.Table.{most_queries};
 
+use crate::asked::{Asked, read_asked};
 use crate::decimal::read_decimal;
-use crate::query::read_query;
 use crate::shape::Shape;
 use crate::stream::{stored_of, stream_of};
 use crate::verb::Verb;
 use crate::{HelperName, Usage, Words};
 use arrayvec::ArrayVec;
-use sip_lookup::LookTask;
-use sip_moments::MomentTask;
+use sip_lookup::{LookTask, Lookup};
+use sip_moments::{Moment, MomentTask};
 use sip_stream::Form;
 use sip_vector::{Depth, Query};
 use sip_verifier::Task;
@@ -87,6 +86,9 @@ const VERIFY_DEPTH: usize = 6;
 /// The number of the depth of `play`.
 const PLAY_DEPTH: usize = 5;
 
+/// The number of the depth of `lookup` and of `moments`, whose talk is not kept.
+const UNKEPT_DEPTH: usize = 5;
+
 /// The number of the helper of `play`.
 const PLAY_HELPER: usize = 3;
 
@@ -146,52 +148,17 @@ fn depth_at(words: &Words, number: usize) -> Option<Depth>
     Depth::new(levels as u8)
 }
 
-// The queries, from the word of this number on.
-fn read_queries(
+// What the words say behind a verb whose stream is word 1 and whose depth is the word of this
+// number: the depth, the form of the stream, and what is asked.
+fn read_all<Q: Asked>(
     words: &Words,
-    depth: Depth,
-    first: usize,
-) -> Result<ArrayVec<Query, MOST_QUERIES>, Usage>
-    requires shaped { first ≤ length words.now }
-    requires few { first ≤ 7 }
-    ensures asked { IfOk result (λ queries. AreAsked words.now depth first queries.items
-        (length words.now)) }
-    ensures count { OnOk result ((first < length words.now)
-        × (length words.now ≤ first + most_queries)) }
-    ensures refused { IfErr result (λ usage. StopsInQueries words.now depth first usage.word) }
-{
-    let mut queries = ArrayVec::new();
-    for number in first..first + MOST_QUERIES {
-        let Some(word) = words.get(number) else {
-            return if number == first {
-                Err(Usage {
-                    word: number as u32,
-                })
-            } else {
-                Ok(queries)
-            };
-        };
-        let Some(query) = read_query(word, depth) else {
-            return Err(Usage {
-                word: number as u32,
-            });
-        };
-        queries.push(query);
-    }
-    if has_word(words, first + MOST_QUERIES) {
-        return Err(Usage {
-            word: (first + MOST_QUERIES) as u32,
-        });
-    }
-    Ok(queries)
-}
-
-// The task of `verify` or of `play`, whose words up to DEPTH, of this number, have their shapes.
-fn read_task(words: &Words, last: usize) -> Result<Task, Usage>
+    last: usize,
+) -> Result<(Depth, Form, ArrayVec<Q, MOST_QUERIES>), Usage>
     requires few { last ≤ 6 }
-    ensures task { IfOk result (λ task. (verb : AnyVerb) → TakesTask verb last
-        → Fitted verb words.now → IsCommandOf verb words.now × SaysTask verb words.now task) }
-    ensures refused { IfErr result (λ usage. (verb : AnyVerb) → TakesTask verb last
+    ensures said { IfOk result (λ said. (verb : AnyVerb) → TakesAll Q.is_word verb last
+        → Fitted verb words.now → IsCommandOf verb words.now
+        × SaysAll Q.is_word verb words.now said.0 said.1 said.2.items) }
+    ensures refused { IfErr result (λ usage. (verb : AnyVerb) → TakesAll Q.is_word verb last
         → Fitted verb words.now → IsRefusedAt words.now usage.word) }
 {
     let Some(depth) = depth_at(words, last) else {
@@ -200,7 +167,19 @@ fn read_task(words: &Words, last: usize) -> Result<Task, Usage>
     let Some(form) = form_of(words, depth) else {
         return Err(Usage { word: 1 });
     };
-    let queries = read_queries(words, depth, last + 1)?;
+    let asked = read_asked::<Q>(words, depth, last + 1)?;
+    Ok((depth, form, asked))
+}
+
+// The task of `verify` or of `play`, whose depth is the word of this number.
+fn read_task(words: &Words, last: usize) -> Result<Task, Usage>
+    requires few { last ≤ 6 }
+    ensures task { IfOk result (λ task. (verb : AnyVerb) → TakesAll Asks verb last
+        → Fitted verb words.now → IsCommandOf verb words.now × SaysTask verb words.now task) }
+    ensures refused { IfErr result (λ usage. (verb : AnyVerb) → TakesAll Asks verb last
+        → Fitted verb words.now → IsRefusedAt words.now usage.word) }
+{
+    let (depth, form, queries) = read_all::<Query>(words, last)?;
     Ok(Task {
         depth,
         form,
@@ -215,7 +194,8 @@ fn read_verify(words: &Words) -> Result<Command, Usage>
     ensures refused { IfErr result (λ usage. Fitted Verb.Verify words.now
         → IsRefusedAt words.now usage.word) }
 {
-    Ok(Command::Verify(read_task(words, VERIFY_DEPTH)?))
+    let task = read_task(words, VERIFY_DEPTH)?;
+    Ok(Command::Verify(task))
 }
 
 // The helper that the word of this number names.
@@ -243,17 +223,47 @@ fn read_play(words: &Words) -> Result<Command, Usage>
     Ok(Command::Play(task, helper))
 }
 
-// The rest of `help`.
-fn read_help(words: &Words) -> Result<Command, Usage>
-    ensures command { IfOk result (λ command. Fitted Verb.Help words.now
+// The rest of `lookup`.
+fn read_looks(words: &Words) -> Result<Command, Usage>
+    ensures command { IfOk result (λ command. Fitted Verb.Lookup words.now
         → Spells words.now command) }
-    ensures refused { IfErr result (λ usage. Fitted Verb.Help words.now
+    ensures refused { IfErr result (λ usage. Fitted Verb.Lookup words.now
         → IsRefusedAt words.now usage.word) }
+{
+    let (depth, form, lookups) = read_all::<Lookup>(words, UNKEPT_DEPTH)?;
+    Ok(Command::Lookup(LookTask {
+        depth,
+        form,
+        lookups,
+    }))
+}
+
+// The rest of `moments`.
+fn read_moments(words: &Words) -> Result<Command, Usage>
+    ensures command { IfOk result (λ command. Fitted Verb.Moments words.now
+        → Spells words.now command) }
+    ensures refused { IfErr result (λ usage. Fitted Verb.Moments words.now
+        → IsRefusedAt words.now usage.word) }
+{
+    let (depth, form, moments) = read_all::<Moment>(words, UNKEPT_DEPTH)?;
+    Ok(Command::Moments(MomentTask {
+        depth,
+        form,
+        moments,
+    }))
+}
+
+// The rest of `help`, of `helplook` and of `helpmom`, which have no more words.
+fn read_link(words: &Words) -> Result<(), Usage>
+    ensures read { OnOk result ((verb : AnyVerb) → TakesLink verb
+        → Fitted verb words.now → IsCommandOf verb words.now) }
+    ensures refused { IfErr result (λ usage. (verb : AnyVerb) → TakesLink verb
+        → Fitted verb words.now → IsRefusedAt words.now usage.word) }
 {
     if has_word(words, 3) {
         return Err(Usage { word: 3 });
     }
-    Ok(Command::Help)
+    Ok(())
 }
 
 // The rest of `audit`.
@@ -337,7 +347,10 @@ pub fn read_words(words: &Words) -> Result<Command, Usage>
     check_shapes(words, verb.shapes())?;
     match verb {
         Verb::Verify => read_verify(words),
-        Verb::Help => read_help(words),
+        Verb::Help => {
+            read_link(words)?;
+            Ok(Command::Help)
+        }
         Verb::Audit => read_audit(words),
         Verb::Show => {
             read_transcript(words)?;
@@ -357,8 +370,15 @@ pub fn read_words(words: &Words) -> Result<Command, Usage>
             Ok(Command::Widen { form, depth })
         }
         Verb::Play => read_play(words),
-        Verb::Lookup | Verb::HelpLook | Verb::Moments | Verb::HelpMoments => {
-            Err(Usage { word: 0 })
+        Verb::Lookup => read_looks(words),
+        Verb::HelpLook => {
+            read_link(words)?;
+            Ok(Command::HelpLook)
+        }
+        Verb::Moments => read_moments(words),
+        Verb::HelpMoments => {
+            read_link(words)?;
+            Ok(Command::HelpMoments)
         }
     }
 }

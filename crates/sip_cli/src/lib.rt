@@ -2,6 +2,7 @@
 #![tactic(auto)]
 
 mod advice;
+mod asked;
 mod command;
 mod copying;
 mod decimal;
@@ -10,6 +11,8 @@ mod helper_name;
 mod helping;
 mod hint_text;
 pub mod laws;
+mod lookup;
+mod moment;
 mod page;
 mod page_text;
 mod place;

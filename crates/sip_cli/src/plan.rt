@@ -3,6 +3,8 @@
 ghost use Rattle.std.specs.Prelude.{◌≡◌, ℕ, ◌≤◌, ◌<◌, ◌^◌, Some, IsSome, IfSome, List, decimal, drop, length};
 ghost use Rattle.std.specs.Option.{option_copied};
 ghost use Rattle.sip_verifier.specs.declared.task.Task.{Task as AnyTask};
+ghost use Rattle.sip_lookup.specs.declared.task.LookTask.{LookTask as AnyLookTask};
+ghost use Rattle.sip_moments.specs.declared.task.MomentTask.{MomentTask as AnyMomentTask};
 ghost use Rattle.sip_cli.specs.declared.command.Command.{Command as AnyCommand};
 ghost use Rattle.sip_cli.specs.declared.stream.Stream.{Stream as AnyStream};
 ghost use Rattle.sip_stream.specs.Made.{most_made};
@@ -174,7 +176,15 @@ impl PortPlan {
         ensures verify { (words : List (List ℕ)) (task : AnyTask)
             → Opens words (Command.Verify task) self.now
             → result ≡ LinkOrder.ToFirst }
+        ensures lookup { (words : List (List ℕ)) (task : AnyLookTask)
+            → Opens words (Command.Lookup task) self.now → result ≡ LinkOrder.ToFirst }
+        ensures moments { (words : List (List ℕ)) (task : AnyMomentTask)
+            → Opens words (Command.Moments task) self.now → result ≡ LinkOrder.ToFirst }
         ensures help { (words : List (List ℕ)) → Opens words Command.Help self.now
+            → result ≡ LinkOrder.FromFirst }
+        ensures help_look { (words : List (List ℕ)) → Opens words Command.HelpLook self.now
+            → result ≡ LinkOrder.FromFirst }
+        ensures help_moments { (words : List (List ℕ)) → Opens words Command.HelpMoments self.now
             → result ≡ LinkOrder.FromFirst }
     {
         // A helper has no stream.
@@ -197,7 +207,7 @@ impl PortPlan {
         }
     }
 
-    // The ports of `verify`, whose stream and whose transcript are opened like this.
+    // The ports of `verify`, and of `lookup` and `moments`, whose stream and whose transcript are opened like this.
     fn verify(first: Opening, keep: Opening) -> PortPlan
         ensures { result ≡ verify_ports first keep }
     {
@@ -223,7 +233,7 @@ impl PortPlan {
         }
     }
 
-    // The ports of `help`.
+    // The ports of `help`, of `helplook` and of `helpmom`.
     fn help() -> PortPlan
         ensures { result ≡ help_ports }
     {
@@ -295,10 +305,11 @@ impl PortPlan {
     }
 }
 
-/// The files and made streams that a command opens: for `verify` its stream, its seed, the two ends of its link and the
-/// file of its transcript, if it is to keep one, for `play` the same without a link, for `help` the two ends of its
-/// link, for `audit` its stream and the transcript, for `show` and `convert` the transcript, for `gen`, `lines` and `widen` their
-/// stream. Words that are no command open nothing.
+/// The files and made streams that a command opens: for `verify` its stream, its seed, the two ends
+/// of its link and the file of its transcript, if it is to keep one, for `lookup` and `moments` the
+/// same without a transcript, for `play` without a link, for `help`, `helplook` and `helpmom` the two
+/// ends of their link, for `audit` its stream and the transcript, for `show` and `convert` the
+/// transcript, for `gen`, `lines` and `widen` their stream. Words that are no command open nothing.
 pub fn ports(words: &Words) -> PortPlan
     ensures spelled { (command : AnyCommand) → Spells words.now command
         → Opens words.now command result }

@@ -30,8 +30,8 @@ fn bounds_behind(front: &str, word: &str) -> Option<(u64, u64)>
     read_bounds(word.strip_prefix(front)?)
 }
 
-// The number behind this front of a word.
-fn number_behind(front: &str, word: &str) -> Option<u64>
+/// The number behind this front of a word.
+pub(crate) fn number_behind(front: &str, word: &str) -> Option<u64>
     ensures { MatchOption result
         ((n : ℕ) → n < 2 ^ 64 → word.now ≢ front.now ++ decimal n)
         (λ n. word.now ≡ front.now ++ decimal n) }

@@ -1,14 +1,13 @@
 -- How far the words of a command were read.
-use Rattle.std.specs.Prelude.{◌≡◌, ℕ, ◌+◌, ◌-◌, ◌<◌, ◌≤◌, List, [], ◌∷◌, length, slice_index_or}
-use Rattle.sip_vector.specs.declared.query.Query.{Query}
-use Rattle.sip_vector.specs.declared.query.Query.TheVariants.{Inner}
+use Rattle.std.specs.Prelude.{◌≡◌, ℕ, ◌+◌, ◌-◌, ◌<◌, ◌≤◌, List, [], ◌∷◌, length, slice_index_or, Some}
+use Rattle.std.specs.List.{slice_get}
 use Rattle.sip_wire.specs.Table.{most_queries}
 use Rattle.sip_cli.specs.declared.shape.Shape.{Shape}
 use Rattle.sip_cli.specs.declared.shape.Shape.TheVariants.{Name, Stream, Depth}
 use Rattle.sip_cli.specs.declared.verb.Verb.{Verb}
-use Rattle.sip_cli.specs.Shapes.{IsOf, Asks}
+use Rattle.sip_cli.specs.Shapes.{IsOf}
 use Rattle.sip_cli.specs.Verbs.{verb_word, shapes, depth_at, least_asked, most_asked}
-use Rattle.sip_cli.specs.Words.{word}
+use Rattle.sip_cli.specs.Words.{AsksOf, word}
 
 -- there are n words behind the verb, and they have the first n shapes
 abbrev pub HaveShapes : List Shape → List (List ℕ) → ℕ → Type 0
@@ -34,34 +33,44 @@ pub record TakesName (verb : Verb) : Type 0 where
   pub least : least_asked verb ≡ 0
   pub most : most_asked verb ≡ 0
 
--- behind the verb stand a stream and a depth, and no queries
+-- behind the verb stand the two ends of a link, and no more
+pub record TakesLink (verb : Verb) : Type 0 where
+  pub shaped : shapes verb ≡ Name ∷ Name ∷ []
+  pub least : least_asked verb ≡ 0
+  pub most : most_asked verb ≡ 0
+
+-- behind the verb stand a stream and a depth, and nothing is asked
 pub record TakesStream (verb : Verb) : Type 0 where
   pub shaped : shapes verb ≡ Stream ∷ Depth ∷ []
   pub least : least_asked verb ≡ 0
   pub most : most_asked verb ≡ 0
 
--- Behind the verb stand a stream first and a depth last, at word `last`, and then queries.
-pub record TakesTask (verb : Verb) (last : ℕ) : Type 0 where
+-- Behind the verb stand a stream first and a depth last, at word `last`, and then words each of
+-- which asks something: `IsWord` says which word asks which.
+pub record TakesAll {Q : Type 0} (IsWord : ℕ → Q → List ℕ → Type 0) (verb : Verb) (last : ℕ)
+    : Type 0 where
   pub last_is : depth_at verb ≡ last
   pub some : 2 ≤ last
   pub stream : slice_index_or (shapes verb) 0 Name ≡ Stream
   pub depth : slice_index_or (shapes verb) (last - 1) Name ≡ Depth
   pub least : least_asked verb ≡ 1
   pub most : most_asked verb ≡ most_queries
+  pub asks : (d : ℕ) (q : Q) (w : List ℕ) → IsWord d q w → AsksOf verb d w
+  pub asked : (d : ℕ) (w : List ℕ) → AsksOf verb d w → (q : Q) × IsWord d q w
 
--- the words from `first` up to n are these queries
-pub record AreAsked (words : List (List ℕ)) (depth first : ℕ) (queries : List Query) (n : ℕ)
-    : Type 0 where
+-- the words from `first` up to n ask these
+pub record AreAsked {Q : Type 0} (IsWord : ℕ → Q → List ℕ → Type 0) (words : List (List ℕ))
+    (depth first : ℕ) (asked : List Q) (n : ℕ) : Type 0 where
   pub within : n ≤ length words
-  pub count : n ≡ first + length queries
-  pub each : (i : ℕ) → i < length queries
-      → Asks depth (slice_index_or queries i Inner) (word words (first + i))
+  pub count : n ≡ first + length asked
+  pub each : (i : ℕ) (q : Q) → slice_get asked i ≡ Some q → IsWord depth q (word words (first + i))
 
--- the word of this number is the first from `first` on that asks no query, or one too many
-pub record StopsInQueries (words : List (List ℕ)) (depth first number : ℕ) : Type 0 where
-  pub queries : List Query
-  pub before : AreAsked words depth first queries number
+-- the word of this number is the first from `first` on that asks nothing, or one too many
+pub record StopsInAsked {Q : Type 0} (IsWord : ℕ → Q → List ℕ → Type 0) (words : List (List ℕ))
+    (depth first number : ℕ) : Type 0 where
+  pub asked : List Q
+  pub before : AreAsked IsWord words depth first asked number
   pub most : number ≤ first + most_queries
   pub here : number < first + most_queries → number < length words
-      → (query : Query) → Asks depth query (word words number) → ⊥
+      → (q : Q) → IsWord depth q (word words number) → ⊥
   pub missing : length words ≤ number → number ≡ first

@@ -1,6 +1,6 @@
 use Rattle.std.proofs.Common.{subst}
 use Rattle.std.proofs.lemmas.Result.{err_from_is_err_and}
-use Rattle.sip_cli.specs.declared.verb.Verb.TheVariants.{Verify, Help, Audit, Gen, Play}
+use Rattle.sip_cli.specs.declared.verb.Verb.TheVariants.{Verify, Audit, Gen, Play, Lookup, Moments}
 use Rattle.sip_cli.specs.inside.Progress.{StopsInShapes}
 use Rattle.sip_cli.proofs.Beginning.{refused_verb}
 use Rattle.sip_cli.proofs.Stopping.{refused_shape, fitted_by, refused_by}
@@ -21,11 +21,6 @@ returns-in-Verify-clause-refused c =
     let fitted = fitted_by c.in-Some.verb c.args.words.now c.shapes.result.now c.in-Some.ensures c.shapes.ensures c.in_ok-check_shapes.ensures.fitting in
     refused_by Verify c.args.words.now c.read_verify.result c.read_verify.ensures.refused (rw c.in-Verify.is at fitted)
 
-pub returns-in-Help-clause-refused : goal.returns-in-Help-clause-refused
-returns-in-Help-clause-refused c =
-    let fitted = fitted_by c.in-Some.verb c.args.words.now c.shapes.result.now c.in-Some.ensures c.shapes.ensures c.in_ok-check_shapes.ensures.fitting in
-    refused_by Help c.args.words.now c.read_help.result c.read_help.ensures.refused (rw c.in-Help.is at fitted)
-
 pub returns-in-Audit-clause-refused : goal.returns-in-Audit-clause-refused
 returns-in-Audit-clause-refused c =
     let fitted = fitted_by c.in-Some.verb c.args.words.now c.shapes.result.now c.in-Some.ensures c.shapes.ensures c.in_ok-check_shapes.ensures.fitting in
@@ -41,4 +36,12 @@ returns-in-Play-clause-refused c =
     let fitted = fitted_by c.in-Some.verb c.args.words.now c.shapes.result.now c.in-Some.ensures c.shapes.ensures c.in_ok-check_shapes.ensures.fitting in
     refused_by Play c.args.words.now c.read_play.result c.read_play.ensures.refused (rw c.in-Play.is at fitted)
 
--- what stops `lines`, or `widen`, refuses its words
+pub returns-in-Lookup-clause-refused : goal.returns-in-Lookup-clause-refused
+returns-in-Lookup-clause-refused c =
+    let fitted = fitted_by c.in-Some.verb c.args.words.now c.shapes.result.now c.in-Some.ensures c.shapes.ensures c.in_ok-check_shapes.ensures.fitting in
+    refused_by Lookup c.args.words.now c.read_looks.result c.read_looks.ensures.refused (rw c.in-Lookup.is at fitted)
+
+pub returns-in-Moments-clause-refused : goal.returns-in-Moments-clause-refused
+returns-in-Moments-clause-refused c =
+    let fitted = fitted_by c.in-Some.verb c.args.words.now c.shapes.result.now c.in-Some.ensures c.shapes.ensures c.in_ok-check_shapes.ensures.fitting in
+    refused_by Moments c.args.words.now c.read_moments.result c.read_moments.ensures.refused (rw c.in-Moments.is at fitted)
