@@ -1,10 +1,12 @@
 # Completes the words of sip in bash.
 
-# The kinds of the words behind a command. Where the last one is `query`, more of it may follow.
+# The kinds of the words behind a command. Where the last one is a question, more of them may follow.
 _sip_kinds() {
     case $1 in
         verify) echo stream file file file record depth query ;;
-        help) echo file file ;;
+        help | helplook | helpmom) echo file file ;;
+        lookup) echo stream file file file depth lookup ;;
+        moments) echo stream file file file depth moment ;;
         audit) echo stored file ;;
         show | convert) echo file ;;
         gen) echo number number depth ;;
@@ -13,8 +15,12 @@ _sip_kinds() {
     esac
 }
 
-_sip_commands='verify help audit show convert gen lines widen play --help -h --progress --version -V'
+_sip_commands='verify play help lookup helplook moments helpmom audit show convert gen lines widen
+    --help -h --progress --version -V'
 _sip_queries='sub: range:0: range:1: f2:0 f2:1 inner heavy:0: heavy:1: share:0: share:1:'
+_sip_lookups='index: pred: succ:'
+_sip_moments='moment:0:3 moment:0:4 moment:0:5 moment:0:6 moment:0:7 moment:0:8
+    moment:1:3 moment:1:4 moment:1:5 moment:1:6 moment:1:7 moment:1:8'
 
 # What may be written in the place of the last word, whose kind is given first.
 _sip_candidates() {
@@ -23,6 +29,8 @@ _sip_candidates() {
         command) compgen -W "$_sip_commands" -- "$word" ;;
         help) compgen -W '--help -h' -- "$word" ;;
         query) compgen -W "$_sip_queries" -- "$word" ;;
+        lookup) compgen -W "$_sip_lookups" -- "$word" ;;
+        moment) compgen -W "$_sip_moments" -- "$word" ;;
         record)
             compgen -W - -- "$word"
             compgen -f -- "$word"
@@ -65,7 +73,7 @@ _sip() {
     else
         read -ra kinds <<<"$(_sip_kinds "${words[1]}")"
         kind=${kinds[place - 2]:-}
-        if [[ -z $kind && " ${kinds[*]}" == *' query' ]]; then kind=query; fi
+        if [[ -z $kind && " ${kinds[*]}" =~ ' '(query|lookup|moment)$ ]]; then kind=${BASH_REMATCH[1]}; fi
     fi
     mapfile -t COMPREPLY < <(_sip_candidates "$kind" "${words[place]}")
     if [[ ${#COMPREPLY[@]} -eq 1 && ${COMPREPLY[0]} == *: ]]; then

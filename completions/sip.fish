@@ -5,13 +5,17 @@ function __sip_words
     commandline -opc | string match -v -- --progress
 end
 
-# The kinds of the words behind a command. Where the last one is `query`, more of it may follow.
+# The kinds of the words behind a command. Where the last one is a question, more of them may follow.
 function __sip_kinds
     switch $argv[1]
         case verify
             printf '%s\n' stream file file file record depth query
-        case help
+        case help helplook helpmom
             printf '%s\n' file file
+        case lookup
+            printf '%s\n' stream file file file depth lookup
+        case moments
+            printf '%s\n' stream file file file depth moment
         case audit
             printf '%s\n' stored file
         case show convert
@@ -34,8 +38,8 @@ function __sip_candidates
     set -l kind
     if test $place -le (count $kinds)
         set kind $kinds[$place]
-    else if contains query $kinds
-        set kind query
+    else if contains -- "$kinds[-1]" query lookup moment
+        set kind $kinds[-1]
     end
     switch "$kind"
         case stream stored
@@ -64,6 +68,12 @@ function __sip_candidates
                 f2:{0,1}\t'the sum of the squares' inner\t'the sum of the products' \
                 heavy:{0,1}:\t'T, the entries of T or more' \
                 share:{0,1}:\t'NUM:DEN, the entries of such a part'
+        case lookup
+            printf '%s\n' index:\t'I, the entry there' \
+                pred:\t'I, the nearest entry there or below' \
+                succ:\t'I, the nearest entry there or above'
+        case moment
+            printf '%s\n' moment:{0,1}:{3,4,5,6,7,8}\t'the sum of such powers'
     end
 end
 
@@ -80,6 +90,10 @@ end
 complete -c sip -f
 complete -c sip -n __sip_is_first -a verify -d 'ask a helper and check what it answers'
 complete -c sip -n __sip_is_first -a help -d 'be the helper'
+complete -c sip -n __sip_is_first -a lookup -d 'ask for entries and the nearest ones'
+complete -c sip -n __sip_is_first -a helplook -d 'be the helper of lookup'
+complete -c sip -n __sip_is_first -a moments -d 'ask for sums of higher powers'
+complete -c sip -n __sip_is_first -a helpmom -d 'be the helper of moments'
 complete -c sip -n __sip_is_first -a audit -d 'check a stored run again'
 complete -c sip -n __sip_is_first -a show -d 'list a transcript'
 complete -c sip -n __sip_is_first -a convert -d 'write a transcript in version 2'

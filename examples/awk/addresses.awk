@@ -1,6 +1,7 @@
 # A report with addresses in the place of items.
 {
     parts = split($1, part, ":")
+    if (part[1] ~ /^(index|pred|succ)$/) $1 = part[1] ":" address(part[2])
     if (part[1] == "sub" || part[1] == "range") {
         part[parts - 1] = address(part[parts - 1])
         part[parts] = address(part[parts])

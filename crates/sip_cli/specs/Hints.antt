@@ -17,7 +17,7 @@ use Rattle.sip_verifier.specs.declared.status.Port.TheVariants as ports
 use Rattle.sip_verifier.specs.declared.status.Status.{Status}
 use Rattle.sip_verifier.specs.declared.status.Status.TheVariants as statuses
 
--- what stands at the words of a verb, from the verb on and before the queries
+-- what stands at the words of a verb, from the verb on and before what it asks
 abbrev pub places : Verb → List Place
 places Verify = place.Verb ∷ place.Stream ∷ place.Seed ∷ place.From ∷ place.To ∷ place.Record
     ∷ place.Depth ∷ []
@@ -35,15 +35,21 @@ places HelpLook = place.Verb ∷ place.From ∷ place.To ∷ []
 places Moments = place.Verb ∷ place.Stream ∷ place.Seed ∷ place.From ∷ place.To ∷ place.Depth ∷ []
 places HelpMoments = place.Verb ∷ place.From ∷ place.To ∷ []
 
--- the number of the word behind the last query that a verb may have
-abbrev pub behind_queries : Verb → ℕ
-behind_queries verb = length (places verb) + most_asked verb
+-- what stands behind these words, where the verb asks something
+abbrev pub asked_by : Verb → Place
+asked_by Lookup = place.Lookup
+asked_by Moments = place.Moment
+asked_by _ = place.Query
+
+-- the number of the word behind the last query that a verb may have, or lookup, or moment
+abbrev pub behind_asked : Verb → ℕ
+behind_asked verb = length (places verb) + most_asked verb
 
 -- what stands at word n of a verb
 abbrev pub place_at : Verb → ℕ → Place
 place_at verb n =
     slice_index_or (places verb) n
-    (if nat_lt n (behind_queries verb) then place.Query else place.End)
+    (if nat_lt n (behind_asked verb) then asked_by verb else place.End)
 
 -- what stands at word n of words that begin like these: where they begin with no verb, a verb is
 -- wanted
@@ -68,6 +74,8 @@ place_hint place.Number = hints.NUMBER.now
 place_hint place.Count = hints.COUNT.now
 place_hint place.Depth = hints.DEPTH.now
 place_hint place.Query = hints.QUERY.now
+place_hint place.Lookup = hints.LOOKUP.now
+place_hint place.Moment = hints.MOMENT.now
 place_hint place.End = hints.END.now
 
 -- word 1 names a file of records of 13 bytes

@@ -1,6 +1,6 @@
 -- The texts that words ask for in place of a command, and what writing one promises.
 use Rattle.std.specs.Prelude.{◌≡◌, ◌⊎◌, ℕ, ◌<◌, List, [], ◌∷◌, length, take, codes, Option}
-use Rattle.sip_cli.specs.declared.page_text.TheConstants.{AUDIT_PART, CONVERT_PART, GEN_PART, HELP_PART, LINES_PART, PLAY_PART, SHOW_PART, VERIFY_PART, WIDEN_PART}
+use Rattle.sip_cli.specs.declared.page_text.TheConstants.{AUDIT_PART, CONVERT_PART, GEN_PART, HELP_PART, HELPLOOK_PART, HELPMOM_PART, LINES_PART, LOOKUP_PART, MOMENTS_PART, PLAY_PART, SHOW_PART, VERIFY_PART, WIDEN_PART}
 use Rattle.sip_cli.specs.declared.verb.Verb.{Verb}
 use Rattle.sip_cli.specs.declared.verb.Verb.TheVariants.{Verify, Help, Audit, Show, Convert, Gen, Lines, Widen, Play, Lookup, HelpLook, Moments, HelpMoments}
 use Rattle.sip_cli.specs.Verbs.{verb_word}
@@ -29,10 +29,10 @@ part_of Gen = GEN_PART.now
 part_of Lines = LINES_PART.now
 part_of Widen = WIDEN_PART.now
 part_of Play = PLAY_PART.now
-part_of Lookup = HELP_PART.now
-part_of HelpLook = HELP_PART.now
-part_of Moments = HELP_PART.now
-part_of HelpMoments = HELP_PART.now
+part_of Lookup = LOOKUP_PART.now
+part_of HelpLook = HELPLOOK_PART.now
+part_of Moments = MOMENTS_PART.now
+part_of HelpMoments = HELPMOM_PART.now
 
 -- the words are a verb and one that asks for help, and this is the verb's part of the page
 abbrev pub AsksPart : List (List ℕ) → List ℕ → Type 0

@@ -4,8 +4,8 @@
 
 /// A verb, the first word.
 pub(crate) const VERB: &str = "\
-sip: hint: the first word is verify, play, help, audit, show, convert, gen, lines or widen; sip --help \
-tells of each\n";
+sip: hint: the first word is verify, play, help, lookup, helplook, moments, helpmom, audit, show, \
+convert, gen, lines or widen; sip --help tells of each\n";
 
 /// A stream.
 pub(crate) const STREAM: &str = "\
@@ -55,9 +55,18 @@ pub(crate) const QUERY: &str = "\
 sip: hint: QUERY is here: sub:LO:HI, range:SIDE:LO:HI, f2:SIDE, inner, heavy:SIDE:T or \
 share:SIDE:NUM:DEN, with LO up to HI and HI below 2^DEPTH\n";
 
+/// A lookup.
+pub(crate) const LOOKUP: &str = "\
+sip: hint: LOOKUP is here: index:I, pred:I or succ:I, with I below 2^DEPTH\n";
+
+/// A moment.
+pub(crate) const MOMENT: &str = "\
+sip: hint: MOMENT is here: moment:SIDE:K, with SIDE 0 or 1 and K from 3 to 8\n";
+
 /// No word.
 pub(crate) const END: &str = "\
-sip: hint: no word is here: the command ends before it, and a run has 16 queries at most\n";
+sip: hint: no word is here: the command ends before it, and a run has 16 queries, lookups or \
+moments at most\n";
 
 // Where a record is not legal.
 
@@ -105,7 +114,8 @@ sip: hint: more than 65536 entries could be in that answer: ask for a greater T 
 
 /// A moment that may be too high.
 pub(crate) const HIGH: &str = "\
-sip: hint: that side has too great a weight for a moment of this degree: ask for a lower degree\n";
+sip: hint: the weight of that side, to the power of the degree, is 2^60 or more: ask for a lower \
+degree, or count in greater units\n";
 
 /// Bytes that are no transcript.
 pub(crate) const BROKEN: &str = "\
@@ -113,7 +123,8 @@ sip: hint: TRANSCRIPT is a file that verify or play kept; that of a rejected run
 
 /// Bytes that no verifier sends there.
 pub(crate) const FRAME: &str = "\
-sip: hint: FROM of sip help is TO of sip verify, and TO of sip help is its FROM\n";
+sip: hint: FROM is TO of the other side, and TO its FROM: sip help is for sip verify, sip helplook \
+for sip lookup, and sip helpmom for sip moments\n";
 
 /// The stream failed.
 pub(crate) const FIRST: &str = "\
@@ -139,4 +150,4 @@ the other side has left\n";
 
 /// The verifier left.
 pub(crate) const LEFT: &str = "\
-sip: hint: the other side, sip verify, left before its end and says why\n";
+sip: hint: the other side, sip verify, sip lookup or sip moments, left before its end and says why\n";

@@ -36,7 +36,8 @@ pub use exit::{Ending, exit_code, finish, status_without_words};
 pub use helper_name::HelperName;
 pub use page::{page_of, write_page};
 pub use page_text::{
-    AUDIT_PART, GEN_PART, HELP, HELP_PART, LINES_PART, PLAY_PART, VERIFY_PART, VERSION, WIDEN_PART,
+    AUDIT_PART, GEN_PART, HELP, HELP_PART, HELPLOOK_PART, HELPMOM_PART, LINES_PART, LOOKUP_PART,
+    MOMENTS_PART, PLAY_PART, VERIFY_PART, VERSION, WIDEN_PART,
 };
 pub use plan::{LinkOrder, Opening, PortPlan, ports};
 pub use playing::play_words;

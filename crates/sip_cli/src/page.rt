@@ -7,8 +7,8 @@ ghost use Rattle.sip_cli.specs.Pages.{AsksHelp, AsksPart, AsksText, AsksVersion,
 ghost use Rattle.sip_cli.specs.Words.{IsRefusedAt};
 
 use crate::page_text::{
-    AUDIT_PART, CONVERT_PART, GEN_PART, HELP, HELP_PART, LINES_PART, PLAY_PART, SHOW_PART,
-    VERIFY_PART, VERSION, WIDEN_PART,
+    AUDIT_PART, CONVERT_PART, GEN_PART, HELP, HELP_PART, HELPLOOK_PART, HELPMOM_PART, LINES_PART,
+    LOOKUP_PART, MOMENTS_PART, PLAY_PART, SHOW_PART, VERIFY_PART, VERSION, WIDEN_PART,
 };
 use crate::verb::Verb;
 use crate::{Words, read_words};
@@ -49,7 +49,10 @@ fn part(verb: Verb) -> &'static str
         Verb::Lines => LINES_PART,
         Verb::Widen => WIDEN_PART,
         Verb::Play => PLAY_PART,
-        Verb::Lookup | Verb::HelpLook | Verb::Moments | Verb::HelpMoments => HELP_PART,
+        Verb::Lookup => LOOKUP_PART,
+        Verb::HelpLook => HELPLOOK_PART,
+        Verb::Moments => MOMENTS_PART,
+        Verb::HelpMoments => HELPMOM_PART,
     }
 }
 

@@ -1,6 +1,7 @@
 //! The text of the page, of which some parts are printed alone too. Each is written once.
 
-// The parts about verify, play, help, audit, show, convert, gen, lines and widen, for a part's name or for `page`.
+// The parts about verify, play, help, lookup, helplook, moments, helpmom, audit, show, convert, gen,
+// lines and widen, for a part's name or for `page`.
 macro_rules! text_of {
     ($which:ident) => {
         chosen!(
@@ -46,6 +47,59 @@ macro_rules! text_of {
       TO      the file or FIFO that takes ours, which is its FROM
 
       sip help to.fifo from.fifo
+"
+            "  sip lookup STREAM SEED FROM TO DEPTH LOOKUP..
+
+      Sends the stream to a helper, asks 1 to 16 lookups of side 0, checks the replies and prints a line for each one.
+
+      LOOKUP  index:I  the entry at I
+              pred:I   the nearest entry that is not 0 at I or below, with its item, or none
+              succ:I   the nearest entry that is not 0 at I or above, with its item, or none
+              with I below 2^DEPTH
+              The other words are those of sip verify.
+
+      The helper names the place of the nearest entry, and shows that there is none between it and I. A lookup costs at
+      most DEPTH multiplications for each record of side 0, and DEPTH + 1 short replies. Memory is a little more than
+      1 MiB, whatever the stream is. No transcript is kept.
+
+      sip lookup log.stream today.seed from.fifo to.fifo 20 index:1 pred:99 succ:100
+"
+            "  sip helplook FROM TO
+
+      Is the helper of sip lookup: keeps the stream that it sends, and answers its lookups.
+
+      FROM    the file or FIFO that brings the other side's bytes, which is its TO
+      TO      the file or FIFO that takes ours, which is its FROM
+
+      Memory grows with the entries that are not 0, as that of sip help does. A lookup costs a search among those of
+      side 0, and then what sub:LO:HI costs sip help.
+
+      sip helplook to.fifo from.fifo
+"
+            "  sip moments STREAM SEED FROM TO DEPTH MOMENT..
+
+      Sends the stream to a helper, asks 1 to 16 moments, checks the replies and prints a line for each answer.
+
+      MOMENT  moment:SIDE:K  the sum of the K-th powers of the entries of a side, with SIDE 0 or 1 and K from 3 to 8
+              The other words are those of sip verify.
+
+      The second moment is f2 of sip verify. How great K may be depends on the weight of the side, as LIMITS say. A
+      moment costs at most DEPTH multiplications for each record of its side, and DEPTH replies of K + 1 numbers. Memory
+      is that of a frame, whatever the stream is. No transcript is kept.
+
+      sip moments log.stream today.seed from.fifo to.fifo 20 moment:0:3 moment:1:3
+"
+            "  sip helpmom FROM TO
+
+      Is the helper of sip moments: keeps the stream that it sends, and answers its moments.
+
+      FROM    the file or FIFO that brings the other side's bytes, which is its TO
+      TO      the file or FIFO that takes ours, which is its FROM
+
+      Memory grows with the entries that are not 0, as that of sip help does, and a moment takes as much again for those
+      of its side.
+
+      sip helpmom to.fifo from.fifo
 "
             "  sip audit STORED TRANSCRIPT
 
@@ -105,35 +159,49 @@ macro_rules! text_of {
     };
 }
 
+// The part of a name among all of them, in their order: each name but the first leaves one part out and
+// takes the name before it. `page` has all of them.
 macro_rules! chosen {
-    (verify $v:literal $p:literal $h:literal $a:literal $s:literal $c:literal $g:literal $l:literal $w:literal) => {
-        $v
+    (verify $part:literal $($rest:literal)*) => {
+        $part
     };
-    (play $v:literal $p:literal $h:literal $a:literal $s:literal $c:literal $g:literal $l:literal $w:literal) => {
-        $p
+    (play $part:literal $($rest:literal)*) => {
+        chosen!(verify $($rest)*)
     };
-    (help $v:literal $p:literal $h:literal $a:literal $s:literal $c:literal $g:literal $l:literal $w:literal) => {
-        $h
+    (help $part:literal $($rest:literal)*) => {
+        chosen!(play $($rest)*)
     };
-    (audit $v:literal $p:literal $h:literal $a:literal $s:literal $c:literal $g:literal $l:literal $w:literal) => {
-        $a
+    (lookup $part:literal $($rest:literal)*) => {
+        chosen!(help $($rest)*)
     };
-    (show $v:literal $p:literal $h:literal $a:literal $s:literal $c:literal $g:literal $l:literal $w:literal) => {
-        $s
+    (helplook $part:literal $($rest:literal)*) => {
+        chosen!(lookup $($rest)*)
     };
-    (convert $v:literal $p:literal $h:literal $a:literal $s:literal $c:literal $g:literal $l:literal $w:literal) => {
-        $c
+    (moments $part:literal $($rest:literal)*) => {
+        chosen!(helplook $($rest)*)
     };
-    (gen $v:literal $p:literal $h:literal $a:literal $s:literal $c:literal $g:literal $l:literal $w:literal) => {
-        $g
+    (helpmom $part:literal $($rest:literal)*) => {
+        chosen!(moments $($rest)*)
     };
-    (lines $v:literal $p:literal $h:literal $a:literal $s:literal $c:literal $g:literal $l:literal $w:literal) => {
-        $l
+    (audit $part:literal $($rest:literal)*) => {
+        chosen!(helpmom $($rest)*)
     };
-    (widen $v:literal $p:literal $h:literal $a:literal $s:literal $c:literal $g:literal $l:literal $w:literal) => {
-        $w
+    (show $part:literal $($rest:literal)*) => {
+        chosen!(audit $($rest)*)
     };
-    (page $v:literal $p:literal $h:literal $a:literal $s:literal $c:literal $g:literal $l:literal $w:literal) => {
+    (convert $part:literal $($rest:literal)*) => {
+        chosen!(show $($rest)*)
+    };
+    (gen $part:literal $($rest:literal)*) => {
+        chosen!(convert $($rest)*)
+    };
+    (lines $part:literal $($rest:literal)*) => {
+        chosen!(gen $($rest)*)
+    };
+    (widen $part:literal $($rest:literal)*) => {
+        chosen!(lines $($rest)*)
+    };
+    (page $($part:literal)*) => {
         concat!(
             "\
 sip checks answers about a stream that someone else keeps for you. You keep a seed and read the stream once, a helper
@@ -142,25 +210,8 @@ keeps all of it, and sip accepts a helper's answer only where a check with chall
 USAGE
 
 ",
-            $v,
-            "\n",
-            $p,
-            "\n",
-            $h,
-            "\n",
-            $a,
-            "\n",
-            $s,
-            "\n",
-            $c,
-            "\n",
-            $g,
-            "\n",
-            $l,
-            "\n",
-            $w,
-            "
-  sip --help                 prints this page, and so does sip -h
+            $($part, "\n",)*
+            "  sip --help                 prints this page, and so does sip -h
   sip --version              prints the version, and so does sip -V
   sip --progress COMMAND ..  does the command, and says on standard error how far it is: how much of STREAM was read,
                              before it is read and after each 64 MiB of it, and before each wait for the other side
@@ -192,9 +243,12 @@ LIMITS
            bytes is soon above it: count KiB or packets, or begin a new stream, as for each hour or each day.
   items    An item is below 2^DEPTH, and DEPTH is 48 at most. A record of 13 bytes has items below 2^32: for greater
            ones write wide records or lines.
-  queries  A run has 1 to 16, which stand among its words: they are known before the stream is read.
+  queries  A run has 1 to 16 queries, lookups or moments, which stand among its words: they are known before the stream
+           is read.
   answers  The entries from LO to HI that are not 0 are 65536 at most, and so is the side's total divided by T, which
            for a share is that part of the total.
+  moments  The weight of the side, to the power K, is below 2^60. So for K from 3 to 8 it is up to 1048575, 32767, 4095,
+           1023, 380 and 181.
 
 MESSAGES
 
@@ -231,9 +285,14 @@ A reply that is rejected has its line among the answers: rejected query K round 
   sip: query K too wide
       The answer to query K, counted from 1, may be wider than LIMITS say: ask for a greater T or share.
 
+  sip: query K too high
+      The side of moment K, counted from 1, has a greater weight than LIMITS say for its degree: ask for a lower degree,
+      or count in greater units.
+
   sip: bad frame at offset N
-      What FROM brings to sip help is from byte N on nothing that a verifier sends there. FROM and TO are those of sip
-      verify, the other way round.
+      What FROM brings to a helper is from byte N on nothing that its other side sends there. FROM and TO are those of
+      the other side, the other way round: those of sip verify for sip help, of sip lookup for sip helplook, and of sip
+      moments for sip helpmom.
 
   sip: read fault on FILE, sip: write fault on FILE
       The file could not be opened, read or written: first is STREAM or STORED, second is SEED or TRANSCRIPT, record is
@@ -243,17 +302,18 @@ A reply that is rejected has its line among the answers: rejected query K round 
       FROM or TO could not be opened, read or written, or the other side had left.
 
   sip: peer closed
-      The verifier left sip help before its farewell, and says why itself.
+      The other side left the helper before its farewell, and says why itself.
 
   sip: progress: N MiB of STREAM read, M records
   sip: progress: waiting for the other side at FILE
   sip: progress: waiting for the reply of query K round J
   sip: progress: waiting for the other side, N MiB of FROM read
       With --progress alone, and in front of all other lines. FILE is FROM or TO. K and J are those of a rejected reply.
-      The last line is that of sip help, before it hears anything and after each 64 MiB.
+      The last line is that of a helper, and of sip lookup and sip moments, before they hear anything and after each
+      64 MiB.
 
   sip: out of memory
-      Memory ran out. sip help keeps each item that is not 0, and sip verify an answer while it is told.
+      Memory ran out. A helper keeps each item that is not 0, and sip verify an answer while it is told.
 
 STATUS
 
@@ -262,7 +322,7 @@ STATUS
   1  a reply of the helper was rejected
   2  the words are no command
   3  the stream, the seed, the transcript or a frame of the verifier is not as it has to be, or more than 65536 entries
-     could be T or more
+     could be T or more, or a moment could be above what a claim has room for
   4  a file, the link or the output failed, or the verifier left before its farewell
   5  memory ran out
 "
@@ -281,6 +341,18 @@ pub const PLAY_PART: &str = text_of!(play);
 
 /// What `sip help --help` prints: the part of the page that is about `help`.
 pub const HELP_PART: &str = text_of!(help);
+
+/// What `sip lookup --help` prints: the part of the page that is about `lookup`.
+pub const LOOKUP_PART: &str = text_of!(lookup);
+
+/// What `sip helplook --help` prints: the part of the page that is about `helplook`.
+pub const HELPLOOK_PART: &str = text_of!(helplook);
+
+/// What `sip moments --help` prints: the part of the page that is about `moments`.
+pub const MOMENTS_PART: &str = text_of!(moments);
+
+/// What `sip helpmom --help` prints: the part of the page that is about `helpmom`.
+pub const HELPMOM_PART: &str = text_of!(helpmom);
 
 /// What `sip audit --help` prints: the part of the page that is about `audit`.
 pub const AUDIT_PART: &str = text_of!(audit);

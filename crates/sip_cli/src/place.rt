@@ -1,7 +1,7 @@
 //! What stands at each word of a command.
 
 ghost use Rattle.std.specs.Prelude.{◌≡◌};
-ghost use Rattle.sip_cli.specs.Hints.{behind_queries, place_at, place_hint, places};
+ghost use Rattle.sip_cli.specs.Hints.{asked_by, behind_asked, place_at, place_hint, places};
 
 use crate::hint_text as text;
 use crate::verb::Verb;
@@ -24,6 +24,8 @@ pub(crate) enum Place {
     Count,
     Depth,
     Query,
+    Lookup,
+    Moment,
     /// No word, since the command is whole before it.
     End,
 }
@@ -68,6 +70,7 @@ const PLAY: [Place; 6] = [
     Place::Depth,
 ];
 
+// Of `moments` too.
 const LOOKUP: [Place; 6] = [
     Place::Verb,
     Place::Stream,
@@ -77,7 +80,7 @@ const LOOKUP: [Place; 6] = [
     Place::Depth,
 ];
 
-// The places of a verb's words, the verb among them, and before the queries.
+// The places of a verb's words, the verb among them, and before what it asks.
 fn places_of(verb: Verb) -> &'static [Place]
     ensures { result.now ≡ places verb }
 {
@@ -96,11 +99,22 @@ fn places_of(verb: Verb) -> &'static [Place]
     }
 }
 
-// The number of the word behind the last query that a verb may have.
-fn behind_queries(verb: Verb) -> usize
-    ensures { result ≡ behind_queries verb }
+// What stands behind these words, where the verb asks something.
+fn asked_by(verb: Verb) -> Place
+    ensures { result ≡ asked_by verb }
 {
-    let queries = match verb {
+    match verb {
+        Verb::Lookup => Place::Lookup,
+        Verb::Moments => Place::Moment,
+        _ => Place::Query,
+    }
+}
+
+// The number of the word behind the last query that a verb may have, or lookup, or moment.
+fn behind_asked(verb: Verb) -> usize
+    ensures { result ≡ behind_asked verb }
+{
+    let asked = match verb {
         Verb::Verify | Verb::Play | Verb::Lookup | Verb::Moments => MOST_QUERIES,
         Verb::Help
         | Verb::Audit
@@ -112,7 +126,7 @@ fn behind_queries(verb: Verb) -> usize
         | Verb::HelpLook
         | Verb::HelpMoments => 0,
     };
-    places_of(verb).len() + queries
+    places_of(verb).len() + asked
 }
 
 impl Place {
@@ -122,7 +136,7 @@ impl Place {
     {
         match places_of(verb).get(word) {
             Some(place) => *place,
-            None if word < behind_queries(verb) => Place::Query,
+            None if word < behind_asked(verb) => asked_by(verb),
             None => Place::End,
         }
     }
@@ -145,6 +159,8 @@ impl Place {
             Place::Count => text::COUNT,
             Place::Depth => text::DEPTH,
             Place::Query => text::QUERY,
+            Place::Lookup => text::LOOKUP,
+            Place::Moment => text::MOMENT,
             Place::End => text::END,
         }
     }

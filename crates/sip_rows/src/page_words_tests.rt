@@ -3,8 +3,8 @@
 use crate::case::Case;
 use crate::page_tests::words_between;
 use sip_cli::{
-    AUDIT_PART, GEN_PART, HELP, HELP_PART, LINES_PART, PLAY_PART, VERIFY_PART, VERSION, WIDEN_PART,
-    page_of,
+    AUDIT_PART, GEN_PART, HELP, HELP_PART, HELPLOOK_PART, HELPMOM_PART, LINES_PART, LOOKUP_PART,
+    MOMENTS_PART, PLAY_PART, VERIFY_PART, VERSION, WIDEN_PART, page_of,
 };
 use std::alloc::Global;
 use std::process::Abort;
@@ -24,6 +24,14 @@ const ASKED: &[Asked<'static>] = &[
     ("play|-h", Some(PLAY_PART)),
     ("help|--help", Some(HELP_PART)),
     ("help|-h", Some(HELP_PART)),
+    ("lookup|--help", Some(LOOKUP_PART)),
+    ("lookup|-h", Some(LOOKUP_PART)),
+    ("helplook|--help", Some(HELPLOOK_PART)),
+    ("helplook|-h", Some(HELPLOOK_PART)),
+    ("moments|--help", Some(MOMENTS_PART)),
+    ("moments|-h", Some(MOMENTS_PART)),
+    ("helpmom|--help", Some(HELPMOM_PART)),
+    ("helpmom|-h", Some(HELPMOM_PART)),
     ("audit|--help", Some(AUDIT_PART)),
     ("audit|-h", Some(AUDIT_PART)),
     ("gen|--help", Some(GEN_PART)),
@@ -48,6 +56,9 @@ const ASKED: &[Asked<'static>] = &[
     ("help|--help|to", None),
     ("lines|--help|20", None),
     ("gen|7|--help", None),
+    ("helplook|--help|to", None),
+    ("helpmom|-h|to", None),
+    ("lookups|--help", None),
 ];
 
 fn check_asked(rt: &impl Abort, alloc: Global, rows: &[Asked]) -> Result<(), Fail> {
@@ -63,11 +74,17 @@ const SAID: &[&str] = &[
     VERIFY_PART,
     PLAY_PART,
     HELP_PART,
+    LOOKUP_PART,
+    HELPLOOK_PART,
+    MOMENTS_PART,
+    HELPMOM_PART,
     AUDIT_PART,
     GEN_PART,
     LINES_PART,
     WIDEN_PART,
     "\n  sip verify STREAM SEED FROM TO RECORD DEPTH QUERY..\n",
+    "\n  sip lookup STREAM SEED FROM TO DEPTH LOOKUP..\n",
+    "\n  sip moments STREAM SEED FROM TO DEPTH MOMENT..\n",
     "\n  sip show TRANSCRIPT\n",
     "\n  sip convert TRANSCRIPT\n",
     "\n  sip: usage at word N\n",
@@ -75,6 +92,7 @@ const SAID: &[&str] = &[
     "\n  sip: seed too short\n",
     "\n  sip: seed spent\n",
     "\n  sip: query K too wide\n",
+    "\n  sip: query K too high\n",
     "\n  sip: bad transcript at offset N\n",
     "\n  sip: bad frame at offset N\n",
     "\n  sip: read fault on FILE, sip: write fault on FILE\n",
@@ -90,6 +108,7 @@ const SAID: &[&str] = &[
     "first is STREAM or STORED, second is SEED or TRANSCRIPT",
     "record N of a text is line N + 1",
     "1073741823",
+    "1048575",
 ];
 
 fn check_said(rt: &impl Abort, said: &[&str]) {
