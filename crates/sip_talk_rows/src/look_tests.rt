@@ -6,7 +6,7 @@ use crate::events::events;
 use crate::session_facts::expect;
 use arrayvec::ArrayVec;
 use sip_lookup::{LookTask, Lookup, look_stream};
-use sip_ports::{MemoryLink, MemorySink, MemorySource};
+use sip_ports::{MemoryLink, MemorySink, MemorySource, TalkEvent};
 use sip_stream::Form;
 use sip_vector::Depth;
 use sip_verifier::Status;
@@ -343,7 +343,10 @@ fn check(rt: &impl Abort, alloc: Global, row: &Row, chunk: usize) -> Result<(), 
     let mut peer = MemoryLink::new(alloc, heard, chunk, Vec::new(alloc));
     let mut lines = MemorySink::new(alloc, chunk, Vec::new(alloc));
     let status = look_stream(alloc, &task, &mut first, &mut second, &mut peer, &mut lines);
-    let talk = events(alloc, parts)?;
+    let mut talk = events(alloc, parts)?;
+    if *want == rejected(Reason::Closed) {
+        talk.push(TalkEvent::Ended)?;
+    }
     let facts = [
         status == *want,
         peer.talk() == talk.as_slice(),
@@ -371,6 +374,27 @@ fn no_found_is_a_rejection(rt: HostRuntime) -> Result<(), Fail> {
         let row: Row = (name, LINES, *lookup, &parts, rejected(*reason), report);
         check(&rt, alloc, &row, 1)?;
         check(&rt, alloc, &row, 10_000)?;
+    }
+    Ok(())
+}
+
+// The link ends behind each part of a Found that is not all of it.
+#[test]
+fn a_cut_found_is_a_rejection(rt: HostRuntime) -> Result<(), Fail> {
+    let alloc = rt.alloc();
+    let mut cut = Vec::new(alloc);
+    for byte in &FOUND_0 {
+        let parts: [(bool, &[u8]); 3] = [
+            (true, &STREAM),
+            (true, &ASK_PRED_1),
+            (false, cut.as_slice()),
+        ];
+        let report = b"rejected query 1 round 0 Closed\n";
+        let status = rejected(Reason::Closed);
+        let row: Row = ("a cut", LINES, Lookup::Pred(1), &parts, status, report);
+        check(&rt, alloc, &row, 1)?;
+        check(&rt, alloc, &row, 10_000)?;
+        cut.push(*byte)?;
     }
     Ok(())
 }
