@@ -2,17 +2,21 @@
 //!
 //!     talk plain|limit help FROM TO
 //!     talk plain|limit verify STREAM SEED FROM TO - DEPTH QUERY..
+//!     talk plain|limit helpmom|helplook FROM TO
+//!     talk plain|limit moments|lookup STREAM SEED FROM TO DEPTH QUESTION..
 //!     talk plain|limit gen NUMBER COUNT DEPTH
 //!     talk plain|limit lines STREAM DEPTH
 //!
 //! The words behind the first are those of `sip`; the first says by which designs (`plain/mod.rs`). STREAM is a file of records, or
 //! `text:` and one of lines; of a depth above 32 a file of records is `wide:` and its path. A query is `sub:LO:HI`,
-//! `range:SIDE:LO:HI`, `f2:SIDE`, `inner` or `heavy:SIDE:T`.
+//! `range:SIDE:LO:HI`, `f2:SIDE`, `inner` or `heavy:SIDE:T`; a moment `moment:SIDE:K`; and a lookup `index:I`, `pred:I` or `succ:I`.
 
 mod plain;
 
 use plain::lines::Writer;
+use plain::questions::Talk;
 use plain::streams::{Made, NARROW, Reader, Update, WIDE, bad};
+use plain::verifier::Place;
 use plain::{Design, Limit, Plain};
 use std::env;
 use std::fs::File;
@@ -72,11 +76,33 @@ fn lines<D: Design>(stream: &str, depth: u32) -> Result<()> {
     copy(stream, depth, |reader, each| Ok(reader.records::<NARROW>(BLOCK, each)?.len() / NARROW))
 }
 
+/// What a command talks about, at the helper's end and at the verifier's.
+fn helping(verb: &str) -> Option<Talk> {
+    match verb {
+        "help" => Some(Talk::Queries),
+        "helpmom" => Some(Talk::Moments),
+        "helplook" => Some(Talk::Lookups),
+        _ => None,
+    }
+}
+
+fn asking(verb: &str) -> Option<Talk> {
+    match verb {
+        "moments" => Some(Talk::Moments),
+        "lookup" => Some(Talk::Lookups),
+        _ => None,
+    }
+}
+
 fn obey<D: Design>(words: &[String]) -> Result<()> {
     match words {
-        [verb, from, to] if verb == "help" => plain::helper::help::<D>(from, to),
+        [verb, from, to] if let Some(talk) = helping(verb) => plain::helper::help::<D>(talk, from, to),
         [verb, stream, seed, from, to, _, levels, queries @ ..] if verb == "verify" => {
-            plain::verifier::verify::<D>(stream, seed, from, to, depth(levels)?, queries)
+            let place = Place { talk: Talk::Queries, from, to };
+            plain::verifier::verify::<D>(place, stream, seed, depth(levels)?, queries)
+        }
+        [verb, stream, seed, from, to, levels, questions @ ..] if let Some(talk) = asking(verb) => {
+            plain::verifier::verify::<D>(Place { talk, from, to }, stream, seed, depth(levels)?, questions)
         }
         [verb, seed, count, levels] if verb == "gen" => generate(number(seed)?, number(count)?, depth(levels)?),
         [verb, stream, levels] if verb == "lines" => lines::<D>(stream, depth(levels)?),

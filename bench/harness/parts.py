@@ -18,6 +18,9 @@ BESIDE = {
     "siblings": "vector",
 }
 
+# The helper's end of a moment, of a million updates of 1 or as many as leave room for it. They are not counted.
+MOMENTS = ("moment3", "moment8")
+
 # How many updates or records a part has in all, where its line tells those of one block; and how many queries.
 ALL = {"root": 512_000, "point": 512_000, "augroot": 512_000, "records": 102_400, "text": 102_400, "vector": 1_000_000}
 QUERIES = 5
@@ -42,9 +45,10 @@ def measure(programs, settings, work):
     programs = programs.parts()
     records = Table("parts", "ns a record, and callgrind's instructions/mispredictions", programs)
     queries = Table("siblings of one query, a million updates", "ms, and millions of instructions/mispredictions", programs)
+    moments = Table("polynomials of one moment", "ms", programs)
     checksums = {}
     for _ in range(settings.rounds):
-        for part in BESIDE:
+        for part in [*BESIDE, *MOMENTS]:
             for depth in settings.depths:
                 for program, words in programs.items():
                     line = Line(words, part, depth, work)
@@ -53,6 +57,8 @@ def measure(programs, settings, work):
                         raise SystemExit(f"{program} computes {line.checksum} in {part}-{depth}, and not {checksum}")
                     if part == "siblings":
                         queries.saw(f"depth {depth}", program, line.nanoseconds / 1e6)
+                    elif part in MOMENTS:
+                        moments.saw(f"{part} {depth}", program, line.nanoseconds / 1e6)
                     else:
                         records.saw(f"{part} {depth}", program, line.nanoseconds / line.count)
     if valgrind():
@@ -66,7 +72,8 @@ def measure(programs, settings, work):
                         records.note(f"{part} {depth}", f"{program} count", counts)
     records.show()
     queries.show()
-    return records.above + queries.above
+    moments.show()
+    return records.above + queries.above + moments.above
 
 
 def counts_of(words, part, depth, work):

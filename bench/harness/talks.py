@@ -27,6 +27,9 @@ def made(sip, records, depth):
 class Talks:
     """Talks about one stream, which a function writes to the path that it is given."""
 
+    # The commands of the two ends, and the words of the second between those of its link and the depth.
+    HELPING, ASKING, RECORD = "help", "verify", ("-",)
+
     def __init__(self, write, depth, work):
         self.depth = depth
         self.work = work
@@ -45,9 +48,9 @@ class Talks:
     def ends(self, program, queries):
         """The words of the two ends, of the words of the queries."""
         to_helper, from_helper = self.fifos
-        helper = [*program, "help", to_helper, from_helper]
-        verifier = [*program, "verify", stream_word(self.stream, self.depth), self.seed, from_helper, to_helper, "-", self.depth]
-        return helper, verifier + queries
+        helper = [*program, self.HELPING, to_helper, from_helper]
+        ports = [stream_word(self.stream, self.depth), self.seed, from_helper, to_helper]
+        return helper, [*program, self.ASKING, *ports, *self.RECORD, self.depth, *queries]
 
     def talk(self, name, program, queries, traced=False):
         """Runs both ends, and compares the report with that of sip, which is run first."""

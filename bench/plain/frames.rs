@@ -19,6 +19,11 @@ pub const LEAVES: u8 = 0x15;
 pub const NODES: u8 = 0x16;
 pub const LEVEL_END: u8 = 0x17;
 pub const REFUSE: u8 = 0x18;
+pub const ASK_LOOK: u8 = 0x21;
+pub const FOUND: u8 = 0x22;
+pub const END: u8 = 0x23;
+pub const ASK_MOMENT: u8 = 0x24;
+pub const POWER: u8 = 0x25;
 
 /// How many rows and nodes a frame has at most, how many entries an answer, and the greatest absolute value of an entry or a
 /// claim.

@@ -3,7 +3,9 @@
 use super::Design;
 use super::frames::*;
 use super::hitters;
-use super::questions::Question;
+use super::lookups::Look;
+use super::moments;
+use super::questions::{Question, Talk};
 use super::siblings::Tables;
 use super::streams::{Legality, NARROW, WIDE, bad, record_of};
 use super::sums::Prover;
@@ -90,11 +92,18 @@ enum Asked<'a> {
     Part(Part),
     Sum(Prover<'a>),
     Hitters(hitters::Prover),
+    Moment(moments::Prover<'a>),
 }
 
 fn send_poly(prover: &Prover, frame: &mut Frame, link: &mut Link) -> Result<()> {
     let [c0, c1, c2] = prover.poly().map(u64::to_be_bytes);
     link.send(frame, POLY, &[&c0, &c1, &c2])
+}
+
+fn send_power(prover: &moments::Prover, frame: &mut Frame, link: &mut Link) -> Result<()> {
+    frame.begin(POWER);
+    prover.poly().iter().for_each(|coefficient| frame.put(&coefficient.to_be_bytes()));
+    link.send_frame(frame)
 }
 
 /// The two vectors and the link of a talk whose stream has ended.
@@ -109,7 +118,8 @@ impl<'a, D: Design> Answering<'a, D> {
     fn begin(&mut self, question: Question) -> Result<Asked<'a>> {
         let (depth, [first, second]) = (self.sides.depth, &self.sides.vectors);
         let list = |side: usize| self.sides.vectors[side].list();
-        let (claim, prover) = match question {
+        let summed = |(claim, prover)| (claim, Asked::Sum(prover));
+        let (claim, asked) = match question {
             Question::Sub { lo, hi } => {
                 let part = Part::new(lo, hi);
                 part.send_entries(first, depth, &mut self.frame, &mut self.link)?;
@@ -124,12 +134,31 @@ impl<'a, D: Design> Answering<'a, D> {
                     }
                 };
             }
-            Question::Range { side, lo, hi } => Prover::range(depth, list(side), lo, hi),
-            Question::F2 { side } => Prover::squares(depth, list(side)),
-            Question::Inner => Prover::products(depth, first.list(), second.list()),
+            Question::Moment { side, degree } => {
+                if !self.sides.legality.has_room(side, degree) {
+                    return Err(bad("a moment is out of turn"));
+                }
+                let (claim, prover) = moments::Prover::new(depth, list(side), degree);
+                (claim, Asked::Moment(prover))
+            }
+            Question::Range { side, lo, hi } => summed(Prover::range(depth, list(side), lo, hi)),
+            Question::F2 { side } => summed(Prover::squares(depth, list(side))),
+            Question::Inner => summed(Prover::products(depth, first.list(), second.list())),
+            Question::Look(_) => return Err(bad("a frame is out of turn")),
         };
         self.link.send(&mut self.frame, CLAIM, &[&claim.to_be_bytes()])?;
-        Ok(Asked::Sum(prover))
+        Ok(asked)
+    }
+
+    /// Says the place of a lookup's answer, and hears the query about its interval.
+    fn find(&mut self, look: Look) -> Result<Question> {
+        let place = look.place(self.sides.vectors[0].list());
+        let index = place.unwrap_or(0).to_be_bytes();
+        self.link.send(&mut self.frame, FOUND, &[&[u8::from(place.is_some())], &index])?;
+        match self.link.receive()? {
+            (QUERY, body) => Question::of_body(body, self.sides.depth),
+            _ => Err(bad("a frame is out of turn")),
+        }
     }
 
     /// Sends what all replies have.
@@ -138,12 +167,19 @@ impl<'a, D: Design> Answering<'a, D> {
             Asked::Part(part) => part.send_siblings::<D>(&self.sides.vectors[0], &mut self.frame, &mut self.link),
             Asked::Sum(prover) => send_poly(prover, &mut self.frame, &mut self.link),
             Asked::Hitters(prover) => prover.send(item_width(self.sides.depth), &mut self.frame, &mut self.link),
+            Asked::Moment(prover) => send_power(prover, &mut self.frame, &mut self.link),
         }
     }
 
-    /// Answers a query to its end.
+    /// Answers a question to its end.
     fn answer(&mut self, question: Question) -> Result<()> {
-        let mut asked = self.begin(question)?;
+        let mut asked = match question {
+            Question::Look(look) => {
+                let interval = self.find(look)?;
+                self.begin(interval)?
+            }
+            _ => self.begin(question)?,
+        };
         self.reply(&asked)?;
         for _ in 1..self.sides.depth {
             let r = match self.link.receive()? {
@@ -157,6 +193,7 @@ impl<'a, D: Design> Answering<'a, D> {
                 }
                 Asked::Sum(prover) => prover.learn::<D::Products>(r),
                 Asked::Hitters(prover) => prover.learn(r),
+                Asked::Moment(prover) => prover.learn::<D::Products>(r),
             }
             self.reply(&asked)?;
         }
@@ -183,18 +220,16 @@ fn gather<D: Design>(link: &mut Link) -> Result<Sides<D::Vector>> {
     Ok(sides)
 }
 
-pub fn help<D: Design>(from: &str, to: &str) -> Result<()> {
+pub fn help<D: Design>(talk: Talk, from: &str, to: &str) -> Result<()> {
     let mut link = Link::open(from, to, false)?;
     let sides = gather::<D>(&mut link)?;
     let mut answering = Answering::<D> { sides: &sides, frame: Frame::default(), link };
     loop {
-        match answering.link.receive()? {
-            (QUERY, body) => {
-                let question = Question::of_body(body, sides.depth)?;
-                answering.answer(question)?;
-            }
-            (BYE, []) => return Ok(()),
+        let question = match answering.link.receive()? {
+            (kind, []) if kind == talk.ends() => return Ok(()),
+            (kind, body) if kind == talk.asks() => talk.of_body(body, sides.depth)?,
             _ => return Err(bad("a frame is out of turn")),
-        }
+        };
+        answering.answer(question)?;
     }
 }

@@ -12,6 +12,7 @@ pub mod helper;
 pub mod hitters;
 pub mod interval;
 pub mod lines;
+pub mod lookups;
 pub mod moments;
 pub mod products;
 pub mod questions;

@@ -50,6 +50,11 @@ impl Legality {
         *weight = weight.saturating_add(update.delta.unsigned_abs());
         *weight <= MOST_WEIGHT
     }
+
+    /// Whether a claim has room for a moment of a side, whatever the order of the updates.
+    pub fn has_room(&self, side: usize, degree: usize) -> bool {
+        self.weights[side].checked_pow(degree as u32).is_some_and(|moment| moment < 1 << 60)
+    }
 }
 
 /// The update of a record.
@@ -108,6 +113,11 @@ impl Reader {
         }
         self.start += count;
         Ok(Some(&self.bytes[self.start - count..self.start]))
+    }
+
+    /// The tests, after what was read.
+    pub fn legality(&self) -> &Legality {
+        &self.legality
     }
 
     /// Gives each of the next records, so many or as many as there are, and answers their bytes.

@@ -7,7 +7,9 @@ use super::frames::*;
 use super::hitters;
 use super::interval::Interval;
 use super::lines::Writer;
-use super::questions::Question;
+use super::lookups::{Kind, Look};
+use super::moments;
+use super::questions::{Question, Talk};
 use super::streams::{NARROW, Reader, Update, WIDE, bad};
 use super::sums::{sum_of_ends, value_at};
 use super::vector::Entry;
@@ -20,8 +22,8 @@ const BLOCK: usize = 32;
 struct Query {
     question: Question,
     seat: Seat,
-    /// The numbers of the two sides: of side 0 the root for a sub-vector, for a sum the extensions of those that it is about, and
-    /// for heavy hitters the hash of the augmented root.
+    /// The numbers of the two sides: of side 0 the root for a sub-vector or a lookup, for a sum or a moment the extensions of those
+    /// that it is about, and for heavy hitters the hash of the augmented root.
     numbers: [u64; 2],
     /// The sum of the side, for heavy hitters.
     total: i64,
@@ -31,7 +33,7 @@ impl Query {
     fn update<D: Design>(&mut self, side: usize, block: &[Update]) {
         if self.question.is_about(side) {
             let update_all = match self.question {
-                Question::Sub { .. } => D::root,
+                Question::Sub { .. } | Question::Look(_) => D::root,
                 Question::Heavy { .. } => {
                     self.total += block.iter().map(|update| update.delta).sum::<i64>();
                     D::augroot
@@ -45,7 +47,7 @@ impl Query {
     /// What the last value of a sum has to be.
     fn product(&self) -> u64 {
         match self.question {
-            Question::Sub { .. } | Question::Heavy { .. } => 0,
+            Question::Sub { .. } | Question::Heavy { .. } | Question::Moment { .. } | Question::Look(_) => 0,
             Question::Range { side, lo, hi } => times(self.numbers[side], Interval::extension(lo, hi, &self.seat)),
             Question::F2 { side } => times(self.numbers[side], self.numbers[side]),
             Question::Inner => times(self.numbers[0], self.numbers[1]),
@@ -175,15 +177,18 @@ fn hear_part(query: &Query, (lo, hi): (u64, u64), frame: &mut Frame, link: &mut 
     if check.sum == query.numbers[0] { Ok(check.entries) } else { Err(bad("Root")) }
 }
 
-/// Hears the replies to a query for a sum, and answers the claim.
-fn hear_sum(query: &Query, frame: &mut Frame, link: &mut Link) -> Result<i64> {
+/// Hears a claim.
+fn hear_claim(link: &mut Link) -> Result<i64> {
     let claim = match link.receive()? {
         (CLAIM, body) if body.len() == 8 => number(body) as i64,
         _ => return Err(bad("BadKind")),
     };
-    if claim.unsigned_abs() > MOST_VALUE {
-        return Err(bad("BadNumber"));
-    }
+    if claim.unsigned_abs() > MOST_VALUE { Err(bad("BadNumber")) } else { Ok(claim) }
+}
+
+/// Hears the replies to a query for a sum, and answers the claim.
+fn hear_sum(query: &Query, frame: &mut Frame, link: &mut Link) -> Result<i64> {
+    let claim = hear_claim(link)?;
     let mut expected = of_signed(claim);
     for (level, &r) in query.seat.iter().enumerate() {
         reveal(query, level, frame, link)?;
@@ -197,6 +202,43 @@ fn hear_sum(query: &Query, frame: &mut Frame, link: &mut Link) -> Result<i64> {
         expected = value_at(&poly, r);
     }
     if expected == query.product() { Ok(claim) } else { Err(bad("Root")) }
+}
+
+/// Hears the replies to a question for a moment, and answers the claim.
+fn hear_moment(query: &Query, side: usize, degree: usize, frame: &mut Frame, link: &mut Link) -> Result<i64> {
+    let claim = hear_claim(link)?;
+    let mut check = moments::Check::new(claim);
+    let mut poly = moments::Poly::default();
+    let poly = &mut poly[..=degree];
+    for (level, &r) in query.seat.iter().enumerate() {
+        reveal(query, level, frame, link)?;
+        match link.receive()? {
+            (POWER, body) if body.len() == 8 * poly.len() => {
+                for (coefficient, bytes) in poly.iter_mut().zip(body.chunks_exact(8)) {
+                    *coefficient = element(bytes)?;
+                }
+            }
+            _ => return Err(bad("BadKind")),
+        }
+        if !check.round(poly, r) {
+            return Err(bad("Sum"));
+        }
+    }
+    if check.finish(query.numbers[side], degree) { Ok(claim) } else { Err(bad("Root")) }
+}
+
+/// Hears where a lookup's answer stands and the interval that proves it, and answers the entries of that interval.
+fn hear_look(query: &Query, look: Look, frame: &mut Frame, link: &mut Link) -> Result<Vec<Update>> {
+    let depth = query.seat.len() as u32;
+    let found = match link.receive()? {
+        (FOUND, body) => look.found(body, depth)?,
+        _ => return Err(bad("BadKind")),
+    };
+    let (lo, hi) = look.interval(found, depth);
+    link.send(frame, QUERY, &[&Question::Sub { lo, hi }.body(depth)])?;
+    let entries = hear_part(query, (lo, hi), frame, link)?;
+    let is_alone = entries.iter().map(|entry| entry.item).eq(found);
+    if is_alone || look.kind == Kind::Index { Ok(entries) } else { Err(bad("NotAlone")) }
 }
 
 /// Hears the replies to a query for heavy hitters, and answers them.
@@ -226,15 +268,15 @@ fn report_pairs<W: Write>(report: &mut Writer<W>, pairs: impl ExactSizeIterator<
     pairs.into_iter().try_for_each(|(item, value)| report.entry(item, value))
 }
 
-/// Asks a query, and writes what follows its word in the report.
-fn ask<W: Write>(query: &Query, link: &mut Link, report: &mut Writer<W>) -> Result<()> {
+/// Asks a question, and writes what follows its word in the report.
+fn ask<W: Write>(talk: Talk, query: &Query, link: &mut Link, report: &mut Writer<W>) -> Result<()> {
     let mut frame = Frame::default();
     if let Question::Heavy { at_least, .. } = query.question
         && query.total < at_least as i64
     {
         return report_pairs(report, [].into_iter());
     }
-    link.send(&mut frame, QUERY, &[&query.question.body(query.seat.len() as u32)])?;
+    link.send(&mut frame, talk.asks(), &[&query.question.body(query.seat.len() as u32)])?;
     match query.question {
         Question::Sub { lo, hi } => {
             let entries = hear_part(query, (lo, hi), &mut frame, link)?;
@@ -244,6 +286,17 @@ fn ask<W: Write>(query: &Query, link: &mut Link, report: &mut Writer<W>) -> Resu
             let entries = hear_hitters(query, side, at_least, &mut frame, link)?;
             report_pairs(report, entries.iter().map(|entry| (entry.index, entry.value)))
         }
+        Question::Moment { side, degree } => {
+            let claim = hear_moment(query, side, degree, &mut frame, link)?;
+            report.word(&format!(" {claim}"))
+        }
+        Question::Look(look) => {
+            let entries = hear_look(query, look, &mut frame, link)?;
+            if look.kind == Kind::Index {
+                return report.word(&format!(" {}", entries.first().map_or(0, |entry| entry.delta)));
+            }
+            report_pairs(report, entries.iter().map(|entry| (entry.item, entry.delta)))
+        }
         _ => {
             let claim = hear_sum(query, &mut frame, link)?;
             report.word(&format!(" {claim}"))
@@ -251,8 +304,8 @@ fn ask<W: Write>(query: &Query, link: &mut Link, report: &mut Writer<W>) -> Resu
     }
 }
 
-/// The queries of these words, with challenges from a linear congruential generator.
-fn queries_of(seed: &str, depth: u32, words: &[String]) -> Result<Vec<Query>> {
+/// The questions of these words, with challenges from a linear congruential generator.
+fn queries_of(talk: Talk, seed: &str, depth: u32, words: &[String]) -> Result<Vec<Query>> {
     let mut bytes = [0; 32];
     File::open(seed)?.read_exact(&mut bytes)?;
     let mut state = number(&bytes[..8]);
@@ -261,17 +314,25 @@ fn queries_of(seed: &str, depth: u32, words: &[String]) -> Result<Vec<Query>> {
         of(state)
     };
     let query = |word: &String| {
-        let question = Question::of_word(word, depth)?;
+        let question = talk.of_word(word, depth)?;
         Ok(Query { question, seat: (0..depth).map(|_| next()).collect(), numbers: [0; 2], total: 0 })
     };
     words.iter().map(query).collect()
 }
 
-pub fn verify<D: Design>(stream: &str, seed: &str, from: &str, to: &str, depth: u32, words: &[String]) -> Result<()> {
+/// Where the two ends of a talk meet, and what it is about.
+pub struct Place<'a> {
+    pub talk: Talk,
+    pub from: &'a str,
+    pub to: &'a str,
+}
+
+pub fn verify<D: Design>(place: Place, stream: &str, seed: &str, depth: u32, words: &[String]) -> Result<()> {
+    let Place { talk, from, to } = place;
     let is_wide = depth > MOST_NARROW;
     // The records of the stream are those of the frames, and are sent as they are.
     let path = if is_wide { stream.strip_prefix("wide:").ok_or_else(|| bad("the stream is not wide"))? } else { stream };
-    let mut queries = queries_of(seed, depth, words)?;
+    let mut queries = queries_of(talk, seed, depth, words)?;
     let mut stream = Reader::new(File::open(path)?, depth);
     let mut link = Link::open(from, to, true)?;
     let mut frame = Frame::default();
@@ -283,12 +344,15 @@ pub fn verify<D: Design>(stream: &str, seed: &str, from: &str, to: &str, depth: 
         (false, true) => feed::<D, NARROW, true>(&mut stream, &mut queries, &mut link)?,
         (false, false) => feed::<D, NARROW, false>(&mut stream, &mut queries, &mut link)?,
     }
+    if queries.iter().any(|query| matches!(query.question, Question::Moment { side, degree } if !stream.legality().has_room(side, degree))) {
+        return Err(bad("TooHigh"));
+    }
     let mut report = Writer::new(stdout().lock());
     for (query, word) in queries.iter().zip(words) {
         report.word(word)?;
-        ask(query, &mut link, &mut report)?;
+        ask(talk, query, &mut link, &mut report)?;
         report.word("\n")?;
         report.flush()?;
     }
-    link.send(&mut frame, BYE, &[])
+    link.send(&mut frame, talk.ends(), &[])
 }

@@ -17,6 +17,8 @@ pub(crate) enum Part {
     Text,
     Vector,
     Siblings,
+    Moment3,
+    Moment8,
 }
 
 impl Part {
@@ -32,6 +34,8 @@ impl Part {
             Part::Text => "text",
             Part::Vector => "vector",
             Part::Siblings => "siblings",
+            Part::Moment3 => "moment3",
+            Part::Moment8 => "moment8",
         }
     }
 }

@@ -1,4 +1,4 @@
-//! Times the verifier's running numbers, its reader, and the helper's vector and siblings.
+//! Times the verifier's running numbers, its reader, and the helper's vector, siblings and moments.
 //!
 //! Each word names a part and a depth, as `root-20`: a root over 2^20 items, fed by blocks of 512 updates. Without words it
 //! does nothing. A part prints a line `NAME DEPTH COUNT NANOSECONDS CHECKSUM`, which `bench/yardstick.rs`, the same in plain
@@ -8,6 +8,7 @@
 mod blocks;
 mod held;
 mod line;
+mod moments;
 mod stream;
 mod streams;
 mod vectors;
@@ -37,6 +38,8 @@ fn line_of(clock: &impl Clock, alloc: Global, word: &str) -> io::Result<Line> {
         "text" => streams::read(clock, alloc, Part::Text, depth, Form::Text),
         "vector" => Ok(vectors::vector(clock, alloc, depth)?.1),
         "siblings" => vectors::siblings(clock, alloc, depth),
+        "moment3" => moments::prover(clock, alloc, Part::Moment3, depth, 3),
+        "moment8" => moments::prover(clock, alloc, Part::Moment8, depth, 8),
         _ => Err(io::ErrorKind::InvalidInput.into()),
     }
 }

@@ -4,6 +4,7 @@ ghost use Rattle.sip_lookup.specs.Tasks.{CanLookUp};
 
 use crate::session_facts::expect;
 use arrayvec::ArrayVec;
+use sip_field::{Field, draw_challenges};
 use sip_helper::HelpStatus;
 use sip_lookup::{LookTask, Lookup, look_stream, serve_look};
 use sip_ports::{MemoryLink, MemorySink, MemorySource, TalkEvent};
@@ -204,88 +205,128 @@ fn the_17th_lookup_is_out_of_turn(rt: HostRuntime) -> Result<(), Fail> {
 
 // ---- both ends
 
-// A run: its name, its depth, its records, its lookups, and the report.
-type Run = (
-    &'static str,
-    u8,
-    &'static [u8],
-    &'static [Lookup],
-    &'static [u8],
-);
+// The challenges of 16 lookups over 2^48 items.
+const MOST_CHALLENGES: usize = 768;
 
-// The last of 2^48 items.
+// A lookup, and the first and last item of the interval whose entries prove its answer.
+type Asked = (Lookup, u64, u64);
+
+// A run: its depth, its lines, what is sent of them, its lookups, and the report.
+struct Run {
+    name: &'static str,
+    depth: u8,
+    lines: &'static [u8],
+    opening: &'static [u8],
+    asked: &'static [Asked],
+    report: &'static [u8],
+}
+
+// The last of 2^48 items, and the one in the middle of 2^33.
 const LAST: u64 = 281_474_976_710_655;
 
-const RUNS: [Run; 5] = [
-    (
-        "16 lookups over 8 items",
-        3,
-        b"0 0 3\n0 5 -2\n0 7 4\n1 6 9\n",
-        &[
-            Lookup::Index(0),
-            Lookup::Index(7),
-            Lookup::Index(5),
-            Lookup::Index(6),
-            Lookup::Pred(0),
-            Lookup::Pred(4),
-            Lookup::Pred(5),
-            Lookup::Pred(6),
-            Lookup::Pred(7),
-            Lookup::Succ(0),
-            Lookup::Succ(1),
-            Lookup::Succ(5),
-            Lookup::Succ(6),
-            Lookup::Succ(7),
-            Lookup::Index(1),
-            Lookup::Index(4),
+const FAR: u64 = 4_294_967_296;
+
+const RUNS: [Run; 4] = [
+    Run {
+        name: "16 lookups over 8 items",
+        depth: 3,
+        lines: b"0 0 3\n0 5 -2\n0 7 4\n1 6 9\n",
+        opening: &[
+            1, 0, 2, 1, 3, 2, 0, 54, 0, 4, 0, 0, 0, 0, 0, 0, 0, 0, 0, 0, 0, 0, 3, 0, 0, 0, 0, 5,
+            0xff, 0xff, 0xff, 0xff, 0xff, 0xff, 0xff, 0xfe, 0, 0, 0, 0, 7, 0, 0, 0, 0, 0, 0, 0, 4,
+            1, 0, 0, 0, 6, 0, 0, 0, 0, 0, 0, 0, 9, 3, 0, 0,
         ],
-        b"index:0 3\nindex:7 4\nindex:5 -2\nindex:6 0\npred:0 0:3\npred:4 0:3\npred:5 5:-2\n\
-          pred:6 5:-2\npred:7 7:4\nsucc:0 0:3\nsucc:1 5:-2\nsucc:5 5:-2\nsucc:6 7:4\nsucc:7 7:4\n\
-          index:1 0\nindex:4 0\n",
-    ),
-    (
-        "no records",
-        3,
-        b"",
-        &[
-            Lookup::Pred(7),
-            Lookup::Succ(0),
-            Lookup::Index(3),
-            Lookup::Pred(0),
-            Lookup::Succ(7),
+        asked: &[
+            (Lookup::Index(0), 0, 0),
+            (Lookup::Index(7), 7, 7),
+            (Lookup::Index(5), 5, 5),
+            (Lookup::Index(6), 6, 6),
+            (Lookup::Pred(0), 0, 0),
+            (Lookup::Pred(4), 0, 4),
+            (Lookup::Pred(5), 5, 5),
+            (Lookup::Pred(6), 5, 6),
+            (Lookup::Pred(7), 7, 7),
+            (Lookup::Succ(0), 0, 0),
+            (Lookup::Succ(1), 1, 5),
+            (Lookup::Succ(5), 5, 5),
+            (Lookup::Succ(6), 6, 7),
+            (Lookup::Succ(7), 7, 7),
+            (Lookup::Index(1), 1, 1),
+            (Lookup::Index(4), 4, 4),
         ],
-        b"pred:7 none\nsucc:0 none\nindex:3 0\npred:0 none\nsucc:7 none\n",
-    ),
-    (
-        "an entry that comes to 0",
-        3,
-        b"0 2 5\n0 2 -5\n0 3 1\n",
-        &[Lookup::Pred(2), Lookup::Succ(2)],
-        b"pred:2 none\nsucc:2 3:1\n",
-    ),
-    (
-        "the value at the last of 2^48 items",
-        48,
-        b"0 5 7\n0 281474976710655 -1\n",
-        &[Lookup::Index(LAST)],
-        b"index:281474976710655 -1\n",
-    ),
-    (
-        "the nearest up to 6 of 2^48 items",
-        48,
-        b"0 5 7\n0 281474976710655 -1\n",
-        &[Lookup::Pred(6)],
-        b"pred:6 5:7\n",
-    ),
+        report: b"index:0 3\nindex:7 4\nindex:5 -2\nindex:6 0\npred:0 0:3\npred:4 0:3\n\
+          pred:5 5:-2\npred:6 5:-2\npred:7 7:4\nsucc:0 0:3\nsucc:1 5:-2\nsucc:5 5:-2\n\
+          succ:6 7:4\nsucc:7 7:4\nindex:1 0\nindex:4 0\n",
+    },
+    Run {
+        name: "no records",
+        depth: 3,
+        lines: b"",
+        opening: &[1, 0, 2, 1, 3, 3, 0, 0],
+        asked: &[
+            (Lookup::Pred(7), 0, 7),
+            (Lookup::Succ(0), 0, 7),
+            (Lookup::Index(3), 3, 3),
+            (Lookup::Pred(0), 0, 0),
+            (Lookup::Succ(7), 7, 7),
+        ],
+        report: b"pred:7 none\nsucc:0 none\nindex:3 0\npred:0 none\nsucc:7 none\n",
+    },
+    Run {
+        name: "an entry that comes to 0",
+        depth: 3,
+        lines: b"0 2 5\n0 2 -5\n0 3 1\n",
+        opening: &[
+            1, 0, 2, 1, 3, 2, 0, 41, 0, 3, 0, 0, 0, 0, 2, 0, 0, 0, 0, 0, 0, 0, 5, 0, 0, 0, 0, 2,
+            0xff, 0xff, 0xff, 0xff, 0xff, 0xff, 0xff, 0xfb, 0, 0, 0, 0, 3, 0, 0, 0, 0, 0, 0, 0, 1,
+            3, 0, 0,
+        ],
+        asked: &[(Lookup::Pred(2), 0, 2), (Lookup::Succ(2), 2, 3)],
+        report: b"pred:2 none\nsucc:2 3:1\n",
+    },
+    Run {
+        name: "16 lookups over 2^48 items",
+        depth: 48,
+        lines: b"0 5 7\n0 281474976710655 -1\n0 4294967296 3\n",
+        opening: &[
+            1, 0, 2, 2, 48, 2, 0, 53, 0, 3, 0, 0, 0, 0, 0, 0, 0, 0, 5, 0, 0, 0, 0, 0, 0, 0, 7, 0,
+            0, 0, 0xff, 0xff, 0xff, 0xff, 0xff, 0xff, 0xff, 0xff, 0xff, 0xff, 0xff, 0xff, 0xff,
+            0xff, 0, 0, 0, 0, 1, 0, 0, 0, 0, 0, 0, 0, 0, 0, 0, 0, 3, 3, 0, 0,
+        ],
+        asked: &[
+            (Lookup::Index(0), 0, 0),
+            (Lookup::Index(5), 5, 5),
+            (Lookup::Index(4_294_967_295), 4_294_967_295, 4_294_967_295),
+            (Lookup::Index(FAR), FAR, FAR),
+            (Lookup::Index(LAST), LAST, LAST),
+            (Lookup::Pred(0), 0, 0),
+            (Lookup::Pred(5), 5, 5),
+            (Lookup::Pred(6), 5, 6),
+            (Lookup::Pred(FAR), FAR, FAR),
+            (Lookup::Pred(281_474_976_710_654), FAR, 281_474_976_710_654),
+            (Lookup::Pred(LAST), LAST, LAST),
+            (Lookup::Succ(0), 0, 5),
+            (Lookup::Succ(5), 5, 5),
+            (Lookup::Succ(6), 6, FAR),
+            (Lookup::Succ(4_294_967_297), 4_294_967_297, LAST),
+            (Lookup::Succ(LAST), LAST, LAST),
+        ],
+        report: b"index:0 0\nindex:5 7\nindex:4294967295 0\nindex:4294967296 3\n\
+          index:281474976710655 -1\npred:0 none\npred:5 5:7\npred:6 5:7\n\
+          pred:4294967296 4294967296:3\npred:281474976710654 4294967296:3\n\
+          pred:281474976710655 281474976710655:-1\nsucc:0 5:7\nsucc:5 5:7\n\
+          succ:6 4294967296:3\nsucc:4294967297 281474976710655:-1\n\
+          succ:281474976710655 281474976710655:-1\n",
+    },
 ];
 
 // The task of these lookups.
-fn task(depth: u8, lookups: &[Lookup]) -> Result<LookTask, Fail>
+fn task(depth: u8, asked: &[Asked]) -> Result<LookTask, Fail>
     ensures { IfOk result CanLookUp }
 {
     let depth = Depth::new(depth).ok_or("a depth")?;
     let mut list = ArrayVec::new();
-    for lookup in lookups {
+    for (lookup, _, _) in asked {
         if lookup.item() >= 1 << depth.get() || list.try_push(*lookup).is_err() {
             return Err("an item")?;
         }
@@ -300,62 +341,82 @@ fn task(depth: u8, lookups: &[Lookup]) -> Result<LookTask, Fail>
     })
 }
 
+// Puts an Ask and the query for the interval, in the version of the depth.
+fn put_question(said: &mut Vec<u8>, depth: u8, asked: &Asked) -> Result<(), Fail> {
+    let (lookup, lo, hi) = asked;
+    let (code, item) = match lookup {
+        Lookup::Index(item) => (1, item),
+        Lookup::Pred(item) => (2, item),
+        Lookup::Succ(item) => (3, item),
+    };
+    said.extend_from_slice(&[0x21, 0, 9, code])?;
+    said.extend_from_slice(&item.to_be_bytes())?;
+    if depth > 32 {
+        said.extend_from_slice(&[4, 0, 17, 1])?;
+        said.extend_from_slice(&lo.to_be_bytes())?;
+        said.extend_from_slice(&hi.to_be_bytes())?;
+    } else {
+        said.extend_from_slice(&[4, 0, 9, 1])?;
+        said.extend_from_slice(&u32::try_from(*lo).map_err(|_| "an item")?.to_be_bytes())?;
+        said.extend_from_slice(&u32::try_from(*hi).map_err(|_| "an item")?.to_be_bytes())?;
+    }
+    Ok(())
+}
+
+// All that is said to a helper in a run at the challenges of 32 zero bytes. The last challenge of a
+// lookup never leaves.
+fn said_in(alloc: Global, run: &Run) -> Result<Vec<u8>, Fail> {
+    let drawn = draw_challenges::<MOST_CHALLENGES>([0; 32], MOST_CHALLENGES)?;
+    let mut challenges = drawn.iter();
+    let mut said = run.opening.to_vec(alloc)?;
+    for asked in run.asked {
+        put_question(&mut said, run.depth, asked)?;
+        for _ in 1..run.depth {
+            let challenge = challenges.next().ok_or("a challenge")?;
+            said.extend_from_slice(&[5, 0, 8])?;
+            said.extend_from_slice(&challenge.number().to_be_bytes())?;
+        }
+        challenges.next();
+    }
+    said.extend_from_slice(END)?;
+    Ok(said)
+}
+
 // How a run ends over these replies, what it reports and what it sends.
 fn looked(
     alloc: Global,
     task: &LookTask,
-    stream: &[u8],
+    lines: &[u8],
     replies: &[u8],
-    chunk: usize,
 ) -> Result<(Status, Vec<u8>, Vec<u8>), Fail>
-    requires can { CanLookUp task.now }
-    requires some { 1 ≤ chunk }
+    requires { CanLookUp task.now }
 {
-    let mut first = MemorySource::new(stream.to_vec(alloc)?, chunk, Vec::new(alloc));
-    let mut second = MemorySource::new(vec![in alloc; 0; 32]?, chunk, Vec::new(alloc));
-    let mut peer = MemoryLink::new(alloc, replies.to_vec(alloc)?, chunk, Vec::new(alloc));
-    let mut report = MemorySink::new(alloc, chunk, Vec::new(alloc));
+    let mut first = MemorySource::new(lines.to_vec(alloc)?, 5, Vec::new(alloc));
+    let mut second = MemorySource::new(vec![in alloc; 0; 32]?, 5, Vec::new(alloc));
+    let mut peer = MemoryLink::new(alloc, replies.to_vec(alloc)?, 5, Vec::new(alloc));
+    let mut report = MemorySink::new(alloc, 5, Vec::new(alloc));
     let status = look_stream(alloc, task, &mut first, &mut second, &mut peer, &mut report);
     let said = sent(alloc, peer.talk())?;
     Ok((status, report.bytes().to_vec(alloc)?, said))
 }
 
-// Each end over what the other one sent so far, until the run is accepted: how both ended, and the
-// report. The replies of the helper do not depend on what comes behind their question, so the two
-// ends come to the same as over one link.
-fn converse(
-    alloc: Global,
-    task: &LookTask,
-    stream: &[u8],
-    chunk: usize,
-) -> Result<(Status, HelpStatus, Vec<u8>), Fail>
-    requires can { CanLookUp task.now }
-    requires some { 1 ≤ chunk }
-{
-    let mut replies = Vec::new(alloc);
-    for _ in 0..1_000 {
-        let (status, report, asked) = looked(alloc, task, stream, &replies, chunk)?;
-        let (end, said) = served(alloc, &asked, chunk)?;
-        if said.len() <= replies.len() {
-            return Ok((status, end, report));
-        }
-        replies = said;
-    }
-    Err("an end")?
-}
-
+// Each end is one call, over what the other one sends. A reply hangs on nothing that is said behind
+// its question, so this is what both come to over one link.
 #[test]
 fn both_ends_come_to_the_answers(rt: HostRuntime) -> Result<(), Fail> {
     let alloc = rt.alloc();
-    for (name, depth, stream, lookups, want) in &RUNS {
-        let task = task(*depth, lookups)?;
-        let (status, end, report) = converse(alloc, &task, stream, 10_000)?;
+    for run in &RUNS {
+        let task = task(run.depth, run.asked)?;
+        let asked = said_in(alloc, run)?;
+        let (end, replies) = served(alloc, &asked, 5)?;
+        let (status, report, said) = looked(alloc, &task, run.lines, &replies)?;
         let facts = [
-            status == Status::Accepted,
             end == HelpStatus::Served,
-            report.as_slice() == *want,
+            status == Status::Accepted,
+            report.as_slice() == run.report,
+            said == asked,
         ];
-        expect(&rt, name, &facts);
+        expect(&rt, run.name, &facts);
     }
     Ok(())
 }

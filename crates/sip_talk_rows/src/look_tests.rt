@@ -6,7 +6,7 @@ use crate::events::events;
 use crate::session_facts::expect;
 use arrayvec::ArrayVec;
 use sip_lookup::{LookTask, Lookup, look_stream};
-use sip_ports::{MemoryLink, MemorySink, MemorySource};
+use sip_ports::{MemoryLink, MemorySink, MemorySource, TalkEvent};
 use sip_stream::Form;
 use sip_vector::Depth;
 use sip_verifier::Status;
@@ -130,11 +130,13 @@ fn rejected(reason: Reason) -> Status {
     }
 }
 
-// An answer that is no Found for the lookup, behind which nothing is sent or received.
-const HOSTILE: [(&str, Lookup, &[u8], Reason, &[u8]); 10] = [
+// A lookup with its Ask, and an answer that is no Found for it, behind which nothing is sent or
+// received.
+const HOSTILE: [(&str, Lookup, &[u8], &[u8], Reason, &[u8]); 10] = [
     (
         "siblings",
         Lookup::Succ(1),
+        &ASK_SUCC_1,
         &KIND,
         Reason::BadKind,
         b"rejected query 1 round 0 BadKind\n",
@@ -142,6 +144,7 @@ const HOSTILE: [(&str, Lookup, &[u8], Reason, &[u8]); 10] = [
     (
         "an End",
         Lookup::Pred(1),
+        &ASK_PRED_1,
         &END,
         Reason::BadKind,
         b"rejected query 1 round 0 BadKind\n",
@@ -149,6 +152,7 @@ const HOSTILE: [(&str, Lookup, &[u8], Reason, &[u8]); 10] = [
     (
         "a Found of 8 bytes",
         Lookup::Index(1),
+        &ASK_INDEX_1,
         &SHORT,
         Reason::BadLength,
         b"rejected query 1 round 0 BadLength\n",
@@ -156,6 +160,7 @@ const HOSTILE: [(&str, Lookup, &[u8], Reason, &[u8]); 10] = [
     (
         "a flag of 2",
         Lookup::Index(1),
+        &ASK_INDEX_1,
         &FLAG_2,
         Reason::BadNumber,
         b"rejected query 1 round 0 BadNumber\n",
@@ -163,6 +168,7 @@ const HOSTILE: [(&str, Lookup, &[u8], Reason, &[u8]); 10] = [
     (
         "none, at 1",
         Lookup::Pred(1),
+        &ASK_PRED_1,
         &NONE_AT_1,
         Reason::BadNumber,
         b"rejected query 1 round 0 BadNumber\n",
@@ -170,6 +176,7 @@ const HOSTILE: [(&str, Lookup, &[u8], Reason, &[u8]); 10] = [
     (
         "a refusal",
         Lookup::Pred(1),
+        &ASK_PRED_1,
         &REFUSED,
         Reason::Refused(1),
         b"rejected query 1 round 0 Refused(1)\n",
@@ -177,6 +184,7 @@ const HOSTILE: [(&str, Lookup, &[u8], Reason, &[u8]); 10] = [
     (
         "no index",
         Lookup::Index(1),
+        &ASK_INDEX_1,
         &FOUND_NONE,
         Reason::BadFound,
         b"rejected query 1 round 0 BadFound\n",
@@ -184,6 +192,7 @@ const HOSTILE: [(&str, Lookup, &[u8], Reason, &[u8]); 10] = [
     (
         "another index",
         Lookup::Index(1),
+        &ASK_INDEX_1,
         &FOUND_2,
         Reason::BadFound,
         b"rejected query 1 round 0 BadFound\n",
@@ -191,6 +200,7 @@ const HOSTILE: [(&str, Lookup, &[u8], Reason, &[u8]); 10] = [
     (
         "a place above the item",
         Lookup::Pred(1),
+        &ASK_PRED_1,
         &FOUND_2,
         Reason::BadFound,
         b"rejected query 1 round 0 BadFound\n",
@@ -198,6 +208,7 @@ const HOSTILE: [(&str, Lookup, &[u8], Reason, &[u8]); 10] = [
     (
         "a place that is no item",
         Lookup::Succ(1),
+        &ASK_SUCC_1,
         &FOUND_4,
         Reason::BadFound,
         b"rejected query 1 round 0 BadFound\n",
@@ -332,7 +343,10 @@ fn check(rt: &impl Abort, alloc: Global, row: &Row, chunk: usize) -> Result<(), 
     let mut peer = MemoryLink::new(alloc, heard, chunk, Vec::new(alloc));
     let mut lines = MemorySink::new(alloc, chunk, Vec::new(alloc));
     let status = look_stream(alloc, &task, &mut first, &mut second, &mut peer, &mut lines);
-    let talk = events(alloc, parts)?;
+    let mut talk = events(alloc, parts)?;
+    if *want == rejected(Reason::Closed) {
+        talk.push(TalkEvent::Ended)?;
+    }
     let facts = [
         status == *want,
         peer.talk() == talk.as_slice(),
@@ -352,22 +366,35 @@ fn lookups_are_answered_or_rejected(rt: HostRuntime) -> Result<(), Fail> {
     Ok(())
 }
 
-// The Ask of the lookup, in the talk where nothing else is sent behind the stream.
-fn ask_of(lookup: Lookup) -> [u8; 12] {
-    let mut ask = [0x21, 0, 9, lookup.code(), 0, 0, 0, 0, 0, 0, 0, 0];
-    ask[11] = lookup.item() as u8;
-    ask
-}
-
 #[test]
 fn no_found_is_a_rejection(rt: HostRuntime) -> Result<(), Fail> {
     let alloc = rt.alloc();
-    for (name, lookup, answer, reason, report) in &HOSTILE {
-        let ask = ask_of(*lookup);
-        let parts: [(bool, &[u8]); 3] = [(true, &STREAM), (true, &ask), (false, answer)];
+    for (name, lookup, ask, answer, reason, report) in &HOSTILE {
+        let parts: [(bool, &[u8]); 3] = [(true, &STREAM), (true, ask), (false, answer)];
         let row: Row = (name, LINES, *lookup, &parts, rejected(*reason), report);
         check(&rt, alloc, &row, 1)?;
         check(&rt, alloc, &row, 10_000)?;
+    }
+    Ok(())
+}
+
+// The link ends behind each part of a Found that is not all of it.
+#[test]
+fn a_cut_found_is_a_rejection(rt: HostRuntime) -> Result<(), Fail> {
+    let alloc = rt.alloc();
+    let mut cut = Vec::new(alloc);
+    for byte in &FOUND_0 {
+        let parts: [(bool, &[u8]); 3] = [
+            (true, &STREAM),
+            (true, &ASK_PRED_1),
+            (false, cut.as_slice()),
+        ];
+        let report = b"rejected query 1 round 0 Closed\n";
+        let status = rejected(Reason::Closed);
+        let row: Row = ("a cut", LINES, Lookup::Pred(1), &parts, status, report);
+        check(&rt, alloc, &row, 1)?;
+        check(&rt, alloc, &row, 10_000)?;
+        cut.push(*byte)?;
     }
     Ok(())
 }

@@ -168,6 +168,55 @@ const ROWS: &[Row<'static>] = &[
         Reason::Closed,
         b"rejected query 1 round 1 Closed\n",
     ),
+    // Where that power is due, a claim, a power of degree 4, one that is cut, and a refusal.
+    (
+        &[
+            (false, &CLAIM),
+            (false, &FIRST),
+            (true, &REVEAL),
+            (false, &[0x11, 0, 8]),
+        ],
+        false,
+        1,
+        Reason::BadKind,
+        b"rejected query 1 round 1 BadKind\n",
+    ),
+    (
+        &[
+            (false, &CLAIM),
+            (false, &FIRST),
+            (true, &REVEAL),
+            (false, &[0x25, 0, 40]),
+        ],
+        false,
+        1,
+        Reason::BadLength,
+        b"rejected query 1 round 1 BadLength\n",
+    ),
+    (
+        &[
+            (false, &CLAIM),
+            (false, &FIRST),
+            (true, &REVEAL),
+            (false, &[0x25, 0, 32, 28, 60, 56, 17]),
+        ],
+        true,
+        1,
+        Reason::Closed,
+        b"rejected query 1 round 1 Closed\n",
+    ),
+    (
+        &[
+            (false, &CLAIM),
+            (false, &FIRST),
+            (true, &REVEAL),
+            (false, &[0x18, 0, 1, 1]),
+        ],
+        false,
+        1,
+        Reason::Refused(1),
+        b"rejected query 1 round 1 Refused(1)\n",
+    ),
     (
         &[
             (false, &CLAIM),

@@ -1,13 +1,8 @@
 //! Moments that are accepted, and one that is not asked. The replies were worked out apart from the
 //! program.
-ghost use Rattle.std.specs.Prelude.{IfOk};
-ghost use Rattle.sip_moments.specs.Tasks.{CanBeDone};
-
-use crate::moment_runs::{Asked, END, Talk, check, one};
-use arrayvec::ArrayVec;
-use sip_moments::{Moment, MomentTask};
-use sip_stream::Form;
-use sip_vector::{Depth, Side};
+use crate::moment_runs::{Asked, END, Talk, check, one, task};
+use sip_moments::Moment;
+use sip_vector::Side;
 use sip_verifier::Status;
 use std::test::Fail;
 
@@ -351,52 +346,20 @@ const LIMIT: Asked = Asked {
     )],
 };
 
-// A task of the six moments of eight items.
-fn six() -> Result<MomentTask, Fail>
-    ensures { IfOk result CanBeDone }
-{
-    let depth = Depth::new(3).ok_or("a depth")?;
-    let mut moments = ArrayVec::new();
-    moments.push(Moment {
-        side: Side::First,
-        degree: 3,
-    });
-    moments.push(Moment {
-        side: Side::Second,
-        degree: 4,
-    });
-    moments.push(Moment {
-        side: Side::First,
-        degree: 5,
-    });
-    moments.push(Moment {
-        side: Side::Second,
-        degree: 6,
-    });
-    moments.push(Moment {
-        side: Side::First,
-        degree: 7,
-    });
-    moments.push(Moment {
-        side: Side::Second,
-        degree: 8,
-    });
-    Ok(MomentTask {
-        depth,
-        form: Form::Text,
-        moments,
-    })
-}
-
 #[test]
 fn moments_of_each_degree_are_accepted(rt: HostRuntime) -> Result<(), Fail> {
     let alloc = rt.alloc();
-    let task = six()?;
     let mut talk = Talk::new(alloc);
     talk.say(&EIGHT_SENT)?;
+    let mut moments = Vec::new(alloc);
     for asked in &SIX {
+        moments.push(Moment {
+            side: asked.side,
+            degree: asked.degree,
+        })?;
         talk.ask(asked)?;
     }
+    let task = task(3, &moments)?;
     talk.say(&END)?;
     let mut report = Vec::new(alloc);
     report.extend_from_slice(b"moment:0:3 -105\nmoment:1:4 272\nmoment:0:5 -2913\n")?;

@@ -80,21 +80,32 @@ impl Talk {
     }
 }
 
+/// A task of these moments of a text.
+pub(crate) fn task(depth: u8, moments: &[Moment]) -> Result<MomentTask, Fail>
+    ensures { IfOk result CanBeDone }
+{
+    let depth = Depth::new(depth).ok_or("a depth")?;
+    let mut list = ArrayVec::new();
+    for moment in moments {
+        if moment.degree < 3 || moment.degree > 8 || list.try_push(*moment).is_err() {
+            return Err("a moment")?;
+        }
+    }
+    if list.is_empty() {
+        return Err("a moment")?;
+    }
+    Ok(MomentTask {
+        depth,
+        form: Form::Text,
+        moments: list,
+    })
+}
+
 /// A task of one moment.
 pub(crate) fn one(depth: u8, side: Side, degree: u8) -> Result<MomentTask, Fail>
     ensures { IfOk result CanBeDone }
 {
-    if degree < 3 || degree > 8 {
-        return Err("a degree")?;
-    }
-    let depth = Depth::new(depth).ok_or("a depth")?;
-    let mut moments = ArrayVec::new();
-    moments.push(Moment { side, degree });
-    Ok(MomentTask {
-        depth,
-        form: Form::Text,
-        moments,
-    })
+    task(depth, &[Moment { side, degree }])
 }
 
 /// Runs a task over a stream and a link that gives what is heard in the talk.

@@ -1,15 +1,13 @@
 // What a helper of moments says, over whole talks, and a run of moments against what it said.
-ghost use Rattle.std.specs.Prelude.{◌≤◌, IfOk};
-ghost use Rattle.sip_moments.specs.Tasks.{CanBeDone};
+ghost use Rattle.std.specs.Prelude.{◌≤◌};
 
 use crate::facts::expect;
+use crate::moment_runs::one;
 use crate::talks::{BYE, REVEALED, STREAM, SUB_1_2, Talk};
-use arrayvec::ArrayVec;
 use sip_helper::HelpStatus;
-use sip_moments::{Moment, MomentTask, moment_stream, serve_moments};
+use sip_moments::{moment_stream, serve_moments};
 use sip_ports::{MemoryLink, MemorySink, MemorySource, TalkEvent};
-use sip_stream::Form;
-use sip_vector::{Depth, Side};
+use sip_vector::Side;
 use sip_verifier::Status;
 use std::alloc::Global;
 use std::process::Abort;
@@ -291,23 +289,6 @@ fn a_link_of_moments_fails_at_each_call(rt: HostRuntime) -> Result<(), Fail> {
 // The first challenge of 32 zero bytes.
 const AT_SEED: [u8; 11] = [5, 0, 8, 0x12, 0x07, 0xbe, 0x34, 0x15, 0xbc, 0x17, 0x0e];
 
-// A task of the third moment of side 0 over four items.
-fn task() -> Result<MomentTask, Fail>
-    ensures { IfOk result CanBeDone }
-{
-    let depth = Depth::new(2).ok_or("a depth")?;
-    let mut moments = ArrayVec::new();
-    moments.push(Moment {
-        side: Side::First,
-        degree: 3,
-    });
-    Ok(MomentTask {
-        depth,
-        form: Form::Text,
-        moments,
-    })
-}
-
 // What a verifier says is served, and what was served is accepted where it is said.
 #[test]
 fn both_ends_fit_together(rt: HostRuntime) -> Result<(), Fail> {
@@ -320,9 +301,10 @@ fn both_ends_fit_together(rt: HostRuntime) -> Result<(), Fail> {
     let mut second = MemorySource::new(vec![in alloc; 0; 32]?, 7, Vec::new(alloc));
     let mut peer = MemoryLink::new(alloc, sent, 7, Vec::new(alloc));
     let mut report = MemorySink::new(alloc, 7, Vec::new(alloc));
+    let task = one(2, Side::First, 3)?;
     let status = moment_stream(
         alloc,
-        &task()?,
+        &task,
         &mut first,
         &mut second,
         &mut peer,

@@ -121,25 +121,35 @@ const ROWS: &[Row] = &[
     },
 ];
 
-fn check_row(rt: &impl Abort, alloc: Global, number: usize, row: &Row) -> Result<(), Fail> {
+// Asks for that moment over a link that gives these bytes: the answer, what happened on the link,
+// and what was kept.
+fn asked_of(
+    alloc: Global,
+    incoming: &[u8],
+) -> Result<(Result<Said, AskStop>, MemoryLink, MemorySink), Fail> {
     let seat = Seat::of(&[M61::of(2), M61::of(10)]).unwrap();
     let mut check = MomentAsking::start(3, &seat, M61::of_signed(-3));
-    let moment = Moment {
-        side: Side::First,
-        degree: 3,
-    };
-    let mut link = MemoryLink::new(alloc, row.incoming.concat(alloc)?, 7, Vec::new(alloc));
+    let mut link = MemoryLink::new(alloc, incoming.to_vec(alloc)?, 7, Vec::new(alloc));
     let mut keep = MemorySink::new(alloc, 5, Vec::new(alloc));
     let mut frame = Frame::new(alloc)?;
     let said = ask(
         &mut check,
         Version::One,
-        &moment,
+        &Moment {
+            side: Side::First,
+            degree: 3,
+        },
         &mut [],
         &mut frame,
         &mut link,
         &mut keep,
     );
+    Ok((said, link, keep))
+}
+
+fn check_row(rt: &impl Abort, alloc: Global, number: usize, row: &Row) -> Result<(), Fail> {
+    let incoming = row.incoming.concat(alloc)?;
+    let (said, link, keep) = asked_of(alloc, &incoming)?;
     let facts = [
         said == row.said,
         link.talk() == events(alloc, row.talk)?.as_slice(),

@@ -1,4 +1,6 @@
 // A sub-vector that is asked for by itself, by the root that a seat shows.
+ghost use Rattle.std.specs.Prelude.{◌≡◌};
+
 use crate::events::events;
 use crate::session_facts::expect;
 use sip_field::{Field, M61};
