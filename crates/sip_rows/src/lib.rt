@@ -80,6 +80,8 @@ mod question_frames;
 #[cfg(test)]
 mod record_tests;
 #[cfg(test)]
+mod refused_asking_tests;
+#[cfg(test)]
 mod refused_words_tests;
 #[cfg(test)]
 mod row;
