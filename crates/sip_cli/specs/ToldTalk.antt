@@ -17,7 +17,8 @@ use Rattle.sip_cli.specs.declared.told_link.TalkTeller.{TalkTeller}
 use Rattle.sip_cli.specs.declared.told_link.ToldLink.{ToldLink}
 use Rattle.sip_cli.specs.Telling.{Says, from_line, reply_line}
 
--- what a command asks over its link, of which `verify` alone asks
+-- the queries that a command asks over its link; `verify` alone asks such, and a lookup or a moment
+-- is no query
 abbrev pub IsScript : Command → Script → Type 0
 IsScript (command.Verify task) script =
     (script.version ≡ version_of task) × (script.queries.items ≡ task.queries.items)
@@ -57,15 +58,19 @@ awaits query round t = record {
   next = t.next;
 }
 
--- A frame begins: behind a query its first reply comes next, behind a challenge the one after that
--- which came, and behind another frame what was to come.
+-- A frame begins: behind a query its first reply comes next, behind the Ask of a lookup or of a
+-- moment the first reply to one more than before, behind a challenge the reply after that which
+-- came, and behind another frame what was to come.
 pub record BeginsFrame (script : Script) (frame : List ℕ) (old new : Turn) : Type 0 where
   pub query : slice_get frame 0 ≡ Some 4
       → ((n : ℕ) × IsAsk script old.query frame n × (new ≡ awaits n 0 old))
       ⊎ (((n : ℕ) → IsAsk script old.query frame n → ⊥) × (new ≡ old))
   pub challenge : slice_get frame 0 ≡ Some 5
       → new ≡ awaits old.query (min (old.round + 1) 255) old
-  pub other : slice_get frame 0 ≢ Some 4 → slice_get frame 0 ≢ Some 5 → new ≡ old
+  pub lookup : slice_get frame 0 ≡ Some 33 → new ≡ awaits (min (old.query + 1) 255) 0 old
+  pub moment : slice_get frame 0 ≡ Some 36 → new ≡ awaits (min (old.query + 1) 255) 0 old
+  pub other : slice_get frame 0 ≢ Some 4 → slice_get frame 0 ≢ Some 5 → slice_get frame 0 ≢ Some 33
+      → slice_get frame 0 ≢ Some 36 → new ≡ old
 
 -- so many bytes of the frame under way are still to be sent
 abbrev pub with_rest : ℕ → Turn → Turn

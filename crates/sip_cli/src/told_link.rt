@@ -21,6 +21,12 @@ use sip_wire::{MOST_QUERIES, Message, Place, Version, frame_length, read};
 /// The first byte of the frame of a query.
 const QUERY: u8 = 0x04;
 
+/// The first byte of the frame that asks a lookup.
+const ASK_LOOKUP: u8 = 0x21;
+
+/// The first byte of the frame that asks a moment.
+const ASK_MOMENT: u8 = 0x24;
+
 /// The first byte of the frame of a challenge.
 const CHALLENGE: u8 = 0x05;
 
@@ -98,7 +104,8 @@ impl Script {
 /// Where a talk is, by the frames that were sent and the bytes that were heard.
 #[derive(Clone, Copy, Debug, PartialEq, Eq)]
 struct Turn {
-    // The number of the query that was asked last, from 1; 0 before the first.
+    // The number of the query, the lookup or the moment that was asked last, from 1; 0 before the
+    // first.
     query: u8,
     // The round of the reply that was asked for last.
     round: u8,
@@ -145,6 +152,8 @@ impl Turn {
                     self.await_reply(number, 0);
                 }
             }
+            // Lookups and moments are asked each in its turn, and none is left out.
+            Some(&ASK_LOOKUP | &ASK_MOMENT) => self.await_reply(self.query.saturating_add(1), 0),
             Some(&CHALLENGE) => self.await_reply(self.query, self.round.saturating_add(1)),
             _ => {}
         }
@@ -205,8 +214,9 @@ impl<W: Sink + Drop> TalkTeller<W> {
 }
 
 /// A link that says before the first receive of each reply which one it waits for: the number of
-/// the query, and the round, as the line of a rejection has them. A side that asks nothing says how
-/// much it heard, before its first receive and where 64 MiB or more came since its last line.
+/// the query, the lookup or the moment, and the round, as the line of a rejection has them. A side
+/// that asks nothing says how much it heard, before its first receive and where 64 MiB or more came
+/// since its last line.
 ///
 /// It passes on what its own link gives. It takes what is written first, and whatever is written
 /// where a frame ended, for the bytes of one frame; they may be sent in any pieces.

@@ -3,6 +3,8 @@
 use crate::case::Case;
 use crate::page_tests::words_between;
 use sip_cli::{Command, Opening, Words, ports, read_words};
+use sip_lookup::Lookup;
+use sip_moments::Moment;
 use sip_stream::Form;
 use sip_vector::{Query, Side};
 use std::alloc::Global;
@@ -42,6 +44,79 @@ fn reads_queries(words: &Words, queries: &[Query]) -> bool {
     }
 }
 
+// The lookups and the moments of the words below.
+const LOOKUPS: &[Lookup] = &[
+    Lookup::Index(0),
+    Lookup::Pred(4095),
+    Lookup::Succ(10),
+    Lookup::Index(4095),
+    Lookup::Pred(0),
+    Lookup::Succ(0),
+];
+
+const MOMENTS: &[Moment] = &[
+    Moment {
+        side: Side::First,
+        degree: 3,
+    },
+    Moment {
+        side: Side::Second,
+        degree: 8,
+    },
+    Moment {
+        side: Side::Second,
+        degree: 4,
+    },
+    Moment {
+        side: Side::First,
+        degree: 3,
+    },
+];
+
+fn reads_lookups(words: &Words, lookups: &[Lookup]) -> bool {
+    match read_words(words) {
+        Ok(Command::Lookup(task)) => {
+            task.depth.get() == 12 && task.form == Form::Text && task.lookups.as_slice() == lookups
+        }
+        _ => false,
+    }
+}
+
+fn reads_moments(words: &Words, moments: &[Moment]) -> bool {
+    match read_words(words) {
+        Ok(Command::Moments(task)) => {
+            task.depth.get() == 12 && task.form == Form::Text && task.moments.as_slice() == moments
+        }
+        _ => false,
+    }
+}
+
+// Lookups and moments are read in their order, and the words of their helpers are those helpers'.
+fn check_asked(rt: &impl Abort, alloc: Global) -> Result<(), Fail> {
+    let looks = words(
+        alloc,
+        "lookup|text:s|k|f|t|12|index:0|pred:4095|succ:10|index:4095|pred:0|succ:0",
+    )?;
+    let moments = words(
+        alloc,
+        "moments|text:s|k|f|t|12|moment:0:3|moment:1:8|moment:1:4|moment:0:3",
+    )?;
+    let case = Case {
+        name: "lookups and moments",
+        number: 0,
+    };
+    case.holds(rt, reads_lookups(&looks, LOOKUPS));
+    case.holds(rt, reads_moments(&moments, MOMENTS));
+    let helpers = (
+        read_words(&words(alloc, "helplook|f|t")?),
+        read_words(&words(alloc, "helpmom|f|t")?),
+    );
+    let are_helpers = matches!(helpers.0, Ok(Command::HelpLook))
+        && matches!(helpers.1, Ok(Command::HelpMoments));
+    case.holds(rt, are_helpers);
+    Ok(())
+}
+
 #[test]
 fn reads_the_task(rt: HostRuntime) -> Result<(), Fail> {
     let words = words(
@@ -54,13 +129,15 @@ fn reads_the_task(rt: HostRuntime) -> Result<(), Fail> {
     };
     case.holds(&rt, reads_queries(&words, QUERIES));
     case.holds(&rt, words.get(3) == Some("f") && words.get(14).is_none());
-    Ok(())
+    check_asked(&rt, rt.alloc())
 }
 
 // The form of what is read, if it has one, and the depth.
 fn form_and_depth(command: &Command) -> (Option<Form>, u8) {
     match command {
         Command::Verify(task) => (Some(task.form), task.depth.get()),
+        Command::Lookup(task) => (Some(task.form), task.depth.get()),
+        Command::Moments(task) => (Some(task.form), task.depth.get()),
         Command::Gen { depth } => (None, depth.get()),
         Command::Lines { form, depth } | Command::Widen { form, depth } => {
             (Some(*form), depth.get())
@@ -70,9 +147,7 @@ fn form_and_depth(command: &Command) -> (Option<Form>, u8) {
         | Command::Help
         | Command::Show
         | Command::Convert
-        | Command::Lookup(_)
         | Command::HelpLook
-        | Command::Moments(_)
         | Command::HelpMoments => (None, 0),
     }
 }
@@ -91,6 +166,15 @@ const READ: &[Read<'static>] = &[
     ("verify|s|k|f|t|-|48|sub:1:2", Some(Form::Binary), 48),
     ("verify|wide:s|k|f|t|-|3|sub:1:2", Some(Form::Wide), 3),
     ("verify|text:s|k|f|t|-|48|sub:1:2", Some(Form::Text), 48),
+    ("lookup|s|k|f|t|48|index:1", Some(Form::Binary), 48),
+    ("lookup|wide:s|k|f|t|3|index:1", Some(Form::Wide), 3),
+    ("lookup|made:7:20|k|f|t|33|index:1", Some(Form::Wide), 33),
+    ("moments|s|k|f|t|1|moment:0:3", Some(Form::Binary), 1),
+    (
+        "moments|made:7:20|k|f|t|32|moment:0:3",
+        Some(Form::Binary),
+        32,
+    ),
     ("audit|s|t", Some(Form::Binary), 0),
     ("audit|text:s|t", Some(Form::Text), 0),
     ("audit|wide:s|t", Some(Form::Wide), 0),
@@ -161,6 +245,26 @@ const FILES: &[Files<'static>] = &[
         &[Some("s"), Some("k"), None, None, Some("r")],
     ),
     ("help|f|t", &[None, None, Some("f"), Some("t"), None]),
+    (
+        "lookup|s|k|f|t|3|index:1",
+        &[Some("s"), Some("k"), Some("f"), Some("t"), None],
+    ),
+    (
+        "lookup|wide:w|-|made:|text:t|3|pred:1|succ:2",
+        &[Some("w"), Some("-"), Some("made:"), Some("text:t"), None],
+    ),
+    ("lookup|s|k|f|t|3|index:8", NO_FILES),
+    ("helplook|f|t", &[None, None, Some("f"), Some("t"), None]),
+    (
+        "moments|text:s|k|f|t|48|moment:0:3",
+        &[Some("s"), Some("k"), Some("f"), Some("t"), None],
+    ),
+    (
+        "moments|made:7:20|k|f|t|3|moment:1:8",
+        &[None, Some("k"), Some("f"), Some("t"), None],
+    ),
+    ("moments|s|k|f|t|3|moment:0:9", NO_FILES),
+    ("helpmom|-|t", &[None, None, Some("-"), Some("t"), None]),
     ("audit|s|t", &[Some("s"), Some("t"), None, None, None]),
     (
         "audit|text:s|made:7:1",
@@ -209,6 +313,8 @@ type Made<'a> = (&'a str, (u64, u64, u8));
 const MADE: &[Made<'static>] = &[
     ("verify|made:7:20|k|f|t|-|3|sub:1:2", (7, 20, 3)),
     ("gen|7|100|20", (7, 100, 20)),
+    ("lookup|made:7:20|k|f|t|48|index:5", (7, 20, 48)),
+    ("moments|made:0:1|k|f|t|1|moment:0:3", (0, 1, 1)),
     (
         "gen|18446744073709551615|10000000|32",
         (u64::MAX, 10_000_000, 32),

@@ -72,6 +72,8 @@ mod query_tests;
 #[cfg(test)]
 mod record_tests;
 #[cfg(test)]
+mod refused_asking_tests;
+#[cfg(test)]
 mod refused_words_tests;
 #[cfg(test)]
 mod row;

@@ -7,7 +7,7 @@ use crate::frames::*;
 use crate::page_tests::words_between;
 use crate::row::{At, FIRST_GIVEN, Failing, Given, Shown, link, source, words_of};
 use sip_cli::{ToldLink, ToldSource, exit_code, run};
-use sip_ports::{MemoryLink, MemorySink, MemorySource, PortStop, Source};
+use sip_ports::{Link, MemoryLink, MemorySink, MemorySource, PortStop, Source, write_whole};
 use sip_verifier::Status;
 use std::alloc::Global;
 use std::process::Abort;
@@ -379,6 +379,66 @@ fn ports_that_tell_fail_where_those_inside_do(rt: HostRuntime) -> Result<(), Fai
     let alloc = rt.alloc();
     check_failing(&rt, alloc, &FIRST_GIVEN, At::First)?;
     check_failing(&rt, alloc, &FIRST_GIVEN, At::Peer)
+}
+
+// The frames that ask the nearest entry at 1 or above it, the value at 0 and a third moment, the one
+// in which a helper says where it found an entry, and what is asked of it behind that.
+const ASK_SUCC_1: [u8; 12] = [0x21, 0, 9, 3, 0, 0, 0, 0, 0, 0, 0, 1];
+
+const ASK_INDEX_0: [u8; 12] = [0x21, 0, 9, 1, 0, 0, 0, 0, 0, 0, 0, 0];
+
+const ASK_MOMENT_3: [u8; 5] = [0x24, 0, 2, 0, 3];
+
+const FOUND_2: [u8; 12] = [0x22, 0, 9, 1, 0, 0, 0, 0, 0, 0, 0, 2];
+
+// Words, frames that are sent with a receive behind each, and the lines about them: a lookup or a
+// moment has the number of its Ask, and the query that proves a lookup has none of its own.
+type Asking<'a> = (&'a str, &'a [&'a [u8]], &'a str);
+
+const ASKING: &[Asking<'static>] = &[
+    (
+        "lookup text:s seed a b 2 succ:1 index:0",
+        &[
+            &ASK_SUCC_1,
+            &SUB_1_2,
+            &REVEAL,
+            &ASK_INDEX_0,
+            &SUB_0_1,
+            &REVEAL,
+        ],
+        "sip: progress: waiting for the reply of query 1 round 0\n\
+        sip: progress: waiting for the reply of query 1 round 1\n\
+        sip: progress: waiting for the reply of query 2 round 0\n\
+        sip: progress: waiting for the reply of query 2 round 1\n",
+    ),
+    (
+        "moments text:s seed a b 3 moment:0:3 moment:1:3",
+        &[&ASK_MOMENT_3, &REVEAL, &REVEAL_OF_2, &ASK_MOMENT_3, &REVEAL],
+        "sip: progress: waiting for the reply of query 1 round 0\n\
+        sip: progress: waiting for the reply of query 1 round 1\n\
+        sip: progress: waiting for the reply of query 1 round 2\n\
+        sip: progress: waiting for the reply of query 2 round 0\n\
+        sip: progress: waiting for the reply of query 2 round 1\n",
+    ),
+    ("helplook from to", &[&FOUND_2, &FOUND_2], HEARING.talk),
+];
+
+#[test]
+fn lookups_and_moments_are_told_by_their_number(rt: HostRuntime) -> Result<(), Fail> {
+    let alloc = rt.alloc();
+    for &(name, frames, want) in ASKING {
+        let peer = link(alloc, &[&THREE_RECORDS], 10_000, None)?;
+        let lines = taker(alloc, Vec::new(alloc));
+        let mut told = ToldLink::new(&words_of(alloc, name)?, peer, lines);
+        let mut moved = true;
+        for frame in frames {
+            moved = moved && write_whole(&mut told, frame).is_ok() && told.recv(&mut [0]).is_ok();
+        }
+        let case = Case { name, number: 0 };
+        case.holds(&rt, moved);
+        case.writes(&rt, said(told.lines()), want.as_bytes());
+    }
+    Ok(())
 }
 
 // Words with a bar between them, those behind `--progress`, and whether it is there.

@@ -16,7 +16,7 @@ fn refused_at(words: &Words) -> Option<u32> {
 
 // Words, and the number of the first of them that no command has behind the words before it, found by hand; none where
 // they are a command.
-type Refusal<'a> = (&'a str, Option<u32>);
+pub type Refusal<'a> = (&'a str, Option<u32>);
 
 const REFUSALS: &[Refusal<'static>] = &[
     ("", Some(0)),
@@ -299,7 +299,7 @@ const REFUSALS: &[Refusal<'static>] = &[
     ),
 ];
 
-fn check_refusals(rt: &impl Abort, alloc: Global, rows: &[Refusal]) -> Result<(), Fail> {
+pub fn check_refusals(rt: &impl Abort, alloc: Global, rows: &[Refusal]) -> Result<(), Fail> {
     for &(name, want) in rows {
         let word = refused_at(&words_between(alloc, name, '|')?);
         Case { name, number: 0 }.holds(rt, word == want);
