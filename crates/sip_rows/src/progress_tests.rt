@@ -309,9 +309,11 @@ const OTHERS: &[(Given<'static>, Lines<'static>)] = &[
     ),
 ];
 
+const HEARD_NOTHING: &str = "sip: progress: waiting for the other side, 0 MiB of FROM read\n";
+
 const HEARING: Lines<'static> = Lines {
     stream: "",
-    talk: "sip: progress: waiting for the other side, 0 MiB of FROM read\n",
+    talk: HEARD_NOTHING,
 };
 
 // Both sides of a talk that they held: that of the verifier, whose first line about it is lost too,
@@ -420,7 +422,7 @@ const ASKING: &[Asking<'static>] = &[
         sip: progress: waiting for the reply of query 2 round 0\n\
         sip: progress: waiting for the reply of query 2 round 1\n",
     ),
-    ("helplook from to", &[&FOUND_2, &FOUND_2], HEARING.talk),
+    ("helplook from to", &[&FOUND_2, &FOUND_2], HEARD_NOTHING),
 ];
 
 #[test]
