@@ -309,8 +309,7 @@ A reply that is rejected has its line among the answers: rejected query K round 
   sip: progress: waiting for the reply of query K round J
   sip: progress: waiting for the other side, N MiB of FROM read
       With --progress alone, and in front of all other lines. FILE is FROM or TO. K and J are those of a rejected reply.
-      The last line is that of a helper, and of sip lookup and sip moments, before they hear anything and after each
-      64 MiB.
+      The last line is that of a helper, before it hears anything and after each 64 MiB.
 
   sip: out of memory
       Memory ran out. A helper keeps each item that is not 0, and sip verify an answer while it is told.
