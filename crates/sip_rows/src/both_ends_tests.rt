@@ -71,12 +71,12 @@ const ENDS: &[Ends<'static>] = &[
     },
 ];
 
-// The depth of a run, how many questions it asks, and whether the place of an answer comes before
-// the query about it.
-fn questions_of(alloc: Global, words: &str) -> Result<(Depth, usize, bool), Fail> {
+// The depth of a run, how many questions it asks, and how many replies to each come before its
+// challenges are due: a lookup has the place of its answer.
+fn questions_of(alloc: Global, words: &str) -> Result<(Depth, usize, usize), Fail> {
     match read_words(&words_of(alloc, words)?) {
-        Ok(Command::Lookup(task)) => Ok((task.depth, task.lookups.len(), true)),
-        Ok(Command::Moments(task)) => Ok((task.depth, task.moments.len(), false)),
+        Ok(Command::Lookup(task)) => Ok((task.depth, task.lookups.len(), 1)),
+        Ok(Command::Moments(task)) => Ok((task.depth, task.moments.len(), 0)),
         _ => Err("words of questions")?,
     }
 }
@@ -121,7 +121,7 @@ fn converse(alloc: Global, ends: Ends) -> Result<Shown, Fail> {
     };
     let mut replies = Vec::new(alloc);
     for block in challenges.chunks(depth.get() as usize).take(count) {
-        if places {
+        for _ in 0..places {
             replies = reply(alloc, ends, &replies, &[])?;
         }
         replies = reply(alloc, ends, &replies, block)?;
