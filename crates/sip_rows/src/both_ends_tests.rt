@@ -71,12 +71,11 @@ const ENDS: &[Ends<'static>] = &[
     },
 ];
 
-// The depth of a run, how many questions it asks, and how many replies to each come before its
-// challenges are due: a lookup has the place of its answer.
-fn questions_of(alloc: Global, words: &str) -> Result<(Depth, usize, usize), Fail> {
+// The depth of a run, how many questions it asks, and whether each is a lookup.
+fn questions_of(alloc: Global, words: &str) -> Result<(Depth, usize, bool), Fail> {
     match read_words(&words_of(alloc, words)?) {
-        Ok(Command::Lookup(task)) => Ok((task.depth, task.lookups.len(), 1)),
-        Ok(Command::Moments(task)) => Ok((task.depth, task.moments.len(), 0)),
+        Ok(Command::Lookup(task)) => Ok((task.depth, task.lookups.len(), true)),
+        Ok(Command::Moments(task)) => Ok((task.depth, task.moments.len(), false)),
         _ => Err("words of questions")?,
     }
 }
@@ -111,20 +110,33 @@ fn reply(alloc: Global, ends: Ends, replies: &[u8], block: &[M61]) -> Result<Vec
     sent(alloc, help(alloc, ends, &said)?.peer.talk())
 }
 
+// The replies once the next question was answered too. A lookup has two: the place of its answer
+// comes before its challenges are due.
+fn answered(
+    alloc: Global,
+    ends: Ends,
+    replies: &[u8],
+    block: &[M61],
+    is_lookup: bool,
+) -> Result<Vec<u8>, Fail> {
+    if is_lookup {
+        let placed = reply(alloc, ends, replies, &[])?;
+        return reply(alloc, ends, &placed, block);
+    }
+    reply(alloc, ends, replies, block)
+}
+
 // The asking end once all was answered, question by question: a run that lacks replies ends behind
 // the first question that has none, and the challenges that are to be revealed for it are those of
 // the seed of zeros.
 fn converse(alloc: Global, ends: Ends) -> Result<Shown, Fail> {
-    let (depth, count, places) = questions_of(alloc, ends.asking)?;
+    let (depth, count, is_lookup) = questions_of(alloc, ends.asking)?;
     let Ok(challenges) = draw_challenges::<MOST_CHALLENGES>(ZERO_SEED, MOST_CHALLENGES) else {
         return Err("challenges")?;
     };
     let mut replies = Vec::new(alloc);
     for block in challenges.chunks(depth.get() as usize).take(count) {
-        for _ in 0..places {
-            replies = reply(alloc, ends, &replies, &[])?;
-        }
-        replies = reply(alloc, ends, &replies, block)?;
+        replies = answered(alloc, ends, &replies, block, is_lookup)?;
     }
     ask(alloc, ends, &replies)
 }
