@@ -13,11 +13,35 @@ use std::test::Fail;
 // Words with a bar between them, and the text that they ask for.
 type Asked<'a> = (&'a str, Option<&'a str>);
 
-const ASKED: &[Asked<'static>] = &[
+// Words for the whole page or the version, and words for none.
+const PAGES: &[Asked<'static>] = &[
     ("--help", Some(HELP)),
     ("-h", Some(HELP)),
     ("--version", Some(VERSION)),
     ("-V", Some(VERSION)),
+    ("show|--help", None),
+    ("convert|-h", None),
+    ("-H", None),
+    ("-v", None),
+    ("-?", None),
+    ("help", None),
+    ("-h|verify", None),
+    ("--help|verify", None),
+    ("-h|-h", None),
+    ("help|--version", None),
+    ("verify|-V", None),
+    ("Audit|--help", None),
+    ("audit|--help|--help", None),
+    ("help|--help|to", None),
+    ("lines|--help|20", None),
+    ("gen|7|--help", None),
+    ("helplook|--help|to", None),
+    ("helpmom|-h|to", None),
+    ("lookups|--help", None),
+];
+
+// Words for a part. The texts of a test are checked together, and so many stand in one of their own.
+const PARTS: &[Asked<'static>] = &[
     ("verify|--help", Some(VERIFY_PART)),
     ("verify|-h", Some(VERIFY_PART)),
     ("play|--help", Some(PLAY_PART)),
@@ -40,25 +64,6 @@ const ASKED: &[Asked<'static>] = &[
     ("lines|-h", Some(LINES_PART)),
     ("widen|--help", Some(WIDEN_PART)),
     ("widen|-h", Some(WIDEN_PART)),
-    ("show|--help", None),
-    ("convert|-h", None),
-    ("-H", None),
-    ("-v", None),
-    ("-?", None),
-    ("help", None),
-    ("-h|verify", None),
-    ("--help|verify", None),
-    ("-h|-h", None),
-    ("help|--version", None),
-    ("verify|-V", None),
-    ("Audit|--help", None),
-    ("audit|--help|--help", None),
-    ("help|--help|to", None),
-    ("lines|--help|20", None),
-    ("gen|7|--help", None),
-    ("helplook|--help|to", None),
-    ("helpmom|-h|to", None),
-    ("lookups|--help", None),
 ];
 
 fn check_asked(rt: &impl Abort, alloc: Global, rows: &[Asked]) -> Result<(), Fail> {
@@ -118,8 +123,16 @@ fn check_said(rt: &impl Abort, said: &[&str]) {
 }
 
 #[test]
-fn words_ask_for_their_text_alone(rt: HostRuntime) -> Result<(), Fail> {
-    check_asked(&rt, rt.alloc(), ASKED)?;
+fn words_ask_for_the_page_alone(rt: HostRuntime) -> Result<(), Fail> {
+    check_asked(&rt, rt.alloc(), PAGES)
+}
+
+#[test]
+fn words_ask_for_their_part_alone(rt: HostRuntime) -> Result<(), Fail> {
+    check_asked(&rt, rt.alloc(), PARTS)
+}
+
+#[test]
+fn the_page_says_all(rt: HostRuntime) {
     check_said(&rt, SAID);
-    Ok(())
 }
