@@ -1,3 +1,6 @@
 mod KindBounds
 mod JointTalks
 mod Unasked
+pub mod Places
+pub mod Heard
+pub mod Attempts

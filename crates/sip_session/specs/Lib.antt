@@ -1,12 +1,9 @@
 pub mod JointCounts
 pub mod Examples
-pub mod Links
 pub mod Panels
 pub mod PanelExchanges
-pub mod PanelMoments
 pub mod PanelEnds
 pub mod PanelCounts
-pub mod PanelHonesty
 pub mod PanelExamples
 pub mod PanelClause
 pub mod inside

@@ -9,13 +9,11 @@ use Rattle.sip_verifier.specs.Statuses.{FaultClause, IsListed}
 use Rattle.sip_session.specs.PanelCounts.{JointCountOnPanel}
 use Rattle.sip_session.specs.PanelEnds.{Ends}
 use Rattle.sip_session.specs.PanelExchanges.{PanelExchange, PanelIsTold, PanelMoment, PanelTells, without_links}
-use Rattle.sip_session.specs.PanelHonesty.{AnswersAreOwn, AreDroppedRightly, IsCarried}
 use Rattle.sip_session.specs.Panels.{Attempt, AreAttempts, inquiry_of_panel}
 
--- A task was done with so many helpers, of which some are honest, each counted from 1. The ports
--- had failed so often `before`, and so often `now`.
-pub record PanelClause (helpers : ℕ) (IsHonest : ℕ → Type 0) (task : Task) (x : PanelExchange)
-    (before now : Counts) (status : Status) : Type 0 where
+-- A task was done with so many helpers. The ports had failed so often `before`, and so often `now`.
+pub record PanelClause (helpers : ℕ) (task : Task) (x : PanelExchange) (before now : Counts)
+    (status : Status) : Type 0 where
   -- who was asked what, and what came of it
   pub attempts : List Attempt
   -- A helper is asked a query only where it is left, and each lower one was dropped. The line of an
@@ -30,19 +28,13 @@ pub record PanelClause (helpers : ℕ) (IsHonest : ℕ → Type 0) (task : Task)
   -- how many challenges the helpers can win by together, and that no line of an answer is wrong but
   -- at those, whichever helper brought it about
   pub joint : JointCountOnPanel helpers task x attempts
-  -- why an honest helper is dropped
-  pub drops : AreDroppedRightly helpers IsHonest task x attempts
-  -- what one honest helper comes to
-  pub carried : IsCarried helpers IsHonest task x attempts before now status
-  -- what honest helpers alone come to
-  pub own : AnswersAreOwn helpers IsHonest task x attempts status
 
 -- all that a panel keeps, from the moment before it to the moment after
-pub record PanelRunClause (helpers : ℕ) (IsHonest : ℕ → Type 0) (task : Task)
-    (before now : PanelMoment) (status : Status) : Type 0 where
+pub record PanelRunClause (helpers : ℕ) (task : Task) (before now : PanelMoment)
+    (status : Status) : Type 0 where
   -- the promises, on the exchange that the ports tell
   pub promises : (x : PanelExchange) → PanelTells before now x
-      → PanelClause helpers IsHonest task x before.faults now.faults status
+      → PanelClause helpers task x before.faults now.faults status
   -- ports that tell go on telling, so there is such an exchange
   pub moves : PanelIsTold before → (x : PanelExchange) × PanelTells before now x
   -- whatever the ports tell, a fault of a port comes only where its own count rose

@@ -5,8 +5,7 @@
 -- byte that shows the fault, or with the end of the link, and nothing is said to it any more. Once
 -- all queries were answered, each helper that is left hears the farewell. Each attempt has a line:
 -- that of the answer, or that of the helper which was dropped.
-use Rattle.std.specs.Prelude.{◌≡◌, ◌⊎◌, ◌==◌, ◌&&◌, ℕ, suc, List, [], ◌∷◌, ◌++◌, flat_map, length, All, Option, Some, None, IfSome, if◌then◌else◌}
-use Rattle.std.specs.List.{enumerate_from}
+use Rattle.std.specs.Prelude.{◌≡◌, ◌⊎◌, ◌==◌, ◌&&◌, ◌<◌, ℕ, suc, List, [], ◌∷◌, ◌++◌, flat_map, length, slice_index_or, Option, Some, None, IfSome, if◌then◌else◌}
 use Rattle.sip_ports.specs.declared.port.TalkEvent.{TalkEvent}
 use Rattle.sip_replies.specs.Replies.{Fault}
 use Rattle.sip_replies.specs.Talks.{IsPrefix, ending}
@@ -57,9 +56,10 @@ module _ (helpers : ℕ) (task : Task) (x : PanelExchange) where
   abbrev pub all_sent : List TalkEvent
   all_sent = stream_sent (version_of task) task.depth updates
 
-  -- this holds of each helper and of all that was said on its link
+  -- this holds of each helper, counted from 1, and of all that was said on its link
   abbrev pub OfEach : (ℕ → List TalkEvent → Type 0) → Type 0
-  OfEach holds = (length x.talks ≡ helpers) × All (λ t. holds t.0 t.1) (enumerate_from 1 x.talks)
+  OfEach holds = (length x.talks ≡ helpers)
+      × ((place : ℕ) → place < helpers → holds (suc place) (slice_index_or x.talks place []))
 
   -- the stream was legal, was read to its end and was sent to each helper; then each heard its
   -- attempts, and after them what this says

@@ -2,7 +2,7 @@
 use Rattle.std.specs.Prelude.{◌≡◌, ℕ, List, [], Option, Some, None, IsSome}
 use Rattle.sip_ports.specs.declared.port.TalkEvent.{TalkEvent}
 use Rattle.sip_verifier.specs.Exchanges.{Appends, Exchange}
-use Rattle.sip_verifier.specs.Moments.{Counts}
+use Rattle.sip_verifier.specs.Moments.{Counts, counts}
 
 -- The bytes that the stream and the seed have to give, the events on each link in the order of the
 -- helpers, those on the report, and how often the stream, the seed and the report have failed. The
@@ -13,6 +13,17 @@ pub record PanelMoment : Type 0 where
   pub talks : List (List TalkEvent)
   pub report : Option (List TalkEvent)
   pub faults : Counts
+
+-- a moment, port by port: what each tells, and how often it has failed
+abbrev pub panel_moment : Option (List ℕ) → ℕ → Option (List ℕ) → ℕ → List (List TalkEvent)
+    → Option (List TalkEvent) → ℕ → PanelMoment
+panel_moment first firsts second seconds talks report reports = record {
+  first = first;
+  second = second;
+  talks = talks;
+  report = report;
+  faults = counts firsts seconds 0 reports 0;
+}
 
 -- What there was to read, all that was said on each link, in the order of the helpers, and what was
 -- written. Nothing had happened on the links before.

@@ -1,20 +1,19 @@
 //! The queries of a panel, each asked of one helper after another.
 
-ghost use Rattle.std.specs.Prelude.{◌≡◌, ◌*◌, ◌<◌, ◌≤◌, ℕ, suc, List, All, false, length, drop, map, IfOk, OnOk, Some};
-ghost use Rattle.std.specs.List.{AllZip};
-ghost use Rattle.std.specs.Option.{option_and_then};
-ghost use Rattle.sip_session.specs.Links.{link_view, talk_on};
+ghost use Rattle.std.specs.Prelude.{◌≡◌, ◌≢◌, ◌⊎◌, ◌+◌, ◌*◌, ◌-◌, ◌<◌, ◌≤◌, ℕ, suc, List, All, false, length, drop, map, set, slice_index_or, IfOk, OnOk, Some, []};
 ghost use Rattle.sip_ports.specs.Ports.{Lasts};
+ghost use Rattle.sip_ports.specs.declared.port.TalkEvent.{TalkEvent as AnyEvent};
 ghost use Rattle.sip_vector.specs.declared.query.Query.{Query as AnyQuery};
 ghost use Rattle.sip_vector.specs.declared.update.Update.{Update as AnyUpdate};
+ghost use Rattle.sip_wire.specs.Table.{most_queries};
 ghost use Rattle.sip_verifier.specs.Moments.{counts};
 ghost use Rattle.sip_verifier.specs.Questions.{asking};
 ghost use Rattle.sip_verifier.specs.QuerySeats.{StandsFor};
 ghost use Rattle.sip_verifier.specs.runs.Askers.{IsFirst};
 ghost use Rattle.sip_verifier.specs.Sittings.{asks_left, remaining_of};
 ghost use Rattle.sip_verifier.specs.Statuses.{Stops, stops_asking};
-ghost use Rattle.sip_session.specs.inside.Hearing.{StillKeeps};
-ghost use Rattle.sip_session.specs.inside.Trying.{Trails, Tries};
+ghost use Rattle.sip_session.specs.inside.Hearing.{AllTalks};
+ghost use Rattle.sip_session.specs.inside.Trying.{Leads, Trails, TrailsTo, Tries, turn_at};
 
 use sip_duel::HelperLink;
 use sip_ports::{NullSink, Sink};
@@ -28,6 +27,13 @@ pub(crate) enum Came {
     Answered,
     /// They have this first fault. The helper was dropped, and the line that says so was written.
     Dropped { round: u8, reason: Reason },
+}
+
+/// How far a panel has come: so many helpers were dropped, and so many queries answered.
+#[derive(Clone, Copy, Debug, PartialEq, Eq)]
+pub(crate) struct At {
+    pub(crate) gone: usize,
+    pub(crate) asked: u8,
 }
 
 /// Asks a helper the next query, judges the replies and writes the line of what came of it. A helper
@@ -45,19 +51,14 @@ fn ask_helper<K: Sink>(
         → All (StandsFor session.old.depth stream) session.old.left
         → IsFirst (remaining_of session.old) ask
         → Tries (asking session.old.version session.old.depth stream) ask helper number
-        (Some (talk_on (link_view link.old.kept
-        (option_and_then honest_state link.old.helper) link.old.wants.count))) (Some (talk_on (link_view link.new.kept
-        (option_and_then honest_state link.new.helper) link.new.wants.count))) (K.talk report.old) (K.talk report.new)
-        result }
+        (Some link.old.kept.talk.items) (Some link.new.kept.talk.items) (K.talk report.old)
+        (K.talk report.new) result }
     ensures next { session.new.left ≡ drop 1 session.old.left }
     ensures version { session.new.version ≡ session.old.version }
     ensures depth { session.new.depth ≡ session.old.depth }
     ensures live { OnOk result (session.new.spent ≡ false) }
     ensures fault { Stops stops_asking (counts 0 0 0 (K.faults report.old) 0)
         (counts 0 0 0 (K.faults report.new) 0) result }
-    ensures keeps { StillKeeps (link_view link.old.kept
-        (option_and_then honest_state link.old.helper) link.old.wants.count) (link_view link.new.kept
-        (option_and_then honest_state link.new.helper) link.new.wants.count) }
     ensures report { Lasts K.faults K.wants K.is_sure report.old report.new }
 {
     match session.ask_next(link, &mut NullSink::new()) {
@@ -82,80 +83,89 @@ fn skip_seats(session: &mut Session, count: usize)
     ensures depth { session.new.depth ≡ session.old.depth }
     ensures spent { session.new.spent ≡ session.old.spent }
 {
-    for _ in 0..count {
+    for passed in 0..count {
+        prove!(passed < count);
         session.skip();
     }
 }
 
-/// Asks the next query of the helpers that are left, in rising order, until the replies of one are
-/// accepted. The first `gone` were dropped before; the answer is how many are then.
+/// Asks the helper whose turn it is the query whose turn it is, at their seat: those before it are
+/// passed over. Of all seats so many are left then that no query has fewer than one for each helper.
 ///
 /// # Errors
 ///
-/// `Rejected` where all were dropped, with the place of the last fault; else how the run ends.
-fn ask_query<K: Sink>(
+/// `Rejected` where the last helper was dropped; else how the run ends.
+fn ask_at<K: Sink>(
     session: &mut Session,
     links: &mut [HelperLink],
-    gone: usize,
-    number: u8,
+    at: At,
+    queries: u8,
     report: &mut K,
-) -> Result<usize, Status>
-    requires some { gone < length links.old }
-    requires most { length links.old < 256 }
-    requires left { length links.old ≤ length session.old.left }
+) -> Result<At, Status>
+    requires gone { at.gone < length links.old }
+    requires asked { at.asked < queries }
+    requires few { queries * length links.old ≤ most_queries }
+    requires left { (queries - at.asked) * length links.old - at.gone ≤ length session.old.left }
     requires live { session.old.spent ≡ false }
-    ensures trails { (stream : List AnyUpdate)
+    ensures leads { (stream : List AnyUpdate) (asks : List (AnyQuery × List ℕ)) (old : AllTalks)
+        (blank : Option (List AnyEvent))
         → All (StandsFor session.old.depth stream) session.old.left
-        → Trails session.old.version session.old.depth stream (length links.old)
-        (asks_left session.old.left) (record { helper = suc gone; number = number })
-        (map (λ l. link_view l.kept (option_and_then honest_state l.helper) l.wants.count)
-        links.old)
-        (map (λ l. link_view l.kept (option_and_then honest_state l.helper) l.wants.count)
-        links.new) (K.talk report.old) (K.talk report.new) (suc number) result }
-    ensures gone { IfOk result (λ now. now < length links.old) }
+        → asks_left (drop (length session.old.left
+        - ((queries - at.asked) * length links.old - at.gone)) session.old.left)
+        ≡ drop (at.asked * length links.old + at.gone) asks
+        → TrailsTo session.old.version session.old.depth stream (length links.old) queries asks old
+        (map (λ l. l.kept.talk.items) links.old) blank (K.talk report.old)
+        (turn_at at.gone at.asked)
+        → Leads session.old.version session.old.depth stream (length links.old) queries asks old
+        (map (λ l. l.kept.talk.items) links.new) blank (K.talk report.new) result }
     ensures count { length links.new ≡ length links.old }
-    ensures next { OnOk result
-        (session.new.left ≡ drop (length links.old) session.old.left) }
+    ensures next { session.new.left ≡ drop (length session.old.left
+        - ((queries - at.asked) * length links.old - at.gone) + 1) session.old.left }
     ensures version { session.new.version ≡ session.old.version }
     ensures depth { session.new.depth ≡ session.old.depth }
     ensures live { OnOk result (session.new.spent ≡ false) }
-    ensures keeps { AllZip StillKeeps
-        (map (λ l. link_view l.kept (option_and_then honest_state l.helper) l.wants.count)
-        links.old)
-        (map (λ l. link_view l.kept (option_and_then honest_state l.helper) l.wants.count)
-        links.new) }
+    ensures nearer { IfOk result (λ to. (to.gone < length links.old) × (to.asked ≤ queries)
+        × (to.gone + to.asked ≡ at.gone + at.asked + 1) × (at.asked ≤ to.asked)) }
     ensures fault { Stops stops_asking (counts 0 0 0 (K.faults report.old) 0)
         (counts 0 0 0 (K.faults report.new) 0) result }
     ensures report { Lasts K.faults K.wants K.is_sure report.old report.new }
 {
-    skip_seats(session, gone);
     let helpers = links.len();
-    for helper in gone..helpers {
-        let link = &mut links[helper];
-        match ask_helper(session, link, helper as u8 + 1, number, report)? {
-            Came::Answered => {
-                skip_seats(session, helpers - helper - 1);
-                return Ok(helper);
+    let due = (queries - at.asked) as usize * helpers - at.gone;
+    let early = session.left() - due;
+    skip_seats(session, early);
+    match ask_helper(
+        session,
+        &mut links[at.gone],
+        at.gone as u8 + 1,
+        at.asked + 1,
+        report,
+    )? {
+        Came::Answered => Ok(At {
+            gone: at.gone,
+            asked: at.asked + 1,
+        }),
+        Came::Dropped { round, reason } => {
+            if at.gone + 1 == helpers {
+                return Err(Status::Rejected {
+                    query: at.asked + 1,
+                    round,
+                    reason,
+                });
             }
-            Came::Dropped { round, reason } => {
-                if helper + 1 == helpers {
-                    return Err(Status::Rejected {
-                        query: number,
-                        round,
-                        reason,
-                    });
-                }
-            }
+            Ok(At {
+                gone: at.gone + 1,
+                asked: at.asked,
+            })
         }
     }
-    unreachable!()
 }
 
 /// Asks all queries in order, each of the helpers that are left, and answers how many were dropped.
 ///
 /// # Errors
 ///
-/// `Rejected` where all were dropped; else how the run ends.
+/// `Rejected` where all were dropped, with the place of the last fault; else how the run ends.
 pub(crate) fn ask_all<K: Sink>(
     session: &mut Session,
     links: &mut [HelperLink],
@@ -163,32 +173,23 @@ pub(crate) fn ask_all<K: Sink>(
     report: &mut K,
 ) -> Result<usize, Status>
     requires some { 0 < length links.old }
-    requires most { length links.old < 256 }
-    requires queries { queries < 255 }
+    requires few { queries * length links.old ≤ most_queries }
     requires left { length session.old.left ≡ queries * length links.old }
     requires live { session.old.spent ≡ false }
     ensures trails { (stream : List AnyUpdate)
         → All (StandsFor session.old.depth stream) session.old.left
-        → Trails session.old.version session.old.depth stream (length links.old)
-        (asks_left session.old.left) (record { helper = 1; number = 1 })
-        (map (λ l. link_view l.kept (option_and_then honest_state l.helper) l.wants.count)
-        links.old)
-        (map (λ l. link_view l.kept (option_and_then honest_state l.helper) l.wants.count)
-        links.new) (K.talk report.old) (K.talk report.new) (suc queries) result }
-    ensures gone { IfOk result (λ now. now < length links.old) }
+        → Trails session.old.version session.old.depth stream (length links.old) queries
+        (asks_left session.old.left) (map (λ l. l.kept.talk.items) links.old)
+        (map (λ l. l.kept.talk.items) links.new) (K.talk report.old) (K.talk report.new) result }
+    ensures gone { IfOk result (λ gone. gone < length links.old) }
     ensures count { length links.new ≡ length links.old }
-    ensures keeps { AllZip StillKeeps
-        (map (λ l. link_view l.kept (option_and_then honest_state l.helper) l.wants.count)
-        links.old)
-        (map (λ l. link_view l.kept (option_and_then honest_state l.helper) l.wants.count)
-        links.new) }
     ensures fault { Stops stops_asking (counts 0 0 0 (K.faults report.old) 0)
         (counts 0 0 0 (K.faults report.new) 0) result }
     ensures report { Lasts K.faults K.wants K.is_sure report.old report.new }
 {
-    let mut gone = 0;
-    for asked in 0..queries {
-        gone = ask_query(session, links, gone, asked + 1, report)?;
+    let mut at = At { gone: 0, asked: 0 };
+    while at.asked < queries {
+        at = ask_at(session, links, at, queries, report)?;
     }
-    Ok(gone)
+    Ok(at.gone)
 }

@@ -1,69 +1,49 @@
 //! A stream, sent to each helper of a panel.
 
-ghost use Rattle.std.specs.Prelude.{◌≡◌, ◌≢◌, ◌⊎◌, ◌<◌, ◌≤◌, ℕ, List, [], ◌∷◌, length, map, false, IfOk, IsSome, IsTrue, Ok, Err, Some};
-ghost use Rattle.std.specs.List.{AllZip};
-ghost use Rattle.std.specs.Result.{is_err};
-ghost use Rattle.std.specs.Option.{option_and_then};
-ghost use Rattle.sip_session.specs.Links.{link_view};
+ghost use Rattle.std.specs.Prelude.{◌≡◌, ◌≢◌, ◌<◌, ◌≤◌, ◌^◌, ◌++◌, ◌∷◌, ℕ, List, [], All, length, map, pos, IfOk, OnOk, IsSome, IsTrue, Err, Some};
 ghost use Rattle.sip_ports.specs.Ports.{Lasts};
+ghost use Rattle.sip_vector.specs.declared.query.Query.{Query as AnyQuery};
+ghost use Rattle.sip_vector.specs.declared.update.Side.{Side as AnySide};
 ghost use Rattle.sip_vector.specs.declared.update.Update.{Update as AnyUpdate};
 ghost use Rattle.sip_wire.specs.declared.message.Message.TheVariants as messages;
 ghost use Rattle.sip_wire.specs.Spelling.{fits, spelling};
-ghost use Rattle.sip_wire.specs.Versions.{deepest, number_of};
+ghost use Rattle.sip_wire.specs.Table.{most_rows};
+ghost use Rattle.sip_wire.specs.Versions.{index_width};
+ghost use Rattle.sip_verifier.specs.Feeding.{due_at_end, due_with, waiting_with};
 ghost use Rattle.sip_verifier.specs.Gathering.{AreOf};
+ghost use Rattle.sip_verifier.specs.inside.Passing.{taken_with};
 ghost use Rattle.sip_verifier.specs.Moments.{counts};
+ghost use Rattle.sip_verifier.specs.QuerySeats.{HaveRoom};
 ghost use Rattle.sip_verifier.specs.Seats.{AreSeats};
 ghost use Rattle.sip_verifier.specs.Statuses.{Stops, stops_following};
-ghost use Rattle.sip_session.specs.inside.Hearing.{HearsStream, SaysAll, StillKeeps};
+ghost use Rattle.sip_session.specs.inside.Hearing.{Each, HearsStream, Says, SaysAll};
 
 use sip_duel::HelperLink;
 use sip_ports::{PortStop, Source};
 use sip_stream::Reader;
-use sip_vector::Depth;
+use sip_vector::{Depth, Update};
 use sip_verifier::{Feed, Seats, Status, Task, on_link, on_stream};
 use sip_wire::{Message, Version, encode};
 
-/// Opens the talk with each helper.
-fn open_all(links: &mut [HelperLink], feed: &mut Feed, depth: Depth) -> Result<(), PortStop>
-    requires unspent { feed.old.is_spent ≡ false }
-    requires shallow { depth ≤ deepest feed.old.version }
-    ensures talks { SaysAll
-        (map (λ l. link_view l.kept (option_and_then honest_state l.helper) l.wants.count)
-        links.old)
-        (map (λ l. link_view l.kept (option_and_then honest_state l.helper) l.wants.count)
-        links.new)
-        (spelling feed.old.version (messages.Open (number_of feed.old.version) depth)) result }
-    ensures version { feed.new.version ≡ feed.old.version }
-    ensures waiting { feed.new.waiting ≡ feed.old.waiting }
-    ensures spent { feed.new.is_spent ≡ is_err result }
+/// Sends a message to a helper.
+fn say(link: &mut HelperLink, message: &Message, version: Version) -> Result<(), PortStop>
+    requires { IsTrue (fits version message.now) }
+    ensures talk { Says link.old.kept.talk.items link.new.kept.talk.items
+        (spelling version message.now) result }
     ensures cause { result ≢ Err PortStop.Failed }
 {
-    for link in links.iter_mut() {
-        feed.begin(link, depth)?;
-    }
-    Ok(())
+    encode(message, version, link)
 }
 
-/// Sends the updates that wait as a frame to each helper. None waits then.
-fn send_all(links: &mut [HelperLink], feed: &mut Feed) -> Result<(), PortStop>
-    requires some { 0 < length feed.old.waiting }
-    ensures talks { SaysAll
-        (map (λ l. link_view l.kept (option_and_then honest_state l.helper) l.wants.count)
-        links.old)
-        (map (λ l. link_view l.kept (option_and_then honest_state l.helper) l.wants.count)
-        links.new)
-        (spelling feed.old.version (messages.Updates (record { items = feed.old.waiting })))
+/// Sends the updates that wait to a helper.
+fn copy(link: &mut HelperLink, feed: &Feed) -> Result<(), PortStop>
+    requires { 0 < length feed.now.waiting }
+    ensures talk { Says link.old.kept.talk.items link.new.kept.talk.items
+        (spelling feed.now.version (messages.Updates (record { items = feed.now.waiting })))
         result }
-    ensures version { feed.new.version ≡ feed.old.version }
-    ensures waiting { result ≡ Ok tt → feed.new.waiting ≡ [] }
-    ensures spent { feed.new.is_spent ≡ feed.old.is_spent }
     ensures cause { result ≢ Err PortStop.Failed }
 {
-    for link in links.iter_mut() {
-        feed.copy_to(link)?;
-    }
-    feed.clear();
-    Ok(())
+    feed.copy_to(link)
 }
 
 /// Sends a message to each of these helpers.
@@ -73,15 +53,106 @@ pub(crate) fn say_all(
     version: Version,
 ) -> Result<(), PortStop>
     requires { IsTrue (fits version message.now) }
-    ensures talks { SaysAll
-        (map (λ l. link_view l.kept (option_and_then honest_state l.helper) l.wants.count)
-        links.old)
-        (map (λ l. link_view l.kept (option_and_then honest_state l.helper) l.wants.count)
-        links.new) (spelling version message.now) result }
+    ensures talks { SaysAll (map (λ l. l.kept.talk.items) links.old)
+        (map (λ l. l.kept.talk.items) links.new) (spelling version message.now) result }
+    ensures count { length links.new ≡ length links.old }
     ensures cause { result ≢ Err PortStop.Failed }
 {
-    for link in links.iter_mut() {
-        encode(message, version, link)?;
+    for place in 0..links.len() {
+        say(&mut links[place], message, version)?;
+    }
+    Ok(())
+}
+
+/// Sends the updates that wait as a frame to each helper.
+fn copy_all(links: &mut [HelperLink], feed: &Feed) -> Result<(), PortStop>
+    requires { 0 < length feed.now.waiting }
+    ensures talks { SaysAll (map (λ l. l.kept.talk.items) links.old)
+        (map (λ l. l.kept.talk.items) links.new)
+        (spelling feed.now.version (messages.Updates (record { items = feed.now.waiting })))
+        result }
+    ensures count { length links.new ≡ length links.old }
+    ensures cause { result ≢ Err PortStop.Failed }
+{
+    for place in 0..links.len() {
+        copy(&mut links[place], feed)?;
+    }
+    Ok(())
+}
+
+/// Takes one more record of the stream, which waits for its frame. With the last one of a frame the
+/// seats take the frame's updates as a block, and it is sent to each helper.
+fn pass_on_all(
+    update: &Update,
+    feed: &mut Feed,
+    seats: &mut Seats,
+    links: &mut [HelperLink],
+) -> Result<(), PortStop>
+    requires few { length feed.old.waiting < most_rows }
+    requires fits { update.now.item < 256 ^ index_width feed.old.version }
+    requires delta { update.now.delta ≢ pos 0 }
+    requires item { update.now.item < 2 ^ seats.old.depth }
+    requires items { All (λ u. u.item < 2 ^ seats.old.depth) feed.old.waiting }
+    requires room { (side : AnySide)
+        → HaveRoom seats.old.seats (feed.old.waiting ++ update.now ∷ []) side }
+    ensures talks { SaysAll (map (λ l. l.kept.talk.items) links.old)
+        (map (λ l. l.kept.talk.items) links.new)
+        (due_with feed.old.version feed.old.waiting update.now) result }
+    ensures count { length links.new ≡ length links.old }
+    ensures version { feed.new.version ≡ feed.old.version }
+    ensures waiting { OnOk result (feed.new.waiting
+        ≡ waiting_with feed.old.waiting update.now) }
+    ensures few { OnOk result (length feed.new.waiting < most_rows) }
+    ensures items { OnOk result (All (λ u. u.item < 2 ^ seats.old.depth) feed.new.waiting) }
+    ensures depth { seats.new.depth ≡ seats.old.depth }
+    ensures stands { (depth : ℕ) (queries : List AnyQuery) (blocks : List (List ℕ))
+        (stream : List AnyUpdate)
+        → AreSeats depth queries blocks stream seats.old
+        → AreSeats depth queries blocks
+        (stream ++ taken_with feed.old.waiting update.now) seats.new }
+    ensures cause { result ≢ Err PortStop.Failed }
+{
+    feed.push(update);
+    if !feed.is_full() {
+        return Ok(());
+    }
+    seats.update_all(feed.waiting());
+    copy_all(links, feed)?;
+    feed.clear();
+    Ok(())
+}
+
+/// Sends each helper the updates that wait, where there are any, and the end of the stream.
+fn finish_all(links: &mut [HelperLink], feed: &Feed, version: Version) -> Result<(), PortStop>
+    requires { version ≡ feed.now.version }
+    requires few { length feed.now.waiting < most_rows }
+    ensures talks { SaysAll (map (λ l. l.kept.talk.items) links.old)
+        (map (λ l. l.kept.talk.items) links.new) (due_at_end version feed.now.waiting) result }
+    ensures count { length links.new ≡ length links.old }
+    ensures cause { result ≢ Err PortStop.Failed }
+{
+    if feed.waiting().is_empty() {
+        return say_all(links, &Message::EndStream, version);
+    }
+    copy_all(links, feed)?;
+    say_all(links, &Message::EndStream, version)
+}
+
+/// Says farewell to the helpers that are left: so many were dropped.
+pub(crate) fn say_bye(
+    links: &mut [HelperLink],
+    gone: usize,
+    version: Version,
+) -> Result<(), PortStop>
+    requires { gone ≤ length links.old }
+    ensures talks { Each (λ place o n. (place < gone → n ≡ o)
+        × (gone ≤ place → Says o n (spelling version messages.Bye) result))
+        (map (λ l. l.kept.talk.items) links.old) (map (λ l. l.kept.talk.items) links.new) }
+    ensures count { length links.new ≡ length links.old }
+    ensures cause { result ≢ Err PortStop.Failed }
+{
+    for place in gone..links.len() {
+        say(&mut links[place], &Message::Bye, version)?;
     }
     Ok(())
 }
@@ -103,17 +174,9 @@ pub(crate) fn follow_all<A: Source>(
     requires { AreOf task.now [] seats.old }
     ensures hears { (bytes : List ℕ) (at_blocks : List (List ℕ)) → A.left first.old ≡ Some bytes
         → AreSeats task.now.depth task.now.queries.items at_blocks [] seats.old
-        → AllZip (λ old new. HearsStream task.now bytes at_blocks (A.left first.new) seats.new old
-        new result)
-        (map (λ l. link_view l.kept (option_and_then honest_state l.helper) l.wants.count)
-        links.old)
-        (map (λ l. link_view l.kept (option_and_then honest_state l.helper) l.wants.count)
-        links.new) }
-    ensures keeps { AllZip StillKeeps
-        (map (λ l. link_view l.kept (option_and_then honest_state l.helper) l.wants.count)
-        links.old)
-        (map (λ l. link_view l.kept (option_and_then honest_state l.helper) l.wants.count)
-        links.new) }
+        → Each (λ _ o n. HearsStream task.now bytes at_blocks (A.left first.new) seats.new result o
+        n) (map (λ l. l.kept.talk.items) links.old) (map (λ l. l.kept.talk.items) links.new) }
+    ensures count { length links.new ≡ length links.old }
     ensures seats { IfOk result (λ _. (stream : List AnyUpdate) × AreOf task.now stream seats.new) }
     ensures fault { Stops stops_following (counts (A.faults first.old) 0 0 0 0)
         (counts (A.faults first.new) 0 0 0 0) result }
@@ -124,19 +187,16 @@ pub(crate) fn follow_all<A: Source>(
     prove!(levels <= Depth::MOST);
     let version = task.version();
     let mut feed = Feed::new(version);
-    on_link(open_all(links, &mut feed, task.depth))?;
+    let opening = Message::Open {
+        version: version.number(),
+        depth: levels,
+    };
+    on_link(say_all(links, &opening, version))?;
     let mut reader = Reader::new(task.depth, task.form);
     while let Some(update) = on_stream(reader.next(first))? {
-        feed.push(&update);
-        if feed.is_full() {
-            seats.update_all(feed.waiting());
-            on_link(send_all(links, &mut feed))?;
-        }
+        on_link(pass_on_all(&update, &mut feed, seats, links))?;
         feed.take_held(&mut reader, first);
     }
-    if !feed.waiting().is_empty() {
-        seats.update_all(feed.waiting());
-        on_link(send_all(links, &mut feed))?;
-    }
-    on_link(say_all(links, &Message::EndStream, version))
+    seats.update_all(feed.waiting());
+    on_link(finish_all(links, &feed, version))
 }

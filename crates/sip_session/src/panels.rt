@@ -1,29 +1,27 @@
 //! A run over several helpers.
 
-ghost use Rattle.std.specs.Prelude.{◌≡◌, ◌*◌, ◌<◌, ◌≤◌, ℕ, List, All, length, map, false, None, Some, Ok, Err, IfErr, IfOk, IsSome, MatchResult};
-ghost use Rattle.std.specs.List.{AllZip};
-ghost use Rattle.std.specs.Option.{option_and_then};
-ghost use Rattle.sip_session.specs.Links.{IsNew, link_view};
+ghost use Rattle.std.specs.Prelude.{◌≡◌, ◌≢◌, ◌*◌, ◌<◌, ◌≤◌, ℕ, List, [], All, length, map, false, None, Some, Ok, Err, IfErr, IfOk, IsSome, MatchResult};
 ghost use Rattle.sip_ports.specs.Ports.{Lasts};
 ghost use Rattle.sip_wire.specs.Table.{most_queries};
 ghost use Rattle.sip_verifier.specs.Concluding.{status_of};
 ghost use Rattle.sip_verifier.specs.Exchanges.{TakesAtMost};
+ghost use Rattle.sip_verifier.specs.inside.Passing.{left};
 ghost use Rattle.sip_verifier.specs.Moments.{counts};
-ghost use Rattle.sip_verifier.specs.Statuses.{FaultClause, IsListed};
+ghost use Rattle.sip_verifier.specs.Statuses.{FaultClause, IsListed, Stops, stops_gathering};
 ghost use Rattle.sip_verifier.specs.Tasks.{CanBeDone};
-ghost use Rattle.sip_session.specs.inside.Beginning.{Begins, by_query, task_of_seats};
-ghost use Rattle.sip_session.specs.inside.Hearing.{StillKeeps};
+ghost use Rattle.sip_session.specs.inside.Beginning.{Begins, GathersAll, by_query, task_of_seats};
 ghost use Rattle.sip_session.specs.PanelClause.{PanelRunClause};
-ghost use Rattle.sip_session.specs.PanelMoments.{honest_at, panel_moment};
+ghost use Rattle.sip_session.specs.PanelExchanges.{panel_moment};
+ghost use Rattle.sip_session.specs.Panels.{seat_queries};
 
 use crate::asking::ask_all;
 use crate::farewells::let_all_go;
-use crate::hearing::{follow_all, say_all};
+use crate::hearing::{follow_all, say_bye};
 use arrayvec::ArrayVec;
 use sip_duel::HelperLink;
 use sip_ports::{Sink, Source};
-use sip_verifier::{Session, Status, Task, draw, on_link, open};
-use sip_wire::Message;
+use sip_vector::Depth;
+use sip_verifier::{Seats, Session, Status, Task, draw, on_link, open};
 use std::alloc::Global;
 
 /// The task whose queries are those of the seats: each query once for each helper.
@@ -58,39 +56,63 @@ fn by_query(status: Status, helpers: u8) -> Status
     }
 }
 
+/// Draws the challenges of all seats, and sends the stream to each helper. The seats are left in
+/// `gathered`, as they are where the steps stop.
+fn gather_all<A: Source, B: Source>(
+    wide: &Task,
+    first: &mut A,
+    second: &mut B,
+    links: &mut [HelperLink],
+    gathered: &mut Result<Seats, Status>,
+) -> Result<(), Status>
+    requires { CanBeDone wide.now }
+    ensures gathers { (bytes seed : List ℕ) → A.left first.old ≡ Some bytes
+        → B.left second.old ≡ Some seed
+        → GathersAll wide.now bytes seed (A.left first.new)
+        (map (λ l. l.kept.talk.items) links.old) (map (λ l. l.kept.talk.items) links.new)
+        (left gathered.new result) }
+    ensures count { length links.new ≡ length links.old }
+    ensures seated { IfOk (left gathered.new result) (λ seats. (seats.depth ≡ wide.now.depth)
+        × (map (λ s. s.query) seats.seats ≡ wide.now.queries.items)) }
+    ensures fault { Stops stops_gathering
+        (counts (A.faults first.old) (B.faults second.old) 0 0 0)
+        (counts (A.faults first.new) (B.faults second.new) 0 0 0) (left gathered.new result) }
+    ensures told { IsSome (A.left first.old) → IsSome (A.left first.new) }
+    ensures first { Lasts A.faults A.wants A.is_sure first.old first.new }
+    ensures seed { TakesAtMost 32 (B.left second.old) (B.left second.new) }
+    ensures second { Lasts B.faults B.wants B.is_sure second.old second.new }
+{
+    draw(wide, second, gathered)?;
+    if let Ok(seats) = gathered {
+        follow_all(wide, seats, first, links)?;
+    }
+    Ok(())
+}
+
 /// The session of all seats, once the stream was sent to each helper.
 fn begin<A: Source, B: Source>(
     alloc: Global,
-    task: &Task,
+    wide: &Task,
     first: &mut A,
     second: &mut B,
     links: &mut [HelperLink],
 ) -> Result<Box<Session>, Status>
-    requires done { CanBeDone task.now }
+    requires done { CanBeDone wide.now }
     requires some { 0 < length links.old }
-    requires few { length links.old * length task.now.queries.items ≤ most_queries }
+    requires few { length links.old ≤ most_queries }
     ensures begins { (bytes seed : List ℕ) → A.left first.old ≡ Some bytes
         → B.left second.old ≡ Some seed
         → MatchResult result
-        (λ session. Begins (length links.old) task.now bytes seed (A.left first.new)
-        (map (λ l. link_view l.kept (option_and_then honest_state l.helper) l.wants.count)
-        links.old)
-        (map (λ l. link_view l.kept (option_and_then honest_state l.helper) l.wants.count)
-        links.new) (Ok session.value))
-        (λ status. Begins (length links.old) task.now bytes seed (A.left first.new)
-        (map (λ l. link_view l.kept (option_and_then honest_state l.helper) l.wants.count)
-        links.old)
-        (map (λ l. link_view l.kept (option_and_then honest_state l.helper) l.wants.count)
-        links.new) (Err status)) }
+        (λ session. Begins wide.now bytes seed (A.left first.new)
+        (map (λ l. l.kept.talk.items) links.old) (map (λ l. l.kept.talk.items) links.new)
+        (length links.old) (Ok session.value))
+        (λ status. Begins wide.now bytes seed (A.left first.new)
+        (map (λ l. l.kept.talk.items) links.old) (map (λ l. l.kept.talk.items) links.new)
+        (length links.old) (Err status)) }
     ensures left { IfOk result (λ session.
-        length session.value.left ≡ length links.old * length task.now.queries.items) }
+        length session.value.left ≡ length wide.now.queries.items) }
     ensures live { IfOk result (λ session. session.value.spent ≡ false) }
     ensures count { length links.new ≡ length links.old }
-    ensures keeps { AllZip StillKeeps
-        (map (λ l. link_view l.kept (option_and_then honest_state l.helper) l.wants.count)
-        links.old)
-        (map (λ l. link_view l.kept (option_and_then honest_state l.helper) l.wants.count)
-        links.new) }
     ensures fault { IfErr result (λ status. IsListed status × FaultClause
         (counts (A.faults first.old) (B.faults second.old) 0 0 0)
         (counts (A.faults first.new) (B.faults second.new) 0 0 0) status) }
@@ -99,16 +121,13 @@ fn begin<A: Source, B: Source>(
     ensures seed { TakesAtMost 32 (B.left second.old) (B.left second.new) }
     ensures second { Lasts B.faults B.wants B.is_sure second.old second.new }
 {
-    let helpers = links.len();
-    let wide = seats_task(task, helpers);
+    let levels = wide.depth.get();
+    prove!(levels <= Depth::MOST);
     let mut gathered = Err(Status::SeedSpent);
-    draw(&wide, second, &mut gathered)?;
-    if let Ok(seats) = &mut gathered {
-        follow_all(&wide, seats, first, links)?;
-    }
+    gather_all(wide, first, second, links, &mut gathered)?;
     match open(alloc, wide.version(), &mut gathered) {
         Ok(session) => Ok(session),
-        Err(status) => Err(by_query(status, helpers as u8)),
+        Err(status) => Err(by_query(status, links.len() as u8)),
     }
 }
 
@@ -124,20 +143,14 @@ fn steps<A: Source, B: Source, K: Sink>(
     requires done { CanBeDone task.now }
     requires some { 0 < length links.old }
     requires few { length links.old * length task.now.queries.items ≤ most_queries }
-    requires new { All IsNew
-        (map (λ l. link_view l.kept (option_and_then honest_state l.helper) l.wants.count)
-        links.old) }
-    ensures keeps { PanelRunClause (length links.old) (honest_at
-        (map (λ l. link_view l.kept (option_and_then honest_state l.helper) l.wants.count)
-        links.old)) task.now
+    requires new { All (λ l. l.kept.talk.items ≡ []) links.old }
+    ensures keeps { PanelRunClause (length links.old) task.now
         (panel_moment (A.left first.old) (A.faults first.old) (B.left second.old)
-        (B.faults second.old)
-        (map (λ l. link_view l.kept (option_and_then honest_state l.helper) l.wants.count)
-        links.old) (K.talk report.old) (K.faults report.old))
+        (B.faults second.old) (map (λ l. l.kept.talk.items) links.old) (K.talk report.old)
+        (K.faults report.old))
         (panel_moment (A.left first.new) (A.faults first.new) (B.left second.new)
-        (B.faults second.new)
-        (map (λ l. link_view l.kept (option_and_then honest_state l.helper) l.wants.count)
-        links.new) (K.talk report.new) (K.faults report.new))
+        (B.faults second.new) (map (λ l. l.kept.talk.items) links.new) (K.talk report.new)
+        (K.faults report.new))
         (status_of result) }
     ensures count { length links.new ≡ length links.old }
     ensures first { Lasts A.faults A.wants A.is_sure first.old first.new }
@@ -145,10 +158,46 @@ fn steps<A: Source, B: Source, K: Sink>(
     ensures second { Lasts B.faults B.wants B.is_sure second.old second.new }
     ensures report { Lasts K.faults K.wants K.is_sure report.old report.new }
 {
-    let mut session = begin(alloc, task, first, second, links)?;
+    let levels = task.depth.get();
+    prove!(levels >= 1 && levels <= Depth::MOST);
+    let wide = seats_task(task, links.len());
+    let mut session = begin(alloc, &wide, first, second, links)?;
     let queries = task.queries.len() as u8;
     let gone = ask_all(&mut *session, links, queries, report)?;
-    on_link(say_all(&mut links[gone..], &Message::Bye, task.version()))
+    on_link(say_bye(links, gone, task.version()))
+}
+
+/// The steps, with the status that they end with.
+fn run<A: Source, B: Source, K: Sink>(
+    alloc: Global,
+    task: &Task,
+    first: &mut A,
+    second: &mut B,
+    links: &mut [HelperLink],
+    report: &mut K,
+) -> Status
+    requires done { CanBeDone task.now }
+    requires some { 0 < length links.old }
+    requires few { length links.old * length task.now.queries.items ≤ most_queries }
+    requires new { All (λ l. l.kept.talk.items ≡ []) links.old }
+    ensures keeps { PanelRunClause (length links.old) task.now
+        (panel_moment (A.left first.old) (A.faults first.old) (B.left second.old)
+        (B.faults second.old) (map (λ l. l.kept.talk.items) links.old) (K.talk report.old)
+        (K.faults report.old))
+        (panel_moment (A.left first.new) (A.faults first.new) (B.left second.new)
+        (B.faults second.new) (map (λ l. l.kept.talk.items) links.new) (K.talk report.new)
+        (K.faults report.new))
+        result }
+    ensures count { length links.new ≡ length links.old }
+    ensures first { Lasts A.faults A.wants A.is_sure first.old first.new }
+    ensures seed { TakesAtMost 32 (B.left second.old) (B.left second.new) }
+    ensures second { Lasts B.faults B.wants B.is_sure second.old second.new }
+    ensures report { Lasts K.faults K.wants K.is_sure report.old report.new }
+{
+    match steps(alloc, task, first, second, links, report) {
+        Ok(()) => Status::Accepted,
+        Err(status) => status,
+    }
 }
 
 /// Does a task over links to several helpers, which hear the same stream: draws a block of challenges
@@ -175,20 +224,14 @@ pub fn panel<A: Source, B: Source, K: Sink>(
     requires done { CanBeDone task.now }
     requires some { 0 < length links.old.items }
     requires few { length links.old.items * length task.now.queries.items ≤ most_queries }
-    requires new { All IsNew
-        (map (λ l. link_view l.kept (option_and_then honest_state l.helper) l.wants.count)
-        links.old.items) }
-    ensures keeps { PanelRunClause (length links.old.items) (honest_at
-        (map (λ l. link_view l.kept (option_and_then honest_state l.helper) l.wants.count)
-        links.old.items)) task.now
+    requires new { All (λ l. l.kept.talk.items ≡ []) links.old.items }
+    ensures keeps { PanelRunClause (length links.old.items) task.now
         (panel_moment (A.left first.old) (A.faults first.old) (B.left second.old)
-        (B.faults second.old)
-        (map (λ l. link_view l.kept (option_and_then honest_state l.helper) l.wants.count)
-        links.old.items) (K.talk report.old) (K.faults report.old))
+        (B.faults second.old) (map (λ l. l.kept.talk.items) links.old.items) (K.talk report.old)
+        (K.faults report.old))
         (panel_moment (A.left first.new) (A.faults first.new) (B.left second.new)
-        (B.faults second.new)
-        (map (λ l. link_view l.kept (option_and_then honest_state l.helper) l.wants.count)
-        links.new.items) (K.talk report.new) (K.faults report.new))
+        (B.faults second.new) (map (λ l. l.kept.talk.items) links.new.items) (K.talk report.new)
+        (K.faults report.new))
         result }
     ensures gone { All (λ link. link.helper ≡ None) links.new.items }
     ensures count { length links.new.items ≡ length links.old.items }
@@ -197,10 +240,7 @@ pub fn panel<A: Source, B: Source, K: Sink>(
     ensures second { Lasts B.faults B.wants B.is_sure second.old second.new }
     ensures report { Lasts K.faults K.wants K.is_sure report.old report.new }
 {
-    let status = match steps(alloc, task, first, second, links.as_mut_slice(), report) {
-        Ok(()) => Status::Accepted,
-        Err(status) => status,
-    };
+    let status = run(alloc, task, first, second, links.as_mut_slice(), report);
     let_all_go(links.as_mut_slice());
     status
 }

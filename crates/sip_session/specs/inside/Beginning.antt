@@ -1,8 +1,6 @@
 -- What a call did that begins a panel: it drew the challenges of all seats, sent the stream to each
 -- helper and made the session. (For the proof of `panel` alone.)
 use Rattle.std.specs.Prelude.{◌≡◌, ℕ, ◌+◌, ◌-◌, ◌/◌, List, Option, Some, Result, Ok, Err}
-use Rattle.std.specs.List.{AllZip}
-use Rattle.sip_session.specs.Links.{talk_on, LinkView}
 use Rattle.sip_verifier.specs.declared.status.Status.{Status}
 use Rattle.sip_verifier.specs.declared.status.Status.TheVariants as statuses
 use Rattle.sip_verifier.specs.declared.task.Task.{Task}
@@ -12,7 +10,7 @@ use Rattle.sip_verifier.specs.Seats.{Seating}
 use Rattle.sip_verifier.specs.Sittings.{Sitting, Starts}
 use Rattle.sip_verifier.specs.Tasks.{version_of}
 use Rattle.sip_verifier.specs.Widths.{first_wide_seat}
-use Rattle.sip_session.specs.inside.Hearing.{IsPassedInPart}
+use Rattle.sip_session.specs.inside.Hearing.{AllTalks, Each, IsPassedInPart}
 use Rattle.sip_session.specs.Panels.{seat_queries}
 
 -- the task whose queries are those of the seats
@@ -29,24 +27,29 @@ abbrev pub by_query : ℕ → Status → Status
 by_query helpers (statuses.TooWide seat) = statuses.TooWide (query_of_seat helpers seat)
 by_query helpers status = status
 
-module _ (helpers : ℕ) (task : Task) (bytes seed : List ℕ) (left : Option (List ℕ))
-    (old new : List LinkView) where
+-- for a task whose queries are those of the seats
+module _ (wide : Task) (bytes seed : List ℕ) (left : Option (List ℕ)) (old new : AllTalks) where
   -- the seed gives challenges, each helper heard the whole stream, and the seats stand for it
   pub record IsHeard (seats : Seating) : Type 0 where
     pub challenges : List ℕ
-    pub draws : drawn (task_of_seats helpers task) seed ≡ Some challenges
-    pub each : AllZip (λ o n. IsPassedOn (task_of_seats helpers task) bytes
-        (blocks (task_of_seats helpers task) challenges) left (Some (talk_on o)) (Some (talk_on n))
-        seats) old new
+    pub draws : drawn wide seed ≡ Some challenges
+    pub each : Each (λ _ o n. IsPassedOn wide bytes (blocks wide challenges) left (Some o) (Some n) seats)
+        old new
 
-  -- the session has all seats; or why there is none, and what each helper heard
-  abbrev pub Begins : Result Sitting Status → Type 0
-  Begins (Ok session) = (seats : Seating) × IsHeard seats
-      × Starts (version_of task) seats (Ok session)
-  Begins (Err (statuses.TooWide query)) = (seats : Seating) × IsHeard seats × (seat : ℕ)
+  -- the seats stand for the stream; or why there are none, and what each helper heard
+  abbrev pub GathersAll : Result Seating Status → Type 0
+  GathersAll (Ok seats) = IsHeard seats
+  GathersAll (Err statuses.OutOfMemory) = Each (λ _ o n. IsPassedInPart wide bytes o n) old new
+  GathersAll (Err status) =
+      Each (λ _ o n. Refuses wide bytes seed (Some o) (Some n) status) old new
+
+  -- The session has all seats; or why there is none, and what each helper heard. A query whose answer
+  -- may be too wide is named by its own number.
+  abbrev pub Begins : ℕ → Result Sitting Status → Type 0
+  Begins helpers (Ok session) = (seats : Seating) × IsHeard seats
+      × Starts (version_of wide) seats (Ok session)
+  Begins helpers (Err (statuses.TooWide query)) = (seats : Seating) × IsHeard seats × (seat : ℕ)
       × (first_wide_seat seats.seats ≡ Some seat) × (query ≡ query_of_seat helpers seat)
-  Begins (Err statuses.OutOfMemory) =
-      AllZip (IsPassedInPart (task_of_seats helpers task) bytes) old new
-  Begins (Err status) = AllZip
-      (λ o n. Refuses (task_of_seats helpers task) bytes seed (Some (talk_on o)) (Some (talk_on n))
-      status) old new
+  Begins helpers (Err statuses.OutOfMemory) = Each (λ _ o n. IsPassedInPart wide bytes o n) old new
+  Begins helpers (Err status) =
+      Each (λ _ o n. Refuses wide bytes seed (Some o) (Some n) status) old new
