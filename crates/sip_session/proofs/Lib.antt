@@ -4,3 +4,5 @@ mod Unasked
 pub mod Places
 pub mod Heard
 pub mod Attempts
+pub mod Seats
+pub mod JointPanels

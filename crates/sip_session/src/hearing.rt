@@ -124,7 +124,7 @@ fn pass_on_all(
 
 /// Sends each helper the updates that wait, where there are any, and the end of the stream.
 fn finish_all(links: &mut [HelperLink], feed: &Feed, version: Version) -> Result<(), PortStop>
-    requires { version ≡ feed.now.version }
+    requires version { version ≡ feed.now.version }
     requires few { length feed.now.waiting < most_rows }
     ensures talks { SaysAll (map (λ l. l.kept.talk.items) links.old)
         (map (λ l. l.kept.talk.items) links.new) (due_at_end version feed.now.waiting) result }
