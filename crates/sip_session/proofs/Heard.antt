@@ -1,8 +1,12 @@
 -- What one helper heard of a stream that is sent to several: of what a call did on all links, this is
 -- what it did on one.
-use Rattle.std.proofs.Common.{◌≡◌, ◌≢◌, ℕ, ◌<◌, ◌≤◌, ◌⊎◌, List, [], ◌∷◌, ◌++◌, length, take, Option, Some, None, Result, Ok, Err, inl, inr, refl, sym, ap, ◌∙◌, subst, arith, take_all, append-nil}
-use Rattle.std.specs.Prelude.{MatchResult}
+use Rattle.std.proofs.Common.{◌≡◌, ◌≢◌, ℕ, ◌+◌, ◌<◌, ◌≤◌, ◌⊎◌, List, [], ◌∷◌, ◌++◌, length, take, Option, Some, None, Result, Ok, Err, inl, inr, refl, sym, ap, ◌∙◌, subst, arith, take_all, take_at, append-nil, append_assoc}
+use Rattle.std.specs.Prelude.{IfOk}
+use Rattle.std.proofs.Math.Seq.{take-append-add}
 use Rattle.std.proofs.lemmas.Bool.{cases_lt}
+use Rattle.std.proofs.lemmas.List.{take-append-le}
+use Rattle.sip_ports.proofs.TalkLemmas.{outs-append}
+use Rattle.std.specs.Io.KnownBytes.{Consumes}
 use Rattle.sip_ports.specs.declared.port.PortStop.{PortStop}
 use Rattle.sip_ports.specs.declared.port.PortStop.TheVariants as port_stops
 use Rattle.sip_ports.specs.declared.port.TalkEvent.{TalkEvent}
@@ -10,10 +14,11 @@ use Rattle.sip_ports.specs.Ports.{SendsWhole, outs}
 use Rattle.sip_replies.specs.Talks.{IsPrefix}
 use Rattle.sip_stream.specs.declared.fault.StreamFault.{StreamFault}
 use Rattle.sip_stream.specs.declared.fault.StreamFault.TheVariants as faults
-use Rattle.sip_stream.specs.Reading.{Reading, Reads}
+use Rattle.sip_stream.specs.Reading.{HasRead, IsAfter, Reading, Reads}
 use Rattle.sip_vector.specs.declared.update.Update.{Update}
 use Rattle.sip_wire.specs.declared.message.Message.TheVariants as messages
 use Rattle.sip_wire.specs.Spelling.{spelling}
+use Rattle.sip_wire.specs.Table.{most_rows}
 use Rattle.sip_wire.specs.Versions.{number_of}
 use Rattle.sip_verifier.specs.declared.status.Port.TheVariants as ports
 use Rattle.sip_verifier.specs.declared.status.Status.{Status}
@@ -29,7 +34,8 @@ use Rattle.sip_verifier.specs.inside.Sending.{IsSentBut, IsStopped}
 use Rattle.sip_verifier.specs.Seats.{AreSeats, Seating}
 use Rattle.sip_verifier.specs.Tasks.{version_of}
 use Rattle.sip_verifier.specs.Talks.{stream_sent}
-use Rattle.sip_verifier.proofs.Gathered.{IsUnderway, begins, goes_on, passed_on, reading_stops, refuses, stops_after, stops_at_end, stops_first}
+use Rattle.sip_verifier.proofs.Gathered.{IsUnderway, begins, goes_on, goes_on_many, passed_on, reading_stops, refuses, stops_after, stops_at_end, stops_first}
+use Rattle.sip_verifier.proofs.QueriesChecked.{OnLink}
 use Rattle.sip_verifier.proofs.StreamSending as sending
 use Rattle.sip_verifier.proofs.StreamSending.{at_end, one_more, opened, stopped, stopped_in_opening}
 use Rattle.sip_session.specs.inside.Beginning.{GathersAll, IsHeard}
@@ -49,6 +55,26 @@ whole_or_cut old new bytes e (n, went) = elim (cases_lt n (length bytes)) [
   | inl less ↦ inr (n, less, went)
   | inr all ↦ inl (went ∙ ap (λ l. old ++ outs l) (take_all n bytes all))
 ]
+
+-- two sends in turn, the first of which sent all
+pub says_then : (old mid new : List TalkEvent) (xs ys : List ℕ) (r : Result (Unit {0}) PortStop) → mid ≡ old ++ outs xs → Says mid new ys r → Says old new (xs ++ ys) r
+says_then old mid new xs ys (Ok x) front went =
+    went ∙ ap (λ l. l ++ outs ys) front ∙ append_assoc old (outs xs) (outs ys) ∙ ap (λ l. old ++ l) (sym (outs-append xs ys))
+says_then old mid new xs ys (Err e) front (n, went) = (
+  length xs + n,
+  went ∙ ap (λ l. l ++ outs (take n ys)) front ∙ append_assoc old (outs xs) (outs (take n ys)) ∙ ap (λ l. old ++ l) (sym (outs-append xs (take n ys))) ∙ ap (λ l. old ++ outs l) (sym (take-append-add xs ys n)),
+)
+
+-- the first one stopped
+pub says_short : (old new : List TalkEvent) (xs ys : List ℕ) (e : PortStop) → Says old new xs (Err e) → Says old new (xs ++ ys) (Err e)
+says_short old new xs ys e (n, went) = elim (cases_lt n (length xs)) [
+  | inl less ↦ (n, went ∙ ap (λ l. old ++ outs l) (sym (take-append-le n xs ys (omega arith))))
+  | inr all ↦ (length xs, went ∙ ap (λ l. old ++ outs l) (take_all n xs all ∙ sym (take_at xs ys (length xs) refl)))
+]
+
+-- nothing was sent
+pub says_nothing : (talk : List TalkEvent) → Says talk talk [] (Ok tt)
+says_nothing talk = sym (append-nil talk)
 
 -- ---- the stream, on one link
 
@@ -96,6 +122,26 @@ module _ (task : Task) (bytes : List ℕ) (start : List TalkEvent) (first : Seat
           (at_end (version_of task) task.depth (Some start) (Some now) (Some new) so.stream waiting (Err e) so.said went))
     ]
 
+  -- before the first record
+  pub heard_first : (left : Option (List ℕ)) (now : List TalkEvent) (reader : Reading) (waiting : List Update) → left ≡ Some bytes → IsAfter reader [] → waiting ≡ []
+      → Says start now (spelling (version_of task) (messages.Open (number_of (version_of task)) task.depth)) (Ok tt) → IsUnderway task bytes at_blocks left (Some start) (Some now) reader first waiting
+  heard_first left now reader waiting all after none went =
+      begins task bytes (Some start) first at_blocks has left (Some now) reader waiting all after
+      (subst (IsSentBut (version_of task) task.depth (Some start) (Some now) []) (sym none) (opened (version_of task) task.depth (Some start) (Some now) went))
+
+  -- after one more record was passed on, and those that the source held were read
+  pub heard_more : (left left' last : Option (List ℕ)) (now new : List TalkEvent) (reader reader' later : Reading) (seats seats' : Seating) (waiting waiting' more us : List Update) (u : Update) (taken : List ℕ)
+      (so : IsUnderway task bytes at_blocks left (Some start) (Some now) reader seats waiting) → Reads task.depth task.form so.stream so.rest left' (Ok (Some u)) → IsAfter reader' (so.stream ++ u ∷ [])
+      → Says now new (due_with (version_of task) waiting u) (Ok tt) → AreSeats task.depth task.queries.items at_blocks (so.said.sent ++ taken_with waiting u) seats' → waiting' ≡ waiting_with waiting u
+      → reader'.depth ≡ task.depth → reader'.form ≡ task.form → HasRead reader' later taken us → Consumes left' last taken → more ≡ waiting' ++ us → length more < most_rows
+      → IsUnderway task bytes at_blocks last (Some start) (Some new) later seats' more
+  heard_more left left' last now new reader reader' later seats seats' waiting waiting' more us u taken so reads after went stand same depth form had took grown few =
+      let moved = on_said left left' now new reader seats waiting so u went in
+      let placed = subst (λ l. AreSeats task.depth task.queries.items at_blocks l seats') (sym moved.longer) stand in
+      let next = subst (IsUnderway task bytes at_blocks left' (Some start) (Some new) reader' seats') (sym same)
+      (goes_on task bytes (Some start) first at_blocks has left left' (Some now) (Some new) reader reader' seats seats' waiting (waiting_with waiting u) u so reads after moved.said placed) in
+      goes_on_many task bytes (Some start) first at_blocks has left' last (Some new) reader' later seats' waiting' more us taken next depth form had took grown few
+
   -- no record was read
   pub stream_stops : (left left' : Option (List ℕ)) (now : List TalkEvent) (reader : Reading) (seats last : Seating) (waiting : List Update) (fault : StreamFault)
       (so : IsUnderway task bytes at_blocks left (Some start) (Some now) reader seats waiting) → Reads task.depth task.form so.stream so.rest left' (Err fault)
@@ -109,6 +155,25 @@ pub link_stops : (task : Task) (bytes : List ℕ) (at_blocks : List (List ℕ)) 
     → IsPassedInPart task bytes start now → HearsStream task bytes at_blocks left seats (Err (status_of_link port)) start now
 link_stops task bytes at_blocks left seats start now r port_stops.Failed is never part = absurd (never is)
 link_stops task bytes at_blocks left seats start now r port_stops.OutOfMemory is never part = part
+
+-- the rest of the stream and its end, whatever came of sending them
+pub at_last : (task : Task) (bytes : List ℕ) (start : List TalkEvent) (first : Seating) (at_blocks : List (List ℕ)) (has : AreSeats task.depth task.queries.items at_blocks [] first)
+    (left left' : Option (List ℕ)) (now new : List TalkEvent) (reader : Reading) (seats seats' : Seating) (waiting : List Update)
+    (so : IsUnderway task bytes at_blocks left (Some start) (Some now) reader seats waiting) (sent : Result (Unit {0}) PortStop) (r : Result (Unit {0}) Status) → OnLink sent r → sent ≢ Err port_stops.Failed
+    → Reads task.depth task.form so.stream so.rest left' (Ok None) → Says now new (due_at_end (version_of task) waiting) sent → AreSeats task.depth task.queries.items at_blocks (so.said.sent ++ waiting) seats'
+    → HearsStream task bytes at_blocks left' seats' r start new
+at_last task bytes start first at_blocks has left left' now new reader seats seats' waiting so (Ok x) (Ok y) on never reads said stand =
+    on_end task bytes start first at_blocks has left left' now new reader seats waiting so seats' reads said stand
+at_last task bytes start first at_blocks has left left' now new reader seats seats' waiting so (Ok x) (Err status) (port, is, same) never reads said stand = absurd cc
+at_last task bytes start first at_blocks has left left' now new reader seats seats' waiting so (Err e) (Ok y) on never reads said stand = absurd cc
+at_last task bytes start first at_blocks has left left' now new reader seats seats' waiting so (Err e) (Err status) (port, is, same) never reads said stand =
+    subst (λ (s : Status). HearsStream task bytes at_blocks left' seats' (Err s) start new) (sym same)
+    (link_stops task bytes at_blocks left' seats' start new (Err e) port is never (part_at_end task bytes start first at_blocks has left left' now new reader seats waiting so seats' e reads said stand))
+
+-- what holds whatever came holds where it went well
+pub if_ok : {T E : Type 0} (r : Result T E) (P : Type 0) → P → IfOk r (λ _. P)
+if_ok (Ok x) P p = p
+if_ok (Err e) P p = tt
 
 -- ---- behind the draw
 

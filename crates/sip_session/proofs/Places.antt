@@ -1,7 +1,8 @@
 -- What holds at each place of some links, as one after another says the same.
-use Rattle.std.proofs.Common.{◌≡◌, ◌≢◌, ◌⊎◌, ℕ, suc, ◌+◌, ◌<◌, ◌≤◌, List, [], ◌∷◌, ◌++◌, length, map, set, get_or, take, inl, inr, refl, sym, ap, ◌∙◌, subst, arith, append-nil, append_assoc, get_or-set_same, get_or-set_other, length-set, take_all}
+use Rattle.std.proofs.Common.{All, ◌≡◌, ◌≢◌, ◌⊎◌, ℕ, suc, ◌+◌, ◌<◌, ◌≤◌, List, [], ◌∷◌, ◌++◌, length, map, set, get_or, take, inl, inr, refl, sym, ap, ◌∙◌, subst, arith, append-nil, append_assoc, get_or-set_same, get_or-set_other, length-set, take_all}
 use Rattle.std.specs.Prelude.{Result, Ok, Err}
-use Rattle.std.proofs.lemmas.List.{map-set, get_or-map, get_or_default, length-map}
+use Rattle.std.proofs.lemmas.List.{map-set, get_or-map, length-map, set-get_or, take_more_set}
+use Rattle.std.proofs.lemmas.List.Elements.{All-push}
 use Rattle.std.proofs.lemmas.Bool.{cases_eq, cases_lt}
 use Rattle.sip_ports.specs.declared.port.PortStop.{PortStop}
 use Rattle.sip_ports.specs.declared.port.TalkEvent.{TalkEvent}
@@ -89,3 +90,43 @@ module _ {L : Type 0} (talk : L → List TalkEvent) where
   -- all links after one was written to
   pub told_set : (links : List L) (i : ℕ) (one : L) → map talk (set links i one) ≡ set (map talk links) i (talk one)
   told_set links i one = map-set talk links i one
+
+  -- a place of the one list is one of the other
+  pub within : (links others : List L) (k : ℕ) → length others ≡ length links → k < length (map talk links) → k < length (map talk others)
+  within links others k same less = omega (arith, length-map links talk, length-map others talk)
+
+  pub told_length : (links others : List L) → length others ≡ length links → length (map talk others) ≡ length (map talk links)
+  told_length links others same = length-map others talk ∙ same ∙ sym (length-map links talk)
+
+  -- one link said more
+  pub links_more : (old : AllTalks) (links : List L) (from i : ℕ) (said : List TalkEvent) → SaidUpTo old (map talk links) from i said → from ≤ i → i < length links
+      → (one read : L) → talk one ≡ talk (get_or links i read) ++ said → SaidUpTo old (map talk (set links i one)) from (i + 1) said
+  links_more old links from i said so least less one read is =
+      let size : length (map talk links) ≡ length links = length-map links talk in
+      subst (λ l. SaidUpTo old l from (i + 1) said) (sym (told_set links i one))
+      (said_more old (map talk links) from i said so least (omega arith) (talk one) (is ∙ ap (λ l. l ++ said) (sym (get_or-map talk links i read [] less))))
+
+  -- one link stopped
+  pub links_cut : (old : AllTalks) (links : List L) (from i : ℕ) (bytes : List ℕ) (e other : PortStop) → SaidUpTo old (map talk links) from i (outs bytes) → from ≤ i → i < length links
+      → (one read : L) → Says (talk (get_or links i read)) (talk one) bytes (Err e)
+      → Each (λ place o n. (place < from → n ≡ o) × (from ≤ place → Says o n bytes (Err other))) old (map talk (set links i one))
+  links_cut old links from i bytes e other so least less one read is =
+      let size : length (map talk links) ≡ length links = length-map links talk in
+      subst (Each (λ place o n. (place < from → n ≡ o) × (from ≤ place → Says o n bytes (Err other))) old) (sym (told_set links i one))
+      (cut_said old (map talk links) from i bytes other so least (omega arith) (talk one) (is.0, is.1 ∙ ap (λ l. l ++ outs (take is.0 bytes)) (sym (get_or-map talk links i read [] less))))
+
+  -- what one link tells stays
+  pub links_same : (links : List L) (i : ℕ) (one read : L) → i < length links → talk one ≡ talk (get_or links i read) → map talk (set links i one) ≡ map talk links
+  links_same links i one read less is =
+      told_set links i one ∙ ap (set (map talk links) i) (is ∙ sym (get_or-map talk links i read [] less)) ∙ set-get_or (map talk links) i []
+
+-- on all links
+pub on_all : (old new : AllTalks) (bytes : List ℕ) (r : Result (Unit {0}) PortStop) → Each (λ place o n. (place < 0 → n ≡ o) × (0 ≤ place → Says o n bytes r)) old new → SaysAll old new bytes r
+on_all old new bytes r each = λ k less. (each k less).1 (omega arith)
+
+-- what holds of the first links holds of one more
+pub all_more : {L : Type 0} (links : List L) (i : ℕ) (one : L) (P : L → Type 0) → i < length links → All P (take i links) → P one → All P (take (i + 1) (set links i one))
+all_more links i one P less all here = subst (All P) (sym (take_more_set links i one less)) (All-push P (take i links) one all here)
+
+pub all_taken : {L : Type 0} (links : List L) (i : ℕ) (P : L → Type 0) → length links ≤ i → All P (take i links) → All P links
+all_taken links i P enough all = subst (All P) (take_all i links enough) all

@@ -31,7 +31,7 @@ fn seats_task(task: &Task, helpers: usize) -> Task
 {
     let mut queries = ArrayVec::new();
     for query in task.queries.iter() {
-        for _ in 0..helpers {
+        for _seat in 0..helpers {
             queries.push(*query);
         }
     }
