@@ -5,5 +5,9 @@ pub mod Places
 pub mod Heard
 pub mod Tries
 pub mod Attempts
+pub mod Asked
 pub mod Seats
 pub mod JointPanels
+pub mod Begun
+pub mod PanelEndings
+pub mod PanelRuns

@@ -82,7 +82,7 @@ zero_div h = omega (arith, div-le_self 0 h)
 zero_over : (s h : ℕ) → 1 ≡ s → (s - 1) / h ≡ 0
 zero_over s h e = let none : s - 1 ≡ 0 = omega arith in rw none (zero_div h)
 
-first_some : (tests : List Bool) (n : ℕ) → first_true tests ≡ Some n → 1 ≤ n
+pub first_some : (tests : List Bool) (n : ℕ) → first_true tests ≡ Some n → 1 ≤ n
 first_some [] n e = absurd cc
 first_some (true ∷ tests) n e = let same : 1 ≡ n = cc in omega (arith, same)
 first_some (false ∷ tests) n e = go (first_true tests) e

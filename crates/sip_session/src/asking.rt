@@ -112,6 +112,7 @@ fn ask_at<K: Sink>(
         → asks_left (drop (length session.old.left
         - ((queries - at.asked) * length links.old - at.gone)) session.old.left)
         ≡ drop (at.asked * length links.old + at.gone) asks
+        → length old ≡ length links.old
         → TrailsTo session.old.version session.old.depth stream (length links.old) queries asks old
         (map (λ l. l.kept.talk.items) links.old) blank (K.talk report.old)
         (turn_at at.gone at.asked)
@@ -124,7 +125,8 @@ fn ask_at<K: Sink>(
     ensures depth { session.new.depth ≡ session.old.depth }
     ensures live { OnOk result (session.new.spent ≡ false) }
     ensures nearer { IfOk result (λ to. (to.gone < length links.old) × (to.asked ≤ queries)
-        × (to.gone + to.asked ≡ at.gone + at.asked + 1) × (at.asked ≤ to.asked)) }
+        × (to.gone + to.asked ≡ at.gone + at.asked + 1) × (at.asked ≤ to.asked)
+        × (at.gone ≤ to.gone)) }
     ensures fault { Stops stops_asking (counts 0 0 0 (K.faults report.old) 0)
         (counts 0 0 0 (K.faults report.new) 0) result }
     ensures report { Lasts K.faults K.wants K.is_sure report.old report.new }
