@@ -5,9 +5,7 @@
 // replies fit together, so they pass every round, and at depth 2 the test behind the last one, of
 // round 2, finds another root. Of 0 it says what is right: the products with an empty side are 0,
 // and so is each polynomial.
-ghost use Rattle.std.specs.Prelude.{◌≡◌, All, IfOk, length, map};
-ghost use Rattle.std.specs.Option.{option_and_then};
-ghost use Rattle.sip_session.specs.Links.{IsNew, link_view};
+ghost use Rattle.std.specs.Prelude.{◌≡◌, [], All, IfOk, length};
 ghost use Rattle.sip_verifier.specs.Tasks.{CanBeDone};
 
 use crate::duel_counting::Watched;
@@ -35,8 +33,7 @@ use Name::{Honest as H, Mute as M, Skewed as S};
 
 // A link to a helper of this name, on which nothing has happened.
 fn link(alloc: Global, name: Name) -> Result<HelperLink, Fail>
-    ensures { IfOk result (λ l. IsNew
-        (link_view l.kept (option_and_then honest_state l.helper) l.wants.count)) }
+    ensures { IfOk result (λ l. l.kept.talk.items ≡ []) }
 {
     let helper: Box<dyn Helper> = match name {
         Name::Honest => Box::new(alloc, Honest::new(alloc))?,
@@ -47,9 +44,7 @@ fn link(alloc: Global, name: Name) -> Result<HelperLink, Fail>
 }
 
 fn three_links(alloc: Global, names: [Name; 3]) -> Result<Vec<HelperLink>, Fail>
-    ensures new { IfOk result (λ links. All IsNew
-        (map (λ l. link_view l.kept (option_and_then honest_state l.helper) l.wants.count)
-        links.items)) }
+    ensures new { IfOk result (λ links. All (λ l. l.kept.talk.items ≡ []) links.items) }
     ensures count { IfOk result (λ links. length links.items ≡ 3) }
 {
     let mut links = Vec::new(alloc);
@@ -196,9 +191,7 @@ fn run(
 ) -> Result<(Status, MemorySink), Fail>
     requires done { CanBeDone task.now }
     requires queries { length task.now.queries.items ≡ 2 }
-    requires new { All IsNew
-        (map (λ l. link_view l.kept (option_and_then honest_state l.helper) l.wants.count)
-        links.old.items) }
+    requires new { All (λ l. l.kept.talk.items ≡ []) links.old.items }
     requires helpers { length links.old.items ≡ 3 }
 {
     let mut first = MemorySource::new(FOUR.stream.to_vec(alloc)?, 5, Vec::new(alloc));
@@ -228,8 +221,7 @@ fn helpers_are_asked_in_turn(rt: HostRuntime) -> Result<(), Fail> {
 
 // A link to a helper that counts what is called of it.
 fn watched_link(alloc: Global, watched: &Watched, gives: bool) -> Result<HelperLink, Fail>
-    ensures { IfOk result (λ l. IsNew
-        (link_view l.kept (option_and_then honest_state l.helper) l.wants.count)) }
+    ensures { IfOk result (λ l. l.kept.talk.items ≡ []) }
 {
     let helper: Box<dyn Helper> = if gives {
         Box::new(alloc, watched.honest(alloc)?)?
