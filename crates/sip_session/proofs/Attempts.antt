@@ -106,9 +106,12 @@ module _ (version : Version) (depth : ℕ) (stream : List Update) (helpers queri
                   let before : get_or now place [] ≡ get_or old place [] ++ said_to version depth stream (suc place) attempts = had.2 ∙ ap (λ l. (get_or old place [] ++ said_to version depth stream (suc place) attempts) ++ l) had.1 ∙ append-nil _ in
                   let all : said_to version depth stream (suc place) (attempts ++ made ∷ []) ≡ said_to version depth stream (suc place) attempts ++ said =
                   said_more version depth stream (suc place) attempts made ∙ ap (λ l. said_to version depth stream (suc place) attempts ++ l) (is_it (turn_behind first_turn attempts).helper (suc place) said [] who) in
-                  let at_place : Holds place =
-                  ([], refl, here now place later inside ∙ is ∙ ap (λ l. l ++ said) before ∙ append_assoc (get_or old place []) (said_to version depth stream (suc place) attempts) said
-                  ∙ ap (λ l. get_or old place [] ++ l) (sym all) ∙ sym (append-nil _)) in
+                  let at_place : Holds place = (
+                    [],
+                    refl,
+                    here now place later inside ∙ is ∙ ap (λ l. l ++ said) before ∙ append_assoc (get_or old place []) (said_to version depth stream (suc place) attempts) said
+                        ∙ ap (λ l. get_or old place [] ++ l) (sym all) ∙ sym (append-nil _),
+                  ) in
                   subst Holds (sym same) at_place
               | inr other ↦
                   let had = t.talks k less in

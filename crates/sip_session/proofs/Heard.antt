@@ -1,6 +1,6 @@
 -- What one helper heard of a stream that is sent to several: of what a call did on all links, this is
 -- what it did on one.
-use Rattle.std.proofs.Common.{◌≡◌, ◌≢◌, ℕ, ◌+◌, ◌<◌, ◌≤◌, ◌⊎◌, List, [], ◌∷◌, ◌++◌, length, take, Option, Some, None, Result, Ok, Err, inl, inr, refl, sym, ap, ◌∙◌, subst, arith, take_all, take_at, append-nil, append_assoc}
+use Rattle.std.proofs.Common.{◌≡◌, ◌≢◌, ℕ, ◌+◌, ◌<◌, ◌≤◌, ◌⊎◌, List, [], ◌∷◌, ◌++◌, length, take, get_or, Option, Some, None, Result, Ok, Err, inl, inr, refl, sym, ap, ◌∙◌, subst, arith, take_all, take_at, append-nil, append_assoc}
 use Rattle.std.specs.Prelude.{IfOk}
 use Rattle.std.proofs.Math.Seq.{take-append-add}
 use Rattle.std.proofs.lemmas.Bool.{cases_lt}
@@ -75,6 +75,17 @@ says_short old new xs ys e (n, went) = elim (cases_lt n (length xs)) [
 -- nothing was sent
 pub says_nothing : (talk : List TalkEvent) → Says talk talk [] (Ok tt)
 says_nothing talk = sym (append-nil talk)
+
+-- ---- on all links
+
+pub all_then : (old mid new : AllTalks) (xs ys : List ℕ) (r : Result (Unit {0}) PortStop) → length mid ≡ length old → SaysAll old mid xs (Ok tt) → SaysAll mid new ys r → SaysAll old new (xs ++ ys) r
+all_then old mid new xs ys r count front went = λ k less. says_then (get_or old k []) (get_or mid k []) (get_or new k []) xs ys r (front k less) (went k (omega (arith, count, less)))
+
+pub all_short : (old new : AllTalks) (xs ys : List ℕ) (e other : PortStop) → SaysAll old new xs (Err e) → SaysAll old new (xs ++ ys) (Err other)
+all_short old new xs ys e other went = λ k less. says_short (get_or old k []) (get_or new k []) xs ys e (went k less)
+
+pub all_nothing : (talks : AllTalks) → SaysAll talks talks [] (Ok tt)
+all_nothing talks = λ k less. says_nothing (get_or talks k [])
 
 -- ---- the stream, on one link
 

@@ -279,7 +279,7 @@ module _ (helpers : ℕ) (task : Task) (x : PanelExchange) (some : 0 < helpers) 
               (let inside : place < length mid = omega (arith, size, count, less) in
               let had = t.talks place inside in
               let all = behind place had.0 (omega (arith, inside, sized)) had.1 in
-              (all.0, all.2 had.2 ∙ ap (λ l. l ++ said_to (version_of task) task.depth U (suc place) attempts ++ all.0) (mid_is place (omega (arith, size, less))), all.1))
+              (all.0, all.2 had.2 ∙ ap (λ l. l ++ said_to (version_of task) task.depth U (suc place) attempts ++ all.0) (mid_is place (omega (arith, size, less))), all.1)),
         );
       }
 
@@ -365,11 +365,11 @@ module _ (helpers : ℕ) (task : Task) (x : PanelExchange) (some : 0 < helpers) 
           farewell k less more none = elim (cases_lt k gone) [
             | inl before ↦ ([], ap (λ (b : Bool). if b then bye_sent (version_of task) else []) (sym (left_not k before)), λ e. (each k less).0 before ∙ e ∙ ap (λ l. get_or mid k [] ++ said_to (version_of task) task.depth U (suc k) to.attempts ++ l) none)
             | inr behind ↦ (
-                bye_sent (version_of task),
-                ap (λ (b : Bool). if b then bye_sent (version_of task) else []) (sym (left_is k behind)),
-                λ e. (each k less).1 behind ∙ ap (λ l. l ++ outs (spelling (version_of task) messages.Bye)) (e ∙ ap (λ l. get_or mid k [] ++ said_to (version_of task) task.depth U (suc k) to.attempts ++ l) none ∙ append-nil _)
-                    ∙ ap (λ l. get_or mid k [] ++ said_to (version_of task) task.depth U (suc k) to.attempts ++ outs l) (sym (append-nil (spelling (version_of task) messages.Bye))),
-              )
+              bye_sent (version_of task),
+              ap (λ (b : Bool). if b then bye_sent (version_of task) else []) (sym (left_is k behind)),
+              λ e. (each k less).1 behind ∙ ap (λ l. l ++ outs (spelling (version_of task) messages.Bye)) (e ∙ ap (λ l. get_or mid k [] ++ said_to (version_of task) task.depth U (suc k) to.attempts ++ l) none ∙ append-nil _)
+                  ∙ ap (λ l. get_or mid k [] ++ said_to (version_of task) task.depth U (suc k) to.attempts ++ outs l) (sym (append-nil (spelling (version_of task) messages.Bye))),
+            )
           ]
 
       pub cut_in_farewell : (stop : PortStop) → Each (λ place o n. (place < gone → n ≡ o) × (gone ≤ place → Says o n (spelling (version_of task) messages.Bye) (Err stop))) new last → Promise statuses.OutOfMemory
@@ -393,8 +393,7 @@ module _ (helpers : ℕ) (task : Task) (x : PanelExchange) (some : 0 < helpers) 
                 let bye : List ℕ = spelling (version_of task) messages.Bye in
                 let whole : due helpers task x turn None (suc k) ≡ bye_sent (version_of task) =
                 ap (λ (b : Bool). (if turn.helper == suc k then [] else []) ++ (if b then bye_sent (version_of task) else [])) (ap (λ (b : Bool). b && is_left turn (suc k)) answered ∙ left_is k behind)
-                ∙ ap (λ l. l ++ bye_sent (version_of task)) (none_either (turn.helper == suc k)) in
-                (
+                ∙ ap (λ l. l ++ bye_sent (version_of task)) (none_either (turn.helper == suc k)) in (
                   outs (take said.0 bye),
                   (outs (drop said.0 bye), whole ∙ ap outs (append-nil bye) ∙ ap outs (sym (take-append-drop said.0 bye)) ∙ outs-append (take said.0 bye) (drop said.0 bye)),
                   λ e. said.1 ∙ ap (λ l. l ++ outs (take said.0 bye)) (e ∙ ap (λ l. get_or mid k [] ++ said_to (version_of task) task.depth U (suc k) to.attempts ++ l) none ∙ append-nil _),

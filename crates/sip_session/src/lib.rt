@@ -13,10 +13,9 @@
 //! | `specs/JointCounts` | the same count modulo any prime, and what its bound asks for |
 //! | `specs/Examples` | what the examples work out |
 //! | `specs/Panels` | seats, and in which order helpers are asked which queries |
-//! | `specs/PanelExchanges`, `specs/PanelMoments` | what the ports of a panel tell |
+//! | `specs/PanelExchanges` | what the ports of a panel tell |
 //! | `specs/PanelEnds` | the talk of each link and the lines, by the status |
 //! | `specs/PanelCounts` | the joint count of the seats |
-//! | `specs/PanelHonesty` | why an honest helper may be dropped, and what honest ones come to |
 //! | `specs/PanelClause` | all that [`panel`] promises |
 //!
 //! `specs/inside/` says what the private parts of a panel did. No promise rests on a reading of it.
@@ -31,7 +30,8 @@
 //!
 //! - [`counting`]: the **joint bound** over every prime modulus, and that legal streams meet what it
 //!   asks; that where nothing is asked for heavy entries there are none; that the promise on a run
-//!   follows from that of verdicts; and that each talk is some joint strategy's.
+//!   follows from that of verdicts, and that on a panel from its attempts; and that each talk is some
+//!   joint strategy's.
 //! - [`examples`]: counts worked out one by one; [`turns`]: the same for the turns of a panel.
 #![tactic(auto)]
 
