@@ -4,7 +4,7 @@ ghost use Rattle.sip_lookup.specs.Tasks.{CanLookUp};
 
 use crate::session_facts::expect;
 use arrayvec::ArrayVec;
-use sip_field::{Field, draw_challenges};
+use sip_field::{Field, M61, draw_challenges};
 use sip_helper::HelpStatus;
 use sip_lookup::{LookTask, Lookup, look_stream, serve_look};
 use sip_ports::{MemoryLink, MemorySink, MemorySource, TalkEvent};
@@ -13,6 +13,7 @@ use sip_vector::Depth;
 use sip_verifier::Status;
 use std::alloc::Global;
 use std::process::Abort;
+use std::slice::Iter;
 use std::test::Fail;
 
 // The opening of a talk over four items, the vector (3, 0, 5, 1) and its end.
@@ -341,42 +342,46 @@ fn task(depth: u8, asked: &[Asked]) -> Result<LookTask, Fail>
     })
 }
 
-// Puts an Ask and the query for the interval, in the version of the depth.
-fn put_question(said: &mut Vec<u8>, depth: u8, asked: &Asked) -> Result<(), Fail> {
+// An Ask and the query for the interval, in the version of the depth.
+fn question(alloc: Global, depth: u8, asked: &Asked) -> Result<Vec<u8>, Fail> {
     let (lookup, lo, hi) = asked;
     let (code, item) = match lookup {
         Lookup::Index(item) => (1, item),
         Lookup::Pred(item) => (2, item),
         Lookup::Succ(item) => (3, item),
     };
-    said.extend_from_slice(&[0x21, 0, 9, code])?;
-    said.extend_from_slice(&item.to_be_bytes())?;
-    if depth > 32 {
-        said.extend_from_slice(&[4, 0, 17, 1])?;
-        said.extend_from_slice(&lo.to_be_bytes())?;
-        said.extend_from_slice(&hi.to_be_bytes())?;
-    } else {
-        said.extend_from_slice(&[4, 0, 9, 1])?;
-        said.extend_from_slice(&u32::try_from(*lo).map_err(|_| "an item")?.to_be_bytes())?;
-        said.extend_from_slice(&u32::try_from(*hi).map_err(|_| "an item")?.to_be_bytes())?;
+    // An item has four bytes up to depth 32, and eight above.
+    let (length, from) = if depth > 32 { (17, 0) } else { (9, 4) };
+    let (item, lo, hi) = (item.to_be_bytes(), lo.to_be_bytes(), hi.to_be_bytes());
+    let parts: [&[u8]; 5] = [
+        &[0x21, 0, 9, code],
+        &item,
+        &[4, 0, length, 1],
+        &lo[from..],
+        &hi[from..],
+    ];
+    Ok(parts.concat(alloc)?)
+}
+
+// Puts the challenges of a lookup that are revealed: all but the last, which never leaves.
+fn put_reveals(said: &mut Vec<u8>, depth: u8, challenges: &mut Iter<M61>) -> Result<(), Fail> {
+    for _ in 1..depth {
+        let challenge = challenges.next().ok_or("a challenge")?;
+        said.extend_from_slice(&[5, 0, 8])?;
+        said.extend_from_slice(&challenge.number().to_be_bytes())?;
     }
+    challenges.next();
     Ok(())
 }
 
-// All that is said to a helper in a run at the challenges of 32 zero bytes. The last challenge of a
-// lookup never leaves.
+// All that is said to a helper in a run at the challenges of 32 zero bytes.
 fn said_in(alloc: Global, run: &Run) -> Result<Vec<u8>, Fail> {
     let drawn = draw_challenges::<MOST_CHALLENGES>([0; 32], MOST_CHALLENGES)?;
     let mut challenges = drawn.iter();
     let mut said = run.opening.to_vec(alloc)?;
     for asked in run.asked {
-        put_question(&mut said, run.depth, asked)?;
-        for _ in 1..run.depth {
-            let challenge = challenges.next().ok_or("a challenge")?;
-            said.extend_from_slice(&[5, 0, 8])?;
-            said.extend_from_slice(&challenge.number().to_be_bytes())?;
-        }
-        challenges.next();
+        said.extend_from_slice(&question(alloc, run.depth, asked)?)?;
+        put_reveals(&mut said, run.depth, &mut challenges)?;
     }
     said.extend_from_slice(END)?;
     Ok(said)
@@ -402,21 +407,23 @@ fn looked(
 
 // Each end is one call, over what the other one sends. A reply hangs on nothing that is said behind
 // its question, so this is what both come to over one link.
+fn are_one_talk(alloc: Global, run: &Run) -> Result<[bool; 4], Fail> {
+    let task = task(run.depth, run.asked)?;
+    let asked = said_in(alloc, run)?;
+    let (end, replies) = served(alloc, &asked, 5)?;
+    let (status, report, said) = looked(alloc, &task, run.lines, &replies)?;
+    Ok([
+        end == HelpStatus::Served,
+        status == Status::Accepted,
+        report.as_slice() == run.report,
+        said == asked,
+    ])
+}
+
 #[test]
 fn both_ends_come_to_the_answers(rt: HostRuntime) -> Result<(), Fail> {
-    let alloc = rt.alloc();
     for run in &RUNS {
-        let task = task(run.depth, run.asked)?;
-        let asked = said_in(alloc, run)?;
-        let (end, replies) = served(alloc, &asked, 5)?;
-        let (status, report, said) = looked(alloc, &task, run.lines, &replies)?;
-        let facts = [
-            end == HelpStatus::Served,
-            status == Status::Accepted,
-            report.as_slice() == run.report,
-            said == asked,
-        ];
-        expect(&rt, run.name, &facts);
+        expect(&rt, run.name, &are_one_talk(rt.alloc(), run)?);
     }
     Ok(())
 }

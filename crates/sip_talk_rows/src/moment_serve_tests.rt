@@ -41,8 +41,8 @@ const SIDE_1: [u8; 52] = [
     0xff, 0xff, 0xff, 0xff, 0xff, 0xff, 0xf9, 1, 0, 0, 0, 2, 0, 0, 0, 0, 0, 0, 0, 1, 3, 0, 0,
 ];
 
-// Its fifth moment is -16774, by the polynomials (33, -725, 6490, -29170, 65615, -59050) and, behind
-// the challenge 2, (-16 + 15x)^5.
+// Its fifth moment is -16774, by the polynomials (33, -725, 6490, -29170, 65615, -59050) and,
+// behind the challenge 2, (-16 + 15x)^5.
 const OF_SIDE_1: [u8; 113] = [
     0x11, 0, 8, 0xff, 0xff, 0xff, 0xff, 0xff, 0xff, 0xbe, 122, 0x25, 0, 48, 0, 0, 0, 0, 0, 0, 0,
     33, 31, 0xff, 0xff, 0xff, 0xff, 0xff, 0xfd, 42, 0, 0, 0, 0, 0, 0, 25, 90, 31, 0xff, 0xff, 0xff,
@@ -289,19 +289,15 @@ fn a_link_of_moments_fails_at_each_call(rt: HostRuntime) -> Result<(), Fail> {
 // The first challenge of 32 zero bytes.
 const AT_SEED: [u8; 11] = [5, 0, 8, 0x12, 0x07, 0xbe, 0x34, 0x15, 0xbc, 0x17, 0x0e];
 
-// What a verifier says is served, and what was served is accepted where it is said.
-#[test]
-fn both_ends_fit_together(rt: HostRuntime) -> Result<(), Fail> {
-    let alloc = rt.alloc();
-    let parts: [&[u8]; 4] = [&STREAM, &ASK, &AT_SEED, &END];
-    let talk = parts.concat(alloc)?;
-    let (ended, sent) = served(alloc, &talk, 10_000, &[])?;
+// How a run for the third moment of side 0 ends over these replies, what it reports and what it
+// sends.
+fn asked(alloc: Global, replies: Vec<u8>) -> Result<(Status, Vec<u8>, Vec<u8>), Fail> {
+    let task = one(2, Side::First, 3)?;
     let lines = b"0 0 3\n0 2 5\n0 3 1\n";
     let mut first = MemorySource::new(lines.to_vec(alloc)?, 7, Vec::new(alloc));
     let mut second = MemorySource::new(vec![in alloc; 0; 32]?, 7, Vec::new(alloc));
-    let mut peer = MemoryLink::new(alloc, sent, 7, Vec::new(alloc));
+    let mut peer = MemoryLink::new(alloc, replies, 7, Vec::new(alloc));
     let mut report = MemorySink::new(alloc, 7, Vec::new(alloc));
-    let task = one(2, Side::First, 3)?;
     let status = moment_stream(
         alloc,
         &task,
@@ -311,11 +307,22 @@ fn both_ends_fit_together(rt: HostRuntime) -> Result<(), Fail> {
         &mut report,
     );
     let said = sent_in(alloc, peer.talk())?;
+    Ok((status, report.bytes().to_vec(alloc)?, said))
+}
+
+// What a verifier says is served, and what was served is accepted where it is said.
+#[test]
+fn both_ends_fit_together(rt: HostRuntime) -> Result<(), Fail> {
+    let alloc = rt.alloc();
+    let parts: [&[u8]; 4] = [&STREAM, &ASK, &AT_SEED, &END];
+    let talk = parts.concat(alloc)?;
+    let (ended, sent) = served(alloc, &talk, 10_000, &[])?;
+    let (status, report, said) = asked(alloc, sent)?;
     let facts = [
         ended == HelpStatus::Served,
         status == Status::Accepted,
         said == talk,
-        report.bytes() == b"moment:0:3 153\n".as_slice(),
+        report.as_slice() == b"moment:0:3 153\n".as_slice(),
     ];
     expect(&rt, 0, &facts);
     Ok(())
