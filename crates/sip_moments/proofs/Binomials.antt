@@ -1,6 +1,6 @@
 -- The binomial theorem, and how large a binomial coefficient is.
-use Rattle.std.proofs.Common.{◌≡◌, ℕ, zero, suc, ◌+◌, ◌*◌, ◌-◌, ◌^◌, ◌<◌, ◌≤◌, refl, ap, sym, ◌∙◌, arith}
-use Rattle.std.proofs.Math.Nat.{pow-zero, pow-succ', pow-le-pow_right}
+use Rattle.std.proofs.Common.{◌≡◌, ℕ, zero, suc, ◌+◌, ◌*◌, ◌-◌, ◌/◌, ◌^◌, ◌<◌, ◌≤◌, refl, ap, sym, ◌∙◌, arith}
+use Rattle.std.proofs.Math.Nat.{mul-div_cancel, pow-zero, pow-succ', pow-le-pow_right}
 use Rattle.sip_counts.specs.Counts.{sum_below}
 use Rattle.sip_counts.proofs.Sums.{sum_below-add, sum_below-times}
 use Rattle.sip_counts.proofs.Sums.{sum_below-front, sum_below-within}
@@ -16,6 +16,25 @@ pub binomial-most : (n m : ℕ) → binomial n m ≤ 2 ^ n
 binomial-most n zero = pow-le-pow_right {n = 2} (omega arith) {i = 0} {j = n} (omega arith)
 binomial-most zero (suc m) = omega arith
 binomial-most (suc n) (suc m) = omega (arith, binomial-most n m, binomial-most n (suc m), pow-succ' 2 n)
+
+-- of the sets of one more than i members, each is one of i with one of the n - i others
+pub binomial-next : (n i : ℕ) → suc i * binomial n (suc i) + i * binomial n i ≡ n * binomial n i
+binomial-next zero zero = refl
+binomial-next zero (suc i) = omega arith
+binomial-next (suc n) zero = omega (arith, binomial-next n zero)
+binomial-next (suc n) (suc i) = omega (arith, binomial-next n i, binomial-next n (suc i))
+
+ratio : (n i others b c : ℕ) → n ≡ i + others → suc i * c + i * b ≡ n * b
+    → b * others ≡ c * (i + 1)
+ratio n i others b c split e = let f = e ∙ ap (λ m. m * b) split in omega (arith, f)
+
+pub binomial-ratio : (n i : ℕ) → i ≤ n
+    → binomial n i * (n - i) / (i + 1) ≡ binomial n (i + 1)
+binomial-ratio n i le =
+    let split : n ≡ i + (n - i) = omega (arith, le) in
+    ap (λ m. m / (i + 1)) (ratio n i (n - i) _ _ split (binomial-next n i))
+    ∙ mul-div_cancel (binomial n (suc i)) {n = i + 1} (omega arith)
+    ∙ ap (binomial n) (let e : suc i ≡ i + 1 = omega arith in e)
 
 -- ---- the theorem
 

@@ -1,5 +1,6 @@
--- One step of a power, of the sum of a polynomial's ends, and of Pascal's rule.
-use Rattle.std.proofs.Common.{◌≡◌, ◌≢◌, ℕ, zero, suc, ◌+◌, ◌*◌, ◌-◌, ◌%◌, ◌^◌, ◌<◌, ◌≤◌, List, [], ◌∷◌, length, get_or, drop, map, sum, refl, ap, sym, ◌∙◌, add-one, arith}
+-- One step of a power, and of the sum of a polynomial's ends; and that binomial coefficients are
+-- small.
+use Rattle.std.proofs.Common.{◌≡◌, ℕ, ◌+◌, ◌*◌, ◌%◌, ◌^◌, ◌<◌, ◌≤◌, List, [], ◌∷◌, length, get_or, drop, map, sum, ap, sym, ◌∙◌, add-one, arith}
 use Rattle.std.proofs.Math.Nat.{mod-add-mod, mod-eq_of_lt, pow-zero, pow-suc, pow-le-pow_right}
 use Rattle.std.proofs.lemmas.Nat.{mul-mod, mul-mod_first, pow-add}
 use Rattle.std.proofs.lemmas.List.{drop_more}
@@ -52,21 +53,7 @@ module _ {F : Type 0} (number : F → ℕ) (p : ℕ) where
 
 -- ---- binomial coefficients
 
-pub pascal : (n m r s : ℕ) → n ≢ 0 → m ≢ 0 → r ≡ binomial (n - 1) (m - 1) → s ≡ binomial (n - 1) m → r + s ≡ binomial n m
-pascal zero m r s some others e f = absurd (some refl)
-pascal (suc n) zero r s some others e f = absurd (others refl)
-pascal (suc n) (suc m) r s some others e f =
-    let less : suc n - 1 ≡ n = omega arith in
-    let fewer : suc m - 1 ≡ m = omega arith in
-    let left : r ≡ binomial n m = e ∙ ap (λ k. binomial k (suc m - 1)) less ∙ ap (binomial n) fewer in
-    let right : s ≡ binomial n (suc m) = f ∙ ap (λ k. binomial k (suc m)) less in
-    omega (arith, left, right)
-
 pub binomial-small : (n m : ℕ) → n ≤ most_degree → binomial n m ≤ 256
 binomial-small n m few =
     let top = pow-le-pow_right {n = 2} (omega arith) {i = n} {j = 8} few in
     omega (arith, binomial-most n m, top)
-
-pub none_of_nothing : (m : ℕ) → m ≢ 0 → 0 ≡ binomial 0 m
-none_of_nothing zero some = absurd (some refl)
-none_of_nothing (suc m) some = refl

@@ -155,7 +155,8 @@ fn take_row<F: Field>(sums: &mut [F], row: usize)
     }
 }
 
-// Each number is taken as often as there are sets of so many among the degree.
+// Each number is taken as often as there are sets of so many among the degree. Of the sets of one
+// more there are (degree - place) / (place + 1) times as many.
 fn weigh<F: Field>(sums: &mut [F], degree: u8)
     requires degree { degree ≤ most_degree }
     requires places { length sums.old ≡ degree + 1 }
@@ -164,22 +165,10 @@ fn weigh<F: Field>(sums: &mut [F], degree: u8)
         (λ m. binomial degree m * slice_index_or (map F.number sums.old) m 0)
         (map F.number sums.new) }
 {
+    let mut sets: u64 = 1;
     for place in 0..degree + 1 {
         let at = usize::from(place);
-        sums[at] = F::of(binomial(degree, place)).times(sums[at]);
-    }
-}
-
-// How many sets of `m` there are among `n`, by Pascal's rule.
-fn binomial(n: u8, m: u8) -> u64
-    requires { n ≤ most_degree }
-    ensures { result ≡ binomial n m }
-{
-    if m == 0 {
-        1
-    } else if n == 0 {
-        0
-    } else {
-        binomial(n - 1, m - 1) + binomial(n - 1, m)
+        sums[at] = F::of(sets).times(sums[at]);
+        sets = sets * u64::from(degree - place) / (u64::from(place) + 1);
     }
 }
