@@ -38,8 +38,8 @@ loop-place-preserved g c =
           value-next number (λ i n. n ≡ (binomial k i * at number old i) % p) sums place v within
           (λ i less. c.loop-place.invariant.done i (omega (arith, less, is))) here j (omega (arith, low, is));
       sets = ap (λ n. n * c.from.result / (c.from-in-loop-place.result + 1)) c.loop-place.invariant.sets
-      ∙ ap (λ n. binomial k c.loop-place.place * n / (c.from-in-loop-place.result + 1)) c.from.ensures
-      ∙ ap (λ n. binomial k c.loop-place.place * (k - c.loop-place.place) / (n + 1)) c.from-in-loop-place.ensures
-      ∙ binomial-ratio k c.loop-place.place (omega (arith, c.loop-place-test.true));
+          ∙ ap (λ n. binomial k c.loop-place.place * n / (c.from-in-loop-place.result + 1)) c.from.ensures
+          ∙ ap (λ n. binomial k c.loop-place.place * (k - c.loop-place.place) / (n + 1)) c.from-in-loop-place.ensures
+          ∙ binomial-ratio k c.loop-place.place (omega (arith, c.loop-place-test.true));
       rest = λ j le. values-behind number old sums place v (λ i above. c.loop-place.invariant.rest i (omega (arith, above, is))) j (omega (arith, le, is));
     }
