@@ -1,3 +1,13 @@
 mod KindBounds
 mod JointTalks
 mod Unasked
+pub mod Places
+pub mod Heard
+pub mod Tries
+pub mod Attempts
+pub mod Asked
+pub mod Seats
+pub mod JointPanels
+pub mod Begun
+pub mod PanelEndings
+pub mod PanelRuns

@@ -1,0 +1,116 @@
+-- Helpers asked in turn: which seats are passed over, and where each attempt leads, by links.
+use Rattle.std.proofs.Common.{◌≡◌, ℕ, zero, suc, ◌+◌, ◌-◌, ◌*◌, ◌<◌, ◌≤◌, Option, Some, Result, Ok, Err, List, [], ◌∷◌, length, map, set, get_or, drop, inl, inr, refl, sym, ap, ◌∙◌, subst, arith, mul-le-mul_right, drop-drop, length-drop}
+use Rattle.std.specs.Prelude.{All, slice_get}
+use Rattle.std.proofs.lemmas.Bool.{cases_eq}
+use Rattle.std.proofs.lemmas.List.{drop-map, get_or-map, length-map}
+use Rattle.std.proofs.lemmas.List.Elements.{All-drop}
+use Rattle.sip_ports.specs.declared.port.TalkEvent.{TalkEvent}
+use Rattle.sip_vector.specs.declared.query.Query.{Query}
+use Rattle.sip_vector.specs.declared.update.Update.{Update}
+use Rattle.sip_wire.specs.declared.message.Reason.{Reason}
+use Rattle.sip_wire.specs.declared.version.Version.{Version}
+use Rattle.sip_verifier.specs.declared.status.Status.{Status}
+use Rattle.sip_verifier.specs.declared.status.Status.TheVariants as statuses
+use Rattle.sip_verifier.specs.Questions.{asking}
+use Rattle.sip_verifier.specs.QuerySeats.{Seated, StandsFor}
+use Rattle.sip_verifier.specs.Sittings.{asks_left}
+use Rattle.sip_verifier.proofs.QueriesChecked.{next_of}
+use Rattle.sip_session.specs.declared.asking.Came as helper_came
+use Rattle.sip_session.specs.declared.asking.Came.TheVariants as cames
+use Rattle.sip_session.specs.inside.Hearing.{AllTalks}
+use Rattle.sip_session.specs.inside.Trying.{Halts, TrailsTo, Tries, turn_at}
+use Rattle.sip_session.proofs.Attempts.{get_drop, leads_answered, leads_dropped, leads_out, leads_stopped}
+use Rattle.sip_session.proofs.Places.{told_set}
+
+-- ---- how many seats
+
+-- seats of the queries that are left, and of those that were answered
+pub due_split : (queries asked h : ℕ) → asked ≤ queries → (queries - asked) * h + asked * h ≡ queries * h
+due_split queries asked h less = go (queries - asked) (omega arith)
+  where
+    go : (left : ℕ) → left + asked ≡ queries → left * h + asked * h ≡ queries * h
+    go left is = let e : left * h + asked * h ≡ (left + asked) * h = omega arith in e ∙ ap (λ n. n * h) is
+
+pub due_most : (queries asked h : ℕ) → (queries - asked) * h ≤ queries * h
+due_most queries asked h = mul-le-mul_right h (let e : queries - asked ≤ queries = omega arith in e)
+
+-- a query is left, so there is a seat for each helper
+pub due_least : (queries asked h : ℕ) → asked < queries → h ≤ (queries - asked) * h
+due_least queries asked h less = go (queries - asked) (omega arith)
+  where
+    go : (left : ℕ) → 0 < left → h ≤ left * h
+    go zero some = absurd (omega (arith, some))
+    go (suc left) some = omega arith
+
+-- the next seat is behind
+pub further : (asked gone asked' gone' h : ℕ) → 0 < h → gone' + asked' ≡ gone + asked + 1 → asked ≤ asked' → gone ≤ gone' → asked * h + gone + 1 ≤ asked' * h + gone'
+further asked gone asked' gone' h some sum less fewer = elim (cases_eq asked' asked) [
+  | inl same ↦ let product : asked' * h ≡ asked * h = ap (λ n. n * h) same in omega arith
+  | inr other ↦
+      let next : asked' ≡ suc asked = omega (arith, other) in
+      let product : asked' * h ≡ asked * h + h = ap (λ n. n * h) next ∙ (let e : suc asked * h ≡ asked * h + h = omega arith in e) in
+      omega arith
+]
+
+-- ---- which seat
+
+-- a seat's query and block
+abbrev ask_of : Seated → Query × List ℕ
+ask_of s = (s.query, s.block)
+
+-- the first of the seats that are left stands at its place among all
+pub at_seat : (left : List Seated) (early n : ℕ) (asks : List (Query × List ℕ)) → asks_left (drop early left) ≡ drop n asks → early < length left
+    → (ask : Query × List ℕ) × (more : List (Query × List ℕ)) × (asks_left (drop early left) ≡ ask ∷ more) × (slice_get asks n ≡ Some ask)
+at_seat left early n asks is less =
+    let some : 0 < length (asks_left (drop early left)) = omega (arith, length-map {B = Query × List ℕ} (drop early left) ask_of, length-drop early left) in
+    let first = next_of 0 (asks_left (drop early left)) some in
+    (first.0, first.1, first.2, get_drop n asks first.1 first.0 (sym is ∙ first.2))
+
+pub behind_asks : (all left : List Seated) (p early n : ℕ) → left ≡ drop p all → p + early ≡ n → asks_left (drop early left) ≡ drop n (asks_left all)
+behind_asks all left p early n is sum =
+    ap (λ l. asks_left (drop early l)) is ∙ ap asks_left (drop-drop early p all) ∙ ap (λ m. asks_left (drop m all)) sum ∙ sym (drop-map ask_of n all)
+
+pub stand_behind : (stream : List Update) (depth depth' : ℕ) (all left : List Seated) (n : ℕ) → depth' ≡ depth → left ≡ drop n all → All (StandsFor depth stream) all → All (StandsFor depth' stream) left
+stand_behind stream depth depth' all left n same is stand =
+    subst (λ d. All (StandsFor d stream) left) (sym same) (subst (All (StandsFor depth stream)) (sym is) (All-drop (StandsFor depth stream) n all stand))
+
+-- ---- one link
+
+module _ {L : Type 0} (talk : L → List TalkEvent) (version : Version) (depth : ℕ) (stream : List Update) (helpers queries : ℕ) (asks : List (Query × List ℕ)) (old : AllTalks) (links : List L)
+    (blank half full : Option (List TalkEvent)) (gone asked : ℕ) (to : TrailsTo version depth stream helpers queries asks old (map talk links) blank half (turn_at gone asked))
+    (count : length old ≡ length links) (size : length links ≡ helpers) (left : gone < helpers) (more : asked < queries) (ask : Query × List ℕ) (at : slice_get asks (asked * helpers + gone) ≡ Some ask) (one read : L) where
+  abbrev Asked : Result helper_came.Came Status → Type 0
+  Asked r = Tries (asking version depth stream) ask (suc gone) (suc asked) (Some (talk (get_or links gone read))) (Some (talk one)) half full r
+
+  told : length (map talk links) ≡ length old
+  told = length-map links talk ∙ sym count
+
+  sized : length (map talk links) ≡ helpers
+  sized = length-map links talk ∙ size
+
+  came_at : (r : Result helper_came.Came Status) → Asked r → Tries (asking version depth stream) ask (suc gone) (suc asked) (Some (get_or (map talk links) gone [])) (Some (talk one)) half full r
+  came_at r came = subst (λ t. Tries (asking version depth stream) ask (suc gone) (suc asked) (Some t) (Some (talk one)) half full r) (sym (get_or-map talk links gone read [] (omega (arith, size, left)))) came
+
+  abbrev Leading : AllTalks → ℕ → ℕ → Type 0
+  Leading new g a = TrailsTo version depth stream helpers queries asks old new blank full (turn_at g a)
+
+  pub asked_answered : Asked (Ok cames.Answered) → Leading (map talk (set links gone one)) gone (suc asked)
+  asked_answered came =
+      subst (λ l. Leading l gone (suc asked)) (sym (told_set talk links gone one))
+      (leads_answered version depth stream helpers queries asks old (map talk links) blank half full gone asked to told sized left more ask at (talk one) (came_at (Ok cames.Answered) came))
+
+  pub asked_dropped : (round : ℕ) (reason : Reason) → Asked (Ok (cames.Dropped round reason)) → Leading (map talk (set links gone one)) (suc gone) asked
+  asked_dropped round reason came =
+      subst (λ l. Leading l (suc gone) asked) (sym (told_set talk links gone one))
+      (leads_dropped version depth stream helpers queries asks old (map talk links) blank half full gone asked to told sized left more ask at (talk one) round reason (came_at (Ok (cames.Dropped round reason)) came))
+
+  pub asked_out : (round : ℕ) (reason : Reason) → Asked (Ok (cames.Dropped round reason)) → suc gone ≡ helpers
+      → Halts version depth stream helpers queries asks old (map talk (set links gone one)) blank full (statuses.Rejected (suc asked) round reason)
+  asked_out round reason came last =
+      subst (λ l. Halts version depth stream helpers queries asks old l blank full (statuses.Rejected (suc asked) round reason)) (sym (told_set talk links gone one))
+      (leads_out version depth stream helpers queries asks old (map talk links) blank half full gone asked to told sized left more ask at (talk one) round reason (came_at (Ok (cames.Dropped round reason)) came) last)
+
+  pub asked_stopped : (status : Status) → Asked (Err status) → Halts version depth stream helpers queries asks old (map talk (set links gone one)) blank full status
+  asked_stopped status came =
+      subst (λ l. Halts version depth stream helpers queries asks old l blank full status) (sym (told_set talk links gone one))
+      (leads_stopped version depth stream helpers queries asks old (map talk links) blank half full gone asked to told sized left more ask at (talk one) status (came_at (Err status) came))

@@ -1,0 +1,112 @@
+-- How a panel begins, and why it may not.
+use Rattle.std.proofs.Common.{◌≡◌, ◌⊎◌, ℕ, zero, suc, ◌+◌, ◌*◌, ◌<◌, ◌≤◌, Bool, true, false, Option, Some, None, Result, Ok, Err, List, [], ◌++◌, length, map, inl, inr, refl, sym, ap, ◌∙◌, subst, arith, append-nil, le-mul_of_pos_right, true≢false}
+use Rattle.std.specs.Prelude.{IfErr, IsTrue}
+use Rattle.sip_verifier.specs.declared.session.SessionStart.{SessionStart}
+use Rattle.sip_verifier.specs.declared.session.SessionStart.TheVariants as starts
+use Rattle.sip_verifier.specs.declared.status.Port.TheVariants as ports
+use Rattle.sip_verifier.specs.declared.status.Status.{Status}
+use Rattle.sip_verifier.specs.declared.status.Status.TheVariants as statuses
+use Rattle.sip_verifier.specs.declared.task.Task.{Task}
+use Rattle.sip_verifier.specs.inside.Ending.{status_of_start}
+use Rattle.sip_verifier.specs.Moments.{Counts}
+use Rattle.sip_verifier.specs.QuerySeats.{Seated}
+use Rattle.sip_verifier.specs.Seats.{Seating}
+use Rattle.sip_verifier.specs.Sittings.{Sitting, Starts}
+use Rattle.sip_verifier.specs.Statuses.{FaultClause, IsListed, Stops, stops_gathering}
+use Rattle.sip_verifier.specs.Talks.{stream_sent}
+use Rattle.sip_verifier.specs.Tasks.{CanBeAsked, CanBeDone, version_of}
+use Rattle.sip_verifier.specs.Widths.{first_wide_seat, is_wide_seat}
+use Rattle.sip_wire.specs.declared.version.Version.{Version}
+use Rattle.sip_verifier.proofs.RunPromises.{gathering_listed}
+use Rattle.sip_session.specs.inside.Beginning.{Begins, GathersAll, IsHeard, by_query, query_of_seat, task_of_seats}
+use Rattle.sip_session.specs.inside.Hearing.{AllTalks, Each, IsPassedInPart}
+use Rattle.sip_session.proofs.Seats.{All-seats, first_some, length-seats}
+
+-- ---- the task of all seats
+
+product : (a b : ℕ) → 0 < a → 0 < b → 0 < a * b
+product zero b p q = absurd (omega (arith, p))
+product (suc a) b p q = omega (arith, q)
+
+pub wide_done : (helpers : ℕ) (task : Task) → 0 < helpers → CanBeDone task → CanBeDone (task_of_seats helpers task)
+wide_done helpers task some can = record {
+  some = (let size = length-seats helpers task.queries.items in let least : 0 < length task.queries.items * helpers = product (length task.queries.items) helpers can.some some in omega (arith, size, least));
+  asked = All-seats (CanBeAsked task.depth) helpers task.queries.items can.asked;
+}
+
+-- there are no more helpers than seats
+pub helpers_few : (helpers queries most : ℕ) → 0 < queries → helpers * queries ≤ most → helpers ≤ most
+helpers_few helpers zero most some few = absurd (omega (arith, some))
+helpers_few helpers (suc queries) most some few = let more : helpers ≤ helpers * suc queries = le_of_mul helpers queries in omega (arith, more, few)
+  where
+    le_of_mul : (h q : ℕ) → h ≤ h * suc q
+    le_of_mul h q = le-mul_of_pos_right {m = suc q} h (omega arith)
+
+-- ---- no session
+
+-- why there is no session of what was gathered
+abbrev pub NoSession : Version → Result Seating Status → Status → Type 0
+NoSession version gathered status =
+    (gathered ≡ Err status) ⊎ (seats : Seating) × (start : SessionStart) × (gathered ≡ Ok seats) × Starts version seats (Err start) × (status ≡ status_of_start start)
+
+module _ (wide : Task) (bytes seed : List ℕ) (left : Option (List ℕ)) (old new : AllTalks) (helpers : ℕ) where
+  -- no gathering stops by a query that is too wide, so what it answered stays
+  pub gathers_begins : (status : Status) → stops_gathering status ≡ true → GathersAll wide bytes seed left old new (Err status) → Begins wide bytes seed left old new helpers (Err status)
+  gathers_begins (statuses.TooWide seat) listed stops = absurd (true≢false (sym listed))
+  gathers_begins (statuses.BadStream at why) listed stops = stops
+  gathers_begins statuses.BadSeed listed stops = stops
+  gathers_begins statuses.SeedSpent listed stops = stops
+  gathers_begins (statuses.ReadFault port) listed stops = stops
+  gathers_begins (statuses.WriteFault port) listed stops = stops
+  gathers_begins statuses.PeerFault listed stops = stops
+  gathers_begins statuses.OutOfMemory listed stops = stops
+  gathers_begins _ listed stops = absurd (true≢false (sym listed))
+
+  same_named : (status : Status) → stops_gathering status ≡ true → by_query helpers status ≡ status
+  same_named (statuses.TooWide seat) listed = absurd (true≢false (sym listed))
+  same_named (statuses.BadStream at why) listed = refl
+  same_named statuses.BadSeed listed = refl
+  same_named statuses.SeedSpent listed = refl
+  same_named (statuses.ReadFault port) listed = refl
+  same_named (statuses.WriteFault port) listed = refl
+  same_named statuses.PeerFault listed = refl
+  same_named statuses.OutOfMemory listed = refl
+  same_named _ listed = absurd (true≢false (sym listed))
+
+  -- all was sent, and memory ran out then
+  all_in_part : (seats : Seating) → IsHeard wide bytes seed left old new seats → Each (λ _ o n. IsPassedInPart wide bytes o n) old new
+  all_in_part seats heard = λ k less. let all = heard.each k less in
+      record { said = stream_sent (version_of wide) wide.depth _; talk = all.talk; order = ([], sym (append-nil _)); illegal = λ no. absurd (no all.to_end) }
+
+  pub begun_stop : (version : Version) (gathered : Result Seating Status) (status : Status) → NoSession version gathered status → GathersAll wide bytes seed left old new gathered → IfErr gathered (λ s. IsTrue (stops_gathering s))
+      → Begins wide bytes seed left old new helpers (Err (by_query helpers status))
+  begun_stop version gathered status (inl is) gathers listed =
+      let stops = subst (GathersAll wide bytes seed left old new) is gathers in
+      let known = subst (λ (r : Result Seating Status). IfErr r (λ s. IsTrue (stops_gathering s))) is listed in
+      subst (λ (s : Status). Begins wide bytes seed left old new helpers (Err s)) (sym (same_named status known)) (gathers_begins status known stops)
+  begun_stop version gathered status (inr (seats, starts.TooWide seat, is, wide_seat, same)) gathers listed =
+      let heard = subst (GathersAll wide bytes seed left old new) is gathers in
+      subst (λ (s : Status). Begins wide bytes seed left old new helpers (Err (by_query helpers s))) (sym same) (seats, heard, seat, wide_seat, refl)
+  begun_stop version gathered status (inr (seats, starts.OutOfMemory, is, none, same)) gathers listed =
+      let heard = subst (GathersAll wide bytes seed left old new) is gathers in
+      subst (λ (s : Status). Begins wide bytes seed left old new helpers (Err (by_query helpers s))) (sym same) (all_in_part seats heard)
+
+  pub begun_listed : (version : Version) (gathered : Result Seating Status) (status : Status) (before now : Counts) → NoSession version gathered status → Stops stops_gathering before now gathered
+      → IsListed (by_query helpers status) × FaultClause before now (by_query helpers status)
+  begun_listed version gathered status before now (inl is) stops =
+      let known = subst (λ (r : Result Seating Status). Stops stops_gathering before now r) is stops in
+      subst (λ (s : Status). IsListed s × FaultClause before now s) (sym (same_named status known.0)) (gathering_listed status known.0, known.1)
+  begun_listed version gathered status before now (inr (seats, starts.TooWide seat, is, wide_seat, same)) stops =
+      subst (λ (s : Status). IsListed (by_query helpers s) × FaultClause before now (by_query helpers s)) (sym same) (refl, tt)
+  begun_listed version gathered status before now (inr (seats, starts.OutOfMemory, is, none, same)) stops =
+      subst (λ (s : Status). IsListed (by_query helpers s) × FaultClause before now (by_query helpers s)) (sym same) (refl, tt)
+
+-- seats are counted from 1
+pub begun_counted : (version : Version) (gathered : Result Seating Status) (status : Status) → NoSession version gathered status → IfErr gathered (λ s. IsTrue (stops_gathering s)) → (seat : ℕ) → status ≡ statuses.TooWide seat → 0 < seat
+begun_counted version gathered status (inl is) listed seat so =
+    let known = subst (λ (r : Result Seating Status). IfErr r (λ s. IsTrue (stops_gathering s))) (is ∙ ap Err so) listed in absurd (true≢false (sym known))
+begun_counted version gathered status (inr (seats, starts.TooWide n, is, wide_seat, same)) listed seat so =
+    let one : n ≡ seat = (let both = sym same ∙ so in cc) in
+    let least : 1 ≤ n = first_some (map (λ (s : Seated). is_wide_seat s.query s.running) seats.seats) n wide_seat in
+    omega (arith, one, least)
+begun_counted version gathered status (inr (seats, starts.OutOfMemory, is, none, same)) listed seat so = absurd (let both = sym same ∙ so in cc)
