@@ -26,13 +26,13 @@ use Rattle.sip_verifier.specs.Sittings.{Sitting, Starts, asks_left}
 use Rattle.sip_verifier.specs.Statuses.{FaultClause, IsListed, Stops, stops_asking}
 use Rattle.sip_verifier.specs.Tasks.{CanBeDone, version_of}
 use Rattle.sip_verifier.proofs.QueriesChecked.{OnLink}
-use Rattle.sip_verifier.proofs.RunPromises.{asking_listed}
 use Rattle.sip_verifier.proofs.RunTalks.{goes_to, nothing_reported, some_value, written_is}
 use Rattle.sip_session.specs.inside.Beginning.{Begins, IsHeard, task_of_seats}
 use Rattle.sip_session.specs.inside.Hearing.{AllTalks, Each, Says}
 use Rattle.sip_session.specs.inside.Trying.{Halts, Trails, TrailsTo, turn_at}
 use Rattle.sip_session.specs.PanelClause.{PanelClause, PanelRunClause}
 use Rattle.sip_session.specs.PanelExchanges.{PanelExchange, PanelIsTold, PanelMoment, PanelTells}
+use Rattle.sip_session.proofs.Begun.{asking_listed, caused_by, never_rose}
 use Rattle.sip_session.proofs.PanelEndings.{all_answered, cut_in_farewell, depth_is, halted, in_part, refused, too_wide, version_is}
 
 -- ports that tell go on telling
@@ -135,14 +135,21 @@ farewell_listed before now (Err e) (Err status) (port_stops.OutOfMemory, is, sam
 -- a helper that stopped asking, by counts since the beginning
 pub asking_stops : (first firsts second seconds report reports : ℕ) (status : Status) → Stops stops_asking (counts 0 0 0 report 0) (counts 0 0 0 reports 0) {T = ℕ} (Err status)
     → FaultClause (counts first second 0 report 0) (counts firsts seconds 0 reports 0) status × IsListed status
-asking_stops first firsts second seconds report reports status stops = (by_status status stops.0 stops.1, asking_listed status stops.0)
-  where
-    by_status : (s : Status) → stops_asking s ≡ true → FaultClause (counts 0 0 0 report 0) (counts 0 0 0 reports 0) s → FaultClause (counts first second 0 report 0) (counts firsts seconds 0 reports 0) s
-    by_status (statuses.Rejected query round reason) is fault = tt
-    by_status (statuses.WriteFault ports.Report) is fault = fault
-    by_status (statuses.WriteFault ports.Keep) is fault = fault
-    by_status (statuses.WriteFault ports.First) is fault = absurd (true≢false (sym is))
-    by_status (statuses.WriteFault ports.Second) is fault = absurd (true≢false (sym is))
-    by_status statuses.PeerFault is fault = fault
-    by_status statuses.OutOfMemory is fault = tt
-    by_status _ is fault = absurd (true≢false (sym is))
+asking_stops first firsts second seconds report reports status stops = (
+  caused_by (counts 0 0 0 report 0) (counts 0 0 0 reports 0) (counts first second 0 report 0) (counts firsts seconds 0 reports 0) never_rose never_rose never_rose (λ r. r) never_rose status stops.1,
+  asking_listed status stops.0,
+)
+
+-- a panel that did not begin, by the counts of its report too
+pub beginning_stops : (first firsts second seconds report reports : ℕ) (status : Status) → FaultClause (counts first second 0 0 0) (counts firsts seconds 0 0 0) status
+    → FaultClause (counts first second 0 report 0) (counts firsts seconds 0 reports 0) status
+beginning_stops first firsts second seconds report reports status fault =
+    caused_by (counts first second 0 0 0) (counts firsts seconds 0 0 0) (counts first second 0 report 0) (counts firsts seconds 0 reports 0) (λ r. r) (λ r. r) never_rose never_rose never_rose status fault
+
+-- whatever the ports tell, no link has a fault, and no record of the talk
+module _ (first firsts second seconds report reports : ℕ) (status : Status) (fault : FaultClause (counts first second 0 report 0) (counts firsts seconds 0 reports 0) status) where
+  pub no_peer_fault : status ≢ statuses.PeerFault
+  no_peer_fault is = never_rose (subst (λ (s : Status). FaultClause (counts first second 0 report 0) (counts firsts seconds 0 reports 0) s) is fault)
+
+  pub no_keep_fault : status ≢ statuses.WriteFault ports.Keep
+  no_keep_fault is = never_rose (subst (λ (s : Status). FaultClause (counts first second 0 report 0) (counts firsts seconds 0 reports 0) s) is fault)

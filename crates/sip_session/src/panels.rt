@@ -21,7 +21,7 @@ use arrayvec::ArrayVec;
 use sip_duel::HelperLink;
 use sip_ports::{Sink, Source};
 use sip_vector::Depth;
-use sip_verifier::{Seats, Session, Status, Task, draw, on_link, open};
+use sip_verifier::{Port, Seats, Session, Status, Task, draw, on_link, open};
 use std::alloc::Global;
 
 /// The task whose queries are those of the seats: each query once for each helper.
@@ -233,6 +233,8 @@ pub fn panel<A: Source, B: Source, K: Sink>(
         (B.faults second.new) (map (λ l. l.kept.talk.items) links.new.items) (K.talk report.new)
         (K.faults report.new))
         result }
+    ensures peer { result ≢ Status.PeerFault }
+    ensures keep { result ≢ Status.WriteFault Port.Keep }
     ensures gone { All (λ link. link.helper ≡ None) links.new.items }
     ensures count { length links.new.items ≡ length links.old.items }
     ensures first { Lasts A.faults A.wants A.is_sure first.old first.new }
