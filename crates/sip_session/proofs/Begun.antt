@@ -1,5 +1,6 @@
 -- How a panel begins, and why it may not.
 use Rattle.std.proofs.Common.{◌≡◌, ◌⊎◌, ℕ, zero, suc, ◌+◌, ◌*◌, ◌<◌, ◌≤◌, Bool, true, false, Option, Some, None, Result, Ok, Err, List, [], ◌++◌, length, map, get_or, inl, inr, refl, sym, ap, ◌∙◌, subst, arith, append-nil, le-mul_of_pos_right, true≢false}
+use Rattle.std.proofs.Math.Nat.{mul-pos}
 use Rattle.std.specs.Prelude.{All, IfErr, IfOk, IsTrue, ◌||◌}
 use Rattle.std.proofs.lemmas.Bool.{or_left, or_right}
 use Rattle.std.proofs.lemmas.List.{get_or-map, length-map}
@@ -31,23 +32,15 @@ use Rattle.sip_session.proofs.Seats.{All-seats, first_some, length-seats}
 
 -- ---- the task of all seats
 
-product : (a b : ℕ) → 0 < a → 0 < b → 0 < a * b
-product zero b p q = absurd (omega (arith, p))
-product (suc a) b p q = omega (arith, q)
-
 pub wide_done : (helpers : ℕ) (task : Task) → 0 < helpers → CanBeDone task → CanBeDone (task_of_seats helpers task)
 wide_done helpers task some can = record {
-  some = (let size = length-seats helpers task.queries.items in let least : 0 < length task.queries.items * helpers = product (length task.queries.items) helpers can.some some in omega (arith, size, least));
+  some = (let size = length-seats helpers task.queries.items in let least : 0 < length task.queries.items * helpers = mul-pos can.some some in omega (arith, size, least));
   asked = All-seats (CanBeAsked task.depth) helpers task.queries.items can.asked;
 }
 
 -- there are no more helpers than seats
 pub helpers_few : (helpers queries most : ℕ) → 0 < queries → helpers * queries ≤ most → helpers ≤ most
-helpers_few helpers zero most some few = absurd (omega (arith, some))
-helpers_few helpers (suc queries) most some few = let more : helpers ≤ helpers * suc queries = le_of_mul helpers queries in omega (arith, more, few)
-  where
-    le_of_mul : (h q : ℕ) → h ≤ h * suc q
-    le_of_mul h q = le-mul_of_pos_right {m = suc q} h (omega arith)
+helpers_few helpers queries most some few = let more : helpers ≤ helpers * queries = le-mul_of_pos_right helpers some in omega (arith, more, few)
 
 -- ---- statuses
 

@@ -6,6 +6,7 @@ use Rattle.std.specs.List.{enumerate_from, zip}
 use Rattle.std.proofs.Math.Nat.{mul_comm}
 use Rattle.std.proofs.Math.Seq.{take-length}
 use Rattle.std.proofs.lemmas.Bool.{cases_Bool, eqb-true, leb-false, lt-leb, or_left, or_right}
+use Rattle.std.proofs.lemmas.Option.{same_Some}
 use Rattle.std.proofs.lemmas.List.Elements.{All-cons, All-nil, All-head, All-tail, All-weaker, recursion_from_All}
 use Rattle.sip_field.specs.Moduli.{m61_modulus}
 use Rattle.sip_stream.proofs.LegalRecords.{records_legal}
@@ -50,7 +51,8 @@ use Rattle.sip_session.specs.PanelCounts.{JointCountOnPanel, seats_written, unwr
 use Rattle.sip_session.specs.PanelExchanges.{PanelExchange, without_links}
 use Rattle.sip_session.specs.Panels as panels
 use Rattle.sip_session.specs.Panels.{Attempt, AreAttempts, IsJudged, Outcome, inquiry_of_seats, seat_at, seat_blocks, seat_queries}
-use Rattle.sip_session.proofs.Seats.{All-seats, get_seat, length-seats, needed-seats}
+use Rattle.sip_session.proofs.Begun.{wide_done}
+use Rattle.sip_session.proofs.Seats.{All-seats, get_seat, needed-seats}
 
 -- ---- one query
 
@@ -230,10 +232,7 @@ module _ (helpers : ℕ) (task : Task) (x : PanelExchange) (some : 0 < helpers) 
       get_seat helpers (turn.helper - 1) task.queries.items (turn.number - 1) (let within = of.helper in omega (arith, within)) in
       let query = sym of.query ∙ sym same ∙ ap (slice_get (seat_queries helpers task.queries.items)) here ∙ is in
       let block = sym of.block ∙ ap (slice_get (seat_blocks i)) here ∙ at in
-      (same_some query, same_some block)
-    where
-      same_some : {X : Type 0} {a b : X} → Some a ≡ Some b → a ≡ b
-      same_some e = cc
+      (same_Some _ _ query, same_Some _ _ block)
 
   -- its lines are fine
   all_fine : (attempts : List Attempt) → AreAttempts helpers task x.seed x.stream attempts
@@ -246,17 +245,7 @@ module _ (helpers : ℕ) (task : Task) (x : PanelExchange) (some : 0 < helpers) 
   -- ---- the bound, as of a run over all seats
 
   wide_can : CanBeDone wide
-  wide_can = record {
-    some = let lots : 0 < length task.queries.items = can.some in positive (length task.queries.items) lots;
-    asked = All-seats (CanBeAsked task.depth) helpers task.queries.items can.asked;
-  }
-    where
-      product : (a b : ℕ) → 0 < a → 0 < b → 0 < a * b
-      product zero b p q = absurd (omega (arith, p))
-      product (suc a) b p q = omega (arith, q)
-
-      positive : (n : ℕ) → 0 < n → 0 < length (seat_queries helpers task.queries.items)
-      positive n lots = let size = length-seats helpers task.queries.items in let least : 0 < length task.queries.items * helpers = product (length task.queries.items) helpers can.some some in omega (arith, size, least)
+  wide_can = wide_done helpers task some can
 
   -- an exchange with the same input, on which nothing was said
   abbrev silent : Exchange

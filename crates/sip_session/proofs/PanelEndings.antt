@@ -34,6 +34,7 @@ use Rattle.sip_verifier.specs.Statuses.{FaultClause}
 use Rattle.sip_verifier.specs.Talks.{bye_sent, opening_sent, stream_sent, whole_frames}
 use Rattle.sip_verifier.specs.Tasks.{CanBeDone, version_of}
 use Rattle.sip_verifier.specs.Widths.{first_wide, first_wide_seat}
+use Rattle.sip_verifier.proofs.RunTalks.{front_before}
 use Rattle.sip_verifier.proofs.WideSeats.{first_is}
 use Rattle.sip_session.specs.inside.Beginning.{IsHeard, query_of_seat, task_of_seats}
 use Rattle.sip_session.specs.inside.Hearing.{AllTalks, Each, IsPassedInPart, Says}
@@ -53,10 +54,6 @@ no_attempts helpers task seed bytes = record {
   judged = All-nil (λ (a : Attempt). IsJudged (version_of task) task.depth (legal task bytes) a.question a.outcome);
 }
 
--- a front of some events is one of more
-front_more : {X : Type 0} (xs ys zs : List X) → IsPrefix xs ys → IsPrefix xs (ys ++ zs)
-front_more xs ys zs p = (p.0 ++ zs, ap (λ l. l ++ zs) p.1 ∙ append_assoc xs p.0 zs)
-
 abbrev no_events : List TalkEvent
 no_events = []
 
@@ -67,10 +64,6 @@ none_either false = refl
 -- a seat's query and block
 abbrev ask_of : Seated → Query × List ℕ
 ask_of s = (s.query, s.block)
-
--- equal values
-some_same : {X : Type 0} (a b : X) → Some a ≡ Some b → a ≡ b
-some_same a b e = cc
 
 module _ (helpers : ℕ) (task : Task) (x : PanelExchange) (some : 0 < helpers) (can : CanBeDone task) (deep : 1 ≤ task.depth) (before now : Counts) where
   abbrev wide : Task
@@ -113,7 +106,7 @@ module _ (helpers : ℕ) (task : Task) (x : PanelExchange) (some : 0 < helpers) 
 
     -- nothing moved on a link
     still : (k : ℕ) → k < length old → Some (get_or new k []) ≡ Some (get_or old k []) → get_or new k [] ≡ []
-    still k less same = some_same _ _ same ∙ fresh k less
+    still k less same = same_Some _ _ same ∙ fresh k less
 
     -- this was said on a link
     said_on : (k : ℕ) → k < length old → (said : List TalkEvent) → get_or new k [] ≡ get_or old k [] ++ said → get_or new k [] ≡ said
@@ -317,7 +310,7 @@ module _ (helpers : ℕ) (task : Task) (x : PanelExchange) (some : 0 < helpers) 
             of_turn = of_turn (turn_behind first_turn h.attempts) h.current h.seat;
             waits = h.waits;
             went = went new blank full new told sized refl h.attempts _ (λ helper more. IsPrefix more (due helpers task x (turn_behind first_turn h.attempts) (Some h.current) helper)) _ h.trail
-                (λ k more less is. (more, front_more more _ _ is, λ e. e));
+                (λ k more less is. (more, front_before more _ _ is, λ e. e));
             report = wrote _ h.trail.report;
           }))) tt
       halted statuses.OutOfMemory (inr (inr h)) fault =

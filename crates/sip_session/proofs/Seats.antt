@@ -1,5 +1,5 @@
 -- The queries of a panel's seats: each query once for each helper.
-use Rattle.std.proofs.Common.{◌≡◌, ℕ, zero, suc, ◌+◌, ◌-◌, ◌*◌, ◌/◌, ◌<◌, ◌≤◌, Bool, true, false, ◌||◌, Option, Some, None, List, [], ◌∷◌, ◌++◌, length, map, take, replicate, flat_map, inl, inr, refl, sym, ap, ◌∙◌, subst, arith, suc-add, add_assoc, length-append}
+use Rattle.std.proofs.Common.{◌≡◌, ℕ, zero, suc, ◌+◌, ◌-◌, ◌*◌, ◌/◌, ◌<◌, ◌≤◌, Bool, true, false, ◌||◌, Option, Some, None, List, [], ◌∷◌, ◌++◌, length, map, take, replicate, flat_map, inl, inr, refl, sym, ap, ◌∙◌, subst, arith, suc-add, add_assoc, length-append, length-take-le}
 use Rattle.std.specs.Prelude.{All, slice_get, option_map, nat_lt, if◌then◌else◌}
 use Rattle.std.specs.List.{list_any}
 use Rattle.std.proofs.Math.Nat.{add-div_left, div-le_self}
@@ -43,18 +43,13 @@ length-seats h (q ∷ queries) =
     ∙ (let e : h + length queries * h ≡ suc (length queries) * h = omega arith in e)
 
 -- while the seats of a query are added there is room for another one
-pub seats_front : {X : Type 0} (h i s : ℕ) (queries : List X) (q : X) → i < length queries → s < h → length (flat_map (λ q. replicate h q) (take i queries) ++ replicate s q) < h * length queries
-seats_front h i s queries q less fewer =
-    let size : length (flat_map (λ q. replicate h q) (take i queries)) ≡ i * h = all_long h i queries (omega arith) in
+pub seats_front : (h i s : ℕ) (queries so_far : List Query) (q : Query) → i < length queries → s < h → so_far ≡ seat_queries h (take i queries) ++ replicate s q → length so_far < h * length queries
+seats_front h i s queries so_far q less fewer are =
+    let whole : length (seat_queries h (take i queries)) ≡ i * h = length-seats h (take i queries) ∙ ap (λ n. n * h) (length-take-le i queries (omega (arith, less))) in
     let room : i * h + s < h * length queries = mul-add-lt i h s (length queries) less fewer in
-    omega (arith, length-append (flat_map (λ q. replicate h q) (take i queries)) (replicate s q), length-replicate s q, size, room)
-  where
-    all_long : (h i : ℕ) (queries : List X) → i ≤ length queries → length (flat_map (λ q. replicate h q) (take i queries)) ≡ i * h
-    all_long h zero queries most = let e : 0 ≡ 0 * h = omega arith in e
-    all_long h (suc i) [] most = absurd (omega (arith, most))
-    all_long h (suc i) (q ∷ queries) most =
-        length-append (replicate h q) (flat_map (λ q. replicate h q) (take i queries)) ∙ ap (λ n. n + length (flat_map (λ q. replicate h q) (take i queries))) (length-replicate h q) ∙ ap (λ n. h + n) (all_long h i queries (omega arith))
-        ∙ (let e : h + i * h ≡ suc i * h = omega arith in e)
+    let size : length so_far ≡ i * h + s =
+    ap length are ∙ length-append (seat_queries h (take i queries)) (replicate s q) ∙ ap (λ n. length (seat_queries h (take i queries)) + n) (length-replicate s q) ∙ ap (λ n. n + s) whole in
+    omega (arith, size, room)
 
 -- what holds of each query holds of each seat's
 pub All-seats : (P : Query → Type 0) (h : ℕ) (queries : List Query) → All P queries → All P (seat_queries h queries)

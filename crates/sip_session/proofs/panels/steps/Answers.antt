@@ -49,13 +49,13 @@ returns-in_err-ask_all-clause-keeps g c =
           stopped_asking _ task c.requires.some c.requires.done deep x _ _ _ t.unread (map talk c.args.links.now) (map talk c.begin.new.links) (length-map c.args.links.now talk) (told_length talk c.args.links.now c.begin.new.links c.begin.ensures.count)
           (told_nothing talk c.args.links.now c.requires.new) seats heard c.in_ok-begin.session.value starts _ _ (λ bytes went. written_is _ _ bytes x.report went t.report) _ (search rules)
           (map talk c.ask_all.new.links) t.talks (told_length talk c.begin.new.links c.ask_all.new.links c.ask_all.ensures.count) c.in_err-ask_all.field-0.0
-          (rw (lent, c.in_err-ask_all.was) at (c.ask_all.ensures.trails (legal task x.stream) stand)) stops.0;
+          (rw (lent, c.begin.ensures.count, c.in_err-ask_all.was) at (c.ask_all.ensures.trails (legal task x.stream) (rw lent stand))) stops.0;
       moves = λ told.
           let bytes = some_value _ told.first in
           let seed = some_value _ told.second in
           let (seats, heard, starts) = begins bytes.0 seed.0 bytes.1 seed.1 in
           let stand = (seats_left _ _ _ (legal task bytes.0) seats _ _ (heard.each 0 (omega (arith, length-map c.args.links.now talk, c.requires.some))).stand starts).1 in
-          let wrote = halts_wrote _ _ _ _ _ _ _ _ _ _ c.in_err-ask_all.field-0.0 (rw (lent, c.in_err-ask_all.was) at (c.ask_all.ensures.trails (legal task bytes.0) stand)) in
+          let wrote = halts_wrote _ _ _ _ _ _ _ _ _ _ c.in_err-ask_all.field-0.0 (rw (lent, c.begin.ensures.count, c.in_err-ask_all.was) at (c.ask_all.ensures.trails (legal task bytes.0) (rw lent stand))) in
           panel_tells _ _ told c.begin.ensures.told wrote.0 wrote.1;
       fault = stops.0;
       listed = stops.1;
@@ -77,13 +77,13 @@ returns-clause-keeps g c =
           said_farewell _ task c.requires.some c.requires.done deep x _ _ _ t.unread (map talk c.args.links.now) (map talk c.begin.new.links) (length-map c.args.links.now talk) (told_length talk c.args.links.now c.begin.new.links c.begin.ensures.count)
           (told_nothing talk c.args.links.now c.requires.new) seats heard c.in_ok-begin.session.value starts _ _ (λ bytes went. written_is _ _ bytes x.report went t.report) _ (search rules)
           (map talk c.ask_all.new.links) (map talk c.say_bye.new.links) t.talks (told_length talk c.begin.new.links c.ask_all.new.links c.ask_all.ensures.count) (told_length talk c.ask_all.new.links c.say_bye.new.links c.say_bye.ensures.count)
-          c.in_ok-ask_all.gone (rw (lent, c.in_ok-ask_all.was) at (c.ask_all.ensures.trails (legal task x.stream) stand)) c.say_bye.result c.on_link.result c.on_link.ensures c.say_bye.ensures.cause said;
+          c.in_ok-ask_all.gone (rw (lent, c.begin.ensures.count, c.in_ok-ask_all.was) at (c.ask_all.ensures.trails (legal task x.stream) (rw lent stand))) c.say_bye.result c.on_link.result c.on_link.ensures c.say_bye.ensures.cause said;
       moves = λ told.
           let bytes = some_value _ told.first in
           let seed = some_value _ told.second in
           let (seats, heard, starts) = begins bytes.0 seed.0 bytes.1 seed.1 in
           let stand = (seats_left _ _ _ (legal task bytes.0) seats _ _ (heard.each 0 (omega (arith, length-map c.args.links.now talk, c.requires.some))).stand starts).1 in
-          let trails = rw (lent, c.in_ok-ask_all.was) at (c.ask_all.ensures.trails (legal task bytes.0) stand) in
+          let trails = rw (lent, c.begin.ensures.count, c.in_ok-ask_all.was) at (c.ask_all.ensures.trails (legal task bytes.0) (rw lent stand)) in
           panel_tells _ _ told c.begin.ensures.told _ trails.trail.report;
       fault = ends.0;
       listed = ends.1;
