@@ -1,13 +1,9 @@
 -- How a panel begins, and why it may not.
-use Rattle.std.proofs.Common.{◌≡◌, ◌⊎◌, ℕ, zero, suc, ◌+◌, ◌*◌, ◌<◌, ◌≤◌, Bool, true, false, Option, Some, None, Result, Ok, Err, List, [], ◌++◌, length, map, get_or, inl, inr, refl, sym, ap, ◌∙◌, subst, arith, append-nil, le-mul_of_pos_right, true≢false}
+use Rattle.std.proofs.Common.{◌≡◌, ◌⊎◌, ℕ, zero, suc, ◌+◌, ◌*◌, ◌<◌, ◌≤◌, Bool, true, false, Option, Some, None, Result, Ok, Err, List, [], ◌++◌, length, map, inl, inr, refl, sym, ap, ◌∙◌, subst, arith, append-nil, le-mul_of_pos_right, true≢false}
 use Rattle.std.proofs.Math.Nat.{mul-pos}
-use Rattle.std.specs.Prelude.{All, IfErr, IfOk, IsTrue, ◌||◌}
-use Rattle.std.proofs.lemmas.Bool.{or_left, or_right}
-use Rattle.std.proofs.lemmas.List.{get_or-map, length-map}
+use Rattle.std.specs.Prelude.{IfErr, IsTrue}
 use Rattle.sip_ports.specs.Ports.{Rose}
 use Rattle.sip_ports.proofs.FaultLemmas.{Rose-positive}
-use Rattle.sip_vector.specs.declared.query.Query.{Query}
-use Rattle.sip_vector.specs.Limits.{most_depth}
 use Rattle.sip_verifier.specs.declared.session.SessionStart.{SessionStart}
 use Rattle.sip_verifier.specs.declared.session.SessionStart.TheVariants as starts
 use Rattle.sip_verifier.specs.declared.status.Port.TheVariants as ports
@@ -19,13 +15,13 @@ use Rattle.sip_verifier.specs.Moments.{Counts, counts}
 use Rattle.sip_verifier.specs.QuerySeats.{Seated}
 use Rattle.sip_verifier.specs.Seats.{Seating}
 use Rattle.sip_verifier.specs.Sittings.{Sitting, Starts}
-use Rattle.sip_verifier.specs.Statuses.{FaultClause, IsListed, Stops, is_accepted, stops_asking, stops_following, stops_gathering, stops_starting}
+use Rattle.sip_verifier.specs.Statuses.{FaultClause, IsListed, Stops, stops_following, stops_gathering}
 use Rattle.sip_verifier.specs.Talks.{stream_sent}
 use Rattle.sip_verifier.specs.Tasks.{CanBeAsked, CanBeDone, version_of}
 use Rattle.sip_verifier.specs.Widths.{first_wide_seat, is_wide_seat}
 use Rattle.sip_wire.specs.declared.version.Version.{Version}
-use Rattle.sip_wire.specs.Versions.{Speaks, needed}
-use Rattle.sip_wire.proofs.Asking.{needed-speaks}
+use Rattle.sip_verifier.proofs.KeptHead.{following_gathers}
+use Rattle.sip_verifier.proofs.RunPromises.{gathering_listed}
 use Rattle.sip_session.specs.inside.Beginning.{Begins, GathersAll, IsHeard, by_query, query_of_seat, task_of_seats}
 use Rattle.sip_session.specs.inside.Hearing.{AllTalks, Each, IsPassedInPart}
 use Rattle.sip_session.proofs.Seats.{All-seats, first_some, length-seats}
@@ -43,15 +39,6 @@ pub helpers_few : (helpers queries most : ℕ) → 0 < queries → helpers * que
 helpers_few helpers queries most some few = let more : helpers ≤ helpers * queries = le-mul_of_pos_right helpers some in omega (arith, more, few)
 
 -- ---- statuses
-
--- the list of a part is in the list of a run
-pub gathering_listed : (status : Status) → stops_gathering status ≡ true → IsListed status
-gathering_listed status is =
-    or_left (is_accepted status || stops_gathering status || stops_starting status) (stops_asking status)
-    (or_left (is_accepted status || stops_gathering status) (stops_starting status) (or_right (is_accepted status) (stops_gathering status) is))
-
-pub asking_listed : (status : Status) → stops_asking status ≡ true → IsListed status
-asking_listed status is = or_right (is_accepted status || stops_gathering status || stops_starting status) (stops_asking status) is
 
 -- a count that stays 0 has not risen
 pub never_rose : {P : Type 0} → Rose 0 0 → P
@@ -74,40 +61,15 @@ module _ (before now since until : Counts) (first : Rose before.first now.first 
 
 -- what stops a panel while its stream is sent stops it before its first query, by the counts since
 -- before the draw
-pub following_gathers : (first firsts second seconds : ℕ) (status : Status) → Stops stops_following (counts first 0 0 0 0) (counts firsts 0 0 0 0) {T = Unit {0}} (Err status)
+pub sending_stops : (first firsts second seconds : ℕ) (status : Status) → Stops stops_following (counts first 0 0 0 0) (counts firsts 0 0 0 0) {T = Unit {0}} (Err status)
     → IsTrue (stops_gathering status) × FaultClause (counts first second 0 0 0) (counts firsts seconds 0 0 0) status
-following_gathers first firsts second seconds status stops =
-    (listed status stops.0, caused_by (counts first 0 0 0 0) (counts firsts 0 0 0 0) (counts first second 0 0 0) (counts firsts seconds 0 0 0) (λ r. r) never_rose never_rose never_rose never_rose status stops.1)
-  where
-    listed : (s : Status) → stops_following s ≡ true → stops_gathering s ≡ true
-    listed (statuses.BadStream at why) is = refl
-    listed (statuses.ReadFault ports.First) is = refl
-    listed (statuses.ReadFault ports.Second) is = absurd (true≢false (sym is))
-    listed (statuses.ReadFault ports.Report) is = absurd (true≢false (sym is))
-    listed (statuses.ReadFault ports.Keep) is = absurd (true≢false (sym is))
-    listed statuses.PeerFault is = refl
-    listed statuses.OutOfMemory is = refl
-    listed _ is = absurd (true≢false (sym is))
+sending_stops first firsts second seconds status stops =
+    (following_gathers status stops.0, caused_by (counts first 0 0 0 0) (counts firsts 0 0 0 0) (counts first second 0 0 0) (counts firsts seconds 0 0 0) (λ r. r) never_rose never_rose never_rose never_rose status stops.1)
 
 -- what stopped a gathering is one of its statuses
 pub stops_listed : (before now : Counts) (gathered : Result Seating Status) → Stops stops_gathering before now gathered → IfErr gathered (λ s. IsTrue (stops_gathering s))
 stops_listed before now (Ok seats) stops = tt
 stops_listed before now (Err status) stops = stops.0
-
--- ---- the version
-
--- each query of seats that were gathered can be asked in the version that all need
-pub seats_speak : (depth : ℕ) (queries : List Query) (version : Version) (gathered : Result Seating Status) → depth ≤ most_depth → version ≡ needed depth queries
-    → IfOk gathered (λ (s : Seating). (s.depth ≡ depth) × (map (λ (x : Seated). x.query) s.seats ≡ queries))
-    → IfOk gathered (λ (s : Seating). All (λ (x : Seated). Speaks version s.depth x.query) s.seats)
-seats_speak depth queries version (Err status) most is seated = tt
-seats_speak depth queries version (Ok s) most is seated = λ i other less.
-    let query = λ (x : Seated). x.query in
-    let inside : i < length queries = omega (arith, length-map s.seats query, ap length seated.1, less) in
-    let here : get_or queries i other.query ≡ (get_or s.seats i other).query = ap (λ l. get_or l i other.query) (sym seated.1) ∙ get_or-map query s.seats i other other.query less in
-    subst (Speaks version s.depth) here
-    (subst (λ (n : ℕ). Speaks version n (get_or queries i other.query)) (sym seated.0)
-    (subst (λ (v : Version). Speaks v depth (get_or queries i other.query)) (sym is) (needed-speaks depth queries most i other.query inside)))
 
 -- ---- no session
 

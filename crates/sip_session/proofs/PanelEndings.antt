@@ -87,8 +87,16 @@ module _ (helpers : ℕ) (task : Task) (x : PanelExchange) (some : 0 < helpers) 
   abbrev Clause : Status → Type 0
   Clause status = PanelClause helpers task x before now status
 
-  pub clause : (attempts : List Attempt) (status : Status) → AreAttempts helpers task x.seed x.stream attempts → Ends helpers task x attempts status → Cause status → Clause status
-  clause attempts status are ends cause = record { attempts = attempts; are = are; ends = ends; cause = cause; joint = joint_counted helpers task x some can deep attempts are }
+  -- the queries may be asked
+  abbrev Judged : Type 0
+  Judged = CanBeJudged asking (inquiry_of_panel helpers task x.seed) (without_links x)
+
+  pub clause : (attempts : List Attempt) (status : Status) → AreAttempts helpers task x.seed x.stream attempts → Ends helpers task x attempts status → Cause status → (attempts ≢ [] → Judged) → Clause status
+  clause attempts status are ends cause asked = record { attempts = attempts; are = are; ends = ends; cause = cause; asked = asked; joint = joint_counted helpers task x some can deep attempts are }
+
+  -- no helper was asked
+  unasked : (status : Status) → Ends helpers task x [] status → Cause status → Clause status
+  unasked status ends cause = clause [] status (no_attempts helpers task x.seed x.stream) ends cause (λ any. absurd (any refl))
 
   is_drawn : HasSeed wide x.stream x.seed → (inquiry_of_panel helpers task x.seed).challenges ≢ None
   is_drawn seed none = let drawn_is = seed.1 in cc
@@ -118,16 +126,16 @@ module _ (helpers : ℕ) (task : Task) (x : PanelExchange) (some : 0 < helpers) 
     pub refused : (status : Status) → Each (λ _ o n. Refuses wide x.stream x.seed (Some o) (Some n) status) old new → status ≢ statuses.OutOfMemory
         → FaultClause before now status → ¬ Rose before.peer now.peer → ¬ Rose before.keep now.keep → Clause status
     refused statuses.BadSeed each not_memory fault no_peer no_keep =
-        clause [] statuses.BadSeed (no_attempts helpers task x.seed x.stream) (record { none = refl; talks = each_talk (λ _ talk. talk ≡ []) (λ k less. still k less (each k less).1); report = blank }) (each 0 first).0
+        unasked statuses.BadSeed (record { none = refl; talks = each_talk (λ _ talk. talk ≡ []) (λ k less. still k less (each k less).1); report = blank }) (each 0 first).0
     refused statuses.SeedSpent each not_memory fault no_peer no_keep =
-        clause [] statuses.SeedSpent (no_attempts helpers task x.seed x.stream) (record { none = refl; talks = each_talk (λ _ talk. talk ≡ []) (λ k less. still k less (each k less).2); report = blank })
+        unasked statuses.SeedSpent (record { none = refl; talks = each_talk (λ _ talk. talk ≡ []) (λ k less. still k less (each k less).2); report = blank })
         ((each 0 first).0, (each 0 first).1)
     refused (statuses.BadStream at why) each not_memory fault no_peer no_keep =
-        clause [] (statuses.BadStream at why) (no_attempts helpers task x.seed x.stream)
+        unasked (statuses.BadStream at why)
         (record { none = refl; talks = each_talk (λ _ talk. talk ≡ before_end task x.stream) (λ k less. said_on k less _ (each k less).1.2 ∙ same_before); report = blank })
         (is_drawn (each 0 first).0, (each 0 first).1.0, (each 0 first).1.1)
     refused (statuses.ReadFault ports.First) each not_memory fault no_peer no_keep =
-        clause [] (statuses.ReadFault ports.First) (no_attempts helpers task x.seed x.stream)
+        unasked (statuses.ReadFault ports.First)
         (record {
           none = refl;
           talks = each_talk (λ _ talk. IsPrefix talk (before_end task x.stream)) (λ k less.
@@ -137,7 +145,7 @@ module _ (helpers : ℕ) (task : Task) (x : PanelExchange) (some : 0 < helpers) 
         })
         (is_drawn (each 0 first).0, fault)
     refused (statuses.ReadFault ports.Second) each not_memory fault no_peer no_keep =
-        clause [] (statuses.ReadFault ports.Second) (no_attempts helpers task x.seed x.stream) (record { none = refl; talks = each_talk (λ _ talk. talk ≡ []) (λ k less. still k less (each k less)); report = blank }) fault
+        unasked (statuses.ReadFault ports.Second) (record { none = refl; talks = each_talk (λ _ talk. talk ≡ []) (λ k less. still k less (each k less)); report = blank }) fault
     refused statuses.PeerFault each not_memory fault no_peer no_keep = absurd (no_peer fault)
     refused (statuses.WriteFault ports.Keep) each not_memory fault no_peer no_keep = absurd (no_keep fault)
     refused statuses.OutOfMemory each not_memory fault no_peer no_keep = absurd (not_memory refl)
@@ -150,7 +158,7 @@ module _ (helpers : ℕ) (task : Task) (x : PanelExchange) (some : 0 < helpers) 
 
     -- memory ran out while the stream was sent, or before or just after
     pub in_part : Each (λ _ o n. IsPassedInPart wide x.stream o n) old new → Clause statuses.OutOfMemory
-    in_part each = clause [] statuses.OutOfMemory (no_attempts helpers task x.seed x.stream) (inl (by_fault (records task.depth task.form x.stream).fault refl)) tt
+    in_part each = unasked statuses.OutOfMemory (inl (by_fault (records task.depth task.form x.stream).fault refl)) tt
       where
         front : (most : List TalkEvent) → ((k : ℕ) (less : k < length old) → IsPrefix (each k less).said most) → NoneAsked helpers task x [] most
         front most fronts = record {
@@ -172,7 +180,7 @@ module _ (helpers : ℕ) (task : Task) (x : PanelExchange) (some : 0 < helpers) 
         let passed = heard.each 0 first in
         let legal_items = (records_legal task.depth task.form x.stream).items in
         let narrow = sym (first_is task.depth (seat_queries helpers task.queries.items) (blocks wide heard.challenges) stream seats passed.stand legal_items) ∙ wide_seat in
-        clause [] (statuses.TooWide query) (no_attempts helpers task x.seed x.stream)
+        unasked (statuses.TooWide query)
         (record { none = refl; talks = each_talk (λ _ talk. talk ≡ all_sent helpers task x) (λ k less. said_on k less _ (heard.each k less).talk ∙ same_sent); report = blank })
         ((is_drawn (heard.challenges, heard.draws), passed.to_end), first_query stream helpers some task.queries.items seat narrow ∙ ap Some (sym is))
 
@@ -291,7 +299,7 @@ module _ (helpers : ℕ) (task : Task) (x : PanelExchange) (some : 0 < helpers) 
 
       promise : (attempts : List Attempt) (rest : ℕ → List TalkEvent → Type 0) (written : List ℕ) (status : Status) → To attempts rest written → Ends helpers task x attempts status
           → CauseClause asking (inquiry_of_panel helpers task x.seed) (without_links x) before now status → Promise status
-      promise attempts rest written status t ends cause = clause helpers task x some can deep before now attempts status (are_attempts new blank full attempts rest written t) ends cause
+      promise attempts rest written status t ends cause = clause helpers task x some can deep before now attempts status (are_attempts new blank full attempts rest written t) ends cause (λ any. can_be_judged)
 
       pub halted : (status : Status) → Halts (version_of task) task.depth U helpers (length task.queries.items) asks mid new blank full status → FaultClause before now status → Promise status
       halted (statuses.Rejected query round reason) h fault =
@@ -350,7 +358,7 @@ module _ (helpers : ℕ) (task : Task) (x : PanelExchange) (some : 0 < helpers) 
             all = ap (λ (t : Turn). t.number) to.behind;
             went = went new blank full last told sized long to.attempts _ (λ helper more. more ≡ (if is_left turn helper then bye_sent (version_of task) else [])) _ to.trail (λ k more less none. farewell k less more none);
             report = wrote _ to.trail.report;
-          }) can_be_judged
+          }) can_be_judged (λ any. can_be_judged)
         where
           farewell : (k : ℕ) → k < length new → (more : List TalkEvent) → more ≡ []
               → (all : List TalkEvent) × (all ≡ (if is_left turn (suc k) then bye_sent (version_of task) else []))
@@ -374,7 +382,7 @@ module _ (helpers : ℕ) (task : Task) (x : PanelExchange) (some : 0 < helpers) 
             waits = tt;
             went = went new blank full last told sized long to.attempts _ (λ helper more. IsPrefix more (due helpers task x turn None helper)) _ to.trail (λ k more less none. farewell k less more none);
             report = wrote _ to.trail.report;
-          }))) tt
+          }))) tt (λ any. can_be_judged)
         where
           farewell : (k : ℕ) → k < length new → (more : List TalkEvent) → more ≡ []
               → (all : List TalkEvent) × IsPrefix all (due helpers task x turn None (suc k))

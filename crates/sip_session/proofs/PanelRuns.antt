@@ -26,13 +26,14 @@ use Rattle.sip_verifier.specs.Sittings.{Sitting, Starts, asks_left}
 use Rattle.sip_verifier.specs.Statuses.{FaultClause, IsListed, Stops, stops_asking}
 use Rattle.sip_verifier.specs.Tasks.{CanBeDone, version_of}
 use Rattle.sip_verifier.proofs.QueriesChecked.{OnLink}
+use Rattle.sip_verifier.proofs.RunPromises.{asking_listed}
 use Rattle.sip_verifier.proofs.RunTalks.{goes_to, nothing_reported, some_value, written_is}
 use Rattle.sip_session.specs.inside.Beginning.{Begins, IsHeard, task_of_seats}
 use Rattle.sip_session.specs.inside.Hearing.{AllTalks, Each, Says}
 use Rattle.sip_session.specs.inside.Trying.{Halts, Trails, TrailsTo, turn_at}
 use Rattle.sip_session.specs.PanelClause.{PanelClause, PanelRunClause}
 use Rattle.sip_session.specs.PanelExchanges.{PanelExchange, PanelIsTold, PanelMoment, PanelTells}
-use Rattle.sip_session.proofs.Begun.{asking_listed, caused_by, never_rose}
+use Rattle.sip_session.proofs.Begun.{caused_by, never_rose}
 use Rattle.sip_session.proofs.PanelEndings.{all_answered, cut_in_farewell, depth_is, halted, in_part, refused, too_wide, version_is}
 
 -- ports that tell go on telling

@@ -1,10 +1,10 @@
 -- What a panel promises.
-use Rattle.std.specs.Prelude.{ℕ, List}
+use Rattle.std.specs.Prelude.{◌≢◌, ℕ, List, []}
 use Rattle.sip_verifier.specs.declared.status.Status.{Status}
 use Rattle.sip_verifier.specs.declared.task.Task.{Task}
 use Rattle.sip_verifier.specs.Moments.{Counts}
 use Rattle.sip_verifier.specs.Questions.{asking}
-use Rattle.sip_verifier.specs.runs.CauseClause.{CauseClause}
+use Rattle.sip_verifier.specs.runs.CauseClause.{CanBeJudged, CauseClause}
 use Rattle.sip_verifier.specs.Statuses.{FaultClause, IsListed}
 use Rattle.sip_session.specs.PanelCounts.{JointCountOnPanel}
 use Rattle.sip_session.specs.PanelEnds.{Ends}
@@ -25,6 +25,9 @@ pub record PanelClause (helpers : ℕ) (task : Task) (x : PanelExchange) (before
   -- when each status comes; a query that is too wide is named by its own number
   pub cause : CauseClause asking (inquiry_of_panel helpers task x.seed) (without_links x) before now
       status
+  -- a helper was asked only where the input is good and the queries may be asked, whatever the status
+  pub asked : attempts ≢ [] → CanBeJudged asking (inquiry_of_panel helpers task x.seed)
+      (without_links x)
   -- how many challenges the helpers can win by together, and that no line of an answer is wrong but
   -- at those, whichever helper brought it about
   pub joint : JointCountOnPanel helpers task x attempts

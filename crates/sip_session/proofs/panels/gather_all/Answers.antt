@@ -2,7 +2,7 @@
 use Rattle.std.proofs.lemmas.Result.{err_from_is_err_and}
 use Rattle.sip_verifier.specs.Draws.{blocks}
 use Rattle.sip_verifier.specs.inside.Drawing.{HasDrawn}
-use Rattle.sip_session.proofs.Begun.{following_gathers}
+use Rattle.sip_session.proofs.Begun.{sending_stops}
 use Rattle.sip_session.proofs.Heard.{all_heard, draw_stops, follow_stops}
 use Rattle.sip_session.proofs.panels.gather_all.Goals as goal
 
@@ -20,7 +20,7 @@ returns-in_err-follow_all-clause-gathers g c = λ bytes seed all told.
 pub returns-in_err-follow_all-clause-fault : goal.returns-in_err-follow_all-clause-fault
 returns-in_err-follow_all-clause-fault g c =
     let p = err_from_is_err_and c.from_residual-in_err-follow_all.result c.from_residual-in_err-follow_all.ensures.1 in
-    rw (p.1, p.2) (following_gathers _ _ _ _ c.in_err-follow_all.field-0.0 c.in_err-follow_all.ensures.fault)
+    rw (p.1, p.2) (sending_stops _ _ _ _ c.in_err-follow_all.field-0.0 c.in_err-follow_all.ensures.fault)
 
 pub returns-in_ok-follow_all-clause-gathers : goal.returns-in_ok-follow_all-clause-gathers
 returns-in_ok-follow_all-clause-gathers g c = λ bytes seed all told.
