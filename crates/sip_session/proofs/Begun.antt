@@ -78,6 +78,18 @@ abbrev pub NoSession : Version → Result Seating Status → Status → Type 0
 NoSession version gathered status =
     (gathered ≡ Err status) ⊎ (seats : Seating) × (start : SessionStart) × (gathered ≡ Ok seats) × Starts version seats (Err start) × (status ≡ status_of_start start)
 
+-- no gathering stops by a query that is too wide, so what it answered keeps its name
+same_named : (helpers : ℕ) (status : Status) → stops_gathering status ≡ true → by_query helpers status ≡ status
+same_named helpers (statuses.TooWide seat) listed = absurd (true≢false (sym listed))
+same_named helpers (statuses.BadStream at why) listed = refl
+same_named helpers statuses.BadSeed listed = refl
+same_named helpers statuses.SeedSpent listed = refl
+same_named helpers (statuses.ReadFault port) listed = refl
+same_named helpers (statuses.WriteFault port) listed = refl
+same_named helpers statuses.PeerFault listed = refl
+same_named helpers statuses.OutOfMemory listed = refl
+same_named helpers _ listed = absurd (true≢false (sym listed))
+
 module _ (wide : Task) (bytes seed : List ℕ) (left : Option (List ℕ)) (old new : AllTalks) (helpers : ℕ) where
   -- no gathering stops by a query that is too wide, so what it answered stays
   pub gathers_begins : (status : Status) → stops_gathering status ≡ true → GathersAll wide bytes seed left old new (Err status) → Begins wide bytes seed left old new helpers (Err status)
@@ -91,17 +103,6 @@ module _ (wide : Task) (bytes seed : List ℕ) (left : Option (List ℕ)) (old n
   gathers_begins statuses.OutOfMemory listed stops = stops
   gathers_begins _ listed stops = absurd (true≢false (sym listed))
 
-  same_named : (status : Status) → stops_gathering status ≡ true → by_query helpers status ≡ status
-  same_named (statuses.TooWide seat) listed = absurd (true≢false (sym listed))
-  same_named (statuses.BadStream at why) listed = refl
-  same_named statuses.BadSeed listed = refl
-  same_named statuses.SeedSpent listed = refl
-  same_named (statuses.ReadFault port) listed = refl
-  same_named (statuses.WriteFault port) listed = refl
-  same_named statuses.PeerFault listed = refl
-  same_named statuses.OutOfMemory listed = refl
-  same_named _ listed = absurd (true≢false (sym listed))
-
   -- all was sent, and memory ran out then
   all_in_part : (seats : Seating) → IsHeard wide bytes seed left old new seats → Each (λ _ o n. IsPassedInPart wide bytes o n) old new
   all_in_part seats heard = λ k less. let all = heard.each k less in
@@ -112,7 +113,7 @@ module _ (wide : Task) (bytes seed : List ℕ) (left : Option (List ℕ)) (old n
   begun_stop version gathered status (inl is) gathers listed =
       let stops = subst (GathersAll wide bytes seed left old new) is gathers in
       let known = subst (λ (r : Result Seating Status). IfErr r (λ s. IsTrue (stops_gathering s))) is listed in
-      subst (λ (s : Status). Begins wide bytes seed left old new helpers (Err s)) (sym (same_named status known)) (gathers_begins status known stops)
+      subst (λ (s : Status). Begins wide bytes seed left old new helpers (Err s)) (sym (same_named helpers status known)) (gathers_begins status known stops)
   begun_stop version gathered status (inr (seats, starts.TooWide seat, is, wide_seat, same)) gathers listed =
       let heard = subst (GathersAll wide bytes seed left old new) is gathers in
       subst (λ (s : Status). Begins wide bytes seed left old new helpers (Err (by_query helpers s))) (sym same) (seats, heard, seat, wide_seat, refl)
@@ -120,15 +121,16 @@ module _ (wide : Task) (bytes seed : List ℕ) (left : Option (List ℕ)) (old n
       let heard = subst (GathersAll wide bytes seed left old new) is gathers in
       subst (λ (s : Status). Begins wide bytes seed left old new helpers (Err (by_query helpers s))) (sym same) (all_in_part seats heard)
 
-  pub begun_listed : (version : Version) (gathered : Result Seating Status) (status : Status) (before now : Counts) → NoSession version gathered status → Stops stops_gathering before now gathered
-      → IsListed (by_query helpers status) × FaultClause before now (by_query helpers status)
-  begun_listed version gathered status before now (inl is) stops =
-      let known = subst (λ (r : Result Seating Status). Stops stops_gathering before now r) is stops in
-      subst (λ (s : Status). IsListed s × FaultClause before now s) (sym (same_named status known.0)) (gathering_listed status known.0, known.1)
-  begun_listed version gathered status before now (inr (seats, starts.TooWide seat, is, wide_seat, same)) stops =
-      subst (λ (s : Status). IsListed (by_query helpers s) × FaultClause before now (by_query helpers s)) (sym same) (refl, tt)
-  begun_listed version gathered status before now (inr (seats, starts.OutOfMemory, is, none, same)) stops =
-      subst (λ (s : Status). IsListed (by_query helpers s) × FaultClause before now (by_query helpers s)) (sym same) (refl, tt)
+-- its status is one of a run's, and a fault has its cause
+pub begun_listed : (helpers : ℕ) (version : Version) (gathered : Result Seating Status) (status : Status) (before now : Counts) → NoSession version gathered status → Stops stops_gathering before now gathered
+    → IsListed (by_query helpers status) × FaultClause before now (by_query helpers status)
+begun_listed helpers version gathered status before now (inl is) stops =
+    let known = subst (λ (r : Result Seating Status). Stops stops_gathering before now r) is stops in
+    subst (λ (s : Status). IsListed s × FaultClause before now s) (sym (same_named helpers status known.0)) (gathering_listed status known.0, known.1)
+begun_listed helpers version gathered status before now (inr (seats, starts.TooWide seat, is, wide_seat, same)) stops =
+    subst (λ (s : Status). IsListed (by_query helpers s) × FaultClause before now (by_query helpers s)) (sym same) (refl, tt)
+begun_listed helpers version gathered status before now (inr (seats, starts.OutOfMemory, is, none, same)) stops =
+    subst (λ (s : Status). IsListed (by_query helpers s) × FaultClause before now (by_query helpers s)) (sym same) (refl, tt)
 
 -- seats are counted from 1
 pub begun_counted : (version : Version) (gathered : Result Seating Status) (status : Status) → NoSession version gathered status → IfErr gathered (λ s. IsTrue (stops_gathering s)) → (seat : ℕ) → status ≡ statuses.TooWide seat → 0 < seat

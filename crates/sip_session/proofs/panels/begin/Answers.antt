@@ -22,3 +22,23 @@ pub open-requires : goal.open-requires
 open-requires g c =
     let most : c.args.wide.now.depth ≤ most_depth = omega (arith, c.get-levels.ensures.same, c.get-levels.ensures.most) in
     gathered-speak c.args.wide.now.depth _ c.version.result c.gather_all.new.gathered most c.version.ensures c.in_ok-gather_all.ensures.seated
+
+pub returns-in-Ok-clause-begins : goal.returns-in-Ok-clause-begins
+returns-in-Ok-clause-begins g c = λ bytes seed all told.
+    let (seats, is, starts) = c.in-Ok.ensures in
+    (seats, rw is at c.in_ok-gather_all.ensures.gathers bytes seed all told, rw c.version.ensures at starts)
+
+pub by_query-requires-clause-counted : goal.by_query-requires-clause-counted
+by_query-requires-clause-counted g c =
+    begun_counted c.version.result c.gather_all.new.gathered c.in-Err.status c.in-Err.ensures (stops_listed _ _ c.gather_all.new.gathered c.in_ok-gather_all.ensures.fault)
+
+pub returns-in-Err-clause-begins : goal.returns-in-Err-clause-begins
+returns-in-Err-clause-begins g c = λ bytes seed all told.
+    let listed = stops_listed _ _ c.gather_all.new.gathered c.in_ok-gather_all.ensures.fault in
+    let begins =
+    begun_stop c.args.wide.now bytes seed _ _ _ (length c.args.links.now) c.version.result c.gather_all.new.gathered c.in-Err.status c.in-Err.ensures
+    (c.in_ok-gather_all.ensures.gathers bytes seed all told) listed in
+    rw (c.by_query.ensures, c.gather_all.ensures.count) begins
+
+pub returns-in-Err-clause-fault : goal.returns-in-Err-clause-fault
+returns-in-Err-clause-fault g c = rw c.by_query.ensures (begun_listed (length c.gather_all.new.links) c.version.result c.gather_all.new.gathered c.in-Err.status _ _ c.in-Err.ensures c.in_ok-gather_all.ensures.fault)

@@ -22,7 +22,7 @@ returns-in_err-begin-clause-keeps g c =
     let p = err_from_is_err_and c.from_residual.result c.from_residual.ensures.1 in
     let stop = c.in_err-begin.ensures.fault in
     let cause = beginning_stops _ _ _ _ _ _ c.in_err-begin.field-0.0 stop.1 in
-    let begins = rw (c.seats_task-wide.ensures, c.len.ensures) at c.in_err-begin.ensures.begins in
+    let begins = rw c.seats_task-wide.ensures at c.in_err-begin.ensures.begins in
     rw (p.1, p.2) (record {
       promises = λ x t.
           not_begun _ task c.requires.some c.requires.done deep x _ _ (λ r. Rose-positive 0 0 r refl) (λ r. Rose-positive 0 0 r refl) _ (map (λ l. l.kept.talk.items) c.args.links.now) (length-map c.args.links.now (λ l. l.kept.talk.items))
@@ -41,7 +41,7 @@ returns-in_err-ask_all-clause-keeps g c =
     let p = err_from_is_err_and c.from_residual-in_err-ask_all.result c.from_residual-in_err-ask_all.ensures.1 in
     let lent : c.deref_mut.result.now ≡ c.in_ok-begin.session.value = search rules in
     let stops = asking_stops _ _ _ _ _ _ c.in_err-ask_all.field-0.0 c.in_err-ask_all.ensures.fault in
-    let begins = rw (c.seats_task-wide.ensures, c.len.ensures) at c.in_ok-begin.ensures.begins in
+    let begins = rw c.seats_task-wide.ensures at c.in_ok-begin.ensures.begins in
     rw (p.1, p.2) (record {
       promises = λ x t.
           let (seats, heard, starts) = begins x.stream x.seed t.stream t.seed in
@@ -67,7 +67,7 @@ returns-clause-keeps g c =
     let deep : 1 ≤ task.depth = omega (arith, c.get-levels.ensures.same, c.get-levels.ensures.some) in
     let talk = λ (l : _). l.kept.talk.items in
     let lent : c.deref_mut.result.now ≡ c.in_ok-begin.session.value = search rules in
-    let begins = rw (c.seats_task-wide.ensures, c.len.ensures) at c.in_ok-begin.ensures.begins in
+    let begins = rw c.seats_task-wide.ensures at c.in_ok-begin.ensures.begins in
     let said = rw c.version.ensures at c.say_bye.ensures.talks in
     let ends = farewell_listed _ _ c.say_bye.result c.on_link.result c.on_link.ensures c.say_bye.ensures.cause in
     record {
@@ -90,7 +90,7 @@ returns-clause-keeps g c =
     }
 
 pub begin-requires-clause-done : goal.begin-requires-clause-done
-begin-requires-clause-done g c = rw (c.seats_task-wide.ensures, c.len.ensures) (wide_done _ c.args.task.now c.requires.some c.requires.done)
+begin-requires-clause-done g c = rw c.seats_task-wide.ensures (wide_done _ c.args.task.now c.requires.some c.requires.done)
 
 pub begin-requires-clause-few : goal.begin-requires-clause-few
 begin-requires-clause-few g c = helpers_few _ (length c.args.task.now.queries.items) _ c.requires.done.some c.requires.few
