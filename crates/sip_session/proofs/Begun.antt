@@ -10,6 +10,7 @@ use Rattle.sip_verifier.specs.declared.status.Port.TheVariants as ports
 use Rattle.sip_verifier.specs.declared.status.Status.{Status}
 use Rattle.sip_verifier.specs.declared.status.Status.TheVariants as statuses
 use Rattle.sip_verifier.specs.declared.task.Task.{Task}
+use Rattle.sip_verifier.specs.Gathering.{legal}
 use Rattle.sip_verifier.specs.inside.Ending.{status_of_start}
 use Rattle.sip_verifier.specs.Moments.{Counts, counts}
 use Rattle.sip_verifier.specs.QuerySeats.{Seated}
@@ -106,7 +107,7 @@ module _ (wide : Task) (bytes seed : List ℕ) (left : Option (List ℕ)) (old n
   -- all was sent, and memory ran out then
   all_in_part : (seats : Seating) → IsHeard wide bytes seed left old new seats → Each (λ _ o n. IsPassedInPart wide bytes o n) old new
   all_in_part seats heard = λ k less. let all = heard.each k less in
-      record { said = stream_sent (version_of wide) wide.depth _; talk = all.talk; order = ([], sym (append-nil _)); illegal = λ no. absurd (no all.to_end) }
+      record { said = stream_sent (version_of wide) wide.depth (legal wide bytes); talk = all.talk; order = ([], sym (append-nil _)); illegal = λ no. absurd (no all.to_end) }
 
   pub begun_stop : (version : Version) (gathered : Result Seating Status) (status : Status) → NoSession version gathered status → GathersAll wide bytes seed left old new gathered → IfErr gathered (λ s. IsTrue (stops_gathering s))
       → Begins wide bytes seed left old new helpers (Err (by_query helpers status))
