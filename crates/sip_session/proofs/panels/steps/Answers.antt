@@ -1,10 +1,11 @@
 -- At each end of the steps the facts of the calls before it are handed to the lemma of that end.
-use Rattle.std.proofs.Common.{◌≡◌, ◌≤◌, ◌<◌, ℕ, [], Some, refl, sym, ap, ◌∙◌, arith, rules, length, map}
+use Rattle.std.proofs.Common.{◌≡◌, ◌≤◌, ◌<◌, ℕ, [], Some, refl, sym, ap, ◌∙◌, arith, rules, length, map, List}
 use Rattle.std.proofs.lemmas.List.{length-map}
 use Rattle.std.proofs.lemmas.Result.{err_from_is_err_and}
 use Rattle.sip_ports.proofs.FaultLemmas.{Rose-positive}
 use Rattle.sip_ports.proofs.TalkLemmas.{GoesOn-refl}
-use Rattle.sip_verifier.specs.Draws.{blocks}
+use Rattle.sip_ports.specs.declared.port.TalkEvent.{TalkEvent}
+use Rattle.sip_duel.specs.declared.link.HelperLink.{HelperLink}
 use Rattle.sip_verifier.specs.Gathering.{legal}
 use Rattle.sip_verifier.proofs.RunTalks.{nothing_reported, some_value, written_is}
 use Rattle.sip_verifier.proofs.SeatedBehind.{seats_left}
@@ -37,7 +38,7 @@ pub returns-in_err-ask_all-clause-keeps : goal.returns-in_err-ask_all-clause-kee
 returns-in_err-ask_all-clause-keeps g c =
     let task = c.args.task.now in
     let deep : 1 ≤ task.depth = omega (arith, c.get-levels.ensures.same, c.get-levels.ensures.some) in
-    let talk = λ (l : _). l.kept.talk.items in
+    let talk : HelperLink → List TalkEvent = λ l. l.kept.talk.items in
     let p = err_from_is_err_and c.from_residual-in_err-ask_all.result c.from_residual-in_err-ask_all.ensures.1 in
     let lent : c.deref_mut.result.now ≡ c.in_ok-begin.session.value = search rules in
     let stops = asking_stops _ _ _ _ _ _ c.in_err-ask_all.field-0.0 c.in_err-ask_all.ensures.fault in
@@ -65,7 +66,7 @@ pub returns-clause-keeps : goal.returns-clause-keeps
 returns-clause-keeps g c =
     let task = c.args.task.now in
     let deep : 1 ≤ task.depth = omega (arith, c.get-levels.ensures.same, c.get-levels.ensures.some) in
-    let talk = λ (l : _). l.kept.talk.items in
+    let talk : HelperLink → List TalkEvent = λ l. l.kept.talk.items in
     let lent : c.deref_mut.result.now ≡ c.in_ok-begin.session.value = search rules in
     let begins = rw c.seats_task-wide.ensures at c.in_ok-begin.ensures.begins in
     let said = rw c.version.ensures at c.say_bye.ensures.talks in
