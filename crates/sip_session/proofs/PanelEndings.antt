@@ -211,10 +211,10 @@ module _ (helpers : ℕ) (task : Task) (x : PanelExchange) (some : 0 < helpers) 
   asked_blocks : map (λ (s : Seated). s.block) session.left ≡ cut task.depth heard.challenges
   asked_blocks = ap (λ (l : List Seated). map (λ (s : Seated). s.block) l) starts.2 ∙ passed.stand.at_blocks
 
-  version_is : session.version ≡ version_of task
+  pub version_is : session.version ≡ version_of task
   version_is = starts.0 ∙ needed-seats task.depth helpers task.queries.items some
 
-  depth_is : session.depth ≡ task.depth
+  pub depth_is : session.depth ≡ task.depth
   depth_is = starts.1 ∙ passed.stand.levels
 
   -- what each helper heard
