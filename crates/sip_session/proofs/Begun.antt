@@ -109,7 +109,7 @@ module _ (wide : Task) (bytes seed : List ℕ) (left : Option (List ℕ)) (old n
   all_in_part seats heard = λ k less. let all = heard.each k less in
       record { said = stream_sent (version_of wide) wide.depth (legal wide bytes); talk = all.talk; order = ([], sym (append-nil _)); illegal = λ no. absurd (no all.to_end) }
 
-  pub begun_stop : (version : Version) (gathered : Result Seating Status) (status : Status) → NoSession version gathered status → GathersAll wide bytes seed left old new gathered → IfErr gathered (λ s. IsTrue (stops_gathering s))
+  begun_stop : (version : Version) (gathered : Result Seating Status) (status : Status) → NoSession version gathered status → GathersAll wide bytes seed left old new gathered → IfErr gathered (λ s. IsTrue (stops_gathering s))
       → Begins wide bytes seed left old new helpers (Err (by_query helpers status))
   begun_stop version gathered status (inl is) gathers listed =
       let stops = subst (GathersAll wide bytes seed left old new) is gathers in
@@ -121,6 +121,12 @@ module _ (wide : Task) (bytes seed : List ℕ) (left : Option (List ℕ)) (old n
   begun_stop version gathered status (inr (seats, starts.OutOfMemory, is, none, same)) gathers listed =
       let heard = subst (GathersAll wide bytes seed left old new) is gathers in
       subst (λ (s : Status). Begins wide bytes seed left old new helpers (Err (by_query helpers s))) (sym same) (all_in_part seats heard)
+
+  -- named by the query of its seat, by a number that is that of the helpers
+  pub begun_named : (version : Version) (gathered : Result Seating Status) (status : Status) (count : ℕ) (named : Status) → count ≡ helpers → named ≡ by_query count status → NoSession version gathered status
+      → GathersAll wide bytes seed left old new gathered → IfErr gathered (λ s. IsTrue (stops_gathering s)) → Begins wide bytes seed left old new helpers (Err named)
+  begun_named version gathered status count named same is none gathers listed =
+      subst (λ (s : Status). Begins wide bytes seed left old new helpers (Err s)) (sym (is ∙ ap (λ n. by_query n status) same)) (begun_stop version gathered status none gathers listed)
 
 -- its status is one of a run's, and a fault has its cause
 pub begun_listed : (helpers : ℕ) (version : Version) (gathered : Result Seating Status) (status : Status) (before now : Counts) → NoSession version gathered status → Stops stops_gathering before now gathered

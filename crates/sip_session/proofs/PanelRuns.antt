@@ -122,7 +122,7 @@ module _ (helpers : ℕ) (task : Task) (some : 0 < helpers) (can : CanBeDone tas
       subst (λ (s : Status). PanelClause helpers task x before now s) (sym (same ∙ ap status_of_link (sym stop)))
       (cut_in_farewell helpers task x some can deep before now left unread old mid size count fresh seats heard session starts blank full wrote new last told sized long gone (in_terms new (Ok gone) trails) port_stops.OutOfMemory each)
     where
-      err_same : (port : PortStop) → Err {T = Unit {0}} port_stops.OutOfMemory ≡ Err port → port_stops.OutOfMemory ≡ port
+      err_same : (port : PortStop) → ◌≡◌ {A = Result (Unit {0}) PortStop} (Err port_stops.OutOfMemory) (Err port) → port_stops.OutOfMemory ≡ port
       err_same port is = cc
 
 -- the statuses of the farewell

@@ -2,9 +2,10 @@
 use Rattle.std.proofs.Common.{◌≡◌, ◌≤◌, ◌∙◌, arith, length}
 use Rattle.std.proofs.lemmas.Result.{err_from_is_err_and}
 use Rattle.sip_vector.specs.Limits.{most_depth}
+use Rattle.sip_verifier.specs.Moments.{counts}
 use Rattle.sip_verifier.proofs.RunPromises.{gathering_listed}
 use Rattle.sip_verifier.proofs.SeatsHead.{gathered-speak}
-use Rattle.sip_session.proofs.Begun.{begun_counted, begun_listed, begun_stop, gathers_begins, stops_listed}
+use Rattle.sip_session.proofs.Begun.{begun_counted, begun_listed, begun_named, gathers_begins, stops_listed}
 use Rattle.sip_session.proofs.panels.begin.Goals as goal
 
 pub returns-in_err-gather_all-clause-begins : goal.returns-in_err-gather_all-clause-begins
@@ -30,15 +31,20 @@ returns-in-Ok-clause-begins g c = λ bytes seed all told.
 
 pub by_query-requires-clause-counted : goal.by_query-requires-clause-counted
 by_query-requires-clause-counted g c =
-    begun_counted c.version.result c.gather_all.new.gathered c.in-Err.status c.in-Err.ensures (stops_listed _ _ c.gather_all.new.gathered c.in_ok-gather_all.ensures.fault)
+    let before = counts (g.A.Source.faults c.args.first.now) (g.B.Source.faults c.args.second.now) 0 0 0 in
+    let now = counts (g.A.Source.faults c.gather_all.new.first) (g.B.Source.faults c.gather_all.new.second) 0 0 0 in
+    begun_counted c.version.result c.gather_all.new.gathered c.in-Err.status c.in-Err.ensures (stops_listed before now c.gather_all.new.gathered c.in_ok-gather_all.ensures.fault)
 
 pub returns-in-Err-clause-begins : goal.returns-in-Err-clause-begins
 returns-in-Err-clause-begins g c = λ bytes seed all told.
-    let listed = stops_listed _ _ c.gather_all.new.gathered c.in_ok-gather_all.ensures.fault in
-    let begins =
-    begun_stop c.args.wide.now bytes seed _ _ _ (length c.args.links.now) c.version.result c.gather_all.new.gathered c.in-Err.status c.in-Err.ensures
-    (c.in_ok-gather_all.ensures.gathers bytes seed all told) listed in
-    rw (c.by_query.ensures, c.gather_all.ensures.count) begins
+    let before = counts (g.A.Source.faults c.args.first.now) (g.B.Source.faults c.args.second.now) 0 0 0 in
+    let now = counts (g.A.Source.faults c.gather_all.new.first) (g.B.Source.faults c.gather_all.new.second) 0 0 0 in
+    let listed = stops_listed before now c.gather_all.new.gathered c.in_ok-gather_all.ensures.fault in
+    begun_named c.args.wide.now bytes seed (g.A.Source.left c.gather_all.new.first) _ _ (length c.args.links.now) c.version.result c.gather_all.new.gathered c.in-Err.status _ c.by_query.result c.gather_all.ensures.count c.by_query.ensures
+    c.in-Err.ensures (c.in_ok-gather_all.ensures.gathers bytes seed all told) listed
 
 pub returns-in-Err-clause-fault : goal.returns-in-Err-clause-fault
-returns-in-Err-clause-fault g c = rw c.by_query.ensures (begun_listed (length c.gather_all.new.links) c.version.result c.gather_all.new.gathered c.in-Err.status _ _ c.in-Err.ensures c.in_ok-gather_all.ensures.fault)
+returns-in-Err-clause-fault g c =
+    let before = counts (g.A.Source.faults c.args.first.now) (g.B.Source.faults c.args.second.now) 0 0 0 in
+    let now = counts (g.A.Source.faults c.gather_all.new.first) (g.B.Source.faults c.gather_all.new.second) 0 0 0 in
+    rw c.by_query.ensures (begun_listed (length c.gather_all.new.links) c.version.result c.gather_all.new.gathered c.in-Err.status before now c.in-Err.ensures c.in_ok-gather_all.ensures.fault)
