@@ -1,13 +1,15 @@
 -- At each end of the steps the facts of the calls before it are handed to the lemma of that end.
-use Rattle.std.proofs.Common.{◌≡◌, ◌≤◌, ◌<◌, ℕ, [], Some, refl, sym, ap, ◌∙◌, arith, rules, length, map}
+use Rattle.std.proofs.Common.{◌≡◌, ◌≤◌, ◌<◌, ℕ, [], Err, ap, subst, ◌∙◌, arith, length, map}
 use Rattle.std.proofs.lemmas.List.{length-map}
 use Rattle.std.proofs.lemmas.Result.{err_from_is_err_and}
 use Rattle.sip_ports.proofs.TalkLemmas.{GoesOn-refl}
 use Rattle.sip_verifier.specs.declared.task.Task.{Task}
 use Rattle.sip_verifier.specs.Gathering.{legal}
+use Rattle.sip_verifier.specs.Moments.{counts}
 use Rattle.sip_verifier.specs.Sittings.{Sitting}
 use Rattle.sip_verifier.proofs.RunTalks.{nothing_reported, some_value, written_is}
 use Rattle.sip_verifier.proofs.SeatedBehind.{seats_left}
+use Rattle.sip_session.specs.inside.Beginning.{Begins}
 use Rattle.sip_session.specs.inside.Hearing.{AllTalks}
 use Rattle.sip_session.proofs.Begun.{helpers_few, never_rose, wide_done}
 use Rattle.sip_session.proofs.PanelRuns.{asking_stops, beginning_stops, farewell_listed, halts_wrote, not_begun, panel_tells, said_farewell, stopped_asking, told_nothing}
@@ -29,7 +31,9 @@ returns-in_err-session-clause-keeps g c =
       promises = λ x t.
           not_begun (length c.args.links.now) task c.requires.some c.requires.done deep x _ _ never_rose never_rose (g.A.Source.left c.begin.new.first) old (length-map c.args.links.now (λ l. l.kept.talk.items))
           (told_nothing (λ l. l.kept.talk.items) c.args.links.now c.requires.new) mid t.talks (told_length (λ l. l.kept.talk.items) c.args.links.now c.begin.new.links c.begin.ensures.count)
-          (nothing_reported _ _ t.report) c.in_err-session.field-0.0 (rw c.seats_task-wide.ensures at (c.in_err-session.ensures.begins x.stream x.seed t.stream t.seed)) cause;
+          (nothing_reported _ _ t.report) c.in_err-session.field-0.0
+          (subst (λ (w : Task). Begins w x.stream x.seed (g.A.Source.left c.begin.new.first) old mid (length c.args.links.now) (Err c.in_err-session.field-0.0)) c.seats_task-wide.ensures (c.in_err-session.ensures.begins x.stream x.seed t.stream t.seed))
+          cause;
       moves = λ told. panel_tells _ _ told c.begin.ensures.told [] (GoesOn-refl _);
       fault = cause;
       listed = stop.0;
@@ -42,6 +46,7 @@ returns-in_err-gone-clause-keeps g c =
     let old : AllTalks = map (λ l. l.kept.talk.items) c.args.links.now in
     let mid : AllTalks = map (λ l. l.kept.talk.items) c.begin.new.links in
     let some : 0 < length old = omega (arith, length-map c.args.links.now (λ l. l.kept.talk.items), c.requires.some) in
+    let lent = c.deref_mut.ensures.value in
     let p = err_from_is_err_and c.from_residual-in_err-gone.result c.from_residual-in_err-gone.ensures.1 in
     let stops =
     asking_stops (g.A.Source.faults c.args.first.now) (g.A.Source.faults c.begin.new.first) (g.B.Source.faults c.args.second.now) (g.B.Source.faults c.begin.new.second) (g.K.Sink.faults c.args.report.now) (g.K.Sink.faults c.ask_all.new.report)
@@ -54,13 +59,13 @@ returns-in_err-gone-clause-keeps g c =
           (told_length (λ l. l.kept.talk.items) c.args.links.now c.begin.new.links c.begin.ensures.count) (told_nothing (λ l. l.kept.talk.items) c.args.links.now c.requires.new) seats heard c.in_ok-session.session.value starts
           (g.K.Sink.talk c.args.report.now) (g.K.Sink.talk c.ask_all.new.report) (λ bytes went. written_is _ _ bytes x.report went t.report) c.len-queries.result c.len-queries.ensures.value
           (map (λ l. l.kept.talk.items) c.ask_all.new.links) t.talks (told_length (λ l. l.kept.talk.items) c.begin.new.links c.ask_all.new.links c.ask_all.ensures.count) c.in_err-gone.field-0.0
-          (rw c.begin.ensures.count at (c.in_err-gone.ensures.trails (legal task x.stream) stand)) stops.0;
+          (rw (lent, c.begin.ensures.count) at (c.in_err-gone.ensures.trails (legal task x.stream) (rw lent stand))) stops.0;
       moves = λ told.
           let bytes = some_value _ told.first in
           let seed = some_value _ told.second in
           let (seats, heard, starts) = rw c.seats_task-wide.ensures at (c.in_ok-session.ensures.begins bytes.0 seed.0 bytes.1 seed.1) in
           let stand = (seats_left _ _ _ (legal task bytes.0) seats _ _ (heard.each 0 some).stand starts).1 in
-          let wrote = halts_wrote _ _ _ _ _ _ _ _ _ _ c.in_err-gone.field-0.0 (c.in_err-gone.ensures.trails (legal task bytes.0) stand) in
+          let wrote = halts_wrote _ _ _ _ _ _ _ _ _ _ c.in_err-gone.field-0.0 (c.in_err-gone.ensures.trails (legal task bytes.0) (rw lent stand)) in
           panel_tells _ _ told c.begin.ensures.told wrote.0 wrote.1;
       fault = stops.0;
       listed = stops.1;
@@ -73,7 +78,10 @@ returns-clause-keeps g c =
     let old : AllTalks = map (λ l. l.kept.talk.items) c.args.links.now in
     let mid : AllTalks = map (λ l. l.kept.talk.items) c.begin.new.links in
     let some : 0 < length old = omega (arith, length-map c.args.links.now (λ l. l.kept.talk.items), c.requires.some) in
-    let ends = farewell_listed _ _ c.say_bye.result c.on_link.result c.on_link.ensures c.say_bye.ensures.cause in
+    let lent = c.deref_mut.ensures.value in
+    let before = counts (g.A.Source.faults c.args.first.now) (g.B.Source.faults c.args.second.now) 0 (g.K.Sink.faults c.args.report.now) 0 in
+    let now = counts (g.A.Source.faults c.begin.new.first) (g.B.Source.faults c.begin.new.second) 0 (g.K.Sink.faults c.ask_all.new.report) 0 in
+    let ends = farewell_listed before now c.say_bye.result c.on_link.result c.on_link.ensures c.say_bye.ensures.cause in
     record {
       promises = λ x t.
           let (seats, heard, starts) = rw c.seats_task-wide.ensures at (c.in_ok-session.ensures.begins x.stream x.seed t.stream t.seed) in
@@ -83,14 +91,14 @@ returns-clause-keeps g c =
           (g.K.Sink.talk c.args.report.now) (g.K.Sink.talk c.ask_all.new.report) (λ bytes went. written_is _ _ bytes x.report went t.report) c.len-queries.result c.len-queries.ensures.value
           (map (λ l. l.kept.talk.items) c.ask_all.new.links) (map (λ l. l.kept.talk.items) c.say_bye.new.links) t.talks (told_length (λ l. l.kept.talk.items) c.begin.new.links c.ask_all.new.links c.ask_all.ensures.count)
           (told_length (λ l. l.kept.talk.items) c.ask_all.new.links c.say_bye.new.links c.say_bye.ensures.count) c.in_ok-gone.gone
-          (rw c.begin.ensures.count at (c.in_ok-gone.ensures.trails (legal task x.stream) stand)) c.say_bye.result c.on_link.result c.on_link.ensures c.say_bye.ensures.cause
+          (rw (lent, c.begin.ensures.count) at (c.in_ok-gone.ensures.trails (legal task x.stream) (rw lent stand))) c.say_bye.result c.on_link.result c.on_link.ensures c.say_bye.ensures.cause
           (λ k less. rw c.version.ensures at (c.say_bye.ensures.talks k less));
       moves = λ told.
           let bytes = some_value _ told.first in
           let seed = some_value _ told.second in
           let (seats, heard, starts) = rw c.seats_task-wide.ensures at (c.in_ok-session.ensures.begins bytes.0 seed.0 bytes.1 seed.1) in
           let stand = (seats_left _ _ _ (legal task bytes.0) seats _ _ (heard.each 0 some).stand starts).1 in
-          let trails = c.in_ok-gone.ensures.trails (legal task bytes.0) stand in
+          let trails = c.in_ok-gone.ensures.trails (legal task bytes.0) (rw lent stand) in
           panel_tells _ _ told c.begin.ensures.told _ trails.trail.report;
       fault = ends.0;
       listed = ends.1;
