@@ -1,9 +1,10 @@
 -- What one helper heard of a stream that is sent to several: of what a call did on all links, this is
 -- what it did on one.
-use Rattle.std.proofs.Common.{◌≡◌, ◌≢◌, ℕ, ◌+◌, ◌<◌, ◌≤◌, ◌⊎◌, List, [], ◌∷◌, ◌++◌, length, take, get_or, Option, Some, None, Result, Ok, Err, inl, inr, refl, sym, ap, ◌∙◌, subst, arith, take_all, take_at, append-nil, append_assoc}
-use Rattle.std.specs.Prelude.{IfOk}
+use Rattle.std.proofs.Common.{◌≡◌, ◌≢◌, ℕ, ◌+◌, ◌<◌, ◌≤◌, ◌⊎◌, List, [], ◌∷◌, ◌++◌, length, map, take, get_or, Option, Some, None, Result, Ok, Err, inl, inr, refl, sym, ap, ◌∙◌, subst, arith, take_all, take_at, append-nil, append_assoc, length-append, true}
+use Rattle.std.specs.Prelude.{IfOk, IsTrue, if◌then◌else◌}
+use Rattle.std.specs.List.{flat_map}
 use Rattle.std.proofs.Math.Seq.{take-append-add}
-use Rattle.std.proofs.lemmas.Bool.{cases_lt}
+use Rattle.std.proofs.lemmas.Bool.{cases_lt, eq-eqb, ne_eqb}
 use Rattle.std.proofs.lemmas.List.{take-append-le}
 use Rattle.sip_ports.proofs.TalkLemmas.{outs-append}
 use Rattle.std.specs.Io.KnownBytes.{Consumes}
@@ -15,31 +16,75 @@ use Rattle.sip_replies.specs.Talks.{IsPrefix}
 use Rattle.sip_stream.specs.declared.fault.StreamFault.{StreamFault}
 use Rattle.sip_stream.specs.declared.fault.StreamFault.TheVariants as faults
 use Rattle.sip_stream.specs.Reading.{HasRead, IsAfter, Reading, Reads}
+use Rattle.sip_vector.specs.Limits.{most_depth}
+use Rattle.sip_vector.specs.declared.query.Query.{Query}
+use Rattle.sip_vector.specs.declared.query.Query.TheVariants.{Sub}
 use Rattle.sip_vector.specs.declared.update.Update.{Update}
+use Rattle.sip_stream.proofs.Cuts.{cut-one}
+use Rattle.sip_wire.specs.declared.version.Version.{Version}
 use Rattle.sip_wire.specs.declared.message.Message.TheVariants as messages
 use Rattle.sip_wire.specs.Spelling.{spelling}
 use Rattle.sip_wire.specs.Table.{most_rows}
-use Rattle.sip_wire.specs.Versions.{number_of}
+use Rattle.sip_wire.specs.Versions.{deepest, needed, number_of}
+use Rattle.sip_wire.proofs.Asking.{needed-speaks}
 use Rattle.sip_verifier.specs.declared.status.Port.TheVariants as ports
 use Rattle.sip_verifier.specs.declared.status.Status.{Status}
 use Rattle.sip_verifier.specs.declared.status.Status.TheVariants as statuses
 use Rattle.sip_verifier.specs.declared.task.Task.{Task}
 use Rattle.sip_verifier.specs.Draws.{blocks}
-use Rattle.sip_verifier.specs.Feeding.{due_at_end, due_with, waiting_with}
+use Rattle.sip_verifier.specs.Feeding.{due_at_end, due_with, fills, waiting_with}
 use Rattle.sip_verifier.specs.Gathering.{Breaks, EndsLegally, IsCut, IsPassedOn, Refuses}
 use Rattle.sip_verifier.specs.inside.Drawing.{Draws, HasDrawn}
 use Rattle.sip_verifier.specs.inside.Ending.{status_of_link, status_of_stream}
 use Rattle.sip_verifier.specs.inside.Passing.{taken_with}
 use Rattle.sip_verifier.specs.inside.Sending.{IsSentBut, IsStopped}
+use Rattle.sip_verifier.specs.Moments.{Counts}
 use Rattle.sip_verifier.specs.Seats.{AreSeats, Seating}
+use Rattle.sip_verifier.specs.Statuses.{FaultClause, Stops, stops_following}
 use Rattle.sip_verifier.specs.Tasks.{version_of}
 use Rattle.sip_verifier.specs.Talks.{stream_sent}
 use Rattle.sip_verifier.proofs.Gathered.{IsUnderway, begins, goes_on, goes_on_many, passed_on, reading_stops, refuses, stops_after, stops_at_end, stops_first}
 use Rattle.sip_verifier.proofs.QueriesChecked.{OnLink}
+use Rattle.sip_verifier.proofs.StreamSent.{frame}
 use Rattle.sip_verifier.proofs.StreamSending as sending
 use Rattle.sip_verifier.proofs.StreamSending.{at_end, one_more, opened, stopped, stopped_in_opening}
 use Rattle.sip_session.specs.inside.Beginning.{GathersAll, IsHeard}
 use Rattle.sip_session.specs.inside.Hearing.{AllTalks, Each, HearsStream, IsPassedInPart, Says, SaysAll}
+
+-- ---- what a talk allows, and what goes out at the end of a stream
+
+-- no depth is beyond the version that it needs
+pub depth_shallow : (depth : ℕ) (queries : List Query) → depth ≤ most_depth → depth ≤ deepest (needed depth queries)
+depth_shallow depth queries most = (needed-speaks depth (Sub 0 0 ∷ queries) most 0 (Sub 0 0) (omega arith)).shallow
+
+-- where no update waits, the end goes out
+pub rest_none : (version : Version) → due_at_end version [] ≡ spelling version messages.EndStream
+rest_none version = append-nil (spelling version messages.EndStream)
+
+-- where some wait, their frame and the end
+pub rest_some : (version : Version) (waiting : List Update) → 0 < length waiting → length waiting ≤ 512
+    → due_at_end version waiting ≡ spelling version (messages.Updates (record { items = waiting })) ++ spelling version messages.EndStream
+rest_some version waiting some few =
+    let end = spelling version messages.EndStream in
+    ap (λ l. flat_map (spelling version) (map frame l ++ messages.EndStream ∷ [])) (cut-one 512 waiting some few)
+    ∙ ap (λ l. spelling version (frame waiting) ++ l) (append-nil end)
+
+-- What one more update brings. Where it fills the frame, the frame goes out, and the seats take it.
+module _ (waiting : List Update) (u : Update) where
+  fills_then : length (waiting ++ u ∷ []) ≡ 512 → fills waiting ≡ true
+  fills_then is = eq-eqb (length waiting + 1) 512 (sym (length-append waiting (u ∷ [])) ∙ is)
+
+  pub due_full : (version : Version) → length (waiting ++ u ∷ []) ≡ 512 → due_with version waiting u ≡ spelling version (messages.Updates (record { items = waiting ++ u ∷ [] }))
+  due_full version is = ap (λ b. if b then spelling version (messages.Updates (record { items = waiting ++ u ∷ [] })) else []) (fills_then is)
+
+  pub taken_full : length (waiting ++ u ∷ []) ≡ 512 → taken_with waiting u ≡ waiting ++ u ∷ []
+  taken_full is = ap (λ b. if b then waiting ++ u ∷ [] else []) (fills_then is)
+
+  -- where it does not, nothing goes out
+  pub due_nothing : (version : Version) → length (waiting ++ u ∷ []) ≢ 512 → due_with version waiting u ≡ []
+  due_nothing version other =
+      ap (λ b. if b then spelling version (messages.Updates (record { items = waiting ++ u ∷ [] })) else [])
+      (ne_eqb (length waiting + 1) 512 (λ e. other (length-append waiting (u ∷ []) ∙ e)))
 
 -- ---- one send
 
@@ -180,6 +225,17 @@ at_last task bytes start first at_blocks has left left' now new reader seats sea
 at_last task bytes start first at_blocks has left left' now new reader seats seats' waiting so (Err e) (Err status) (port, is, same) never reads said stand =
     subst (λ (s : Status). HearsStream task bytes at_blocks left' seats' (Err s) start new) (sym same)
     (link_stops task bytes at_blocks left' seats' start new (Err e) port is never (part_at_end task bytes start first at_blocks has left left' now new reader seats waiting so seats' e reads said stand))
+
+-- so its stop is one that the stream may have, and no port failed
+pub link_listed : (before now : Counts) (sent : Result (Unit {0}) PortStop) (port : PortStop) → sent ≡ Err port → sent ≢ Err port_stops.Failed
+    → IsTrue (stops_following (status_of_link port)) × FaultClause before now (status_of_link port)
+link_listed before now sent port_stops.Failed is never = absurd (never is)
+link_listed before now sent port_stops.OutOfMemory is never = (refl, tt)
+
+pub last_listed : (before now : Counts) (sent : Result (Unit {0}) PortStop) (r : Result (Unit {0}) Status) → OnLink sent r → sent ≢ Err port_stops.Failed → Stops stops_following before now r
+last_listed before now sent (Ok x) on never = tt
+last_listed before now sent (Err status) (port, is, same) never =
+    subst (λ (s : Status). IsTrue (stops_following s) × FaultClause before now s) (sym same) (link_listed before now sent port is never)
 
 -- what holds whatever came holds where it went well
 pub if_ok : {T E : Type 0} (r : Result T E) (P : Type 0) → P → IfOk r (λ _. P)
