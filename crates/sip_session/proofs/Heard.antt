@@ -1,8 +1,7 @@
 -- What one helper heard of a stream that is sent to several: of what a call did on all links, this is
 -- what it did on one.
-use Rattle.std.proofs.Common.{◌≡◌, ◌≢◌, ℕ, ◌+◌, ◌<◌, ◌≤◌, ◌⊎◌, List, [], ◌∷◌, ◌++◌, length, map, take, get_or, Option, Some, None, Result, Ok, Err, inl, inr, refl, sym, ap, ◌∙◌, subst, arith, take_all, take_at, append-nil, append_assoc, length-append, true}
+use Rattle.std.proofs.Common.{◌≡◌, ◌≢◌, ℕ, ◌+◌, ◌<◌, ◌≤◌, ◌⊎◌, List, [], ◌∷◌, ◌++◌, length, take, get_or, Option, Some, None, Result, Ok, Err, inl, inr, refl, sym, ap, ◌∙◌, subst, arith, take_all, take_at, append-nil, append_assoc, length-append, true}
 use Rattle.std.specs.Prelude.{IfOk, IsTrue, if◌then◌else◌}
-use Rattle.std.specs.List.{flat_map}
 use Rattle.std.proofs.Math.Seq.{take-append-add}
 use Rattle.std.proofs.lemmas.Bool.{cases_lt, eq-eqb, ne_eqb}
 use Rattle.std.proofs.lemmas.List.{take-append-le}
@@ -16,17 +15,12 @@ use Rattle.sip_replies.specs.Talks.{IsPrefix}
 use Rattle.sip_stream.specs.declared.fault.StreamFault.{StreamFault}
 use Rattle.sip_stream.specs.declared.fault.StreamFault.TheVariants as faults
 use Rattle.sip_stream.specs.Reading.{HasRead, IsAfter, Reading, Reads}
-use Rattle.sip_vector.specs.Limits.{most_depth}
-use Rattle.sip_vector.specs.declared.query.Query.{Query}
-use Rattle.sip_vector.specs.declared.query.Query.TheVariants.{Sub}
 use Rattle.sip_vector.specs.declared.update.Update.{Update}
-use Rattle.sip_stream.proofs.Cuts.{cut-one}
 use Rattle.sip_wire.specs.declared.version.Version.{Version}
 use Rattle.sip_wire.specs.declared.message.Message.TheVariants as messages
 use Rattle.sip_wire.specs.Spelling.{spelling}
 use Rattle.sip_wire.specs.Table.{most_rows}
-use Rattle.sip_wire.specs.Versions.{deepest, needed, number_of}
-use Rattle.sip_wire.proofs.Asking.{needed-speaks}
+use Rattle.sip_wire.specs.Versions.{number_of}
 use Rattle.sip_verifier.specs.declared.status.Port.TheVariants as ports
 use Rattle.sip_verifier.specs.declared.status.Status.{Status}
 use Rattle.sip_verifier.specs.declared.status.Status.TheVariants as statuses
@@ -45,29 +39,10 @@ use Rattle.sip_verifier.specs.Tasks.{version_of}
 use Rattle.sip_verifier.specs.Talks.{stream_sent}
 use Rattle.sip_verifier.proofs.Gathered.{IsUnderway, begins, goes_on, goes_on_many, passed_on, reading_stops, refuses, stops_after, stops_at_end, stops_first}
 use Rattle.sip_verifier.proofs.QueriesChecked.{OnLink}
-use Rattle.sip_verifier.proofs.StreamSent.{frame}
 use Rattle.sip_verifier.proofs.StreamSending as sending
 use Rattle.sip_verifier.proofs.StreamSending.{at_end, one_more, opened, stopped, stopped_in_opening}
 use Rattle.sip_session.specs.inside.Beginning.{GathersAll, IsHeard}
 use Rattle.sip_session.specs.inside.Hearing.{AllTalks, Each, HearsStream, IsPassedInPart, Says, SaysAll}
-
--- ---- what a talk allows, and what goes out at the end of a stream
-
--- no depth is beyond the version that it needs
-pub depth_shallow : (depth : ℕ) (queries : List Query) → depth ≤ most_depth → depth ≤ deepest (needed depth queries)
-depth_shallow depth queries most = (needed-speaks depth (Sub 0 0 ∷ queries) most 0 (Sub 0 0) (omega arith)).shallow
-
--- where no update waits, the end goes out
-pub rest_none : (version : Version) → due_at_end version [] ≡ spelling version messages.EndStream
-rest_none version = append-nil (spelling version messages.EndStream)
-
--- where some wait, their frame and the end
-pub rest_some : (version : Version) (waiting : List Update) → 0 < length waiting → length waiting ≤ 512
-    → due_at_end version waiting ≡ spelling version (messages.Updates (record { items = waiting })) ++ spelling version messages.EndStream
-rest_some version waiting some few =
-    let end = spelling version messages.EndStream in
-    ap (λ l. flat_map (spelling version) (map frame l ++ messages.EndStream ∷ [])) (cut-one 512 waiting some few)
-    ∙ ap (λ l. spelling version (frame waiting) ++ l) (append-nil end)
 
 -- What one more update brings. Where it fills the frame, the frame goes out, and the seats take it.
 module _ (waiting : List Update) (u : Update) where

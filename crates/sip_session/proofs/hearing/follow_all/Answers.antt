@@ -14,7 +14,8 @@ use Rattle.sip_verifier.specs.QuerySeats.{HaveRoom}
 use Rattle.sip_verifier.specs.Tasks.{version_of}
 use Rattle.sip_verifier.proofs.FramesFit.{item_below, open_fits}
 use Rattle.sip_verifier.proofs.Gathered.{IsFollowed, followed_many, followed_on, followed_one, followed_room, fair_items}
-use Rattle.sip_session.proofs.Heard.{at_last, depth_shallow, heard_first, heard_more, if_ok, last_listed, link_listed, link_stops, part_after, part_first, stream_stops}
+use Rattle.sip_verifier.proofs.SeatsHead.{depth-shallow}
+use Rattle.sip_session.proofs.Heard.{at_last, heard_first, heard_more, if_ok, last_listed, link_listed, link_stops, part_after, part_first, stream_stops}
 use Rattle.sip_session.proofs.Places.{within}
 use Rattle.sip_session.proofs.hearing.follow_all.Goals as goal
 
@@ -22,7 +23,7 @@ pub say_all-requires : goal.say_all-requires
 say_all-requires g c =
     let task = c.args.task.now in
     let most : task.depth ≤ most_depth = omega (arith, c.get-levels.ensures.same, c.get-levels.ensures.most) in
-    let shallow = subst (λ (v : Version). task.depth ≤ deepest v) (sym c.version-version.ensures) (depth_shallow task.depth task.queries.items most) in
+    let shallow = subst (λ (v : Version). task.depth ≤ deepest v) (sym c.version-version.ensures) (depth-shallow task.depth task.queries.items most) in
     rw c.number.ensures (open_fits c.version-version.result c.get-levels.result (omega arith) (omega (arith, shallow, c.get-levels.ensures.same)))
 
 pub returns-in_err-on_link-clause-hears : goal.returns-in_err-on_link-clause-hears
@@ -75,7 +76,7 @@ pass_on_all-requires-clause-fits g c =
     let task = c.args.task.now in
     let most : task.depth ≤ most_depth = search rules in
     let item : c.in-Some.update.item < 2 ^ task.depth = search rules in
-    let small = item_below (version_of task) task.depth c.in-Some.update.item (depth_shallow task.depth task.queries.items most) item in
+    let small = item_below (version_of task) task.depth c.in-Some.update.item (depth-shallow task.depth task.queries.items most) item in
     subst (λ (v : Version). c.in-Some.update.item < 256 ^ index_width v) (sym c.loop-update.invariant.version) small
 
 pub pass_on_all-requires-clause-room : goal.pass_on_all-requires-clause-room
@@ -92,7 +93,7 @@ take_held-requires-clause-shallow g c =
     let most : task.depth ≤ most_depth = search rules in
     let version : c.pass_on_all.new.feed.version ≡ version_of task = c.pass_on_all.ensures.version ∙ c.loop-update.invariant.version in
     let depth : c.next.new.self.depth ≡ task.depth = c.next.ensures.depth ∙ c.loop-update.invariant.depth in
-    subst (λ (v : Version). c.next.new.self.depth ≤ deepest v) (sym version) (subst (λ n. n ≤ deepest (version_of task)) (sym depth) (depth_shallow task.depth task.queries.items most))
+    subst (λ (v : Version). c.next.new.self.depth ≤ deepest v) (sym version) (subst (λ n. n ≤ deepest (version_of task)) (sym depth) (depth-shallow task.depth task.queries.items most))
 
 pub loop-update-smaller : goal.loop-update-smaller
 loop-update-smaller g c =
