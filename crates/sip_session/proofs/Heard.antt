@@ -32,7 +32,7 @@ use Rattle.sip_verifier.specs.inside.Drawing.{Draws, HasDrawn}
 use Rattle.sip_verifier.specs.inside.Ending.{status_of_link, status_of_stream}
 use Rattle.sip_verifier.specs.inside.Passing.{taken_with}
 use Rattle.sip_verifier.specs.inside.Sending.{IsSentBut, IsStopped}
-use Rattle.sip_verifier.specs.Moments.{Counts}
+use Rattle.sip_verifier.specs.Moments.{counts}
 use Rattle.sip_verifier.specs.Seats.{AreSeats, Seating}
 use Rattle.sip_verifier.specs.Statuses.{FaultClause, Stops, stops_following}
 use Rattle.sip_verifier.specs.Tasks.{version_of}
@@ -103,6 +103,9 @@ all_then old mid new xs ys r count front went = λ k less. says_then (get_or old
 
 pub all_short : (old new : AllTalks) (xs ys : List ℕ) (e other : PortStop) → SaysAll old new xs (Err e) → SaysAll old new (xs ++ ys) (Err other)
 all_short old new xs ys e other went = λ k less. says_short (get_or old k []) (get_or new k []) xs ys e (went k less)
+
+pub all_same : (old new : AllTalks) (xs ys : List ℕ) (r : Result (Unit {0}) PortStop) → xs ≡ ys → SaysAll old new xs r → SaysAll old new ys r
+all_same old new xs ys r same went = subst (λ bytes. SaysAll old new bytes r) same went
 
 pub all_nothing : (talks : AllTalks) → SaysAll talks talks [] (Ok tt)
 all_nothing talks = λ k less. says_nothing (get_or talks k [])
@@ -202,15 +205,16 @@ at_last task bytes start first at_blocks has left left' now new reader seats sea
     (link_stops task bytes at_blocks left' seats' start new (Err e) port is never (part_at_end task bytes start first at_blocks has left left' now new reader seats waiting so seats' e reads said stand))
 
 -- so its stop is one that the stream may have, and no port failed
-pub link_listed : (before now : Counts) (sent : Result (Unit {0}) PortStop) (port : PortStop) → sent ≡ Err port → sent ≢ Err port_stops.Failed
-    → IsTrue (stops_following (status_of_link port)) × FaultClause before now (status_of_link port)
-link_listed before now sent port_stops.Failed is never = absurd (never is)
-link_listed before now sent port_stops.OutOfMemory is never = (refl, tt)
+pub link_listed : (first firsts : ℕ) (sent : Result (Unit {0}) PortStop) (port : PortStop) → sent ≡ Err port → sent ≢ Err port_stops.Failed
+    → IsTrue (stops_following (status_of_link port)) × FaultClause (counts first 0 0 0 0) (counts firsts 0 0 0 0) (status_of_link port)
+link_listed first firsts sent port_stops.Failed is never = absurd (never is)
+link_listed first firsts sent port_stops.OutOfMemory is never = (refl, tt)
 
-pub last_listed : (before now : Counts) (sent : Result (Unit {0}) PortStop) (r : Result (Unit {0}) Status) → OnLink sent r → sent ≢ Err port_stops.Failed → Stops stops_following before now r
-last_listed before now sent (Ok x) on never = tt
-last_listed before now sent (Err status) (port, is, same) never =
-    subst (λ (s : Status). IsTrue (stops_following s) × FaultClause before now s) (sym same) (link_listed before now sent port is never)
+pub last_listed : (first firsts : ℕ) (sent : Result (Unit {0}) PortStop) (r : Result (Unit {0}) Status) → OnLink sent r → sent ≢ Err port_stops.Failed
+    → Stops stops_following (counts first 0 0 0 0) (counts firsts 0 0 0 0) r
+last_listed first firsts sent (Ok x) on never = tt
+last_listed first firsts sent (Err status) (port, is, same) never =
+    subst (λ (s : Status). IsTrue (stops_following s) × FaultClause (counts first 0 0 0 0) (counts firsts 0 0 0 0) s) (sym same) (link_listed first firsts sent port is never)
 
 -- what holds whatever came holds where it went well
 pub if_ok : {T E : Type 0} (r : Result T E) (P : Type 0) → P → IfOk r (λ _. P)

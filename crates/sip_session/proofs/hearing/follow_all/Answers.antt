@@ -33,7 +33,7 @@ returns-in_err-on_link-clause-hears g c = λ bytes at_blocks all has.
     let (port, stop, is) = c.in_err-on_link.ensures in
     let deep : c.get-levels.result ≡ task.depth = omega (arith, c.get-levels.ensures.same) in
     let said = rw (stop, c.number.ensures, c.version-version.ensures, deep) at c.say_all.ensures.talks in
-    rw (p.1, p.2, is) (λ k less. link_stops task bytes at_blocks _ _ _ _ c.say_all.result port stop c.say_all.ensures.cause (part_first task bytes _ _ at_blocks has _ port (said k less)))
+    rw (p.1, p.2, is) (λ k less. link_stops task bytes at_blocks (g.A.Source.left c.args.first.now) c.args.seats.now _ _ c.say_all.result port stop c.say_all.ensures.cause (part_first task bytes _ _ at_blocks has _ port (said k less)))
 
 pub loop-update-init : goal.loop-update-init
 loop-update-init g c =
@@ -69,7 +69,7 @@ returns-in_err-update-clause-hears g c = λ bytes at_blocks all has.
     rw (p.1, p.2, is) (λ k less.
     let so = c.loop-update.invariant.underway bytes at_blocks all has k less in
     let reads = rw (c.loop-update.invariant.depth, c.loop-update.invariant.form, stop) at (c.next.ensures.reads so.stream so.rest so.after so.to_come) in
-    stream_stops c.args.task.now bytes _ _ at_blocks has _ _ _ _ _ _ _ fault so reads)
+    stream_stops c.args.task.now bytes _ _ at_blocks has _ _ _ _ _ c.loop-update.seats _ fault so reads)
 
 pub pass_on_all-requires-clause-fits : goal.pass_on_all-requires-clause-fits
 pass_on_all-requires-clause-fits g c =
@@ -146,7 +146,7 @@ returns-in_err-on_link-2-clause-hears g c = λ bytes at_blocks all has.
     rw (p.1, p.2, is) (λ k less.
     let so = c.loop-update.invariant.underway bytes at_blocks all has k less in
     let reads = rw (c.loop-update.invariant.depth, c.loop-update.invariant.form, c.in_ok-update.ensures, c.in-Some.is) at (c.next.ensures.reads so.stream so.rest so.after so.to_come) in
-    link_stops c.args.task.now bytes at_blocks _ _ _ _ c.pass_on_all.result port stop c.pass_on_all.ensures.cause
+    link_stops c.args.task.now bytes at_blocks (g.A.Source.left c.next.new.source) c.pass_on_all.new.seats _ _ c.pass_on_all.result port stop c.pass_on_all.ensures.cause
     (part_after c.args.task.now bytes _ _ at_blocks has _ _ _ _ _ _ _ so c.in-Some.update port reads (said k (within (λ x. x.kept.talk.items) c.args.links.now c.loop-update.links k c.loop-update.invariant.count less))))
 
 pub update_all-requires-clause-room : goal.update_all-requires-clause-room
@@ -156,18 +156,18 @@ update_all-requires-clause-room g c =
 
 pub returns-clause-hears : goal.returns-clause-hears
 returns-clause-hears g c = λ bytes at_blocks all has.
-    let said = rw c.loop-update.invariant.version at c.finish_all.ensures.talks in
+    let said = rw c.version-version.ensures at c.finish_all.ensures.talks in
     λ k less.
     let so = c.loop-update.invariant.underway bytes at_blocks all has k less in
     let reads = rw (c.loop-update.invariant.depth, c.loop-update.invariant.form, c.in_ok-update.ensures, c.in_default.is) at (c.next.ensures.reads so.stream so.rest so.after so.to_come) in
     let stand = rw c.waiting.ensures at (c.update_all.ensures.stands _ _ _ so.said.sent so.stand) in
-    at_last c.args.task.now bytes _ _ at_blocks has _ _ _ _ _ _ _ _ so c.finish_all.result c.on_link-3.result c.on_link-3.ensures c.finish_all.ensures.cause reads
+    at_last c.args.task.now bytes _ _ at_blocks has _ _ _ _ _ _ _ _ so c.finish_all.result c.on_link-2.result c.on_link-2.ensures c.finish_all.ensures.cause reads
     (said k (within (λ x. x.kept.talk.items) c.args.links.now c.loop-update.links k c.loop-update.invariant.count less)) stand
 
 pub returns-clause-seats : goal.returns-clause-seats
 returns-clause-seats g c =
     let had = c.loop-update.invariant.seats in
-    if_ok c.on_link-3.result _ (had.sent ++ c.waiting.result.now, record { at_blocks = had.stand.at_blocks; stand = c.update_all.ensures.stands _ _ _ had.sent had.stand.stand })
+    if_ok c.on_link-2.result _ (had.sent ++ c.waiting.result.now, record { at_blocks = had.stand.at_blocks; stand = c.update_all.ensures.stands _ _ _ had.sent had.stand.stand })
 
 pub returns-in_err-on_link-clause-fault : goal.returns-in_err-on_link-clause-fault
 returns-in_err-on_link-clause-fault g c =
@@ -182,4 +182,4 @@ returns-in_err-on_link-2-clause-fault g c =
     rw (p.1, p.2, is) (link_listed _ _ c.pass_on_all.result port stop c.pass_on_all.ensures.cause)
 
 pub returns-clause-fault : goal.returns-clause-fault
-returns-clause-fault g c = last_listed _ _ c.finish_all.result c.on_link-3.result c.on_link-3.ensures c.finish_all.ensures.cause
+returns-clause-fault g c = last_listed _ _ c.finish_all.result c.on_link-2.result c.on_link-2.ensures c.finish_all.ensures.cause

@@ -1,12 +1,11 @@
 -- The seats took the frame's updates where there was one, and each helper heard it.
-use Rattle.std.proofs.Common.{List, ◌≡◌, ◌≢◌, length, map, Err, [], ◌∷◌, ◌++◌, ◌∙◌, ap, sym, subst, rules}
+use Rattle.std.proofs.Common.{List, ◌≡◌, ◌≢◌, length, map, Err, Ok, [], ◌∷◌, ◌++◌, ◌∙◌, ap, sym, subst, rules}
 use Rattle.std.proofs.lemmas.Result.{err_from_is_err_and}
 use Rattle.sip_vector.specs.declared.update.Side.{Side}
 use Rattle.sip_vector.specs.declared.update.Update.{Update}
 use Rattle.sip_verifier.specs.QuerySeats.{HaveRoom}
 use Rattle.sip_verifier.specs.Seats.{AreSeats}
-use Rattle.sip_session.specs.inside.Hearing.{SaysAll}
-use Rattle.sip_session.proofs.Heard.{all_nothing, due_full, due_nothing, taken_full}
+use Rattle.sip_session.proofs.Heard.{all_nothing, all_same, due_full, due_nothing, taken_full}
 use Rattle.sip_session.proofs.hearing.pass_on_all.Goals as goal
 
 pub returns-then-not-is_full-clause-talks : goal.returns-then-not-is_full-clause-talks
@@ -14,7 +13,8 @@ returns-then-not-is_full-clause-talks g c =
     let waiting = c.args.feed.now.waiting in
     let u = c.args.update.now in
     let other : length c.push.new.self.waiting ≢ 512 = search rules in
-    subst (λ bytes. SaysAll _ _ bytes _) (sym (due_nothing waiting u c.args.feed.now.version (λ e. other (ap length c.push.ensures.waiting ∙ e)))) (all_nothing _)
+    let talks = map (λ l. l.kept.talk.items) c.args.links.now in
+    all_same talks talks [] _ (Ok tt) (sym (due_nothing waiting u c.args.feed.now.version (λ e. other (ap length c.push.ensures.waiting ∙ e)))) (all_nothing talks)
 
 pub returns-in_err-copy_all-clause-talks : goal.returns-in_err-copy_all-clause-talks
 returns-in_err-copy_all-clause-talks g c =
@@ -24,7 +24,7 @@ returns-in_err-copy_all-clause-talks g c =
     let due = due_full waiting u c.args.feed.now.version (sym (ap length c.push.ensures.waiting) ∙ filled) in
     let p = err_from_is_err_and c.from_residual.result c.from_residual.ensures.1 in
     let said = rw (c.in_err-copy_all.was, c.push.ensures.version, c.push.ensures.waiting) at c.copy_all.ensures.talks in
-    rw p.1 (subst (λ bytes. SaysAll _ _ bytes (Err p.0)) (sym due) said)
+    rw p.1 (all_same _ _ _ _ (Err p.0) (sym due) said)
 
 pub returns-in_err-copy_all-clause-stands : goal.returns-in_err-copy_all-clause-stands
 returns-in_err-copy_all-clause-stands g c = λ depth queries blocks stream are.
@@ -42,7 +42,7 @@ returns-clause-talks g c =
     let filled : length c.push.new.self.waiting ≡ 512 = search rules in
     let due = due_full waiting u c.args.feed.now.version (sym (ap length c.push.ensures.waiting) ∙ filled) in
     let said = rw (c.in_ok-copy_all.was, c.push.ensures.version, c.push.ensures.waiting) at c.copy_all.ensures.talks in
-    subst (λ bytes. SaysAll _ _ bytes _) (sym due) said
+    all_same _ (map (λ l. l.kept.talk.items) c.copy_all.new.links) _ _ (Ok tt) (sym due) said
 
 pub returns-clause-stands : goal.returns-clause-stands
 returns-clause-stands g c = λ depth queries blocks stream are.
