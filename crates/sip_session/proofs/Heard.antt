@@ -1,6 +1,6 @@
 -- What one helper heard of a stream that is sent to several: of what a call did on all links, this is
 -- what it did on one.
-use Rattle.std.proofs.Common.{◌≡◌, ◌≢◌, ℕ, ◌+◌, ◌<◌, ◌≤◌, ◌⊎◌, List, [], ◌∷◌, ◌++◌, length, take, get_or, Option, Some, None, Result, Ok, Err, inl, inr, refl, sym, ap, ◌∙◌, subst, arith, take_all, take_at, append-nil, append_assoc, length-append, true}
+use Rattle.std.proofs.Common.{◌≡◌, ◌≢◌, ℕ, ◌+◌, ◌<◌, ◌⊎◌, List, [], ◌∷◌, ◌++◌, length, take, get_or, Option, Some, None, Result, Ok, Err, inl, inr, refl, sym, ap, ◌∙◌, subst, arith, take_all, take_at, append-nil, append_assoc, length-append, true}
 use Rattle.std.specs.Prelude.{IfOk, IsTrue, if◌then◌else◌}
 use Rattle.std.proofs.Math.Seq.{take-append-add}
 use Rattle.std.proofs.lemmas.Bool.{cases_lt, eq-eqb, ne_eqb}
@@ -11,7 +11,6 @@ use Rattle.sip_ports.specs.declared.port.PortStop.{PortStop}
 use Rattle.sip_ports.specs.declared.port.PortStop.TheVariants as port_stops
 use Rattle.sip_ports.specs.declared.port.TalkEvent.{TalkEvent}
 use Rattle.sip_ports.specs.Ports.{SendsWhole, outs}
-use Rattle.sip_replies.specs.Talks.{IsPrefix}
 use Rattle.sip_stream.specs.declared.fault.StreamFault.{StreamFault}
 use Rattle.sip_stream.specs.declared.fault.StreamFault.TheVariants as faults
 use Rattle.sip_stream.specs.Reading.{HasRead, IsAfter, Reading, Reads}
@@ -27,7 +26,7 @@ use Rattle.sip_verifier.specs.declared.status.Status.TheVariants as statuses
 use Rattle.sip_verifier.specs.declared.task.Task.{Task}
 use Rattle.sip_verifier.specs.Draws.{blocks}
 use Rattle.sip_verifier.specs.Feeding.{due_at_end, due_with, fills, waiting_with}
-use Rattle.sip_verifier.specs.Gathering.{Breaks, EndsLegally, IsCut, IsPassedOn, Refuses}
+use Rattle.sip_verifier.specs.Gathering.{IsCut, IsPassedOn}
 use Rattle.sip_verifier.specs.inside.Drawing.{Draws, HasDrawn}
 use Rattle.sip_verifier.specs.inside.Ending.{status_of_link, status_of_stream}
 use Rattle.sip_verifier.specs.inside.Passing.{taken_with}

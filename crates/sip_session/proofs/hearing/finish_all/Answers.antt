@@ -1,5 +1,5 @@
 -- What went out is a frame of those that waited, where there were any, and the end.
-use Rattle.std.proofs.Common.{◌≡◌, ◌<◌, ◌≤◌, [], ◌∙◌, ℕ, List, length, map, Ok, Err, sym, ap, subst, arith, rules}
+use Rattle.std.proofs.Common.{◌≡◌, ◌<◌, ◌≤◌, [], ◌∙◌, length, map, Err, sym, ap, arith, rules}
 use Rattle.std.proofs.lemmas.List.{nil_from_length}
 use Rattle.std.proofs.lemmas.Result.{err_from_is_err_and}
 use Rattle.sip_wire.specs.declared.message.Message.TheVariants as messages

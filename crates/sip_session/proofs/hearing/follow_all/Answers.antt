@@ -1,5 +1,5 @@
 -- What holds at each exit of each helper follows from how far the stream was read, sent and added to the seats.
-use Rattle.std.proofs.Common.{List, length, map, arith, All, ◌≡◌, ◌<◌, ◌≤◌, ◌^◌, ◌∙◌, ◌++◌, [], rules, ap, subst, sym, false}
+use Rattle.std.proofs.Common.{List, length, arith, All, ◌≡◌, ◌<◌, ◌≤◌, ◌^◌, ◌∙◌, ◌++◌, [], rules, ap, subst, sym, false}
 use Rattle.std.proofs.lemmas.List.Elements.{All-append, All-nil}
 use Rattle.std.proofs.lemmas.Result.{err_from_is_err_and}
 use Rattle.sip_stream.specs.Reading.{IsAfter}
