@@ -32,7 +32,8 @@ returns-in_err-copy_all-clause-talks g c =
     let p = err_from_is_err_and c.from_residual.result c.from_residual.ensures.1 in
     let said = rw (c.in_err-copy_all.was, sym c.requires.version) at c.copy_all.ensures.talks in
     rw p.1 (all_same _ _ _ _ (Err p.0) (sym (due-some c.args.version waiting some few))
-    (all_short _ _ _ (spelling c.args.version messages.EndStream) c.in_err-copy_all.field-0.0 p.0 said))
+    (all_short _ _ _ (spelling c.args.version messages.EndStream) c.in_err-copy_all.field-0.0 p.0
+    said))
 
 pub returns-clause-talks : goal.returns-clause-talks
 returns-clause-talks g c =
@@ -41,4 +42,6 @@ returns-clause-talks g c =
     let few : length waiting ≤ 512 = omega (arith, c.requires.few) in
     let said = rw (c.in_ok-copy_all.was, sym c.requires.version) at c.copy_all.ensures.talks in
     all_same _ _ _ _ c.say_all-2.result (sym (due-some c.args.version waiting some few))
-    (all_then _ (map (λ l. l.kept.talk.items) c.copy_all.new.links) _ _ _ c.say_all-2.result (told_length (λ l. l.kept.talk.items) c.args.links.now c.copy_all.new.links c.copy_all.ensures.count) said c.say_all-2.ensures.talks)
+    (all_then _ (map (λ l. l.kept.talk.items) c.copy_all.new.links) _ _ _ c.say_all-2.result
+    (told_length (λ l. l.kept.talk.items) c.args.links.now c.copy_all.new.links
+    c.copy_all.ensures.count) said c.say_all-2.ensures.talks)
