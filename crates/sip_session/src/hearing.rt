@@ -162,7 +162,7 @@ pub(crate) fn say_bye(
 ///
 /// # Errors
 ///
-/// What comes first: `OutOfMemory` of a link; `BadStream`, `ReadFault` and `OutOfMemory` of `first`.
+/// What comes first: `OutOfMemory` of a link; `BadStream`, `ReadFault`, `OutOfMemory` of `first`.
 /// The end of the stream was then not sent whole to each, and what the seats stand for is not said.
 #[inline(never)]
 pub(crate) fn follow_all<A: Source>(

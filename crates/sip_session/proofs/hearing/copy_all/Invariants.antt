@@ -8,4 +8,6 @@ use Rattle.sip_session.proofs.hearing.copy_all.Given as goal
 
 abbrev pub invariant-loop-place : goal.invariant-loop-place
 invariant-loop-place g l =
-    SaidUpTo (map (λ x. x.kept.talk.items) l.fn.links) (map (λ x. x.kept.talk.items) l.links) 0 l.place (outs (spelling l.feed.version (messages.Updates (record { items = l.feed.waiting }))))
+    SaidUpTo (map (λ x. x.kept.talk.items) l.fn.links) (map (λ x. x.kept.talk.items) l.links) 0
+    l.place (outs (spelling l.feed.version
+    (messages.Updates (record { items = l.feed.waiting }))))

@@ -1,4 +1,5 @@
--- The records so far were legal. All but those that wait are sent to each helper, and the seats stand for these.
+-- The records so far were legal. All but those that wait are sent to each helper, and the seats
+-- stand for these.
 use Rattle.std.proofs.Common.{◌≡◌, ◌<◌, ◌^◌, ℕ, List, [], length, map, All, Some, false}
 use Rattle.std.specs.Prelude.{IsSome}
 use Rattle.sip_ports.specs.Ports.{Lasts}
@@ -13,8 +14,11 @@ use Rattle.sip_session.proofs.hearing.follow_all.Given as goal
 
 abbrev pub invariant-loop-update : goal.invariant-loop-update
 invariant-loop-update g l = record {
-  underway : (bytes : List ℕ) (at_blocks : List (List ℕ)) → g.A.Source.left l.fn.first ≡ Some bytes → AreSeats l.fn.task.depth l.fn.task.queries.items at_blocks [] l.fn.seats
-      → Each (λ _ o n. IsUnderway l.fn.task bytes at_blocks (g.A.Source.left l.first) (Some o) (Some n) l.reader l.seats l.feed.waiting) (map (λ x. x.kept.talk.items) l.fn.links) (map (λ x. x.kept.talk.items) l.links);
+  underway : (bytes : List ℕ) (at_blocks : List (List ℕ)) → g.A.Source.left l.fn.first ≡ Some bytes
+      → AreSeats l.fn.task.depth l.fn.task.queries.items at_blocks [] l.fn.seats
+      → Each (λ _ o n. IsUnderway l.fn.task bytes at_blocks (g.A.Source.left l.first) (Some o)
+      (Some n) l.reader l.seats l.feed.waiting) (map (λ x. x.kept.talk.items) l.fn.links)
+      (map (λ x. x.kept.talk.items) l.links);
   count : length l.links ≡ length l.fn.links;
   version : l.feed.version ≡ version_of l.fn.task;
   few : length l.feed.waiting < most_rows;

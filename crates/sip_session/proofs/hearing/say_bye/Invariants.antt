@@ -7,4 +7,5 @@ use Rattle.sip_session.proofs.Places.{SaidUpTo}
 use Rattle.sip_session.proofs.hearing.say_bye.Given as goal
 
 abbrev pub invariant-loop-place : goal.invariant-loop-place
-invariant-loop-place g l = SaidUpTo (map (λ x. x.kept.talk.items) l.fn.links) (map (λ x. x.kept.talk.items) l.links) l.gone l.place (outs (spelling l.version messages.Bye))
+invariant-loop-place g l = SaidUpTo (map (λ x. x.kept.talk.items) l.fn.links)
+    (map (λ x. x.kept.talk.items) l.links) l.gone l.place (outs (spelling l.version messages.Bye))
