@@ -16,16 +16,17 @@ pub record PanelClause (helpers : ℕ) (task : Task) (x : PanelExchange) (before
     (status : Status) : Type 0 where
   -- who was asked what, and what came of it
   pub attempts : List Attempt
-  -- A helper is asked a query only where it is left, and each lower one was dropped. The line of an
-  -- answer has what replies state that are accepted at the block of the attempt's seat, and a helper
-  -- is dropped exactly by the first fault of its replies.
+  -- A helper is asked a query only where it is left, and each lower one was dropped. The line of
+  -- an answer has what replies state that are accepted at the block of the attempt's seat, and a
+  -- helper is dropped exactly by the first fault of its replies.
   pub are : AreAttempts helpers task x.seed x.stream attempts
   -- the talk of each link and the lines, by the status
   pub ends : Ends helpers task x attempts status
   -- when each status comes; a query that is too wide is named by its own number
   pub cause : CauseClause asking (inquiry_of_panel helpers task x.seed) (without_links x) before now
       status
-  -- a helper was asked only where the input is good and the queries may be asked, whatever the status
+  -- a helper was asked only where the input is good and the queries may be asked, whatever the
+  -- status
   pub asked : attempts ≢ [] → CanBeJudged asking (inquiry_of_panel helpers task x.seed)
       (without_links x)
   -- how many challenges the helpers can win by together, and that no line of an answer is wrong but
