@@ -116,6 +116,7 @@ says_nothing talk = sym (append-nil talk)
 
 -- ---- on all links
 
+-- two sends in turn, the first of which sent all on each
 pub all_then : (old mid new : AllTalks) (xs ys : List ℕ) (r : Result (Unit {0}) PortStop)
     → length mid ≡ length old → SaysAll old mid xs (Ok tt) → SaysAll mid new ys r
     → SaysAll old new (xs ++ ys) r
@@ -123,153 +124,157 @@ all_then old mid new xs ys r count front went =
     λ k less. says_then (get_or old k []) (get_or mid k []) (get_or new k []) xs ys r (front k less)
     (went k (omega (arith, count, less)))
 
+-- the first one stopped on some link
 pub all_short : (old new : AllTalks) (xs ys : List ℕ) (e other : PortStop)
     → SaysAll old new xs (Err e) → SaysAll old new (xs ++ ys) (Err other)
 all_short old new xs ys e other went =
     λ k less. says_short (get_or old k []) (get_or new k []) xs ys e (went k less)
 
+-- bytes that are the same
 pub all_same : (old new : AllTalks) (xs ys : List ℕ) (r : Result (Unit {0}) PortStop) → xs ≡ ys
     → SaysAll old new xs r → SaysAll old new ys r
 all_same old new xs ys r same went = subst (λ bytes. SaysAll old new bytes r) same went
 
+-- nothing was sent on any
 pub all_nothing : (talks : AllTalks) → SaysAll talks talks [] (Ok tt)
 all_nothing talks = λ k less. says_nothing (get_or talks k [])
 
 -- ---- the stream, on one link
 
 module _ (task : Task) (bytes : List ℕ) (start : List TalkEvent) (first : Seating)
-    (at_blocks : List (List ℕ)) (has : AreSeats task.depth task.queries.items at_blocks [] first)
-  where
-    -- a talk that was cut went on in part
-    pub in_part : (now : List TalkEvent) → IsCut task bytes (Some start) (Some now)
-        → IsPassedInPart task bytes start now
-    in_part now cut = record {
-      said = cut.said;
-      talk = cut.talk;
-      order = cut.order;
-      illegal = cut.illegal;
-    }
+    (at_blocks : List (List ℕ))
+    (has : AreSeats task.depth task.queries.items at_blocks [] first) where
+  -- a talk that was cut went on in part
+  pub in_part : (now : List TalkEvent) → IsCut task bytes (Some start) (Some now)
+      → IsPassedInPart task bytes start now
+  in_part now cut = record {
+    said = cut.said;
+    talk = cut.talk;
+    order = cut.order;
+    illegal = cut.illegal;
+  }
 
-    -- the opening
-    pub part_first : (now : List TalkEvent) (e : PortStop)
-        → Says start now (spelling (version_of task)
-        (messages.Open (number_of (version_of task)) task.depth)) (Err e)
-        → IsPassedInPart task bytes start now
-    part_first now e (n, went) = in_part now (stops_first task bytes (Some start) first at_blocks has
-        (Some now) (stopped_in_opening (version_of task) task.depth (Some start) (Some now) n went))
+  -- the opening
+  pub part_first : (now : List TalkEvent) (e : PortStop)
+      → Says start now (spelling (version_of task)
+      (messages.Open (number_of (version_of task)) task.depth)) (Err e)
+      → IsPassedInPart task bytes start now
+  part_first now e (n, went) = in_part now (stops_first task bytes (Some start) first at_blocks has
+      (Some now) (stopped_in_opening (version_of task) task.depth (Some start) (Some now) n went))
 
-    module _ (left left' : Option (List ℕ)) (now new : List TalkEvent) (reader : Reading)
-        (seats : Seating) (waiting : List Update)
-        (so : IsUnderway task bytes at_blocks left (Some start) (Some now) reader seats waiting) where
-      -- one more update came, and was sent
-      pub on_said : (u : Update) → Says now new (due_with (version_of task) waiting u) (Ok tt)
-          → sending.IsPassedOn (version_of task) task.depth (Some start) (Some now)
-          (Some new) so.stream waiting u so.said (taken_with waiting u) (waiting_with waiting u)
-      on_said u went = one_more (version_of task) task.depth (Some start) (Some now)
-          (Some new) so.stream waiting u so.said (Ok tt) went
+  module _ (left left' : Option (List ℕ)) (now new : List TalkEvent) (reader : Reading)
+      (seats : Seating) (waiting : List Update)
+      (so : IsUnderway task bytes at_blocks left (Some start) (Some now) reader seats waiting) where
+    -- one more update came, and was sent
+    pub on_said : (u : Update) → Says now new (due_with (version_of task) waiting u) (Ok tt)
+        → sending.IsPassedOn (version_of task) task.depth (Some start) (Some now)
+        (Some new) so.stream waiting u so.said (taken_with waiting u) (waiting_with waiting u)
+    on_said u went = one_more (version_of task) task.depth (Some start) (Some now)
+        (Some new) so.stream waiting u so.said (Ok tt) went
 
-      -- it was cut short on some link
-      pub part_after : (u : Update) (e : PortStop)
-          → Reads task.depth task.form so.stream so.rest left' (Ok (Some u))
-          → Says now new (due_with (version_of task) waiting u) (Err e)
-          → IsPassedInPart task bytes start new
-      part_after u e reads said =
-          let stop : IsStopped (version_of task) task.depth (Some start) (Some new)
-          (so.stream ++ u ∷ []) =
-          elim (whole_or_cut now new (due_with (version_of task) waiting u) e said) [
-            | inl went ↦ stopped (version_of task) task.depth (Some start) (Some new)
-                (so.stream ++ u ∷ []) (waiting_with waiting u) (on_said u went).said
-            | inr went ↦ one_more (version_of task) task.depth (Some start) (Some now)
-                (Some new) so.stream waiting u so.said (Err e) went
-          ] in
-          in_part new (stops_after task bytes (Some start) first at_blocks has left left' (Some now)
-          (Some new) reader seats waiting u so reads stop)
-
-      -- the rest and the end were sent
-      pub on_end : (seats' : Seating) → Reads task.depth task.form so.stream so.rest left' (Ok None)
-          → Says now new (due_at_end (version_of task) waiting) (Ok tt)
-          → AreSeats task.depth task.queries.items at_blocks (so.said.sent ++ waiting) seats'
-          → IsPassedOn task bytes at_blocks left' (Some start) (Some new) seats'
-      on_end seats' reads went stand =
-          passed_on task bytes (Some start) first at_blocks has left left' (Some now)
-          (Some new) reader seats seats' waiting so reads
-          (at_end (version_of task) task.depth (Some start) (Some now) (Some new) so.stream waiting
-          (Ok tt) so.said went) stand
-
-      -- they were cut short on some link
-      pub part_at_end : (seats' : Seating) (e : PortStop)
-          → Reads task.depth task.form so.stream so.rest left' (Ok None)
-          → Says now new (due_at_end (version_of task) waiting) (Err e)
-          → AreSeats task.depth task.queries.items at_blocks (so.said.sent ++ waiting) seats'
-          → IsPassedInPart task bytes start new
-      part_at_end seats' e reads said stand =
-          elim (whole_or_cut now new (due_at_end (version_of task) waiting) e said) [
-            | inl went ↦
-                let all = on_end seats' reads went stand in
-                record {
-                  said = stream_sent (version_of task) task.depth _;
-                  talk = all.talk;
-                  order = ([], sym (append-nil _));
-                  illegal = λ no. absurd (no all.to_end);
-                }
-            | inr went ↦ in_part new (stops_at_end task bytes (Some start) first at_blocks has left left'
-                (Some now) (Some new) reader seats waiting so reads
-                (at_end (version_of task) task.depth (Some start) (Some now) (Some new) so.stream waiting
-                (Err e) so.said went))
-          ]
-
-    -- before the first record
-    pub heard_first : (left : Option (List ℕ)) (now : List TalkEvent) (reader : Reading)
-        (waiting : List Update) → left ≡ Some bytes → IsAfter reader [] → waiting ≡ []
-        → Says start now (spelling (version_of task)
-        (messages.Open (number_of (version_of task)) task.depth)) (Ok tt)
-        → IsUnderway task bytes at_blocks left (Some start) (Some now) reader first waiting
-    heard_first left now reader waiting all after none went =
-        begins task bytes (Some start) first at_blocks has left (Some now) reader waiting all after
-        (subst (IsSentBut (version_of task) task.depth (Some start) (Some now) []) (sym none)
-        (opened (version_of task) task.depth (Some start) (Some now) went))
-
-    -- after one more record was passed on, and those that the source held were read
-    pub heard_more : (left left' last : Option (List ℕ)) (now new : List TalkEvent)
-        (reader reader' later : Reading) (seats seats' : Seating)
-        (waiting waiting' more us : List Update) (u : Update) (taken : List ℕ)
-        (so : IsUnderway task bytes at_blocks left (Some start) (Some now) reader seats waiting)
+    -- it was cut short on some link
+    pub part_after : (u : Update) (e : PortStop)
         → Reads task.depth task.form so.stream so.rest left' (Ok (Some u))
-        → IsAfter reader' (so.stream ++ u ∷ [])
-        → Says now new (due_with (version_of task) waiting u) (Ok tt)
-        → AreSeats task.depth task.queries.items at_blocks (so.said.sent ++ taken_with waiting u)
-        seats' → waiting' ≡ waiting_with waiting u
-        → reader'.depth ≡ task.depth → reader'.form ≡ task.form → HasRead reader' later taken us
-        → Consumes left' last taken → more ≡ waiting' ++ us → length more < most_rows
-        → IsUnderway task bytes at_blocks last (Some start) (Some new) later seats' more
-    heard_more left left' last now new reader reader' later seats seats' waiting waiting' more us u
-        taken so reads after went stand same depth form had took grown few =
-        let moved = on_said left left' now new reader seats waiting so u went in
-        let placed = subst (λ l. AreSeats task.depth task.queries.items at_blocks l seats')
-        (sym moved.longer) stand in
-        let next = subst (IsUnderway task bytes at_blocks left' (Some start)
-        (Some new) reader' seats') (sym same)
-        (goes_on task bytes (Some start) first at_blocks has left left' (Some now)
-        (Some new) reader reader' seats seats' waiting (waiting_with waiting u) u so reads after
-        moved.said placed) in
-        goes_on_many task bytes (Some start) first at_blocks has left' last
-        (Some new) reader' later seats' waiting' more us taken next depth form had took grown few
+        → Says now new (due_with (version_of task) waiting u) (Err e)
+        → IsPassedInPart task bytes start new
+    part_after u e reads said =
+        let stop : IsStopped (version_of task) task.depth (Some start) (Some new)
+        (so.stream ++ u ∷ []) =
+        elim (whole_or_cut now new (due_with (version_of task) waiting u) e said) [
+          | inl went ↦ stopped (version_of task) task.depth (Some start) (Some new)
+              (so.stream ++ u ∷ []) (waiting_with waiting u) (on_said u went).said
+          | inr went ↦ one_more (version_of task) task.depth (Some start) (Some now)
+              (Some new) so.stream waiting u so.said (Err e) went
+        ] in
+        in_part new (stops_after task bytes (Some start) first at_blocks has left left' (Some now)
+        (Some new) reader seats waiting u so reads stop)
 
-    -- no record was read
-    pub stream_stops : (left left' : Option (List ℕ)) (now : List TalkEvent) (reader : Reading)
-        (seats last : Seating) (waiting : List Update) (fault : StreamFault)
-        (so : IsUnderway task bytes at_blocks left (Some start) (Some now) reader seats waiting)
-        → Reads task.depth task.form so.stream so.rest left' (Err fault)
-        → HearsStream task bytes at_blocks left' last (Err (status_of_stream fault)) start now
-    stream_stops left left' now reader seats last waiting (faults.Bad at why) so reads =
-        reading_stops task bytes (Some start) first at_blocks has left left'
-        (Some now) reader seats waiting (faults.Bad at why) so reads
-    stream_stops left left' now reader seats last waiting faults.ReadFault so reads =
-        reading_stops task bytes (Some start) first at_blocks has left left'
-        (Some now) reader seats waiting faults.ReadFault so reads
-    stream_stops left left' now reader seats last waiting faults.OutOfMemory so reads =
-        in_part now (reading_stops task bytes (Some start) first at_blocks has left left'
-        (Some now) reader seats waiting faults.OutOfMemory so reads)
+    -- the rest and the end were sent
+    pub on_end : (seats' : Seating) → Reads task.depth task.form so.stream so.rest left' (Ok None)
+        → Says now new (due_at_end (version_of task) waiting) (Ok tt)
+        → AreSeats task.depth task.queries.items at_blocks (so.said.sent ++ waiting) seats'
+        → IsPassedOn task bytes at_blocks left' (Some start) (Some new) seats'
+    on_end seats' reads went stand =
+        passed_on task bytes (Some start) first at_blocks has left left' (Some now)
+        (Some new) reader seats seats' waiting so reads
+        (at_end (version_of task) task.depth (Some start) (Some now) (Some new) so.stream waiting
+        (Ok tt) so.said went) stand
+
+    -- they were cut short on some link
+    pub part_at_end : (seats' : Seating) (e : PortStop)
+        → Reads task.depth task.form so.stream so.rest left' (Ok None)
+        → Says now new (due_at_end (version_of task) waiting) (Err e)
+        → AreSeats task.depth task.queries.items at_blocks (so.said.sent ++ waiting) seats'
+        → IsPassedInPart task bytes start new
+    part_at_end seats' e reads said stand =
+        elim (whole_or_cut now new (due_at_end (version_of task) waiting) e said) [
+          | inl went ↦
+              let all = on_end seats' reads went stand in
+              record {
+                said = stream_sent (version_of task) task.depth _;
+                talk = all.talk;
+                order = ([], sym (append-nil _));
+                illegal = λ no. absurd (no all.to_end);
+              }
+          | inr went ↦
+              let stop = at_end (version_of task) task.depth (Some start) (Some now)
+              (Some new) so.stream waiting (Err e) so.said went in
+              in_part new (stops_at_end task bytes (Some start) first at_blocks has left left'
+              (Some now) (Some new) reader seats waiting so reads stop)
+        ]
+
+  -- before the first record
+  pub heard_first : (left : Option (List ℕ)) (now : List TalkEvent) (reader : Reading)
+      (waiting : List Update) → left ≡ Some bytes → IsAfter reader [] → waiting ≡ []
+      → Says start now (spelling (version_of task)
+      (messages.Open (number_of (version_of task)) task.depth)) (Ok tt)
+      → IsUnderway task bytes at_blocks left (Some start) (Some now) reader first waiting
+  heard_first left now reader waiting all after none went =
+      begins task bytes (Some start) first at_blocks has left (Some now) reader waiting all after
+      (subst (IsSentBut (version_of task) task.depth (Some start) (Some now) []) (sym none)
+      (opened (version_of task) task.depth (Some start) (Some now) went))
+
+  -- after one more record was passed on, and those that the source held were read
+  pub heard_more : (left left' last : Option (List ℕ)) (now new : List TalkEvent)
+      (reader reader' later : Reading) (seats seats' : Seating)
+      (waiting waiting' more us : List Update) (u : Update) (taken : List ℕ)
+      (so : IsUnderway task bytes at_blocks left (Some start) (Some now) reader seats waiting)
+      → Reads task.depth task.form so.stream so.rest left' (Ok (Some u))
+      → IsAfter reader' (so.stream ++ u ∷ [])
+      → Says now new (due_with (version_of task) waiting u) (Ok tt)
+      → AreSeats task.depth task.queries.items at_blocks (so.said.sent ++ taken_with waiting u)
+      seats' → waiting' ≡ waiting_with waiting u
+      → reader'.depth ≡ task.depth → reader'.form ≡ task.form → HasRead reader' later taken us
+      → Consumes left' last taken → more ≡ waiting' ++ us → length more < most_rows
+      → IsUnderway task bytes at_blocks last (Some start) (Some new) later seats' more
+  heard_more left left' last now new reader reader' later seats seats' waiting waiting' more us u
+      taken so reads after went stand same depth form had took grown few =
+      let moved = on_said left left' now new reader seats waiting so u went in
+      let placed = subst (λ l. AreSeats task.depth task.queries.items at_blocks l seats')
+      (sym moved.longer) stand in
+      let next = subst (IsUnderway task bytes at_blocks left' (Some start)
+      (Some new) reader' seats') (sym same)
+      (goes_on task bytes (Some start) first at_blocks has left left' (Some now)
+      (Some new) reader reader' seats seats' waiting (waiting_with waiting u) u so reads after
+      moved.said placed) in
+      goes_on_many task bytes (Some start) first at_blocks has left' last
+      (Some new) reader' later seats' waiting' more us taken next depth form had took grown few
+
+  -- no record was read
+  pub stream_stops : (left left' : Option (List ℕ)) (now : List TalkEvent) (reader : Reading)
+      (seats last : Seating) (waiting : List Update) (fault : StreamFault)
+      (so : IsUnderway task bytes at_blocks left (Some start) (Some now) reader seats waiting)
+      → Reads task.depth task.form so.stream so.rest left' (Err fault)
+      → HearsStream task bytes at_blocks left' last (Err (status_of_stream fault)) start now
+  stream_stops left left' now reader seats last waiting (faults.Bad at why) so reads =
+      reading_stops task bytes (Some start) first at_blocks has left left'
+      (Some now) reader seats waiting (faults.Bad at why) so reads
+  stream_stops left left' now reader seats last waiting faults.ReadFault so reads =
+      reading_stops task bytes (Some start) first at_blocks has left left'
+      (Some now) reader seats waiting faults.ReadFault so reads
+  stream_stops left left' now reader seats last waiting faults.OutOfMemory so reads =
+      in_part now (reading_stops task bytes (Some start) first at_blocks has left left'
+      (Some now) reader seats waiting faults.OutOfMemory so reads)
 
 -- a link stops for want of memory alone
 pub link_stops : (task : Task) (bytes : List ℕ) (at_blocks : List (List ℕ)) (left : Option (List ℕ))
@@ -317,6 +322,7 @@ pub link_listed : (first firsts : ℕ) (sent : Result (Unit {0}) PortStop) (port
 link_listed first firsts sent port_stops.Failed is never = absurd (never is)
 link_listed first firsts sent port_stops.OutOfMemory is never = (refl, tt)
 
+-- likewise where the last send stopped or did not
 pub last_listed : (first firsts : ℕ) (sent : Result (Unit {0}) PortStop)
     (r : Result (Unit {0}) Status) → OnLink sent r → sent ≢ Err port_stops.Failed
     → Stops stops_following (counts first 0 0 0 0) (counts firsts 0 0 0 0) r
