@@ -1,5 +1,5 @@
 -- Helpers asked in turn: which seats are passed over, and where each attempt leads, by links.
-use Rattle.std.proofs.Common.{◌≡◌, ℕ, zero, suc, ◌+◌, ◌-◌, ◌*◌, ◌<◌, ◌≤◌, Option, Some, Result, Ok, Err, List, [], ◌∷◌, length, map, set, get_or, drop, inl, inr, refl, sym, ap, ◌∙◌, subst, arith, mul-le-mul_right, drop-drop, length-drop}
+use Rattle.std.proofs.Common.{◌≡◌, ℕ, zero, suc, ◌+◌, ◌-◌, ◌*◌, ◌<◌, ◌≤◌, Option, Some, Result, Ok, Err, List, [], ◌∷◌, length, map, set, get_or, drop, inl, inr, refl, sym, ap, ◌∙◌, subst, arith, add-one, mul-le-mul_right, drop-drop, length-drop}
 use Rattle.std.specs.Prelude.{All, slice_get}
 use Rattle.std.proofs.lemmas.Bool.{cases_eq}
 use Rattle.std.proofs.lemmas.List.{drop-map, get_or-map, length-map}
@@ -77,19 +77,27 @@ stand_behind stream depth depth' all left n same is stand =
     subst (λ d. All (StandsFor d stream) left) (sym same) (subst (All (StandsFor depth stream)) (sym is) (All-drop (StandsFor depth stream) n all stand))
 
 -- what came of asking at the first seat behind those that were passed over
-pub seat_tried : (stream : List Update) (asks : List (Query × List ℕ)) (s later : Sitting) (early n helper number : ℕ) (old new blank full : Option (List TalkEvent)) (r : Result helper_came.Came Status)
-    → later.left ≡ drop early s.left → later.version ≡ s.version → later.depth ≡ s.depth → All (StandsFor s.depth stream) s.left → asks_left (drop early s.left) ≡ drop n asks → early < length s.left
-    → ((ask : Query × List ℕ) → All (StandsFor later.depth stream) later.left → IsFirst (remaining_of later) ask → Tries (asking later.version later.depth stream) ask helper number old new blank full r)
-    → (ask : Query × List ℕ) × (slice_get asks n ≡ Some ask) × Tries (asking s.version s.depth stream) ask helper number old new blank full r
-seat_tried stream asks s later early n helper number old new blank full r next version depth stand is less tries =
+pub seat_tried : (stream : List Update) (asks : List (Query × List ℕ)) (s later : Sitting) (early n gone asked : ℕ) (old new blank full : Option (List TalkEvent)) (r came : Result helper_came.Came Status)
+    → later.left ≡ drop early s.left → later.version ≡ s.version → later.depth ≡ s.depth → All (StandsFor s.depth stream) s.left → asks_left (drop early s.left) ≡ drop n asks → early < length s.left → r ≡ came
+    → ((ask : Query × List ℕ) → All (StandsFor later.depth stream) later.left → IsFirst (remaining_of later) ask → Tries (asking later.version later.depth stream) ask (gone + 1) (asked + 1) old new blank full r)
+    → (ask : Query × List ℕ) × (slice_get asks n ≡ Some ask) × Tries (asking s.version s.depth stream) ask (suc gone) (suc asked) old new blank full came
+seat_tried stream asks s later early n gone asked old new blank full r came next version depth stand is less went tries =
     let seat = at_seat s.left early n asks is less in
     let stands = stand_behind stream s.depth later.depth s.left later.left early depth next stand in
-    let came = tries seat.0 stands (record { more = seat.1; first = ap asks_left next ∙ seat.2 }) in (
+    let tried = tries seat.0 stands (record { more = seat.1; first = ap asks_left next ∙ seat.2 }) in (
       seat.0,
       seat.3,
-      subst (λ (v : Version). Tries (asking v s.depth stream) seat.0 helper number old new blank full r) version
-      (subst (λ (d : ℕ). Tries (asking later.version d stream) seat.0 helper number old new blank full r) depth came),
+      subst (λ (v : Version). Tries (asking v s.depth stream) seat.0 (suc gone) (suc asked) old new blank full came) version
+      (subst (λ (d : ℕ). Tries (asking later.version d stream) seat.0 (suc gone) (suc asked) old new blank full came) depth
+      (subst (λ (r : Result helper_came.Came Status). Tries (asking later.version later.depth stream) seat.0 (suc gone) (suc asked) old new blank full r) went
+      (subst (λ (n : ℕ). Tries (asking later.version later.depth stream) seat.0 (suc gone) n old new blank full r) (add-one asked)
+      (subst (λ (n : ℕ). Tries (asking later.version later.depth stream) seat.0 n (asked + 1) old new blank full r) (add-one gone) tried)))),
     )
+
+-- what is left behind the attempt, and those that were passed over
+pub left_behind : (all skipped : List Seated) (after : List (Query × List ℕ)) (early : ℕ) → skipped ≡ drop early all → after ≡ drop 1 (asks_left skipped) → after ≡ drop (early + 1) (asks_left all)
+left_behind all skipped after early next is =
+    is ∙ ap (λ (l : List Seated). drop 1 (asks_left l)) next ∙ ap (λ (l : List (Query × List ℕ)). drop 1 l) (sym (drop-map ask_of early all)) ∙ drop-drop 1 early (asks_left all)
 
 -- ---- seats that are left
 
