@@ -1,5 +1,5 @@
 -- Helpers asked in turn: which seats are passed over, and where each attempt leads, by links.
-use Rattle.std.proofs.Common.{◌≡◌, ℕ, zero, suc, ◌+◌, ◌-◌, ◌*◌, ◌<◌, ◌≤◌, Option, Some, Result, Ok, Err, List, [], ◌∷◌, length, map, set, get_or, drop, inl, inr, refl, sym, ap, ◌∙◌, subst, arith, add-one, mul-le-mul_right, drop-drop, length-drop}
+use Rattle.std.proofs.Common.{◌≡◌, ℕ, zero, suc, ◌+◌, ◌-◌, ◌*◌, ◌<◌, ◌≤◌, Option, Some, Result, Ok, Err, List, [], ◌∷◌, length, map, set, get_or, drop, inl, inr, sym, ap, ◌∙◌, subst, arith, add-one, mul-le-mul_right, drop-drop, length-drop}
 use Rattle.std.specs.Prelude.{All, slice_get}
 use Rattle.std.proofs.lemmas.Bool.{cases_eq}
 use Rattle.std.proofs.lemmas.List.{drop-map, get_or-map, length-map}

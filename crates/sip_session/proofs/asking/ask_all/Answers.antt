@@ -1,5 +1,5 @@
 -- Each attempt leads on, until all queries were answered or the panel halts.
-use Rattle.std.proofs.Common.{◌≡◌, ◌+◌, ◌-◌, ◌*◌, ◌<◌, ◌≤◌, ℕ, Ok, Err, List, length, map, drop, refl, ap, sym, ◌∙◌, subst, arith, rules, drop-drop}
+use Rattle.std.proofs.Common.{◌≡◌, ◌+◌, ◌-◌, ◌*◌, ◌≤◌, ℕ, Ok, Err, List, length, map, drop, refl, ap, sym, ◌∙◌, subst, arith, rules, drop-drop}
 use Rattle.std.proofs.lemmas.List.{length-map}
 use Rattle.std.proofs.lemmas.Result.{err_from_is_err_and}
 use Rattle.sip_vector.specs.declared.query.Query.{Query}

@@ -1,5 +1,5 @@
 -- What came of the attempt is added to those before it.
-use Rattle.std.proofs.Common.{◌≡◌, ◌+◌, ◌-◌, ◌*◌, ◌<◌, ◌≤◌, ℕ, suc, Result, Ok, List, length, refl, ap, sym, ◌∙◌, subst, arith, rules, add-one}
+use Rattle.std.proofs.Common.{◌≡◌, ◌+◌, ◌*◌, Ok, length, refl, ap, ◌∙◌, arith, add-one}
 use Rattle.std.proofs.lemmas.Result.{err_from_is_err_and}
 use Rattle.sip_session.specs.declared.asking.Came.{Came}
 use Rattle.sip_session.specs.declared.asking.Came.TheVariants as cames
