@@ -1,5 +1,5 @@
 -- Helpers asked in turn: which seats are passed over, and where each attempt leads, by links.
-use Rattle.std.proofs.Common.{◌≡◌, ℕ, zero, suc, ◌+◌, ◌-◌, ◌*◌, ◌<◌, ◌≤◌, Option, Some, Result, Ok, Err, List, [], ◌∷◌, length, map, set, get_or, drop, inl, inr, refl, sym, ap, ◌∙◌, subst, arith, mul-le-mul_right, drop-drop, length-drop}
+use Rattle.std.proofs.Common.{◌≡◌, ℕ, zero, suc, ◌+◌, ◌-◌, ◌*◌, ◌<◌, ◌≤◌, Option, Some, Result, Ok, Err, List, [], ◌∷◌, length, map, set, get_or, drop, inl, inr, sym, ap, ◌∙◌, subst, arith, add-one, mul-le-mul_right, drop-drop, length-drop}
 use Rattle.std.specs.Prelude.{All, slice_get}
 use Rattle.std.proofs.lemmas.Bool.{cases_eq}
 use Rattle.std.proofs.lemmas.List.{drop-map, get_or-map, length-map}
@@ -13,12 +13,14 @@ use Rattle.sip_verifier.specs.declared.status.Status.{Status}
 use Rattle.sip_verifier.specs.declared.status.Status.TheVariants as statuses
 use Rattle.sip_verifier.specs.Questions.{asking}
 use Rattle.sip_verifier.specs.QuerySeats.{Seated, StandsFor}
-use Rattle.sip_verifier.specs.Sittings.{asks_left}
+use Rattle.sip_verifier.specs.runs.Askers.{IsFirst}
+use Rattle.sip_verifier.specs.Sittings.{Sitting, asks_left, remaining_of}
 use Rattle.sip_verifier.proofs.QueriesChecked.{next_of}
+use Rattle.sip_session.specs.declared.asking.At.{At}
 use Rattle.sip_session.specs.declared.asking.Came as helper_came
 use Rattle.sip_session.specs.declared.asking.Came.TheVariants as cames
 use Rattle.sip_session.specs.inside.Hearing.{AllTalks}
-use Rattle.sip_session.specs.inside.Trying.{Halts, TrailsTo, Tries, turn_at}
+use Rattle.sip_session.specs.inside.Trying.{Halts, Leads, TrailsTo, Tries, turn_at}
 use Rattle.sip_session.proofs.Attempts.{get_drop, leads_answered, leads_dropped, leads_out, leads_stopped}
 use Rattle.sip_session.proofs.Places.{told_set}
 
@@ -66,13 +68,62 @@ at_seat left early n asks is less =
     let first = next_of 0 (asks_left (drop early left)) some in
     (first.0, first.1, first.2, get_drop n asks first.1 first.0 (sym is ∙ first.2))
 
-pub behind_asks : (all left : List Seated) (p early n : ℕ) → left ≡ drop p all → p + early ≡ n → asks_left (drop early left) ≡ drop n (asks_left all)
-behind_asks all left p early n is sum =
-    ap (λ l. asks_left (drop early l)) is ∙ ap asks_left (drop-drop early p all) ∙ ap (λ m. asks_left (drop m all)) sum ∙ sym (drop-map ask_of n all)
+-- the seat whose turn it is stands behind those that are passed over
+pub behind_asks : (all left : List Seated) (p early n : ℕ) → asks_left left ≡ drop p (asks_left all) → p + early ≡ n → asks_left (drop early left) ≡ drop n (asks_left all)
+behind_asks all left p early n is sum = sym (drop-map ask_of early left) ∙ ap (λ (l : List (Query × List ℕ)). drop early l) is ∙ drop-drop early p (asks_left all) ∙ ap (λ m. drop m (asks_left all)) sum
 
 pub stand_behind : (stream : List Update) (depth depth' : ℕ) (all left : List Seated) (n : ℕ) → depth' ≡ depth → left ≡ drop n all → All (StandsFor depth stream) all → All (StandsFor depth' stream) left
 stand_behind stream depth depth' all left n same is stand =
     subst (λ d. All (StandsFor d stream) left) (sym same) (subst (All (StandsFor depth stream)) (sym is) (All-drop (StandsFor depth stream) n all stand))
+
+-- what came of asking at the first seat behind those that were passed over
+pub seat_tried : (stream : List Update) (asks : List (Query × List ℕ)) (s later : Sitting) (early n gone asked : ℕ) (old new blank full : Option (List TalkEvent)) (r came : Result helper_came.Came Status)
+    → later.left ≡ drop early s.left → later.version ≡ s.version → later.depth ≡ s.depth → All (StandsFor s.depth stream) s.left → asks_left (drop early s.left) ≡ drop n asks → early < length s.left → r ≡ came
+    → ((ask : Query × List ℕ) → All (StandsFor later.depth stream) later.left → IsFirst (remaining_of later) ask → Tries (asking later.version later.depth stream) ask (gone + 1) (asked + 1) old new blank full r)
+    → (ask : Query × List ℕ) × (slice_get asks n ≡ Some ask) × Tries (asking s.version s.depth stream) ask (suc gone) (suc asked) old new blank full came
+seat_tried stream asks s later early n gone asked old new blank full r came next version depth stand is less went tries =
+    let seat = at_seat s.left early n asks is less in
+    let stands = stand_behind stream s.depth later.depth s.left later.left early depth next stand in
+    let tried = tries seat.0 stands (record { more = seat.1; first = ap asks_left next ∙ seat.2 }) in (
+      seat.0,
+      seat.3,
+      subst (λ (v : Version). Tries (asking v s.depth stream) seat.0 (suc gone) (suc asked) old new blank full came) version
+      (subst (λ (d : ℕ). Tries (asking later.version d stream) seat.0 (suc gone) (suc asked) old new blank full came) depth
+      (subst (λ (r : Result helper_came.Came Status). Tries (asking later.version later.depth stream) seat.0 (suc gone) (suc asked) old new blank full r) went
+      (subst (λ (n : ℕ). Tries (asking later.version later.depth stream) seat.0 (suc gone) n old new blank full r) (add-one asked)
+      (subst (λ (n : ℕ). Tries (asking later.version later.depth stream) seat.0 n (asked + 1) old new blank full r) (add-one gone) tried)))),
+    )
+
+-- what is left behind the attempt, and those that were passed over
+pub left_behind : (all skipped : List Seated) (after : List (Query × List ℕ)) (early : ℕ) → skipped ≡ drop early all → after ≡ drop 1 (asks_left skipped) → after ≡ drop (early + 1) (asks_left all)
+left_behind all skipped after early next is =
+    is ∙ ap (λ (l : List Seated). drop 1 (asks_left l)) next ∙ ap (λ (l : List (Query × List ℕ)). drop 1 l) (sym (drop-map ask_of early all)) ∙ drop-drop 1 early (asks_left all)
+
+-- ---- seats that are left
+
+module _ (all left : List Seated) (queries asked gone h p : ℕ) (some : asked ≤ queries) (size : length all ≡ queries * h) (most : p ≤ asked * h + gone) (is : asks_left left ≡ drop p (asks_left all)) where
+  left_are : length left ≡ queries * h - p
+  left_are = sym (length-map {B = Query × List ℕ} left ask_of) ∙ ap (λ (l : List (Query × List ℕ)). length l) is ∙ length-drop p (asks_left all) ∙ ap (λ n. n - p) (length-map {B = Query × List ℕ} all ask_of ∙ size)
+
+  -- there are as many as are due
+  pub left_enough : (queries - asked) * h - gone ≤ length left
+  left_enough = omega (arith, left_are, due_split queries asked h some)
+
+  -- those before the one whose turn it is were passed over, or are
+  pub passed_sum : gone ≤ (queries - asked) * h → p + (length left - ((queries - asked) * h - gone)) ≡ asked * h + gone
+  passed_sum less = omega (arith, left_are, due_split queries asked h some)
+
+-- ---- from the beginning on
+
+-- where one more attempt leads, from the beginning on
+pub led_on : (version version' : Version) (depth depth' : ℕ) (stream : List Update) (helpers helpers' queries : ℕ) (asks : List (Query × List ℕ)) (old now new : AllTalks) (blank half full : Option (List TalkEvent)) (gone asked : ℕ) (r : Result At Status)
+    → version' ≡ version → depth' ≡ depth → helpers' ≡ helpers → TrailsTo version depth stream helpers queries asks old now blank half (turn_at gone asked)
+    → (TrailsTo version' depth' stream helpers' queries asks old now blank half (turn_at gone asked) → Leads version' depth' stream helpers' queries asks old new blank full r)
+    → Leads version depth stream helpers queries asks old new blank full r
+led_on version version' depth depth' stream helpers helpers' queries asks old now new blank half full gone asked r same_version same_depth same_helpers to more =
+    subst (λ (v : Version). TrailsTo v depth stream helpers queries asks old now blank half (turn_at gone asked) → Leads v depth stream helpers queries asks old new blank full r) same_version
+    (subst (λ (d : ℕ). TrailsTo version' d stream helpers queries asks old now blank half (turn_at gone asked) → Leads version' d stream helpers queries asks old new blank full r) same_depth
+    (subst (λ (h : ℕ). TrailsTo version' depth' stream h queries asks old now blank half (turn_at gone asked) → Leads version' depth' stream h queries asks old new blank full r) same_helpers more)) to
 
 -- ---- one link
 

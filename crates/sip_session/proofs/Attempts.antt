@@ -1,6 +1,6 @@
 -- Attempts of a panel, one after another, and where each leads.
-use Rattle.std.proofs.Common.{◌≡◌, ◌≢◌, ◌⊎◌, ℕ, zero, suc, ◌+◌, ◌-◌, ◌*◌, ◌<◌, ◌≤◌, ◌==◌, Bool, true, false, Option, Some, Result, Ok, Err, List, [], ◌∷◌, ◌++◌, length, set, get_or, drop, if◌then◌else◌, inl, inr, refl, sym, ap, ◌∙◌, subst, arith, append-nil, append_assoc}
-use Rattle.std.specs.Prelude.{All, slice_get}
+use Rattle.std.proofs.Common.{◌≡◌, ℕ, zero, suc, ◌+◌, ◌-◌, ◌*◌, ◌<◌, ◌==◌, Bool, Option, Some, Result, Ok, Err, List, [], ◌∷◌, ◌++◌, length, set, get_or, drop, if◌then◌else◌, inl, inr, refl, sym, ap, ◌∙◌, subst, arith, append-nil, append_assoc}
+use Rattle.std.specs.Prelude.{slice_get}
 use Rattle.std.proofs.lemmas.Bool.{cases_eq, eq-eqb, ne_eqb}
 use Rattle.std.proofs.lemmas.List.Elements.{All-nil, All-push}
 use Rattle.sip_ports.specs.declared.port.TalkEvent.{TalkEvent}
@@ -18,13 +18,12 @@ use Rattle.sip_verifier.specs.declared.status.Status.TheVariants as statuses
 use Rattle.sip_verifier.specs.Questions.{Question, asking, said_for}
 use Rattle.sip_verifier.specs.runs.Asking.{question_of}
 use Rattle.sip_verifier.proofs.QueriesChecked.{flat_map_snoc}
-use Rattle.sip_session.specs.declared.asking.At.{At}
 use Rattle.sip_session.specs.declared.asking.Came as helper_came
 use Rattle.sip_session.specs.declared.asking.Came.TheVariants as cames
-use Rattle.sip_session.specs.inside.Hearing.{AllTalks, Each}
-use Rattle.sip_session.specs.inside.Trying.{Drops, Halts, IsSeated, Leads, Silent, StopsInLine, Trail, TrailsInLine, TrailsTo, Tries, turn_at}
+use Rattle.sip_session.specs.inside.Hearing.{AllTalks}
+use Rattle.sip_session.specs.inside.Trying.{Halts, IsSeated, Silent, StopsInLine, Trail, TrailsInLine, TrailsTo, Tries, turn_at}
 use Rattle.sip_session.specs.PanelEnds.{behind_replies, line_of, lines, said_to}
-use Rattle.sip_session.specs.Panels.{Attempt, AreInTurn, IsJudged, Outcome, Turn, accepted, first_turn, next_turn, rejected, seat_at, turn_behind}
+use Rattle.sip_session.specs.Panels.{Attempt, AreInTurn, IsJudged, Outcome, Turn, accepted, first_turn, next_turn, rejected, turn_behind}
 use Rattle.sip_session.proofs.Places.{elsewhere, here}
 
 -- ---- turns and lines

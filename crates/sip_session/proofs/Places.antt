@@ -1,5 +1,5 @@
 -- What holds at each place of some links, as one after another says the same.
-use Rattle.std.proofs.Common.{All, ◌≡◌, ◌≢◌, ◌⊎◌, ℕ, suc, ◌+◌, ◌<◌, ◌≤◌, List, [], ◌∷◌, ◌++◌, length, map, set, get_or, take, inl, inr, refl, sym, ap, ◌∙◌, subst, arith, append-nil, append_assoc, get_or-set_same, get_or-set_other, length-set, take_all}
+use Rattle.std.proofs.Common.{All, ◌≡◌, ◌≢◌, ℕ, ◌+◌, ◌<◌, ◌≤◌, List, [], ◌++◌, length, map, set, get_or, take, inl, inr, refl, sym, ap, ◌∙◌, subst, arith, append-nil, get_or-set_same, get_or-set_other, length-set, take_all}
 use Rattle.std.specs.Prelude.{Result, Ok, Err}
 use Rattle.std.proofs.lemmas.List.{map-set, get_or-map, length-map, set-get_or, take_more_set}
 use Rattle.std.proofs.lemmas.List.Elements.{All-push}
@@ -7,7 +7,6 @@ use Rattle.std.proofs.lemmas.Bool.{cases_eq, cases_lt}
 use Rattle.sip_ports.specs.declared.port.PortStop.{PortStop}
 use Rattle.sip_ports.specs.declared.port.TalkEvent.{TalkEvent}
 use Rattle.sip_ports.specs.Ports.{outs}
-use Rattle.sip_ports.proofs.TalkLemmas.{outs-append}
 use Rattle.sip_session.specs.inside.Hearing.{AllTalks, Each, Says, SaysAll}
 
 -- ---- one place

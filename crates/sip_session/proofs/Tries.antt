@@ -1,5 +1,5 @@
 -- What came of asking one helper, and of writing its line.
-use Rattle.std.proofs.Common.{◌≡◌, ℕ, Option, Result, Ok, Err, List, take, drop, inl, inr, refl, sym, subst, take-append-drop}
+use Rattle.std.proofs.Common.{◌≡◌, ℕ, Option, Some, Result, Ok, Err, List, take, drop, inl, inr, refl, sym, subst, take-append-drop}
 use Rattle.sip_ports.specs.declared.port.PortStop.{PortStop}
 use Rattle.sip_ports.specs.declared.port.PortStop.TheVariants as port_stops
 use Rattle.sip_ports.specs.declared.port.TalkEvent.{TalkEvent}
@@ -48,6 +48,12 @@ module _ (m : Manner Query Answer) (ask : Query × List ℕ) (helper number : �
       let part : DropsInPart m ask helper number old new blank full =
       record { round = round; reason = reason; rejected = rejected; part = take n text; front = (drop n text, sym (take-append-drop n text)); wrote = went } in
       in_line port status so (inr part)
+
+-- the same where the helper was closed before, which leaves its talk as it was
+pub drop_cut_closed : (m : Manner Query Answer) (ask : Query × List ℕ) (helper number : ℕ) (old : Option (List TalkEvent)) (mid new : List TalkEvent) (blank full : Option (List TalkEvent)) (round : ℕ) (reason : Reason) (written : Result (Unit {0}) PortStop) (status : Status) → new ≡ mid
+    → IsRejected m ask.0 ask.1 old (Some mid) round reason → SendsWhole blank full written (dropped helper number round reason) → OnReport written (Err status) → Tries m ask helper number old (Some new) blank full (Err status)
+drop_cut_closed m ask helper number old mid new blank full round reason written status same rejected sent on =
+    drop_cut m ask helper number old (Some new) blank full round reason written status (subst (λ (t : List TalkEvent). IsRejected m ask.0 ask.1 old (Some t) round reason) (sym same) rejected) sent on
 
 -- it has no verdict, and nothing was written; no port failed
 pub fault_tried : {G : Type 0} (m : Manner Query Answer) (ask : Query × List ℕ) (helper number : ℕ) (old new blank : Option (List TalkEvent)) (States : G → Answer → Type 0) (fault : SessionFault)

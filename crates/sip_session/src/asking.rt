@@ -1,6 +1,6 @@
 //! The queries of a panel, each asked of one helper after another.
 
-ghost use Rattle.std.specs.Prelude.{◌≡◌, ◌≢◌, ◌⊎◌, ◌+◌, ◌*◌, ◌-◌, ◌<◌, ◌≤◌, ℕ, suc, List, All, false, length, drop, map, set, slice_index_or, IfOk, OnOk, Some, []};
+ghost use Rattle.std.specs.Prelude.{◌≡◌, ◌≢◌, ◌⊎◌, ◌+◌, ◌*◌, ◌-◌, ◌<◌, ◌≤◌, ℕ, suc, List, All, false, length, drop, map, set, slice_index_or, IfOk, OnOk, Option, Some, []};
 ghost use Rattle.sip_ports.specs.Ports.{Lasts};
 ghost use Rattle.sip_ports.specs.declared.port.TalkEvent.{TalkEvent as AnyEvent};
 ghost use Rattle.sip_vector.specs.declared.query.Query.{Query as AnyQuery};
@@ -53,7 +53,10 @@ fn ask_helper<K: Sink>(
         → Tries (asking session.old.version session.old.depth stream) ask helper number
         (Some link.old.kept.talk.items) (Some link.new.kept.talk.items) (K.talk report.old)
         (K.talk report.new) result }
-    ensures next { session.new.left ≡ drop 1 session.old.left }
+    ensures stands { (stream : List AnyUpdate)
+        → All (StandsFor session.old.depth stream) session.old.left
+        → All (StandsFor session.new.depth stream) session.new.left }
+    ensures next { asks_left session.new.left ≡ drop 1 (asks_left session.old.left) }
     ensures version { session.new.version ≡ session.old.version }
     ensures depth { session.new.depth ≡ session.old.depth }
     ensures live { OnOk result (session.new.spent ≡ false) }
@@ -119,8 +122,11 @@ fn ask_at<K: Sink>(
         → Leads session.old.version session.old.depth stream (length links.old) queries asks old
         (map (λ l. l.kept.talk.items) links.new) blank (K.talk report.new) result }
     ensures count { length links.new ≡ length links.old }
-    ensures next { session.new.left ≡ drop (length session.old.left
-        - ((queries - at.asked) * length links.old - at.gone) + 1) session.old.left }
+    ensures stands { (stream : List AnyUpdate)
+        → All (StandsFor session.old.depth stream) session.old.left
+        → All (StandsFor session.new.depth stream) session.new.left }
+    ensures next { asks_left session.new.left ≡ drop (length session.old.left
+        - ((queries - at.asked) * length links.old - at.gone) + 1) (asks_left session.old.left) }
     ensures version { session.new.version ≡ session.old.version }
     ensures depth { session.new.depth ≡ session.old.depth }
     ensures live { OnOk result (session.new.spent ≡ false) }

@@ -12,7 +12,8 @@ invariant-loop-at g l = record {
   trail : (stream : List Update) → All (StandsFor l.fn.session.depth stream) l.fn.session.left
       → TrailsTo l.fn.session.version l.fn.session.depth stream (length l.fn.links) l.queries (asks_left l.fn.session.left) (map (λ x. x.kept.talk.items) l.fn.links) (map (λ x. x.kept.talk.items) l.links) (g.K.Sink.talk l.fn.report) (g.K.Sink.talk l.report)
       (turn_at l.at.gone l.at.asked);
-  passed : (p : ℕ) × (p ≤ l.at.asked * length l.fn.links + l.at.gone) × (l.session.left ≡ drop p l.fn.session.left);
+  passed : (p : ℕ) × (p ≤ l.at.asked * length l.fn.links + l.at.gone) × (asks_left l.session.left ≡ drop p (asks_left l.fn.session.left));
+  stands : (stream : List Update) → All (StandsFor l.fn.session.depth stream) l.fn.session.left → All (StandsFor l.session.depth stream) l.session.left;
   version : l.session.version ≡ l.fn.session.version;
   depth : l.session.depth ≡ l.fn.session.depth;
   live : l.session.spent ≡ false;
