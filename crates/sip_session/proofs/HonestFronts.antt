@@ -13,9 +13,8 @@ use Rattle.sip_helper.specs.Serving.{IsMessage, Turn, heard_in, after_turn}
 use Rattle.sip_helper.specs.Turns.{HelperState, after_answer, fresh, owed, step}
 use Rattle.sip_duel.specs.Story.{BeginsWithEnd, Follows, IsEnded, IsHonestTalk, IsStray, Step, state_after}
 use Rattle.sip_duel.proofs.TurnLemmas.{AreMessages, frames_of, replies_of}
-use Rattle.sip_duel.proofs.WalkLemmas.{Comes, Holds, HoldsOfWhole, Round, Walk, exchange, heard_exchange, nil_parts, one_message, walk_on, written_exchange}
-use Rattle.sip_duel.proofs.TalkLemmas.{GoesOn, exchange_goes_on, whole_of}
-use Rattle.sip_session.proofs.DuelAgain.{frames_are, messages_are, no_end_in, no_stray, one_end, replies_are, turns, walk_silent}
+use Rattle.sip_duel.proofs.WalkLemmas.{Comes, Holds, HoldsOfWhole, Round, Walk, exchange, heard_exchange, nil_parts, one_message, walk_on, walk_silent, written_exchange}
+use Rattle.sip_duel.proofs.TalkLemmas.{GoesOn, exchange_goes_on, frames_are, messages_are, no_end_in, no_stray, one_end, replies_are, turns, whole_of}
 
 -- of two fronts of the same list one is a front of the other
 pub fronts : {X : Type 0} (a u b w : List X) → a ++ u ≡ b ++ w → ((more : List X) × (b ≡ a ++ more) × (u ≡ more ++ w)) ⊎ ((more : List X) × (a ≡ b ++ more) × (w ≡ more ++ u))
@@ -84,7 +83,7 @@ module _ (Last : List ℕ → List ℕ → Type 0) (v : Version) (rounds : List 
         let quiet : heard m.0 ≡ [] = (nil_parts (heard m.0) (heard more) (sym (heard-append m.0 more) ∙ ap heard (sym m.2) ∙ p.silent)).0 in
         let rest : List ℕ = p.give ++ owed (state_after p.steps) in
         walk_on Last v fresh (turns p.steps) rounds (p.part ++ written m.0) rest walk (messages_are p.steps p.part p.give p.now p.follows)
-        (ap written m.1 ∙ written-append p.now m.0 ∙ ap (λ l. l ++ written m.0) (frames_are p.steps p.part p.give p.now p.follows) ∙ append_assoc (Rattle.sip_duel.proofs.TurnLemmas.frames_of fresh (turns p.steps)) p.part (written m.0))
+        (ap written m.1 ∙ written-append p.now m.0 ∙ ap (λ l. l ++ written m.0) (frames_are p.steps p.part p.give p.now p.follows) ∙ append_assoc (frames_of fresh (turns p.steps)) p.part (written m.0))
         (ap (λ l. l ++ rest) (ap heard m.1 ∙ heard-append p.now m.0 ∙ ap (λ l. heard p.now ++ l) quiet ∙ append-nil (heard p.now)) ∙ replies_are p.steps p.part p.give p.now p.follows)
     | inr m ↦ by_steps p.steps p.part p.give p.now m.0 p.follows m.1
   ]
