@@ -102,13 +102,13 @@ module _ (helpers : ℕ) (task : Task) (x : PanelExchange) (some : 1 ≤ task.de
   -- ---- one attempt of an honest helper
 
   module _ (before : List Attempt) (a : Attempt) (after : List Attempt) (cut_is : attempts ≡ before ++ a ∷ after) where
-    abbrev helper : ℕ
+    abbrev pub helper : ℕ
     helper = a.turn.helper
 
     abbrev pub q : Question
     q = a.question
 
-    of_turn : IsOfTurn helpers task x.seed x.stream a.turn q
+    pub of_turn : IsOfTurn helpers task x.seed x.stream a.turn q
     of_turn = in_middle (λ (a : Attempt). IsOfTurn helpers task x.seed x.stream a.turn a.question) before a after (subst (All (λ (a : Attempt). IsOfTurn helpers task x.seed x.stream a.turn a.question)) cut_is are.of_turn)
 
     pub is_judged : IsJudged v task.depth stream q a.outcome
@@ -130,7 +130,7 @@ module _ (helpers : ℕ) (task : Task) (x : PanelExchange) (some : 1 ≤ task.de
     pub more_room : length mine.done < most_queries
     more_room = omega (arith, mine.count, ap (λ (t : Turn). t.number) turn_is, of_turn.number, room)
 
-    first_least : 1 ≤ helper
+    pub first_least : 1 ≤ helper
     first_least = omega (arith, helper_rises first_turn before, ap (λ (t : Turn). t.helper) turn_is)
 
     -- what it heard

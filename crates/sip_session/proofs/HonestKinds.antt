@@ -16,6 +16,7 @@ use Rattle.sip_vector.specs.Vectors.{nonzero_within}
 use Rattle.sip_vector.proofs.Sides.{total-is}
 use Rattle.sip_wire.specs.declared.kind.Kind.TheVariants as kinds
 use Rattle.sip_wire.specs.declared.message.Message.TheVariants as messages
+use Rattle.sip_wire.specs.declared.message.Reason.{Reason}
 use Rattle.sip_wire.specs.declared.message.Reason.TheVariants as reasons
 use Rattle.sip_wire.specs.declared.version.Version.{Version}
 use Rattle.sip_wire.specs.Reading.{read_frame}
@@ -27,7 +28,7 @@ use Rattle.sip_replies.specs.Replies.{read_reply}
 use Rattle.sip_subvec.specs.Replies.{most_entries}
 use Rattle.sip_heavy.specs.Protocol.{count_of}
 use Rattle.sip_helper.specs.Hitters.{is_strict}
-use Rattle.sip_helper.specs.KindRows.{not_strict, too_many}
+use Rattle.sip_helper.specs.KindRows.{not_strict, too_many, want_of_memory}
 use Rattle.sip_helper.specs.Kinds.{help_row}
 use Rattle.sip_helper.specs.Streams.{vectors_of}
 use Rattle.sip_helper.proofs.Hearing.{refusal_fits}
@@ -61,7 +62,7 @@ module _ (v : Version) (depth : ℕ) (stream : List Update) where
     pub least : 1 ≤ code
     pub most : code ≤ 4
     pub refused : (help_row q).refused_by (vectors_of depth stream) ≡ Some code
-    pub right : IsRight depth stream q (reasons.Refused code)
+    pub why : ((code ≡ too_many) × IsTooLong depth stream q) ⊎ ((code ≡ not_strict) × (¬ IsOnStrictSide depth stream q))
 
   -- by the test of a heavy query's side
   strict_barred : (numbers : List ℤ) (t : ℕ) → is_strict numbers ≡ false → (if is_strict numbers then (if is_wide t (int_sum numbers) then Some too_many else None) else Some not_strict) ≡ Some not_strict
@@ -82,7 +83,7 @@ module _ (v : Version) (depth : ℕ) (stream : List Update) where
             least = omega arith;
             most = omega arith;
             refused = ap (λ (b : Bool). if b then Some too_many else None) (lt-ltb most_entries n more);
-            right = inr (inl (refl, more));
+            why = inl (refl, more);
           })
           | inr most ↦ inl most
         ]
@@ -91,11 +92,11 @@ module _ (v : Version) (depth : ℕ) (stream : List Update) where
     few_or_barred Inner narrow = inl tt
     few_or_barred (Heavy First t) narrow = elim (strict_or_not (vector depth stream First)) [
       | inl strict ↦ inl (strict, narrow)
-      | inr other ↦ inr (record { code = not_strict; least = omega arith; most = omega arith; refused = strict_barred (vector depth stream First) t other.0; right = inr (inr (refl, other.1)) })
+      | inr other ↦ inr (record { code = not_strict; least = omega arith; most = omega arith; refused = strict_barred (vector depth stream First) t other.0; why = inr (refl, other.1) })
     ]
     few_or_barred (Heavy Second t) narrow = elim (strict_or_not (vector depth stream Second)) [
       | inl strict ↦ inl (strict, narrow)
-      | inr other ↦ inr (record { code = not_strict; least = omega arith; most = omega arith; refused = strict_barred (vector depth stream Second) t other.0; right = inr (inr (refl, other.1)) })
+      | inr other ↦ inr (record { code = not_strict; least = omega arith; most = omega arith; refused = strict_barred (vector depth stream Second) t other.0; why = inr (refl, other.1) })
     ]
     few_or_barred (Share First num den) narrow = elim (strict_or_not (vector depth stream First)) [
       | inl strict ↦ inl (strict, share_narrow First num den narrow)
@@ -104,7 +105,7 @@ module _ (v : Version) (depth : ℕ) (stream : List Update) where
         least = omega arith;
         most = omega arith;
         refused = strict_barred (vector depth stream First) (share_of num den (int_sum (vector depth stream First))) other.0;
-        right = inr (inr (refl, other.1));
+        why = inr (refl, other.1);
       })
     ]
     few_or_barred (Share Second num den) narrow = elim (strict_or_not (vector depth stream Second)) [
@@ -114,12 +115,12 @@ module _ (v : Version) (depth : ℕ) (stream : List Update) where
         least = omega arith;
         most = omega arith;
         refused = strict_barred (vector depth stream Second) (share_of num den (int_sum (vector depth stream Second))) other.0;
-        right = inr (inr (refl, other.1));
+        why = inr (refl, other.1);
       })
     ]
 
-    -- one that may be answered is refused for want of memory alone
-    pub few_right : (q : Query) → HasFewEntries v depth stream q → (code : ℕ) → IsRight depth stream q (reasons.Refused code) → code ≡ 1
+    -- one that can be answered is refused for want of memory alone
+    few_right : (q : Query) → HasFewEntries v depth stream q → (code : ℕ) → IsRight depth stream q (reasons.Refused code) → code ≡ 1
     few_right q few code (inl memory) = memory
     few_right (Sub lo hi) few code (inr (inl long)) = absurd (omega (arith, few, long.1))
     few_right (Range side lo hi) few code (inr (inl long)) = absurd long.1
@@ -133,6 +134,10 @@ module _ (v : Version) (depth : ℕ) (stream : List Update) where
     few_right Inner few code (inr (inr other)) = absurd (other.1 tt)
     few_right (Heavy side t) few code (inr (inr other)) = absurd (other.1 few.0)
     few_right (Share side num den) few code (inr (inr other)) = absurd (other.1 few.0)
+
+    pub few_reason : (q : Query) → HasFewEntries v depth stream q → (reason : Reason) → IsRight depth stream q reason → reason ≡ reasons.Refused want_of_memory
+    few_reason q few (reasons.Refused code) right = ap reasons.Refused (few_right q few code right)
+    few_reason q few _ right = absurd right
 
   -- ---- what is asked
 
@@ -152,6 +157,15 @@ module _ (v : Version) (depth : ℕ) (stream : List Update) where
     | inl reached ↦ inl (record { asked = ap (λ (b : Bool). if b then None else Some (pairs [])) reached; version = refl; refuses = λ code. refl; place = refl })
     | inr below ↦ inr (pairs [], ap (λ (b : Bool). if b then None else Some (pairs [])) below)
   ]
+
+  -- one with too many entries is asked
+  pub long_askable : (q : Query) (block : List ℕ) → IsTooLong depth stream q → Holds (λ kind. IsAskable (kind.protocol block)) (kind_row v depth stream q)
+  long_askable (Sub lo hi) block long = record { asked = refl; version = refl; refuses = λ code. refl; place = refl }
+  long_askable (Range side lo hi) block long = absurd long
+  long_askable (F2 side) block long = absurd long
+  long_askable Inner block long = absurd long
+  long_askable (Heavy side t) block long = absurd long
+  long_askable (Share side num den) block long = absurd long
 
   pub askable_or_known : (q : Query) (block : List ℕ) → Holds (AskableOrKnown block) (kind_row v depth stream q)
   askable_or_known (Sub lo hi) block = inl (record { asked = refl; version = refl; refuses = λ code. refl; place = refl })

@@ -82,10 +82,10 @@ module _ (v : Version) (depth : ℕ) (stream : List Update) (some : 1 ≤ depth)
     pub narrow : is_too_wide stream q ≡ false
     pub at : IsBlock depth block
 
-  posed : (q : Query) (block : List ℕ) → IsPut q block → HasFewEntries v depth stream q → IsPosed v depth stream some legal q block
+  pub posed : (q : Query) (block : List ℕ) → IsPut q block → HasFewEntries v depth stream q → IsPosed v depth stream some legal q block
   posed q block put few = record { fits = put.fits; speaks = put.speaks; few = few; built = put.built; at = put.at }
 
-  put_comes : (s : HelperState) (n : ℕ) (q : Query) (block : List ℕ) → IsPut q block → IsAtRest v depth (vectors_of depth stream) s n → n < most_queries → Comes v s (messages.Query q)
+  pub put_comes : (s : HelperState) (n : ℕ) (q : Query) (block : List ℕ) → IsPut q block → IsAtRest v depth (vectors_of depth stream) s n → n < most_queries → Comes v s (messages.Query q)
   put_comes s n q block put rest less = record {
     is = subst (λ x. IsMessage x (messages.Query q)) (sym rest.version) (record { has_spelling = query-fits v depth q put.speaks put.fits; to_helper = refl; in_range = tt });
     same = ap (λ x. spelling x (messages.Query q)) (sym rest.version);

@@ -66,7 +66,7 @@ module _ (v : Version) (depth : ℕ) (stream : List Update) (q : Query) where
         code = barred.code;
         least = barred.least;
         most = barred.most;
-        right = barred.right;
+        right = inr barred.why;
         owes = framed barred.code (reply_is (Some vs) has ∙ ap (λ r. flat_map (spelling s.version) (reply_to (Some vs) (newly_asked q r))) e
             ∙ ap (λ c. flat_map (spelling s.version) (elim c as (λ _. List Message) [ Some code ↦ refusal code | None ↦ (help_row q).honest vs [] ])) barred.refused);
       }

@@ -18,3 +18,5 @@ pub mod HonestQuestions
 pub mod HonestTalks
 pub mod HonestAttempts
 pub mod HonestDropped
+pub mod HonestCarried
+pub mod HonestAnswers

@@ -4,7 +4,7 @@
 //! A helper is honest here where the talk of its link is an honest one, as it is where it tells its
 //! state and had heard nothing.
 
-ghost use Rattle.std.specs.Prelude.{◌≢◌, ◌≤◌, ◌<◌, ℕ, List, [], length};
+ghost use Rattle.std.specs.Prelude.{◌≢◌, ◌≤◌, ℕ, List, [], length};
 ghost use Rattle.sip_vector.specs.Limits.{most_depth};
 ghost use Rattle.sip_wire.specs.Table.{most_queries};
 ghost use Rattle.sip_verifier.specs.declared.status.Status.{Status as AnyStatus};
@@ -12,7 +12,6 @@ ghost use Rattle.sip_verifier.specs.declared.task.Task.{Task as AnyTask};
 ghost use Rattle.sip_verifier.specs.Moments.{Counts as AnyCounts};
 ghost use Rattle.sip_verifier.specs.Questions.{asking};
 ghost use Rattle.sip_verifier.specs.runs.CauseClause.{CanBeJudged, CauseClause};
-ghost use Rattle.sip_verifier.specs.Statuses.{IsListed};
 ghost use Rattle.sip_verifier.specs.Tasks.{CanBeDone};
 ghost use Rattle.sip_session.specs.PanelEnds.{Ends};
 ghost use Rattle.sip_session.specs.PanelExchanges.{PanelExchange, without_links};
@@ -40,12 +39,9 @@ pub fn panels_with_an_honest_helper_are_carried()
         (before now : AnyCounts) (status : AnyStatus)
         → 1 ≤ task.depth → task.depth ≤ most_depth → length task.queries.items ≤ most_queries
         → CanBeDone task → AreAttempts helpers task x.seed x.stream attempts
-        → (attempts ≢ []
-        → CanBeJudged asking (inquiry_of_panel helpers task x.seed) (without_links x))
         → Ends helpers task x attempts status
         → CauseClause asking (inquiry_of_panel helpers task x.seed) (without_links x) before now
         status
-        → IsListed status
         → IsCarried helpers task x attempts before now status }
 {}
 
