@@ -34,7 +34,7 @@ use Rattle.sip_duel.proofs.WalkLemmas.{Round, Walk, exchange}
 use Rattle.sip_duel.proofs.KindLemmas.{AskedOrKnown}
 use Rattle.sip_duel.proofs.QueryLemmas.{IsAtRest}
 use Rattle.sip_duel.proofs.DoneLemmas.{how, question_rounds}
-use Rattle.sip_session.specs.PanelEnds.{Ends}
+use Rattle.sip_session.specs.PanelEnds.{Ends, behind_replies}
 use Rattle.sip_session.specs.PanelExchanges.{PanelExchange, without_links}
 use Rattle.sip_session.specs.PanelHonesty.{AnswersAreOwn, AreHonest, AreOwn, IsHonest, IsOnStrictSide, IsTooLong, OfAnswer, answer_line, answer_lines}
 use Rattle.sip_session.specs.Panels.{Attempt, AreAttempts, AreInTurn, IsJudged, IsOfTurn, Outcome, Turn, accepted, first_turn, inquiry_of_panel, next_turn, rejected, turn_behind}
@@ -75,20 +75,17 @@ module _ (depth : ℕ) (stream : List Update) (queries : List Query) where
   in_order turn (a ∷ attempts) least are asks own =
       by_outcome a.outcome refl (All-head HasOwnLine a attempts own) (λ more. in_order (next_turn turn a.outcome) attempts more are.1 (All-tail AsksItsOwn a attempts asks) (All-tail HasOwnLine a attempts own))
     where
-      abbrev rest : List ℕ
-      rest = lines_from (turn_behind (next_turn turn a.outcome) attempts).number
-
       by_outcome : (o : Outcome) → a.outcome ≡ o → OfAnswer (λ given. IsOwnLine depth stream a.question.query given) o
-          → (1 ≤ (next_turn turn a.outcome).number → answer_lines attempts ++ rest ≡ lines_from (next_turn turn a.outcome).number) → (answer_line a.question a.outcome ++ answer_lines attempts) ++ rest ≡ lines_from turn.number
-      by_outcome (rejected fault) e own on =
+          → (1 ≤ (next_turn turn a.outcome).number → answer_lines attempts ++ lines_from (turn_behind (next_turn turn a.outcome) attempts).number ≡ lines_from (next_turn turn a.outcome).number) → (answer_line a.question a.outcome ++ answer_lines attempts) ++ lines_from (turn_behind (next_turn turn a.outcome) attempts).number ≡ lines_from turn.number
+      by_outcome (rejected fault) e is_own on =
           let number : (next_turn turn a.outcome).number ≡ turn.number = ap (λ o. (next_turn turn o).number) e in
-          ap (λ o. (answer_line a.question o ++ answer_lines attempts) ++ rest) e ∙ on (omega (arith, number, least)) ∙ ap lines_from number
-      by_outcome (accepted given) e own on =
+          ap (λ o. (answer_line a.question o ++ answer_lines attempts) ++ lines_from (turn_behind (next_turn turn a.outcome) attempts).number) e ∙ on (omega (arith, number, least)) ∙ ap lines_from number
+      by_outcome (accepted given) e is_own on =
           let number : (next_turn turn a.outcome).number ≡ suc turn.number = ap (λ o. (next_turn turn o).number) e in
           let q : Query = a.question.query in
           let asked : slice_get queries (turn.number - 1) ≡ Some q = ap (λ (t : Turn). slice_get queries (t.number - 1)) (sym are.0) ∙ All-head AsksItsOwn a attempts asks in
-          ap (λ o. (answer_line a.question o ++ answer_lines attempts) ++ rest) e ∙ append_assoc (line q given) (answer_lines attempts) rest
-          ∙ ap (λ l. line q given ++ l) (on (omega (arith, number)) ∙ ap lines_from number) ∙ ap (λ l. l ++ lines_from (suc turn.number)) own ∙ sym (line_first turn.number q least asked)
+          ap (λ o. (answer_line a.question o ++ answer_lines attempts) ++ lines_from (turn_behind (next_turn turn a.outcome) attempts).number) e ∙ append_assoc (line q given) (answer_lines attempts) (lines_from (turn_behind (next_turn turn a.outcome) attempts).number)
+          ∙ ap (λ l. line q given ++ l) (on (omega (arith, number)) ∙ ap lines_from number) ∙ ap (λ l. l ++ lines_from (suc turn.number)) is_own ∙ sym (line_first turn.number q least asked)
 
 -- ---- one answer
 
@@ -174,14 +171,14 @@ module _ (helpers : ℕ) (task : Task) (x : PanelExchange) (some : 1 ≤ task.de
         ∙ said_accepted v task.depth U some legal q a.question.block put (kind_row v task.depth U q) a.question.replies given [] (askable_or_known v task.depth U q a.question.block) accepts
         ∙ ap (λ l. exchange v (question_rounds q a.question.block l [])) taken in
         (honest_holds v task.depth U some legal (shallow helpers task x some most room can attempts are judged said) (λ _ _. C) own.done tail own.put (omega (arith, less)) (λ t m least rest. walk t m rest (omega (arith, least, less)))
-        (earlier ++ said_for v task.depth U a.question) (ap (λ l. earlier ++ l) asked) (slice_index_or x.talks (a.turn.helper - 1) []) _ heard.1
+        (earlier ++ said_for v task.depth U a.question) (ap (λ l. earlier ++ l) asked) (slice_index_or x.talks (a.turn.helper - 1) []) (behind_replies a.outcome ++ heard.0) heard.1
         (honest a.turn.helper (first_least helpers task x some most room can attempts are judged said before a after cut_is) place.helper)).last
 
     -- its line is that of the stream's own answer
-    pub own_line : IsOwnLine v task.depth U some legal q given
+    pub own_line : IsOwnLine task.depth U q given
     own_line = elim (few_or_barred v task.depth U legal q put.narrow) [
       | inl few ↦ elim (taken_or_known v task.depth U some legal q a.question.block put a.question.replies given few accepts) [
-        | inl t ↦ by_rounds (IsOwnLine v task.depth U some legal q given) t.0 t.1 t.2
+        | inl t ↦ by_rounds (IsOwnLine task.depth U q given) t.0 t.1 t.2
             (λ s n rest less. walk_answer v task.depth U some legal (record { question = a.question; answer = given; accepts = accepts }) t.0 t.1 t.2 put few s n rest less)
         | inr right ↦ ap (line q) right
       ]
@@ -198,7 +195,7 @@ module _ (helpers : ℕ) (task : Task) (x : PanelExchange) (some : 1 ≤ task.de
             (subst (λ l. Accepts v task.depth U (record { query = q; block = a.question.block; replies = l }) given) t.2 accepts) barred (λ _ _. ⊥) s n rest less)
 
         by_why : (barred : IsBarred v task.depth U q) → ((barred.code ≡ too_many) × IsTooLong task.depth U q) ⊎ ((barred.code ≡ not_strict) × (¬ IsOnStrictSide task.depth U q))
-            → IsOwnLine v task.depth U some legal q given
+            → IsOwnLine task.depth U q given
         by_why barred (inl long) = absurd (long_not barred long.1)
         by_why barred (inr other) = absurd (other.1 side)
 
@@ -226,7 +223,7 @@ module _ (helpers : ℕ) (task : Task) (x : PanelExchange) (some : 1 ≤ task.de
 none_answered : (helpers : ℕ) (task : Task) (x : PanelExchange) (status : Status) → CanBeDone task → Ends helpers task x [] status → AreOwn helpers task x [] status
 none_answered helpers task x status can ends = record {
   each = All-nil (λ (a : Attempt). OfAnswer (λ given. line a.question.query given ≡ line a.question.query (answer task.depth (legally_of task x.stream) a.question.query)) a.outcome);
-  all = λ is. absurd (let all = (subst (Ends helpers task x []) is ends).all in omega (arith, can.some, all));
+  all = λ is. absurd (let all : 1 ≡ suc (length task.queries.items) = (subst (Ends helpers task x []) is ends).all in omega (arith, can.some, all));
 }
 
 pub answers_are_own : (helpers : ℕ) (task : Task) (x : PanelExchange) → 1 ≤ task.depth → task.depth ≤ most_depth → length task.queries.items ≤ most_queries → CanBeDone task

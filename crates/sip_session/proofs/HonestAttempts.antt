@@ -77,14 +77,11 @@ module _ (v : Version) (depth : ℕ) (stream : List Update) (some : 1 ≤ depth)
   own turn (a ∷ before) rest are judged put most =
       by_outcome a.outcome refl (own (next_turn turn a.outcome) before rest are.1 (All-tail Judged a (before ++ rest) judged) (All-tail PutIn a (before ++ rest) put) most)
     where
-      abbrev later : List TalkEvent
-      later = said_to v depth stream helper before
-
       -- it says nothing to another helper
       others : (a.turn.helper ≡ helper → ⊥) → (had : Own (next_turn turn a.outcome) before) → turn.number ≤ (next_turn turn a.outcome).number → Own turn (a ∷ before)
       others other had least = record {
         done = had.done;
-        said = ap (λ (b : Bool). (if b then said_for v depth stream a.question ++ behind_replies a.outcome else []) ++ later) (ne_eqb a.turn.helper helper other) ∙ had.said;
+        said = ap (λ (b : Bool). (if b then said_for v depth stream a.question ++ behind_replies a.outcome else []) ++ said_to v depth stream helper before) (ne_eqb a.turn.helper helper other) ∙ had.said;
         put = had.put;
         count = omega (arith, had.count, least);
       }
@@ -99,9 +96,9 @@ module _ (v : Version) (depth : ℕ) (stream : List Update) (some : 1 ≤ depth)
           elim (cases_eq a.turn.helper helper) [
             | inl same ↦ record {
               done = record { question = a.question; answer = given; accepts = subst (IsJudged v depth stream a.question) e (All-head Judged a (before ++ rest) judged) } ∷ had.done;
-              said = ap (λ (b : Bool). (if b then said_for v depth stream a.question ++ behind_replies a.outcome else []) ++ later) (eq-eqb a.turn.helper helper same)
-                  ∙ ap (λ (o : Outcome). (said_for v depth stream a.question ++ behind_replies o) ++ later) e
-                  ∙ ap (λ l. l ++ later) (append-nil (said_for v depth stream a.question)) ∙ ap (λ l. said_for v depth stream a.question ++ l) had.said;
+              said = ap (λ (b : Bool). (if b then said_for v depth stream a.question ++ behind_replies a.outcome else []) ++ said_to v depth stream helper before) (eq-eqb a.turn.helper helper same)
+                  ∙ ap (λ (o : Outcome). (said_for v depth stream a.question ++ behind_replies o) ++ said_to v depth stream helper before) e
+                  ∙ ap (λ l. l ++ said_to v depth stream helper before) (append-nil (said_for v depth stream a.question)) ∙ ap (λ l. said_for v depth stream a.question ++ l) had.said;
               put = All-cons (Put v depth stream some legal) a.question (map question had.done) (All-head PutIn a (before ++ rest) put) had.put;
               count = omega (arith, had.count, number);
             }

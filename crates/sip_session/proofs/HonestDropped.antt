@@ -128,10 +128,14 @@ module _ (helpers : ℕ) (task : Task) (x : PanelExchange) (some : 1 ≤ task.de
 
     -- there is room for one query more
     pub more_room : length mine.done < most_queries
-    more_room = omega (arith, mine.count, ap (λ (t : Turn). t.number) turn_is, of_turn.number, room)
+    more_room =
+        let count : 1 + length mine.done ≤ (turn_behind first_turn before).number = mine.count in
+        omega (arith, count, ap (λ (t : Turn). t.number) turn_is, of_turn.number, room)
 
     pub first_least : 1 ≤ helper
-    first_least = omega (arith, helper_rises first_turn before, ap (λ (t : Turn). t.helper) turn_is)
+    first_least =
+        let rises : 1 ≤ (turn_behind first_turn before).helper = helper_rises first_turn before in
+        omega (arith, rises, ap (λ (t : Turn). t.helper) turn_is)
 
     -- what it heard
     pub heard_is : (more : List TalkEvent) × (slice_index_or x.talks (helper - 1) []
@@ -146,7 +150,7 @@ module _ (helpers : ℕ) (task : Task) (x : PanelExchange) (some : 1 ≤ task.de
         ∙ ap (λ l. l ++ ((said_for v task.depth stream q ++ behind_replies a.outcome) ++ said_to v task.depth stream helper after)) mine.said in (
           said_to v task.depth stream helper after ++ t.0,
           t.1 ∙ ap (λ n. (stream_sent v task.depth stream ++ said_to v task.depth stream n attempts) ++ t.0) number ∙ ap (λ l. (stream_sent v task.depth stream ++ l) ++ t.0) all
-              ∙ regroup (stream_sent v task.depth stream) _ (said_for v task.depth stream q) (behind_replies a.outcome) (said_to v task.depth stream helper after) t.0,
+              ∙ regroup (stream_sent v task.depth stream) (flat_map (said_for v task.depth stream) (map (λ (d : Accepted v task.depth stream). d.question) mine.done)) (said_for v task.depth stream q) (behind_replies a.outcome) (said_to v task.depth stream helper after) t.0,
         )
 
     -- it was dropped for a right reason
@@ -196,6 +200,6 @@ module _ (helpers : ℕ) (task : Task) (x : PanelExchange) (some : 1 ≤ task.de
 pub dropped_rightly : (helpers : ℕ) (task : Task) (x : PanelExchange) → 1 ≤ task.depth → task.depth ≤ most_depth → length task.queries.items ≤ most_queries → CanBeDone task
     → (attempts : List Attempt) → AreAttempts helpers task x.seed x.stream attempts → (attempts ≢ [] → CanBeJudged asking (inquiry_of_panel helpers task x.seed) (without_links x))
     → (attempts ≡ []) ⊎ Said helpers task x attempts → AreDroppedRightly helpers task x attempts
-dropped_rightly helpers task x some most room can [] are asked either = All-nil _
+dropped_rightly helpers task x some most room can [] are asked either = All-nil (λ (a : Attempt). IsHonest helpers task x a.turn.helper → OfFault (λ fault. IsRight task.depth (legal task x.stream) a.question.query fault.reason) a.outcome)
 dropped_rightly helpers task x some most room can (a ∷ attempts) are asked (inl none) = absurd cc
 dropped_rightly helpers task x some most room can (a ∷ attempts) are asked (inr said) = all_right helpers task x some most room can (a ∷ attempts) are (asked (λ none. cc)) said

@@ -75,7 +75,7 @@ module _ (Last : List ℕ → List ℕ → Type 0) (v : Version) (rounds : List 
   pub front_holds : (talk more : List TalkEvent) → talk ≡ exchange v rounds ++ more → IsHonestTalk talk → Holds Last
   front_holds talk more is (inl p) = by_steps p.steps p.part p.give talk more p.follows is
   front_holds talk more is (inr (inl p)) = elim (fronts p.now p.later (exchange v rounds) more (sym p.split ∙ is)) [
-    | inl m ↦ absurd (no_stray Last v rounds walk [] (exchange v rounds) refl (sym (append-nil (exchange v rounds))) (record p { later = m.0; split = m.1 }))
+    | inl m ↦ absurd (no_stray Last v rounds walk [] (exchange v rounds) refl (sym (append-nil (exchange v rounds))) (record { steps = p.steps; bytes = p.bytes; give = p.give; now = p.now; later = m.0; follows = p.follows; why = p.why; split = m.1 }))
     | inr m ↦ by_steps p.steps p.bytes p.give p.now m.0 p.follows m.1
   ]
   front_holds talk more is (inr (inr p)) = elim (fronts p.now p.later (exchange v rounds) more (sym p.split ∙ is)) [
@@ -94,12 +94,30 @@ module _ (Last : List ℕ → List ℕ → Type 0) (v : Version) (rounds : List 
 cut_at_end : (front more talk : List TalkEvent) → GoesOn front → talk ≡ front ++ Ended ∷ more → IsHonestTalk talk → IsHonestTalk (front ++ Ended ∷ [])
 cut_at_end front more talk on is (inl p) = absurd (no_end_in front more (subst GoesOn is p.follows.lasts))
 cut_at_end front more talk on is (inr (inl p)) = elim (fronts p.now p.later front (Ended ∷ more) (sym p.split ∙ is)) [
-  | inl m ↦ inr (inl (record p { later = m.0 ++ Ended ∷ []; split = ap (λ l. l ++ Ended ∷ []) m.1 ∙ append_assoc p.now m.0 (Ended ∷ []) }))
+  | inl m ↦ inr (inl (record {
+    steps = p.steps;
+    bytes = p.bytes;
+    give = p.give;
+    now = p.now;
+    later = m.0 ++ Ended ∷ [];
+    follows = p.follows;
+    why = p.why;
+    split = ap (λ l. l ++ Ended ∷ []) m.1 ∙ append_assoc p.now m.0 (Ended ∷ []);
+  }))
   | inr m ↦ by_rest m.0 m.1 m.2
 ]
   where
     by_rest : (rest : List TalkEvent) → p.now ≡ front ++ rest → Ended ∷ more ≡ rest ++ p.later → IsHonestTalk (front ++ Ended ∷ [])
-    by_rest [] same e = inr (inl (record p { later = Ended ∷ []; split = ap (λ l. l ++ Ended ∷ []) (sym (same ∙ append-nil front)) }))
+    by_rest [] same e = inr (inl (record {
+      steps = p.steps;
+      bytes = p.bytes;
+      give = p.give;
+      now = p.now;
+      later = Ended ∷ [];
+      follows = p.follows;
+      why = p.why;
+      split = ap (λ l. l ++ Ended ∷ []) (sym (same ∙ append-nil front));
+    }))
     by_rest (x ∷ rest) same e =
         let head : x ≡ Ended = cc in
         absurd (no_end_in front rest (subst GoesOn (same ∙ ap (λ h. front ++ h ∷ rest) head) p.follows.lasts))
@@ -107,7 +125,18 @@ cut_at_end front more talk on is (inr (inr p)) = elim p.why [
   | inl over ↦
       let same : p.now ≡ front = one_end p.now front over.2.0 more p.follows.lasts on (sym (p.split ∙ ap (λ l. p.now ++ l) over.2.1) ∙ is) in
       let told : BeginsWithEnd (Ended ∷ []) = ([], refl) in
-      inr (inr (record p { later = Ended ∷ []; silent = refl; why = inl (over.0, over.1, told); split = ap (λ l. l ++ Ended ∷ []) (sym same) }))
+      inr (inr (record {
+        steps = p.steps;
+        part = p.part;
+        give = p.give;
+        now = p.now;
+        later = Ended ∷ [];
+        follows = p.follows;
+        short = p.short;
+        silent = refl;
+        why = inl (over.0, over.1, told);
+        split = ap (λ l. l ++ Ended ∷ []) (sym same);
+      }))
   | inr failed ↦ absurd (no_end_in front more (subst GoesOn (sym p.split ∙ is) (All-append (λ (e : TalkEvent). e ≢ Ended) p.now p.later p.follows.lasts failed)))
 ]
 

@@ -14,7 +14,7 @@ use Rattle.sip_wire.specs.declared.message.Message.TheVariants as messages
 use Rattle.sip_wire.specs.declared.message.Reason.{Reason}
 use Rattle.sip_wire.specs.declared.message.Reason.TheVariants as reasons
 use Rattle.sip_wire.specs.declared.version.Version.{Version}
-use Rattle.sip_wire.specs.Spelling.{spelling}
+use Rattle.sip_wire.specs.Spelling.{all_hold, fits, has_room, spelling}
 use Rattle.sip_wire.specs.Table.{most_queries}
 use Rattle.sip_wire.specs.Versions.{Speaks}
 use Rattle.sip_wire.proofs.Asking.{query-fits}
@@ -39,7 +39,6 @@ use Rattle.sip_duel.proofs.QueryLemmas.{IsAtRest}
 use Rattle.sip_duel.proofs.FaultLemmas.{FaultLast}
 use Rattle.sip_duel.proofs.StreamLemmas.{silent}
 use Rattle.sip_duel.proofs.DoneLemmas.{IsPosed, Posed, asked_is, done_rounds, fault_row, fits_below, how, question_rounds, walk_done}
-use Rattle.sip_duel.proofs.AcceptLemmas.{bye_fits, bye_same}
 use Rattle.sip_session.specs.PanelHonesty.{IsRight}
 use Rattle.sip_session.proofs.HonestKinds.{AskableOrKnown, IsAskable, IsBarred, askable_or_known, few_or_barred}
 use Rattle.sip_session.proofs.HonestRefusals.{RightLast, barred_accepted, barred_faulty}
@@ -72,6 +71,19 @@ without_last C v s r (next ∷ rest) m walk = (
       let on = walk.1 refused u w agree in
       (on.0, without_last C v (after_answer (step s refused r.message)) next rest m on.1),
 )
+
+-- the farewell has one spelling, in each version
+bye_fits : (w : Version) → IsTrue (fits w messages.Bye)
+unfolding fits has_room all_hold
+bye_fits w = refl
+
+bye_same : (a b : Version) → spelling a messages.Bye ≡ spelling b messages.Bye
+unfolding spelling
+bye_same a b = refl
+
+-- the line of an answer is that of the stream's own
+abbrev pub IsOwnLine : ℕ → List Update → Query → Answer → Type 0
+IsOwnLine depth stream q given = line q given ≡ line q (answer depth stream q)
 
 module _ (v : Version) (depth : ℕ) (stream : List Update) (some : 1 ≤ depth) (legal : IsLegal depth stream) where
   -- a query that can be put to a helper, at its block
@@ -199,17 +211,13 @@ module _ (v : Version) (depth : ℕ) (stream : List Update) (some : 1 ≤ depth)
 
   -- ---- an answer
 
-  -- the line of an answer is that of the stream's own
-  abbrev pub IsOwnLine : Query → Answer → Type 0
-  IsOwnLine q given = line q given ≡ line q (answer depth stream q)
-
   -- accepted replies of an honest helper to a query that can be answered
   pub walk_answer : (a : Accepted v depth stream) (b : List ℕ) (bs : List (List ℕ)) → a.question.replies ≡ b ∷ bs → Put a.question → HasFewEntries v depth stream a.question.query
       → (s : HelperState) (n : ℕ) → IsAtRest v depth (vectors_of depth stream) s n → n < most_queries
-      → Walk (λ _ _. IsOwnLine a.question.query a.answer) v s (question_rounds a.question.query a.question.block (b ∷ bs) [])
+      → Walk (λ _ _. IsOwnLine depth stream a.question.query a.answer) v s (question_rounds a.question.query a.question.block (b ∷ bs) [])
   walk_answer a b bs are put few s n rest less =
       let q = a.question.query in
-      let C : Type 0 = IsOwnLine q a.answer in
+      let C : Type 0 = IsOwnLine depth stream q a.answer in
       let is = posed q a.question.block put few in
       let bye : List Round = silent messages.Bye ∷ [] in
       let walk = walk_done v depth stream some legal (λ _ _. C) (a ∷ []) bye (All-cons (Posed v depth stream some legal) a.question [] is (All-nil (Posed v depth stream some legal)))

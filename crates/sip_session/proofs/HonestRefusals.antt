@@ -39,37 +39,37 @@ module _ (v : Version) (depth : ℕ) (stream : List Update) (q : Query) where
     owes : o ≡ refuse_frame v code
 
   -- the helper owes one: for want of memory, or as the query's row says
-  barred_owes : IsBarred v depth stream q → (s : HelperState) (n : ℕ) → IsAtRest v depth (vectors_of depth stream) s n → (refused : Bool) → Refuses (owed (step s refused (messages.Query q)))
-  barred_owes barred s n rest refused = elim rest.vectors [
-    | inl none ↦ for_memory (reply_is None none)
-    | inr has ↦ by_refused refused refl has
-  ]
-    where
-      abbrev vs : Vectors
-      vs = vectors_of depth stream
+  module _ (barred : IsBarred v depth stream q) (s : HelperState) (n : ℕ) (rest : IsAtRest v depth (vectors_of depth stream) s n) (refused : Bool) where
+    abbrev Owed : List Message → Type 0
+    Owed ms = owed (step s refused (messages.Query q)) ≡ flat_map (spelling s.version) ms
 
-      abbrev Owed : List Message → Type 0
-      Owed ms = owed (step s refused (messages.Query q)) ≡ flat_map (spelling s.version) ms
+    reply_is : (vectors : Option Vectors) → s.vectors ≡ vectors → Owed (reply_to vectors (newly_asked q refused))
+    reply_is vectors e = ap (λ x. flat_map (spelling s.version) (reply_to x (newly_asked q refused))) e
 
-      reply_is : (vectors : Option Vectors) → s.vectors ≡ vectors → Owed (reply_to vectors (newly_asked q refused))
-      reply_is vectors e = ap (λ x. flat_map (spelling s.version) (reply_to x (newly_asked q refused))) e
+    known_is : (r : Bool) → refused ≡ r → s.vectors ≡ Some (vectors_of depth stream) → Owed (reply_to (Some (vectors_of depth stream)) (newly_asked q r))
+    known_is r e has = reply_is (Some (vectors_of depth stream)) has ∙ ap (λ r. flat_map (spelling s.version) (reply_to (Some (vectors_of depth stream)) (newly_asked q r))) e
 
-      framed : (code : ℕ) → Owed (refusal code) → owed (step s refused (messages.Query q)) ≡ refuse_frame v code
-      framed code e = e ∙ append-nil (refuse_frame s.version code) ∙ ap (λ w. refuse_frame w code) rest.version
+    framed : (code : ℕ) → Owed (refusal code) → owed (step s refused (messages.Query q)) ≡ refuse_frame v code
+    framed code e = e ∙ append-nil (refuse_frame s.version code) ∙ ap (λ w. refuse_frame w code) rest.version
 
-      for_memory : Owed (refusal want_of_memory) → Refuses (owed (step s refused (messages.Query q)))
-      for_memory e = record { code = want_of_memory; least = omega arith; most = omega arith; right = inl refl; owes = framed want_of_memory e }
+    for_memory : Owed (refusal want_of_memory) → Refuses (owed (step s refused (messages.Query q)))
+    for_memory e = record { code = want_of_memory; least = omega arith; most = omega arith; right = inl refl; owes = framed want_of_memory e }
 
-      by_refused : (r : Bool) → refused ≡ r → s.vectors ≡ Some vs → Refuses (owed (step s refused (messages.Query q)))
-      by_refused true e has = for_memory (reply_is (Some vs) has ∙ ap (λ r. flat_map (spelling s.version) (reply_to (Some vs) (newly_asked q r))) e)
-      by_refused false e has = record {
-        code = barred.code;
-        least = barred.least;
-        most = barred.most;
-        right = inr barred.why;
-        owes = framed barred.code (reply_is (Some vs) has ∙ ap (λ r. flat_map (spelling s.version) (reply_to (Some vs) (newly_asked q r))) e
-            ∙ ap (λ c. flat_map (spelling s.version) (elim c as (λ _. List Message) [ Some code ↦ refusal code | None ↦ (help_row q).honest vs [] ])) barred.refused);
-      }
+    by_refused : (r : Bool) → refused ≡ r → s.vectors ≡ Some (vectors_of depth stream) → Refuses (owed (step s refused (messages.Query q)))
+    by_refused true e has = for_memory (known_is true e has)
+    by_refused false e has = record {
+      code = barred.code;
+      least = barred.least;
+      most = barred.most;
+      right = inr barred.why;
+      owes = framed barred.code (known_is false e has ∙ ap (λ c. flat_map (spelling s.version) (elim c as (λ _. List Message) [ Some code ↦ refusal code | None ↦ (help_row q).honest (vectors_of depth stream) [] ])) barred.refused);
+    }
+
+    barred_owes : Refuses (owed (step s refused (messages.Query q)))
+    barred_owes = elim rest.vectors [
+      | inl none ↦ for_memory (reply_is None none)
+      | inr has ↦ by_refused refused refl has
+    ]
 
   -- ---- its replies
 
