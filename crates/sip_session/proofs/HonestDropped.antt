@@ -47,17 +47,17 @@ use Rattle.sip_session.proofs.HonestAttempts.{Own, Said, all_by_cuts, at_place, 
 -- none of the queries is too wide
 narrow_each : (stream : List Update) (queries : List Query) → first_wide stream queries ≡ None → All (λ q. is_too_wide stream q ≡ false) queries
 narrow_each stream [] none = All-nil (λ q. is_too_wide stream q ≡ false)
-narrow_each stream (q ∷ queries) none = by_test (is_too_wide stream q) refl none
+narrow_each stream (q ∷ queries) none = by_test (is_too_wide stream q) refl none (λ none. narrow_each stream queries none)
   where
     not_some : (o : Option ℕ) → option_map suc o ≡ None → o ≡ None
     not_some None e = refl
     not_some (Some n) e = absurd cc
 
-    by_test : (b : Bool) → is_too_wide stream q ≡ b → first_wide stream (q ∷ queries) ≡ None → All (λ q. is_too_wide stream q ≡ false) (q ∷ queries)
-    by_test true e none = absurd (let some : Some 1 ≡ None = ap (λ b. first_true (b ∷ map (is_too_wide stream) queries)) (sym e) ∙ none in cc)
-    by_test false e none =
+    by_test : (b : Bool) → is_too_wide stream q ≡ b → first_wide stream (q ∷ queries) ≡ None → (first_wide stream queries ≡ None → All (λ q. is_too_wide stream q ≡ false) queries) → All (λ q. is_too_wide stream q ≡ false) (q ∷ queries)
+    by_test true e none rest = absurd (let some : Some 1 ≡ None = ap (λ b. first_true (b ∷ map (is_too_wide stream) queries)) (sym e) ∙ none in cc)
+    by_test false e none rest =
         All-cons (λ q. is_too_wide stream q ≡ false) q queries e
-        (narrow_each stream queries (not_some (first_wide stream queries) (ap (λ b. first_true (b ∷ map (is_too_wide stream) queries)) (sym e) ∙ none)))
+        (rest (not_some (first_wide stream queries) (ap (λ b. first_true (b ∷ map (is_too_wide stream) queries)) (sym e) ∙ none)))
 
 module _ (helpers : ℕ) (task : Task) (x : PanelExchange) (some : 1 ≤ task.depth) (most : task.depth ≤ most_depth) (room : length task.queries.items ≤ most_queries) (can : CanBeDone task)
     (attempts : List Attempt) (are : AreAttempts helpers task x.seed x.stream attempts) (judged : CanBeJudged asking (inquiry_of_panel helpers task x.seed) (without_links x)) (said : Said helpers task x attempts) where
