@@ -1,5 +1,5 @@
 -- The answers of a panel whose helpers are honest.
-use Rattle.std.proofs.Common.{◌≡◌, ◌≢◌, ◌⊎◌, ℕ, suc, ◌+◌, ◌-◌, ◌<◌, ◌≤◌, List, [], ◌∷◌, ◌++◌, length, drop, map, Some, None, inl, inr, refl, sym, ap, ◌∙◌, subst, append_assoc, append-nil, arith}
+use Rattle.std.proofs.Common.{◌≡◌, ◌≢◌, ◌⊎◌, ℕ, suc, ◌+◌, ◌-◌, ◌<◌, ◌≤◌, List, [], ◌∷◌, ◌++◌, length, drop, map, Some, inl, inr, refl, sym, ap, ◌∙◌, subst, append_assoc, append-nil, arith}
 use Rattle.std.specs.Prelude.{All, slice_get, slice_index_or}
 use Rattle.std.specs.List.{flat_map}
 use Rattle.std.proofs.lemmas.List.{drop_all, drop_more}
@@ -24,10 +24,9 @@ use Rattle.sip_verifier.specs.declared.task.Task.{Task}
 use Rattle.sip_verifier.specs.CompletenessClause.{HasFewEntries, honest_in}
 use Rattle.sip_verifier.specs.Gathering.{legal as legally_of}
 use Rattle.sip_verifier.specs.Kinds.{Holds, KindRow, built, kind_row, missing}
-use Rattle.sip_verifier.specs.Questions.{Accepted, Accepts, Question, asking, said_for}
+use Rattle.sip_verifier.specs.Questions.{Accepted, Accepts, asking, said_for}
 use Rattle.sip_verifier.specs.Reports.{line, report_of}
 use Rattle.sip_verifier.specs.runs.CauseClause.{CanBeJudged}
-use Rattle.sip_verifier.specs.Talks.{stream_sent}
 use Rattle.sip_verifier.specs.Tasks.{CanBeDone, version_of}
 use Rattle.sip_verifier.proofs.HonestQuestions.{question_done}
 use Rattle.sip_duel.proofs.WalkLemmas.{Round, Walk, exchange}
@@ -36,7 +35,7 @@ use Rattle.sip_duel.proofs.QueryLemmas.{IsAtRest}
 use Rattle.sip_duel.proofs.DoneLemmas.{how, question_rounds}
 use Rattle.sip_session.specs.PanelEnds.{Ends, behind_replies}
 use Rattle.sip_session.specs.PanelExchanges.{PanelExchange, without_links}
-use Rattle.sip_session.specs.PanelHonesty.{AnswersAreOwn, AreHonest, AreOwn, IsHonest, IsOnStrictSide, IsTooLong, OfAnswer, answer_line, answer_lines}
+use Rattle.sip_session.specs.PanelHonesty.{AnswersAreOwn, AreHonest, AreOwn, IsOnStrictSide, IsTooLong, OfAnswer, answer_line, answer_lines}
 use Rattle.sip_session.specs.Panels.{Attempt, AreAttempts, AreInTurn, IsJudged, IsOfTurn, Outcome, Turn, accepted, first_turn, inquiry_of_panel, next_turn, rejected, turn_behind}
 use Rattle.sip_session.proofs.HonestKinds.{IsAskable, IsBarred, askable_or_known, few_or_barred, long_askable}
 use Rattle.sip_session.proofs.HonestRefusals.{barred_accepted}

@@ -1,5 +1,5 @@
 -- Why an honest helper of a panel is dropped.
-use Rattle.std.proofs.Common.{◌≡◌, ◌≢◌, ◌⊎◌, ℕ, suc, ◌+◌, ◌-◌, ◌*◌, ◌<◌, ◌≤◌, Bool, true, false, List, [], ◌∷◌, ◌++◌, length, map, Option, Some, None, inl, inr, refl, sym, ap, ◌∙◌, subst, append-nil, arith}
+use Rattle.std.proofs.Common.{◌≡◌, ◌≢◌, ◌⊎◌, ℕ, suc, ◌+◌, ◌-◌, ◌<◌, ◌≤◌, Bool, true, false, List, [], ◌∷◌, ◌++◌, length, map, Option, Some, None, inl, inr, refl, sym, ap, ◌∙◌, subst, append-nil, arith}
 use Rattle.std.specs.Prelude.{All, option_map, slice_get, slice_index_or}
 use Rattle.std.specs.List.{flat_map}
 use Rattle.std.proofs.lemmas.List.Elements.{All-cons, All-nil, All-weaker}
@@ -28,7 +28,6 @@ use Rattle.sip_verifier.specs.Talks.{stream_sent}
 use Rattle.sip_verifier.specs.Tasks.{CanBeAsked, CanBeDone, version_of}
 use Rattle.sip_verifier.specs.Widths.{first_true, first_wide, is_too_wide}
 use Rattle.sip_verifier.proofs.Blocks.{IsBlock, are_blocks}
-use Rattle.sip_duel.specs.Story.{IsHonestTalk}
 use Rattle.sip_duel.proofs.WalkLemmas.{Round, Walk, exchange}
 use Rattle.sip_duel.proofs.QueryLemmas.{IsAtRest}
 use Rattle.sip_duel.proofs.DoneLemmas.{question_rounds}
@@ -37,10 +36,10 @@ use Rattle.sip_session.specs.inside.Beginning.{task_of_seats}
 use Rattle.sip_session.specs.PanelEnds.{behind_replies, said_to}
 use Rattle.sip_session.specs.PanelExchanges.{PanelExchange, without_links}
 use Rattle.sip_session.specs.PanelHonesty.{AreDroppedRightly, IsHonest, IsRight, OfFault}
-use Rattle.sip_session.specs.Panels.{Attempt, AreAttempts, AreInTurn, IsJudged, IsOfTurn, Outcome, Turn, accepted, first_turn, inquiry_of_panel, rejected, seat_at, seat_blocks, turn_behind}
+use Rattle.sip_session.specs.Panels.{Attempt, AreAttempts, AreInTurn, IsJudged, IsOfTurn, Outcome, Turn, accepted, first_turn, inquiry_of_panel, rejected, seat_at, turn_behind}
 use Rattle.sip_session.proofs.HonestRefusals.{RightLast}
 use Rattle.sip_session.proofs.HonestKinds.{askable_or_known}
-use Rattle.sip_session.proofs.HonestQuestions.{IsPut, Put, said_faulty, some_taken, walk_fault}
+use Rattle.sip_session.proofs.HonestQuestions.{Put, said_faulty, some_taken, walk_fault}
 use Rattle.sip_session.proofs.HonestTalks.{honest_holds, honest_whole}
 use Rattle.sip_session.proofs.HonestAttempts.{Own, Said, all_by_cuts, at_place, helper_rises, in_middle, own, regroup, said_around, turn_of}
 

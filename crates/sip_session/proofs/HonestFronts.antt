@@ -1,6 +1,5 @@
 -- A talk with an honest helper that begins with rounds, whatever follows them.
 use Rattle.std.proofs.Common.{◌≡◌, ◌≢◌, ◌⊎◌, ℕ, List, [], ◌∷◌, ◌++◌, inl, inr, refl, sym, ap, ◌∙◌, subst, append_assoc, append-nil}
-use Rattle.std.specs.Prelude.{All}
 use Rattle.std.proofs.lemmas.List.{append_cancel_left}
 use Rattle.std.proofs.lemmas.List.Elements.{All-append}
 use Rattle.sip_ports.specs.declared.port.TalkEvent.{TalkEvent}
@@ -9,9 +8,9 @@ use Rattle.sip_ports.specs.Ports.{heard, written}
 use Rattle.sip_ports.proofs.TalkLemmas.{heard-append, written-append}
 use Rattle.sip_wire.specs.declared.version.Version.{Version}
 use Rattle.sip_wire.specs.Spelling.{spelling}
-use Rattle.sip_helper.specs.Serving.{IsMessage, Turn, heard_in, after_turn}
+use Rattle.sip_helper.specs.Serving.{IsMessage, Turn, after_turn}
 use Rattle.sip_helper.specs.Turns.{HelperState, after_answer, fresh, owed, step}
-use Rattle.sip_duel.specs.Story.{BeginsWithEnd, Follows, IsEnded, IsHonestTalk, IsStray, Step, state_after}
+use Rattle.sip_duel.specs.Story.{BeginsWithEnd, Follows, IsHonestTalk, Step, state_after}
 use Rattle.sip_duel.proofs.TurnLemmas.{AreMessages, frames_of, replies_of}
 use Rattle.sip_duel.proofs.WalkLemmas.{Comes, Holds, HoldsOfWhole, Round, Walk, exchange, heard_exchange, nil_parts, one_message, walk_on, walk_silent, written_exchange}
 use Rattle.sip_duel.proofs.TalkLemmas.{GoesOn, exchange_goes_on, frames_are, messages_are, no_end_in, no_stray, one_end, replies_are, turns, whole_of}

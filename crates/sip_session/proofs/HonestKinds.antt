@@ -1,5 +1,5 @@
 -- Which queries an honest helper refuses, by their kinds, and how a refusal is read.
-use Rattle.std.proofs.Common.{◌≡◌, ◌≢◌, ◌⊎◌, ℕ, ◌+◌, ◌<◌, ◌≤◌, Bool, true, false, IsTrue, ℤ, pos, negsuc, List, [], ◌∷◌, ◌++◌, length, Some, None, Result, Ok, Err, inl, inr, refl, sym, ap, ◌∙◌, subst, append-nil, arith, length-append, if◌then◌else◌}
+use Rattle.std.proofs.Common.{◌≡◌, ◌≢◌, ◌⊎◌, ℕ, ◌≤◌, Bool, true, false, IsTrue, ℤ, pos, negsuc, List, [], ◌∷◌, ◌++◌, length, Some, None, Err, inl, inr, refl, sym, ap, ◌∙◌, append-nil, arith, length-append, if◌then◌else◌}
 use Rattle.std.specs.Prelude.{All, int_le, nat_le, ◌≤ℤ◌}
 use Rattle.std.proofs.lemmas.Bool.{cases_Bool, cases_lt, lt-ltb}
 use Rattle.std.proofs.lemmas.Int.{ints}
@@ -10,7 +10,7 @@ use Rattle.sip_vector.specs.declared.update.Side.{Side}
 use Rattle.sip_vector.specs.declared.update.Side.TheVariants.{First, Second}
 use Rattle.sip_vector.specs.declared.update.Update.{Update}
 use Rattle.sip_vector.specs.Answers.{Answer, pairs}
-use Rattle.sip_vector.specs.Streams.{int_sum, total, vector, IsLegal, IsStrict}
+use Rattle.sip_vector.specs.Streams.{int_sum, total, vector, IsLegal}
 use Rattle.sip_vector.specs.Thresholds.{is_wide, share_of}
 use Rattle.sip_vector.specs.Vectors.{nonzero_within}
 use Rattle.sip_vector.proofs.Sides.{total-is}

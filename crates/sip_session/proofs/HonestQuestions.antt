@@ -1,5 +1,5 @@
 -- Questions that are put to an honest helper, one after another.
-use Rattle.std.proofs.Common.{◌≡◌, ◌≢◌, ◌⊎◌, ℕ, suc, ◌+◌, ◌<◌, ◌≤◌, min, Bool, true, false, IsTrue, List, [], ◌∷◌, ◌++◌, length, map, Some, None, inl, inr, refl, sym, ap, ◌∙◌, subst, append_assoc, append-nil, arith}
+use Rattle.std.proofs.Common.{◌≡◌, ℕ, ◌+◌, ◌<◌, ◌≤◌, Bool, false, IsTrue, List, [], ◌∷◌, ◌++◌, length, map, inl, inr, refl, sym, ap, ◌∙◌, subst, append_assoc, append-nil, arith}
 use Rattle.std.specs.Prelude.{All, is_none, nat_lt}
 use Rattle.std.specs.List.{flat_map}
 use Rattle.std.proofs.lemmas.Bool.{and_from, lt-ltb}
@@ -11,8 +11,6 @@ use Rattle.sip_vector.specs.Built.{is_built}
 use Rattle.sip_vector.specs.Streams.{IsLegal}
 use Rattle.sip_wire.specs.declared.message.Message.{Message}
 use Rattle.sip_wire.specs.declared.message.Message.TheVariants as messages
-use Rattle.sip_wire.specs.declared.message.Reason.{Reason}
-use Rattle.sip_wire.specs.declared.message.Reason.TheVariants as reasons
 use Rattle.sip_wire.specs.declared.version.Version.{Version}
 use Rattle.sip_wire.specs.Spelling.{all_hold, fits, has_room, spelling}
 use Rattle.sip_wire.specs.Table.{most_queries}
@@ -28,11 +26,10 @@ use Rattle.sip_helper.specs.Streams.{vectors_of}
 use Rattle.sip_helper.specs.Turns.{HelperState, after_answer, may_ask, owed, step}
 use Rattle.sip_verifier.specs.CompletenessClause.{HasFewEntries}
 use Rattle.sip_verifier.specs.Kinds.{Holds, Kind, KindRow, built, kind_row, missing}
-use Rattle.sip_verifier.specs.Questions.{Accepted, Accepts, IsFaulty, Question, said_by_kind, said_for}
+use Rattle.sip_verifier.specs.Questions.{Accepted, IsFaulty, Question, said_by_kind, said_for}
 use Rattle.sip_verifier.specs.Reports.{line}
 use Rattle.sip_verifier.specs.Widths.{is_too_wide}
 use Rattle.sip_verifier.proofs.Blocks.{IsBlock}
-use Rattle.sip_verifier.proofs.HonestQuestions.{question_done}
 use Rattle.sip_duel.proofs.WalkLemmas.{Comes, Round, Walk, exchange}
 use Rattle.sip_duel.proofs.RevealLemmas.{reveals, walk_then}
 use Rattle.sip_duel.proofs.QueryLemmas.{IsAtRest}

@@ -1,5 +1,5 @@
 -- An honest talk that begins with the stream, questions that were accepted, and the rounds of the next one.
-use Rattle.std.proofs.Common.{◌≡◌, ℕ, suc, ◌+◌, ◌/◌, ◌<◌, ◌≤◌, List, [], ◌∷◌, ◌++◌, length, map, refl, sym, ap, ◌∙◌, subst, append_assoc, append-nil, arith}
+use Rattle.std.proofs.Common.{◌≡◌, ℕ, ◌+◌, ◌/◌, ◌≤◌, List, ◌∷◌, ◌++◌, length, map, refl, sym, ap, ◌∙◌, subst, append_assoc, append-nil, arith}
 use Rattle.std.specs.Prelude.{All}
 use Rattle.std.specs.List.{flat_map}
 use Rattle.sip_ports.specs.declared.port.TalkEvent.{TalkEvent}
@@ -16,7 +16,7 @@ use Rattle.sip_wire.specs.Table.{most_queries, most_rows}
 use Rattle.sip_wire.specs.Versions.{deepest, number_of}
 use Rattle.sip_helper.specs.Streams.{vectors_of}
 use Rattle.sip_helper.specs.Turns.{HelperState, fresh}
-use Rattle.sip_verifier.specs.Questions.{Accepted, Question, said_for}
+use Rattle.sip_verifier.specs.Questions.{Accepted, said_for}
 use Rattle.sip_verifier.specs.Talks.{stream_sent}
 use Rattle.sip_duel.specs.Story.{IsHonestTalk}
 use Rattle.sip_duel.proofs.WalkLemmas.{Holds, HoldsOfWhole, Round, Walk, exchange}

@@ -1,7 +1,3 @@
-use Rattle.std.proofs.Common.{◌≡◌, ◌≢◌, ◌⊎◌, ℕ, List, [], ◌∷◌, inl, inr, refl, sym, ◌∙◌, subst}
-use Rattle.std.proofs.lemmas.List.Elements.{All-nil}
-use Rattle.sip_session.specs.PanelHonesty.{AreDroppedRightly}
-use Rattle.sip_session.specs.Panels.{Attempt}
 use Rattle.sip_session.proofs.HonestAttempts.{none_or_said}
 use Rattle.sip_session.proofs.HonestDropped.{dropped_rightly}
 use Rattle.sip_session.proofs.honesty.honest_helpers_are_dropped_rightly.Goals as goal
