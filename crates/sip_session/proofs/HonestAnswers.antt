@@ -39,7 +39,7 @@ use Rattle.sip_session.specs.PanelHonesty.{AnswersAreOwn, AreHonest, AreOwn, IsO
 use Rattle.sip_session.specs.Panels.{Attempt, AreAttempts, AreInTurn, IsJudged, IsOfTurn, Outcome, Turn, accepted, first_turn, inquiry_of_panel, next_turn, rejected, turn_behind}
 use Rattle.sip_session.proofs.HonestKinds.{IsAskable, IsBarred, askable_or_known, few_or_barred, long_askable}
 use Rattle.sip_session.proofs.HonestRefusals.{barred_accepted}
-use Rattle.sip_session.proofs.HonestQuestions.{IsOwnLine, IsPut, Put, posed, put_comes, said_accepted, walk_answer}
+use Rattle.sip_session.proofs.HonestQuestions.{IsPut, Put, posed, put_comes, said_accepted, walk_answer}
 use Rattle.sip_session.proofs.HonestTalks.{honest_holds}
 use Rattle.sip_session.proofs.HonestAttempts.{Said, all_by_cuts, at_place, none_or_said}
 use Rattle.sip_session.proofs.HonestDropped.{first_least, heard_is, is_judged, is_put, legally, mine, more_room, of_turn, shallow}
@@ -51,9 +51,9 @@ module _ (depth : ℕ) (stream : List Update) (queries : List Query) where
   abbrev AsksItsOwn : Attempt → Type 0
   AsksItsOwn a = slice_get queries (a.turn.number - 1) ≡ Some a.question.query
 
-  -- the line of its answer, where it has one, is that of the stream's own
-  abbrev HasOwnLine : Attempt → Type 0
-  HasOwnLine a = OfAnswer (λ given. IsOwnLine depth stream a.question.query given) a.outcome
+  -- its answer, where it has one, is the stream's own
+  abbrev HasOwn : Attempt → Type 0
+  HasOwn a = OfAnswer (λ given. given ≡ answer depth stream a.question.query) a.outcome
 
   -- the lines of the queries from this number on
   abbrev lines_from : ℕ → List ℕ
@@ -68,13 +68,13 @@ module _ (depth : ℕ) (stream : List Update) (queries : List Query) where
       ∙ ap (λ n. line q (answer depth stream q) ++ report_of depth stream (drop n queries)) next
 
   -- lines of answers, made in turn, are those of the queries in order
-  in_order : (turn : Turn) (attempts : List Attempt) → 1 ≤ turn.number → AreInTurn turn attempts → All AsksItsOwn attempts → All HasOwnLine attempts
+  in_order : (turn : Turn) (attempts : List Attempt) → 1 ≤ turn.number → AreInTurn turn attempts → All AsksItsOwn attempts → All HasOwn attempts
       → answer_lines attempts ++ lines_from (turn_behind turn attempts).number ≡ lines_from turn.number
   in_order turn [] least are asks own = refl
   in_order turn (a ∷ attempts) least are asks own =
-      by_outcome a.outcome refl (All-head HasOwnLine a attempts own) (λ more. in_order (next_turn turn a.outcome) attempts more are.1 (All-tail AsksItsOwn a attempts asks) (All-tail HasOwnLine a attempts own))
+      by_outcome a.outcome refl (All-head HasOwn a attempts own) (λ more. in_order (next_turn turn a.outcome) attempts more are.1 (All-tail AsksItsOwn a attempts asks) (All-tail HasOwn a attempts own))
     where
-      by_outcome : (o : Outcome) → a.outcome ≡ o → OfAnswer (λ given. IsOwnLine depth stream a.question.query given) o
+      by_outcome : (o : Outcome) → a.outcome ≡ o → OfAnswer (λ given. given ≡ answer depth stream a.question.query) o
           → (1 ≤ (next_turn turn a.outcome).number → answer_lines attempts ++ lines_from (turn_behind (next_turn turn a.outcome) attempts).number ≡ lines_from (next_turn turn a.outcome).number) → (answer_line a.question a.outcome ++ answer_lines attempts) ++ lines_from (turn_behind (next_turn turn a.outcome) attempts).number ≡ lines_from turn.number
       by_outcome (rejected fault) e is_own on =
           let number : (next_turn turn a.outcome).number ≡ turn.number = ap (λ o. (next_turn turn o).number) e in
@@ -84,7 +84,7 @@ module _ (depth : ℕ) (stream : List Update) (queries : List Query) where
           let q : Query = a.question.query in
           let asked : slice_get queries (turn.number - 1) ≡ Some q = ap (λ (t : Turn). slice_get queries (t.number - 1)) (sym are.0) ∙ All-head AsksItsOwn a attempts asks in
           ap (λ o. (answer_line a.question o ++ answer_lines attempts) ++ lines_from (turn_behind (next_turn turn a.outcome) attempts).number) e ∙ append_assoc (line q given) (answer_lines attempts) (lines_from (turn_behind (next_turn turn a.outcome) attempts).number)
-          ∙ ap (λ l. line q given ++ l) (on (omega (arith, number)) ∙ ap lines_from number) ∙ ap (λ l. l ++ lines_from (suc turn.number)) is_own ∙ sym (line_first turn.number q least asked)
+          ∙ ap (λ l. line q given ++ l) (on (omega (arith, number)) ∙ ap lines_from number) ∙ ap (λ l. l ++ lines_from (suc turn.number)) (ap (line q) is_own) ∙ sym (line_first turn.number q least asked)
 
 -- ---- one answer
 
@@ -173,13 +173,14 @@ module _ (helpers : ℕ) (task : Task) (x : PanelExchange) (some : 1 ≤ task.de
         (earlier ++ said_for v task.depth U a.question) (ap (λ l. earlier ++ l) asked) (slice_index_or x.talks (a.turn.helper - 1) []) (behind_replies a.outcome ++ heard.0) heard.1
         (honest a.turn.helper (first_least helpers task x some most room can attempts are judged said before a after cut_is) place.helper)).last
 
-    -- its line is that of the stream's own answer
-    pub own_line : IsOwnLine task.depth U q given
-    own_line = elim (few_or_barred v task.depth U legal q put.narrow) [
+    -- its answer is the stream's own
+    pub own_answer : given ≡ answer task.depth U q
+    own_answer = elim (few_or_barred v task.depth U legal q put.narrow) [
       | inl few ↦ elim (taken_or_known v task.depth U some legal q a.question.block put a.question.replies given few accepts) [
-        | inl t ↦ by_rounds (IsOwnLine task.depth U q given) t.0 t.1 t.2
-            (λ s n rest less. walk_answer v task.depth U some legal (record { question = a.question; answer = given; accepts = accepts }) t.0 t.1 t.2 put few s n rest less)
-        | inr right ↦ ap (line q) right
+        | inl t ↦ by_rounds (given ≡ answer task.depth U q) t.0 t.1 t.2
+            (λ s n rest less. walk_answer v task.depth U some legal q a.question.block put few t.0 t.1 given s n rest less
+            (subst (λ l. Accepts v task.depth U (record { query = q; block = a.question.block; replies = l }) given) t.2 accepts))
+        | inr right ↦ right
       ]
       | inr barred ↦ by_why barred barred.why
     ]
@@ -194,17 +195,17 @@ module _ (helpers : ℕ) (task : Task) (x : PanelExchange) (some : 1 ≤ task.de
             (subst (λ l. Accepts v task.depth U (record { query = q; block = a.question.block; replies = l }) given) t.2 accepts) barred (λ _ _. ⊥) s n rest less)
 
         by_why : (barred : IsBarred v task.depth U q) → ((barred.code ≡ too_many) × IsTooLong task.depth U q) ⊎ ((barred.code ≡ not_strict) × (¬ IsOnStrictSide task.depth U q))
-            → IsOwnLine task.depth U q given
+            → given ≡ answer task.depth U q
         by_why barred (inl long) = absurd (long_not barred long.1)
         by_why barred (inr other) = absurd (other.1 side)
 
-  each_own : All (λ (a : Attempt). OfAnswer (λ given. line a.question.query given ≡ line a.question.query (answer task.depth U a.question.query)) a.outcome) attempts
-  each_own = all_by_cuts (λ (a : Attempt). OfAnswer (λ given. line a.question.query given ≡ line a.question.query (answer task.depth U a.question.query)) a.outcome) attempts [] attempts refl
+  each_own : All (λ (a : Attempt). OfAnswer (λ given. given ≡ answer task.depth U a.question.query) a.outcome) attempts
+  each_own = all_by_cuts (λ (a : Attempt). OfAnswer (λ given. given ≡ answer task.depth U a.question.query) a.outcome) attempts [] attempts refl
       (λ before a after cut_is. by_outcome before a after cut_is a.outcome refl)
     where
       by_outcome : (before : List Attempt) (a : Attempt) (after : List Attempt) → attempts ≡ before ++ a ∷ after → (o : Outcome) → a.outcome ≡ o
-          → OfAnswer (λ given. line a.question.query given ≡ line a.question.query (answer task.depth U a.question.query)) o
-      by_outcome before a after cut_is (accepted given) is = own_line before a after cut_is given is
+          → OfAnswer (λ given. given ≡ answer task.depth U a.question.query) o
+      by_outcome before a after cut_is (accepted given) is = own_answer before a after cut_is given is
       by_outcome before a after cut_is (rejected fault) is = tt
 
   pub own_lines : (status : Status) → Ends helpers task x attempts status → AreOwn helpers task x attempts status
@@ -221,7 +222,7 @@ module _ (helpers : ℕ) (task : Task) (x : PanelExchange) (some : 1 ≤ task.de
 -- without an attempt there is nothing to say but that not every query was answered
 none_answered : (helpers : ℕ) (task : Task) (x : PanelExchange) (status : Status) → CanBeDone task → Ends helpers task x [] status → AreOwn helpers task x [] status
 none_answered helpers task x status can ends = record {
-  each = All-nil (λ (a : Attempt). OfAnswer (λ given. line a.question.query given ≡ line a.question.query (answer task.depth (legally_of task x.stream) a.question.query)) a.outcome);
+  each = All-nil (λ (a : Attempt). OfAnswer (λ given. given ≡ answer task.depth (legally_of task x.stream) a.question.query) a.outcome);
   all = λ is. absurd (let all : 1 ≡ suc (length task.queries.items) = (subst (Ends helpers task x []) is ends).all in omega (arith, can.some, all));
 }
 

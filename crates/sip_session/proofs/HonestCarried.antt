@@ -59,6 +59,18 @@ find turn (a ∷ attempts) helper are least less = by_outcome a.outcome refl (λ
       | inr other ↦ later (on (omega (arith, least, other, ap (λ o. (next_turn turn o).helper) e)))
     ]
 
+-- with more attempts behind
+with_more : (attempts before later : List Attempt) (helper : ℕ) → attempts ≡ before ++ later → Drop before helper → Drop attempts helper
+with_more attempts before later helper are d = record {
+  earlier = d.earlier;
+  last = d.last;
+  later = d.later ++ later;
+  are = are ∙ ap (λ l. l ++ later) d.are ∙ append_assoc d.earlier (d.last ∷ d.later) later;
+  who = d.who;
+  fault = d.fault;
+  outcome = d.outcome;
+}
+
 -- where the last helper was dropped each one was
 all_dropped : (helpers number : ℕ) (fault : Fault) (attempts before : List Attempt) (last : Attempt) → AreInTurn first_turn attempts → attempts ≡ before ++ last ∷ [] → last.turn ≡ record { helper = helpers; number = number } → last.outcome ≡ rejected fault
     → (helper : ℕ) → 1 ≤ helper → helper ≤ helpers → Drop attempts helper
@@ -66,16 +78,8 @@ all_dropped helpers number fault attempts before last in_turn are turn outcome h
   | inl less ↦
       let cut_in = subst (AreInTurn first_turn) are in_turn in
       let behind : (turn_behind first_turn before).helper ≡ helpers = ap (λ (t : Turn). t.helper) (sym (turn_of first_turn before last [] cut_in) ∙ turn) in
-      let d = find first_turn before helper (front_in_turn first_turn before (last ∷ []) cut_in) (omega (arith, least)) (omega (arith, less, behind)) in
-      record {
-        earlier = d.earlier;
-        last = d.last;
-        later = d.later ++ last ∷ [];
-        are = are ∙ ap (λ l. l ++ last ∷ []) d.are ∙ append_assoc d.earlier (d.last ∷ d.later) (last ∷ []);
-        who = d.who;
-        fault = d.fault;
-        outcome = d.outcome;
-      }
+      with_more attempts before (last ∷ []) helper are
+      (find first_turn before helper (front_in_turn first_turn before (last ∷ []) cut_in) (omega (arith, least)) (omega (arith, less, behind)))
   | inr whole ↦ record { earlier = before; last = last; later = []; are = are; who = ap (λ (t : Turn). t.helper) turn ∙ (let same : helpers ≡ helper = omega (arith, whole, most) in same); fault = fault; outcome = outcome }
 ]
 

@@ -17,25 +17,26 @@ use Rattle.sip_wire.specs.Table.{most_queries}
 use Rattle.sip_wire.specs.Versions.{Speaks}
 use Rattle.sip_wire.proofs.Asking.{query-fits}
 use Rattle.sip_replies.specs.Replies as replied
-use Rattle.sip_replies.specs.Replies.{Fault, IsAccepted, IsStated}
+use Rattle.sip_replies.specs.Replies.{Fault, IsAccepted, IsStated, joined}
 use Rattle.sip_replies.specs.Talks.{asked, asked_unless}
 use Rattle.sip_replies.proofs.Unasked.{accepted_asked, accepted_unasked}
 use Rattle.sip_helper.specs.declared.heard.Heard.TheVariants.{Whole}
 use Rattle.sip_helper.specs.Serving.{IsMessage}
 use Rattle.sip_helper.specs.Streams.{vectors_of}
 use Rattle.sip_helper.specs.Turns.{HelperState, after_answer, may_ask, owed, step}
-use Rattle.sip_verifier.specs.CompletenessClause.{HasFewEntries}
+use Rattle.sip_verifier.specs.CompletenessClause.{HasFewEntries, honest_in}
 use Rattle.sip_verifier.specs.Kinds.{Holds, Kind, KindRow, built, kind_row, missing}
-use Rattle.sip_verifier.specs.Questions.{Accepted, IsFaulty, Question, said_by_kind, said_for}
-use Rattle.sip_verifier.specs.Reports.{line}
+use Rattle.sip_verifier.specs.Questions.{Accepted, Accepts, IsFaulty, Question, said_by_kind, said_for}
 use Rattle.sip_verifier.specs.Widths.{is_too_wide}
 use Rattle.sip_verifier.proofs.Blocks.{IsBlock}
 use Rattle.sip_duel.proofs.WalkLemmas.{Comes, Round, Walk, exchange}
 use Rattle.sip_duel.proofs.RevealLemmas.{reveals, walk_then}
-use Rattle.sip_duel.proofs.QueryLemmas.{IsAtRest}
+use Rattle.sip_duel.proofs.QueryLemmas.{IsAtRest, walk_accepted}
 use Rattle.sip_duel.proofs.FaultLemmas.{FaultLast}
 use Rattle.sip_duel.proofs.StreamLemmas.{silent}
-use Rattle.sip_duel.proofs.DoneLemmas.{IsPosed, Posed, asked_is, done_rounds, fault_row, fits_below, how, question_rounds, walk_done}
+use Rattle.sip_verifier.proofs.HonestQuestions.{question_done}
+use Rattle.sip_duel.proofs.KindLemmas.{AskedOrKnown, not_refused}
+use Rattle.sip_duel.proofs.DoneLemmas.{reveals_fit, IsPosed, Posed, asked_is, done_rounds, fault_row, fits_below, how, question_rounds, walk_done}
 use Rattle.sip_session.specs.PanelHonesty.{IsRight}
 use Rattle.sip_session.proofs.HonestKinds.{AskableOrKnown, IsAskable, IsBarred, askable_or_known, few_or_barred}
 use Rattle.sip_session.proofs.HonestRefusals.{RightLast, barred_accepted, barred_faulty}
@@ -78,9 +79,14 @@ bye_same : (a b : Version) → spelling a messages.Bye ≡ spelling b messages.B
 unfolding spelling
 bye_same a b = refl
 
--- the line of an answer is that of the stream's own
-abbrev pub IsOwnLine : ℕ → List Update → Query → Answer → Type 0
-IsOwnLine depth stream q given = line q given ≡ line q (answer depth stream q)
+-- nothing is replied to the farewell
+silent_bye : (C : Type 0) (v : Version) (s : HelperState) → C → Walk (λ _ _. C) v s (silent messages.Bye ∷ [])
+silent_bye C v s holds =
+    walk_then (λ _ _. C) v s (silent messages.Bye) [] (record {
+      is = record { has_spelling = bye_fits s.version; to_helper = refl; in_range = tt };
+      same = bye_same v s.version;
+      may = refl;
+    }) (λ refused x y agree. holds)
 
 module _ (v : Version) (depth : ℕ) (stream : List Update) (some : 1 ≤ depth) (legal : IsLegal depth stream) where
   -- a query that can be put to a helper, at its block
@@ -208,22 +214,26 @@ module _ (v : Version) (depth : ℕ) (stream : List Update) (some : 1 ≤ depth)
 
   -- ---- an answer
 
-  -- accepted replies of an honest helper to a query that can be answered
-  pub walk_answer : (a : Accepted v depth stream) (b : List ℕ) (bs : List (List ℕ)) → a.question.replies ≡ b ∷ bs → Put a.question → HasFewEntries v depth stream a.question.query
-      → (s : HelperState) (n : ℕ) → IsAtRest v depth (vectors_of depth stream) s n → n < most_queries
-      → Walk (λ _ _. IsOwnLine depth stream a.question.query a.answer) v s (question_rounds a.question.query a.question.block (b ∷ bs) [])
-  walk_answer a b bs are put few s n rest less =
-      let q = a.question.query in
-      let C : Type 0 = IsOwnLine depth stream q a.answer in
-      let is = posed q a.question.block put few in
-      let bye : List Round = silent messages.Bye ∷ [] in
-      let walk = walk_done v depth stream some legal (λ _ _. C) (a ∷ []) bye (All-cons (Posed v depth stream some legal) a.question [] is (All-nil (Posed v depth stream some legal)))
-      s n rest (let fits : n + 1 ≤ most_queries = omega (arith, less) in fits)
-      (λ u m most at lines. walk_then (λ _ _. C) v u (silent messages.Bye) [] (record {
-        is = record { has_spelling = bye_fits u.version; to_helper = refl; in_range = tt };
-        same = bye_same v u.version;
-        may = refl;
-      }) (λ refused x y agree. sym (append-nil (line q a.answer)) ∙ lines ∙ append-nil (line q (answer depth stream q)))) in
-      subst (λ l. Walk (λ _ _. C) v s (record { message = messages.Query q; reply = b } ∷ l)) (sym (append-nil (reveals a.question.block bs)))
-      (without_last C v s (record { message = messages.Query q; reply = b }) (reveals a.question.block bs) messages.Bye
-      (subst (λ l. Walk (λ _ _. C) v s (question_rounds q a.question.block l bye)) are walk))
+  -- accepted replies of an honest helper to a query that can be answered state the stream's own answer
+  module _ (q : Query) (block : List ℕ) (put : IsPut q block) (few : HasFewEntries v depth stream q) (b : List ℕ) (bs : List (List ℕ)) (given : Answer)
+      (s : HelperState) (n : ℕ) (rest : IsAtRest v depth (vectors_of depth stream) s n) (less : n < most_queries) where
+    abbrev IsOwn : Type 0
+    IsOwn = given ≡ answer depth stream q
+
+    abbrev bye : List Round
+    bye = silent messages.Bye ∷ []
+
+    answer_row : (row : KindRow) → Holds (AskedOrKnown v depth stream q block) row → Holds (λ kind. IsAccepted (kind.protocol block) block (b ∷ bs) given) row
+        → (flat_map (λ l. l) (honest_in row block) ≡ joined (b ∷ bs) → IsOwn) → Walk (λ _ _. IsOwn) v s (question_rounds q block (b ∷ bs) bye)
+    answer_row missing how accepts right = absurd how
+    answer_row (built kind) (inl asked) accepts right =
+        walk_accepted (λ _ _. IsOwn) v depth stream q block (kind.protocol block) (kind.honest block) asked (not_refused v depth stream some legal q few) (reveals_fit v block put.at.below) put.at.size some
+        s n rest (put_comes s n q block put rest less) b bs given (accepted_asked (kind.protocol block) block (b ∷ bs) given asked.asked accepts) bye (λ t at same. silent_bye IsOwn v t (right (ap joined (sym same))))
+    answer_row (built kind) (inr known) accepts right = absurd (let none = (accepted_unasked (kind.protocol block) block (b ∷ bs) given known.known known.unasked accepts).0 in cc)
+
+    pub walk_answer : Accepts v depth stream (record { query = q; block = block; replies = b ∷ bs }) given → Walk (λ _ _. IsOwn) v s (question_rounds q block (b ∷ bs) [])
+    walk_answer accepts =
+        subst (λ l. Walk (λ _ _. IsOwn) v s (record { message = messages.Query q; reply = b } ∷ l)) (sym (append-nil (reveals block bs)))
+        (without_last IsOwn v s (record { message = messages.Query q; reply = b }) (reveals block bs) messages.Bye
+        (answer_row (kind_row v depth stream q) (how v depth stream some legal q block (posed q block put few)) accepts
+        (λ e. (question_done v depth stream some legal q block (b ∷ bs) given [] [] put.fits put.speaks few put.at accepts (ap (λ l. l ++ []) e)).1)))

@@ -130,17 +130,16 @@ module _ (helpers : ℕ) (task : Task) (x : PanelExchange) where
         → (status ≡ statuses.Accepted) ⊎ (status ≡ statuses.OutOfMemory)
         ⊎ (IsRejected status × RanOut)
 
-    -- Each line of an answer has the stream's own. Where all queries were answered, these lines are
-    -- those of a report with the stream's own answers, and none is left out.
+    -- Each answer is the stream's own. Where all queries were answered, the lines of answers are those
+    -- of a report with the stream's own answers, and none is left out.
     pub record AreOwn (status : Status) : Type 0 where
-      pub each : All (λ a. OfAnswer (λ given. line a.question.query given
-          ≡ line a.question.query (answer task.depth (legal task x.stream) a.question.query))
-          a.outcome) attempts
+      pub each : All (λ a. OfAnswer (λ given. given
+          ≡ answer task.depth (legal task x.stream) a.question.query) a.outcome) attempts
       pub all : status ≡ statuses.Accepted → answer_lines attempts
           ≡ report_of task.depth (legal task x.stream) task.queries.items
 
     -- where each helper is honest, and no side that is asked for heavy hitters has a negative entry,
-    -- the lines of answers are so
+    -- the answers are so
     abbrev pub AnswersAreOwn : Status → Type 0
     AnswersAreOwn status =
         AreHonest
