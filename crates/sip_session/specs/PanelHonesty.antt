@@ -1,8 +1,8 @@
 -- Honest helpers of a panel: why they may be dropped, and what they come to.
 --
--- A helper is honest here where the talk of its link is an honest one: by the turns of a helper, up to
--- where the other side left them, or to the end. Such is the talk of each link to a helper that tells
--- its state and had heard nothing.
+-- A helper is honest here where the talk of its link is an honest one: by the turns of a helper, up
+-- to where the other side left them, or to the end. Such is the talk of each link to a helper that
+-- tells its state and had heard nothing.
 use Rattle.std.specs.Prelude.{◌≡◌, ◌⊎◌, ◌-◌, ◌<◌, ◌≤◌, ⊤, ℕ, List, [], ◌∷◌, ◌++◌, flat_map, length, slice_index_or, All, Some}
 use Rattle.sip_duel.specs.Story.{IsHonestTalk}
 use Rattle.sip_helper.specs.KindRows.{not_strict, too_many, want_of_memory}
@@ -130,16 +130,16 @@ module _ (helpers : ℕ) (task : Task) (x : PanelExchange) where
         → (status ≡ statuses.Accepted) ⊎ (status ≡ statuses.OutOfMemory)
         ⊎ (IsRejected status × RanOut)
 
-    -- Each answer is the stream's own. Where all queries were answered, the lines of answers are those
-    -- of a report with the stream's own answers, and none is left out.
+    -- Each answer is the stream's own. Where all queries were answered, the lines of answers are
+    -- those of a report with the stream's own answers, and none is left out.
     pub record AreOwn (status : Status) : Type 0 where
       pub each : All (λ a. OfAnswer (λ given. given
           ≡ answer task.depth (legal task x.stream) a.question.query) a.outcome) attempts
       pub all : status ≡ statuses.Accepted → answer_lines attempts
           ≡ report_of task.depth (legal task x.stream) task.queries.items
 
-    -- where each helper is honest, and no side that is asked for heavy hitters has a negative entry,
-    -- the answers are so
+    -- where each helper is honest, and no side that is asked for heavy hitters has a negative
+    -- entry, the answers are so
     abbrev pub AnswersAreOwn : Status → Type 0
     AnswersAreOwn status =
         AreHonest

@@ -23,9 +23,9 @@ ghost use Rattle.sip_session.specs.PanelExchanges.{PanelExchange, without_links}
 ghost use Rattle.sip_session.specs.PanelHonesty.{AnswersAreOwn, AreDroppedRightly, IsCarried, IsRight, answer_lines};
 ghost use Rattle.sip_session.specs.Panels.{Attempt, AreAttempts, inquiry_of_panel};
 
-/// Why an honest helper may be dropped, by hand: for want of memory, whatever is asked, but not for a
-/// reply that is cut short nor for a message out of turn; for a negative entry where heavy hitters
-/// are asked for, but not where a sum is.
+/// Why an honest helper may be dropped, by hand: for want of memory, whatever is asked, but not for
+/// a reply that is cut short nor for a message out of turn; for a negative entry where heavy
+/// hitters are asked for, but not where a sum is.
 pub fn reasons_by_hand()
     ensures memory { IsRight 1 [] Inner (AnyReason.Refused want_of_memory) }
     ensures cut { ¬ IsRight 1 [] Inner AnyReason.Closed }
@@ -40,8 +40,8 @@ pub fn answers_by_hand()
         ≡ codes "sub:0:0 none" ++ 10 ∷ codes "sub:0:0 none" ++ 10 ∷ [] }
 {}
 
-/// An honest helper is dropped for want of memory, or for a query that asks for more entries than may
-/// be sent, or for heavy hitters of a side with a negative entry; for no other reason.
+/// An honest helper is dropped for want of memory, or for a query whose answer has more entries than
+/// may be sent, or for heavy hitters of a side with a negative entry; for no other reason.
 pub fn honest_helpers_are_dropped_rightly()
     ensures { (helpers : ℕ) (task : AnyTask) (x : PanelExchange) (attempts : List Attempt)
         (status : AnyStatus)
@@ -54,8 +54,8 @@ pub fn honest_helpers_are_dropped_rightly()
 {}
 
 /// A panel with an honest helper answers each query, where the seed, the stream and the limits are
-/// good and no port fails, unless memory ran out: at this end, or at each honest helper's, which was
-/// dropped for it.
+/// good and no port fails, unless memory ran out: at this end, or at each honest helper's, which
+/// was dropped for it.
 pub fn panels_with_an_honest_helper_are_carried()
     ensures { (helpers : ℕ) (task : AnyTask) (x : PanelExchange) (attempts : List Attempt)
         (before now : AnyCounts) (status : AnyStatus)
@@ -67,8 +67,8 @@ pub fn panels_with_an_honest_helper_are_carried()
         → IsCarried helpers task x attempts before now status }
 {}
 
-/// Where each helper is honest, and no side that is asked for heavy hitters has a negative entry, the
-/// answers are the stream's own; and with `Accepted` their lines are those of all queries.
+/// Where each helper is honest, and no side that is asked for heavy hitters has a negative entry,
+/// the answers are the stream's own; and with `Accepted` their lines are those of all queries.
 pub fn honest_panels_give_the_streams_answers()
     ensures { (helpers : ℕ) (task : AnyTask) (x : PanelExchange) (attempts : List Attempt)
         (status : AnyStatus)
