@@ -33,8 +33,8 @@
 //!   asks; that where nothing is asked for heavy entries there are none; that the promise on a run
 //!   follows from that of verdicts, and that on a panel from its attempts; and that each talk is some
 //!   joint strategy's.
-//! - [`honesty`]: what honest helpers of a panel come to: why they are dropped, that a panel with one
-//!   is accepted unless memory runs out, and whose answers it then has.
+//! - [`honesty`]: why honest helpers of a panel are dropped; that a panel with one answers each query
+//!   unless memory runs out; and that one of honest helpers alone gives the stream's own answers.
 //! - [`examples`]: counts worked out one by one; [`turns`]: the same for the turns of a panel.
 #![tactic(auto)]
 
