@@ -11,3 +11,12 @@ pub mod JointPanels
 pub mod Begun
 pub mod PanelEndings
 pub mod PanelRuns
+pub mod HonestFronts
+pub mod HonestKinds
+pub mod HonestRefusals
+pub mod HonestQuestions
+pub mod HonestTalks
+pub mod HonestAttempts
+pub mod HonestDropped
+pub mod HonestCarried
+pub mod HonestAnswers

@@ -6,4 +6,5 @@ pub mod PanelEnds
 pub mod PanelCounts
 pub mod PanelExamples
 pub mod PanelClause
+pub mod PanelHonesty
 pub mod inside

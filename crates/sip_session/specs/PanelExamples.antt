@@ -1,6 +1,8 @@
--- The turns of a panel that the laws work out.
-use Rattle.std.specs.Prelude.{ℕ, List, [], ◌∷◌}
+-- The turns of a panel that the laws work out, and a stream.
+use Rattle.std.specs.Prelude.{ℕ, negsuc, List, [], ◌∷◌}
 use Rattle.sip_vector.specs.declared.query.Query.TheVariants.{Sub}
+use Rattle.sip_vector.specs.declared.update.Side.TheVariants.{First}
+use Rattle.sip_vector.specs.declared.update.Update.{Update}
 use Rattle.sip_vector.specs.Answers.{pairs}
 use Rattle.sip_wire.specs.declared.message.Reason.TheVariants as reasons
 use Rattle.sip_session.specs.Panels.{Attempt, Outcome, accepted, rejected}
@@ -21,3 +23,7 @@ three_helpers =
     ∷ attempt 2 1 (accepted (pairs []))
     ∷ attempt 2 2 (rejected (record { round = 0; reason = reasons.Closed }))
     ∷ attempt 3 2 (accepted (pairs [])) ∷ []
+
+-- the item 0 was counted down once, and so its entry is negative
+abbrev pub one_below : List Update
+one_below = record { side = First; item = 0; delta = negsuc 0 } ∷ []

@@ -17,6 +17,7 @@
 //! | `specs/PanelEnds` | the talk of each link and the lines, by the status |
 //! | `specs/PanelCounts` | the joint count of the seats |
 //! | `specs/PanelClause` | all that [`panel`] promises |
+//! | `specs/PanelHonesty` | why honest helpers may be dropped, and what they come to |
 //!
 //! `specs/inside/` says what the private parts of a panel did. No promise rests on a reading of it.
 //!
@@ -32,6 +33,8 @@
 //!   asks; that where nothing is asked for heavy entries there are none; that the promise on a run
 //!   follows from that of verdicts, and that on a panel from its attempts; and that each talk is some
 //!   joint strategy's.
+//! - [`honesty`]: why honest helpers of a panel are dropped; that a panel with one answers each query
+//!   unless memory runs out; and that one of honest helpers alone gives the stream's own answers.
 //! - [`examples`]: counts worked out one by one; [`turns`]: the same for the turns of a panel.
 #![tactic(auto)]
 
@@ -40,6 +43,7 @@ pub mod counting;
 pub mod examples;
 mod farewells;
 mod hearing;
+pub mod honesty;
 mod panels;
 pub mod turns;
 
