@@ -1,3 +1,22 @@
 mod KindBounds
 mod JointTalks
 mod Unasked
+pub mod Places
+pub mod Heard
+pub mod Tries
+pub mod Attempts
+pub mod Asked
+pub mod Seats
+pub mod JointPanels
+pub mod Begun
+pub mod PanelEndings
+pub mod PanelRuns
+pub mod HonestFronts
+pub mod HonestKinds
+pub mod HonestRefusals
+pub mod HonestQuestions
+pub mod HonestTalks
+pub mod HonestAttempts
+pub mod HonestDropped
+pub mod HonestCarried
+pub mod HonestAnswers

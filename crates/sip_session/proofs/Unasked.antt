@@ -17,11 +17,13 @@ use Rattle.sip_heavy.specs.Protocol.{HeavyState, count_of}
 use Rattle.sip_verifier.proofs.JointReports.{none_heavy}
 use Rattle.sip_verifier.proofs.ShareAnswers.{share_answer}
 
-accepts_unasked : {S : Type 0} (P : Protocol S) (rs : List ℕ) (all : List (List ℕ)) (known : Answer) → P.unasked ≡ Some known → accepts P rs all ≡ true
+accepts_unasked : {S : Type 0} (P : Protocol S) (rs : List ℕ) (all : List (List ℕ))
+    (known : Answer) → P.unasked ≡ Some known → accepts P rs all ≡ true
 accepts_unasked P rs all known e = rw e refl
 
 -- no reply says no entry
-pub none_said : (version : Version) (p depth t : ℕ) (numbers : List ℤ) → said version p depth t numbers [] ≡ []
+pub none_said : (version : Version) (p depth t : ℕ) (numbers : List ℤ)
+    → said version p depth t numbers [] ≡ []
 unfolding run_from
 none_said version p depth t numbers = refl
 
@@ -39,9 +41,12 @@ module _ (version : Version) (p depth n t : ℕ) (stream : List Update) (side : 
   pub accepted : accepts_heavy version p depth t (vector depth stream side) block [] ≡ true
   accepted = accepts_unasked asks block [] (pairs []) unasked
 
-pub none_shared : (version : Version) (depth n num den : ℕ) (stream : List Update) (side : Side) → IsLegal depth stream → IsStrict depth stream side → 1 ≤ den
-    → int_sum (vector depth stream side) ≡ pos n → n < share_of num den (pos n) → answer depth stream (Share side num den) ≡ pairs []
+pub none_shared : (version : Version) (depth n num den : ℕ) (stream : List Update) (side : Side)
+    → IsLegal depth stream → IsStrict depth stream side → 1 ≤ den
+    → int_sum (vector depth stream side) ≡ pos n → n < share_of num den (pos n)
+    → answer depth stream (Share side num den) ≡ pairs []
 none_shared version depth n num den stream side legal strict some sum less =
     share_answer depth stream side num den some legal strict
-    ∙ none_heavy version m61_modulus depth n (share_of num den (int_sum (vector depth stream side))) stream side [] strict sum
+    ∙ none_heavy version m61_modulus depth n
+    (share_of num den (int_sum (vector depth stream side))) stream side [] strict sum
     (subst (λ z. n < share_of num den z) (sym sum) less)

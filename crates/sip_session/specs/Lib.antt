@@ -1,2 +1,10 @@
 pub mod JointCounts
 pub mod Examples
+pub mod Panels
+pub mod PanelExchanges
+pub mod PanelEnds
+pub mod PanelCounts
+pub mod PanelExamples
+pub mod PanelClause
+pub mod PanelHonesty
+pub mod inside

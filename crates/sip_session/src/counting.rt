@@ -27,6 +27,9 @@ ghost use Rattle.sip_verifier.specs.Statuses.{IsListed};
 ghost use Rattle.sip_verifier.specs.Tasks.{CanBeDone};
 ghost use Rattle.sip_verifier.specs.VerdictClause.{VerdictClause};
 ghost use Rattle.sip_session.specs.JointCounts.{asked_over, misled_over, CanBeCountedOver, HasRoom};
+ghost use Rattle.sip_session.specs.PanelCounts.{JointCountOnPanel};
+ghost use Rattle.sip_session.specs.PanelExchanges.{PanelExchange};
+ghost use Rattle.sip_session.specs.Panels.{Attempt, AreAttempts};
 
 /// The joint bound. Over every prime modulus, for queries of any kinds in any order, a joint
 /// strategy has a wrong answer to some query accepted at no more than B·p^(N - 1) of the p^N
@@ -73,6 +76,16 @@ pub fn runs_are_counted_jointly()
         → IsListed status
         → (count : CountClause (inquiry_of task x) x)
         × JointClause (inquiry_of task x) x count.lines }
+{}
+
+/// The joint count on a panel. Attempts that were made in turn, each at its own seat, and were judged
+/// by their replies keep to the joint count of all seats: where the line of one has a wrong answer,
+/// the challenges are among the vectors that are counted, whichever helper brought it about.
+pub fn panels_are_counted_jointly()
+    ensures { (helpers : ℕ) (task : AnyTask) (x : PanelExchange) (attempts : List Attempt)
+        → 0 < helpers → CanBeDone task → 1 ≤ task.depth
+        → AreAttempts helpers task x.seed x.stream attempts
+        → JointCountOnPanel helpers task x attempts }
 {}
 
 /// Each talk is some joint strategy's, so a promise about every joint strategy that replies at a

@@ -46,6 +46,8 @@ mod moment_serve_tests;
 #[cfg(test)]
 mod moment_talk_tests;
 #[cfg(test)]
+mod panel_tests;
+#[cfg(test)]
 mod replaying_tests;
 #[cfg(test)]
 mod session_facts;

@@ -1,0 +1,403 @@
+-- The joint count of a panel's seats: where the line of an attempt has a wrong answer, the
+-- challenges of all seats are among the vectors that are counted.
+use Rattle.std.proofs.Common.{◌≡◌, ◌≢◌, ◌⊎◌, ℕ, zero, suc, ◌+◌, ◌-◌, ◌*◌, ◌^◌, ◌<◌, ◌≤◌, ◌==◌, Bool, true, false, pos, Option, List, [], ◌∷◌, ◌++◌, length, map, take, drop, All, Some, None, inl, inr, if◌then◌else◌, refl, sym, ap, subst, ◌∙◌, arith}
+use Rattle.std.specs.Prelude.{⊤, nat_le, slice_get, slice_index_or, ◌≤ℤ◌}
+use Rattle.std.specs.List.{enumerate_from, zip}
+use Rattle.std.proofs.Math.Seq.{take-length}
+use Rattle.std.proofs.lemmas.Bool.{cases_Bool, eqb-true, leb-false, or_left, or_right}
+use Rattle.std.proofs.lemmas.Option.{same_Some}
+use Rattle.std.proofs.lemmas.List.Elements.{All-cons, All-nil, All-head, All-tail, All-weaker, recursion_from_All}
+use Rattle.sip_field.specs.Moduli.{m61_modulus}
+use Rattle.sip_stream.proofs.LegalRecords.{records_legal}
+use Rattle.sip_vector.specs.declared.query.Query.{Query}
+use Rattle.sip_vector.specs.declared.query.Query.TheVariants.{Sub, Range, F2, Inner, Heavy, Share}
+use Rattle.sip_vector.specs.declared.update.Side.{Side}
+use Rattle.sip_vector.specs.declared.update.Update.{Update}
+use Rattle.sip_vector.specs.Answers.{Answer, Fits, answer, number, pairs}
+use Rattle.sip_vector.specs.Pieces.{cut, pieces}
+use Rattle.sip_vector.specs.Streams.{int_sum, vector, IsLegal, IsStrict}
+use Rattle.sip_vector.specs.Thresholds.{share_of}
+use Rattle.sip_vector.specs.Trees.{augroot}
+use Rattle.sip_counts.specs.Joint.{Asked, after, is_misled, misled, bounds}
+use Rattle.sip_counts.specs.Strategies.{Strategy, IsOfBytes, replies, takes_wrong}
+use Rattle.sip_counts.proofs.Talks.{replies-length}
+use Rattle.sip_replies.specs.Protocols.{Protocol}
+use Rattle.sip_replies.specs.Replies as general
+use Rattle.sip_replies.proofs.Unasked.{accepted_asked, accepted_unasked}
+use Rattle.sip_wire.specs.declared.version.Version.{Version}
+use Rattle.sip_heavy.specs.Counting.{heavy_over}
+use Rattle.sip_heavy.proofs.FewFooledByBytes as heavies
+use Rattle.sip_heavy.specs.Protocol.{HeavyState, count_of, heavy_asked}
+use Rattle.sip_heavy.proofs.FewFooledByBytes.{positive_is}
+use Rattle.sip_heavy.proofs.TrueLevels.{sum_positive}
+use Rattle.sip_verifier.specs.CountClause.{accepts_in, Written, questions_written}
+use Rattle.sip_verifier.specs.Draws.{drawn}
+use Rattle.sip_verifier.specs.Exchanges.{Exchange}
+use Rattle.sip_verifier.specs.Gathering.{legal}
+use Rattle.sip_verifier.specs.Inquiries.{Inquiry}
+use Rattle.sip_verifier.specs.JointClause.{asked_by, all_asked, RepliesSo, JointClause}
+use Rattle.sip_verifier.specs.Kinds.{kind_row, OfKind}
+use Rattle.sip_verifier.specs.Questions.{Accepts}
+use Rattle.sip_verifier.specs.Tasks.{CanBeDone, version_of}
+use Rattle.sip_verifier.specs.declared.status.Status.TheVariants as statuses
+use Rattle.sip_verifier.specs.declared.task.Task.{Task}
+use Rattle.sip_verifier.proofs.CountedQuestions.{never_sum, question_counts}
+use Rattle.sip_verifier.proofs.JointReports.{none_heavy, task_counted}
+use Rattle.sip_verifier.proofs.ShareAnswers.{share_answer, share_reached}
+use Rattle.sip_session.specs.inside.Beginning.{task_of_seats}
+use Rattle.sip_session.specs.PanelCounts.{JointCountOnPanel, seats_written, unwritten, written_at, written_or}
+use Rattle.sip_session.specs.PanelExchanges.{PanelExchange}
+use Rattle.sip_session.specs.Panels as panels
+use Rattle.sip_session.specs.Panels.{Attempt, AreAttempts, IsJudged, Outcome, inquiry_of_seats, seat_at, seat_blocks, seat_queries}
+use Rattle.sip_session.proofs.Begun.{wide_done}
+use Rattle.sip_session.proofs.Seats.{All-seats, get_seat, needed-seats}
+
+-- ---- one query
+
+module _ (version : Version) (depth : ℕ) (stream : List Update) (legal : IsLegal depth stream) where
+  -- what the count asks of the stream for a query
+  abbrev Can : Query → Type 0
+  Can query = OfKind version depth stream query (λ kind. kind.CanBeCounted)
+
+  -- the query as one of several
+  abbrev Row : Query → Asked
+  Row query = asked_by accepts_in depth (kind_row version depth stream query)
+
+  -- no entry is heavy where the total is below the threshold
+  below_none : (side : Side) (t : ℕ) (block : List ℕ) → IsStrict depth stream side
+      → nat_le t (count_of (int_sum (vector depth stream side))) ≡ false
+      → answer depth stream (Heavy side t) ≡ pairs []
+  below_none side t block strict below =
+      let n = positive_is (int_sum (vector depth stream side))
+      (sum_positive (vector depth stream side)
+      (recursion_from_All (λ a. pos 0 ≤ℤ a) (vector depth stream side) strict)) in
+      none_heavy version m61_modulus depth n.0 t stream side block strict n.1
+      (let less = leb-false t (count_of (int_sum (vector depth stream side))) below in
+      omega (arith, less, ap count_of n.1))
+
+  -- by what a strategy replies at a block, and what was taken there and accepted
+  module _ (strategy : Strategy) (block : List ℕ) (taken : List (List ℕ)) (written : Answer)
+      (says : take (length taken) (replies strategy block) ≡ map Some taken) where
+    -- as many replies as there are challenges are all
+    all_said : length taken ≡ length block → replies strategy block ≡ map Some taken
+    all_said size =
+        sym (ap (λ n. take n (replies strategy block)) (size ∙ sym (replies-length strategy block))
+        ∙ take-length (replies strategy block)) ∙ says
+
+    -- pairs that are not the heavy entries are taken
+    heavy_said : (side : Side) (t : ℕ) (answer_is : Answer)
+        → general.IsAccepted (heavy_over version m61_modulus depth t (vector depth stream side)
+        block) block taken answer_is
+        → replies strategy block ≡ map Some taken → answer_is ≢ answer depth stream (Heavy side t)
+        → takes_wrong (Row (Heavy side t)).accepts (Row (Heavy side t)).is_right strategy
+        block ≡ true
+    heavy_said side t (number z) accepted all wrong = absurd
+        (never_sum (heavy_asked version m61_modulus
+        (augroot m61_modulus (vector depth stream side) block).hash
+        (int_sum (vector depth stream side)) depth t) block taken z accepted)
+    heavy_said side t (pairs entries) accepted all wrong =
+        heavies.written_counts version m61_modulus depth t (vector depth stream side) strategy
+        block taken entries accepted all (λ right. wrong (ap pairs right))
+
+    -- so is another answer than this one, which is that of the entries where they were asked for,
+    -- and empty where not
+    heavy_taken : (side : Side) (t : ℕ) (right : Answer)
+        → (nat_le t (count_of (int_sum (vector depth stream side))) ≡ true
+        → right ≡ answer depth stream (Heavy side t))
+        → (nat_le t (count_of (int_sum (vector depth stream side))) ≡ false → taken ≡ []
+        → right ≡ pairs [])
+        → general.IsAccepted (heavy_over version m61_modulus depth t (vector depth stream side)
+        block) block taken written → written ≢ right
+        → takes_wrong (Row (Heavy side t)).accepts (Row (Heavy side t)).is_right strategy
+        block ≡ true
+    heavy_taken side t right heavy none accepted wrong =
+        let P : Protocol HeavyState =
+        heavy_over version m61_modulus depth t (vector depth stream side) block in
+        elim (cases_Bool (nat_le t (count_of (int_sum (vector depth stream side))))) [
+          | inl reached ↦
+              let all =
+              all_said (accepted_asked P block taken written
+              (ap (λ (b : Bool). if b then None else Some (pairs [])) reached)
+              accepted).all in
+              heavy_said side t written accepted all (λ e. wrong (e ∙ sym (heavy reached)))
+          | inr below ↦
+              let known =
+              accepted_unasked P block taken written (pairs [])
+              (ap (λ (b : Bool). if b then None else Some (pairs [])) below) accepted in
+              absurd (wrong (known.1 ∙ sym (none below known.0)))
+        ]
+
+    -- a wrong answer to any query is taken
+    taken_wrongly : (query : Query) → Fits depth query
+        → Accepts version depth stream (record { query = query; block = block; replies = taken })
+        written
+        → (taken ≡ [] → Can query) → written ≢ answer depth stream query
+        → takes_wrong (Row query).accepts (Row query).is_right strategy block ≡ true
+    taken_wrongly (Sub lo hi) fits accepted can wrong =
+        (question_counts version depth stream (Sub lo hi) block taken written fits legal accepted
+        tt).counts strategy written (all_said accepted.all) refl wrong
+    taken_wrongly (Range side lo hi) fits accepted can wrong =
+        (question_counts version depth stream (Range side lo hi) block taken written fits legal
+        accepted tt).counts strategy written (all_said accepted.all) refl wrong
+    taken_wrongly (F2 side) fits accepted can wrong =
+        (question_counts version depth stream (F2 side) block taken written fits legal accepted
+        tt).counts strategy written (all_said accepted.all) refl wrong
+    taken_wrongly Inner fits accepted can wrong =
+        (question_counts version depth stream Inner block taken written fits legal accepted
+        tt).counts strategy written (all_said accepted.all) refl wrong
+    taken_wrongly (Heavy side t) fits accepted can wrong =
+        heavy_taken side t (answer depth stream (Heavy side t)) (λ reached. refl)
+        (λ below nothing. below_none side t block (can nothing) below) accepted wrong
+    taken_wrongly (Share side num den) fits accepted can wrong =
+        let t : ℕ = share_of num den (int_sum (vector depth stream side)) in
+        let some : 1 ≤ den = omega (arith, fits.0, fits.1) in
+        heavy_taken side t (answer depth stream (Share side num den))
+        (share_reached depth stream side num den some legal)
+        (λ below nothing. share_answer depth stream side num den some legal (can nothing)
+        ∙ below_none side t block (can nothing) below) accepted wrong
+
+  -- ---- lines in turn
+
+  -- a line is that of replies that are accepted, or its answer is right
+  abbrev Right : Written → Type 0
+  Right w =
+      Accepts version depth stream w.question w.answer
+      ⊎ (w.answer ≡ answer depth stream w.question.query)
+
+  -- lines of the first queries, each at its own block, are so
+  abbrev Fine : List Written → List Query → List (List ℕ) → Type 0
+  Fine [] queries blocks = ⊤
+  Fine (w ∷ ws) [] blocks = ⊥
+  Fine (w ∷ ws) (q ∷ queries) [] = ⊥
+  Fine (w ∷ ws) (q ∷ queries) (b ∷ blocks) =
+      (w.question.query ≡ q) × (w.question.block ≡ b) × Right w × Fine ws queries blocks
+
+  module _ (strategy : Strategy) where
+    -- where this line has a wrong answer, the strategy has one accepted at these challenges,
+    -- behind those
+    abbrev Misled : List Query → List ℕ → List ℕ → Written → Type 0
+    Misled queries earlier v w =
+        (w.question.replies ≡ [] → Can w.question.query)
+        → w.answer ≢ answer depth stream w.question.query
+        → is_misled depth strategy (all_asked version depth stream queries) earlier v ≡ true
+
+    misled_by : (ws : List Written) (queries : List Query) (earlier v : List ℕ) (k : ℕ)
+        → Fine ws queries (pieces depth k v) → All (Fits depth) queries
+        → RepliesSo strategy earlier (questions_written ws) → All (Misled queries earlier v) ws
+    unfolding is_misled
+    misled_by [] queries earlier v k fine fits talk = All-nil (Misled queries earlier v)
+    misled_by (w ∷ ws) [] earlier v k fine fits talk = absurd fine
+    misled_by (w ∷ ws) (q ∷ queries) earlier v zero fine fits talk = absurd fine
+    misled_by (w ∷ ws) (q ∷ queries) earlier v (suc k) fine fits talk =
+        let query : w.question.query ≡ q = fine.0 in
+        let block : w.question.block ≡ take depth v = fine.1 in
+        let first : List ℕ → Query → Bool =
+        λ b u. takes_wrong (Row u).accepts (Row u).is_right (after earlier strategy) b in
+        let others : Bool =
+        is_misled depth strategy (all_asked version depth stream queries)
+        (earlier ++ take depth v) (drop depth v) in
+        let fit : Fits depth w.question.query =
+        subst (Fits depth) (sym query) (All-head (Fits depth) q queries fits) in
+        let rest =
+        misled_by ws queries (earlier ++ take depth v) (drop depth v) k fine.3
+        (All-tail (Fits depth) q queries fits)
+        (subst (λ (b : List ℕ). RepliesSo strategy (earlier ++ b) (questions_written ws)) block
+        talk.1) in
+        All-cons (Misled (q ∷ queries) earlier v) w ws
+        (λ can wrong. or_left (first (take depth v) q) others (elim fine.2 [
+          | inl came ↦ subst (λ (u : Query). first (take depth v) u ≡ true) query
+              (subst (λ (b : List ℕ). first b w.question.query ≡ true) block
+              (taken_wrongly (after earlier strategy) w.question.block w.question.replies
+              w.answer talk.0 w.question.query fit came can wrong))
+          | inr right ↦ absurd (wrong right)
+        ]))
+        (All-weaker (Misled queries (earlier ++ take depth v) (drop depth v))
+        (Misled (q ∷ queries) earlier v)
+        (λ w is can wrong. or_right (first (take depth v) q) others (is can wrong)) ws rest)
+
+  -- ---- the lines of seats
+
+  module _ (helpers : ℕ) where
+    -- the line of a seat
+    abbrev At : List Attempt → ℕ → Query → List ℕ → Type 0
+    At attempts n q b =
+        let w : Written = written_at helpers n (unwritten depth stream (q, b)) attempts in
+        (w.question.query ≡ q) × (w.question.block ≡ b) × Right w
+
+    -- an attempt at this seat asks its query at its block
+    abbrev Asks : ℕ → Query → List ℕ → Attempt → Type 0
+    Asks n q b a = seat_at helpers a.turn ≡ n → (a.question.query ≡ q) × (a.question.block ≡ b)
+
+    abbrev Line : Query → List ℕ → Written → Type 0
+    Line q b w = (w.question.query ≡ q) × (w.question.block ≡ b) × Right w
+
+    by_outcome : (n : ℕ) (q : Query) (b : List ℕ) (a : Attempt) → Asks n q b a
+        → seat_at helpers a.turn ≡ n → (o : Outcome) → IsJudged version depth stream a.question o
+        → Line q b (written_or (unwritten depth stream (q, b)) a.question o)
+    by_outcome n q b a asks is (panels.accepted given) judged = let asked = asks is in
+        (asked.0, asked.1, inl judged)
+    by_outcome n q b a asks is (panels.rejected fault) judged = (refl, refl, inr refl)
+
+    by_test : (n : ℕ) (q : Query) (b : List ℕ) (a : Attempt) (rest : Written) (t : Bool)
+        → (seat_at helpers a.turn == n) ≡ t → Asks n q b a
+        → IsJudged version depth stream a.question a.outcome → Line q b rest
+        → Line q b (if t then written_or (unwritten depth stream (q, b)) a.question a.outcome
+        else rest)
+    by_test n q b a rest true is asks judged line =
+        by_outcome n q b a asks (eqb-true (seat_at helpers a.turn) n is) a.outcome judged
+    by_test n q b a rest false is asks judged line = line
+
+    written_right : (n : ℕ) (q : Query) (b : List ℕ) (attempts : List Attempt)
+        → All (Asks n q b) attempts
+        → All (λ (a : Attempt). IsJudged version depth stream a.question a.outcome) attempts
+        → At attempts n q b
+    written_right n q b [] asks judged = (refl, refl, inr refl)
+    written_right n q b (a ∷ attempts) asks judged =
+        by_test n q b a (written_at helpers n (unwritten depth stream (q, b)) attempts)
+        (seat_at helpers a.turn == n) refl (All-head (Asks n q b) a attempts asks)
+        (All-head (λ (a : Attempt). IsJudged version depth stream a.question a.outcome) a attempts
+        judged)
+        (written_right n q b attempts (All-tail (Asks n q b) a attempts asks)
+        (All-tail (λ (a : Attempt). IsJudged version depth stream a.question a.outcome) a
+        attempts judged))
+
+    -- so are the lines of all seats from one on
+    lines_fine : (attempts : List Attempt) (from : ℕ) (queries : List Query)
+        (blocks : List (List ℕ))
+        → ((k : ℕ) (q : Query) (b : List ℕ) → slice_get queries k ≡ Some q
+        → slice_get blocks k ≡ Some b → At attempts (from + k) q b)
+        → Fine (map (λ s. written_at helpers s.0 (unwritten depth stream s.1) attempts)
+        (enumerate_from from (zip queries blocks))) queries blocks
+    lines_fine attempts from [] blocks at = tt
+    lines_fine attempts from (q ∷ queries) [] at = tt
+    lines_fine attempts from (q ∷ queries) (b ∷ blocks) at =
+        let first =
+        subst (λ m. At attempts m q b) (let e : from + 0 ≡ from = omega arith in e)
+        (at 0 q b refl refl) in (
+          first.0,
+          first.1,
+          first.2,
+          lines_fine attempts (from + 1) queries blocks
+              (λ k u v qs bs. subst (λ m. At attempts m u v)
+              (let e : from + suc k ≡ from + 1 + k = omega arith in e) (at (suc k) u v qs bs)),
+        )
+
+-- ---- a panel
+
+module _ (helpers : ℕ) (task : Task) (x : PanelExchange) (some : 0 < helpers)
+    (can : CanBeDone task) (deep : 1 ≤ task.depth) where
+  abbrev i : Inquiry
+  i = inquiry_of_seats helpers task x.seed
+
+  abbrev wide : Task
+  wide = task_of_seats helpers task
+
+  fits : All (Fits task.depth) (seat_queries helpers task.queries.items)
+  fits = All-seats (Fits task.depth) helpers task.queries.items (λ k d less. (can.asked k d less).1)
+
+  -- each attempt asks the query of its seat at its block
+  asks_seat : (attempts : List Attempt) → AreAttempts helpers task x.seed x.stream attempts
+      → (n : ℕ) (q : Query) (b : List ℕ)
+      → slice_get (seat_queries helpers task.queries.items) n ≡ Some q
+      → slice_get (seat_blocks i) n ≡ Some b
+      → All (Asks (version_of task) task.depth (legal task x.stream)
+      (records_legal task.depth task.form x.stream) helpers n q b) attempts
+  asks_seat attempts are n q b is at = λ k d less here.
+      let of = are.of_turn k d less in
+      let turn = (slice_index_or attempts k d).turn in
+      let same : slice_get (seat_queries helpers task.queries.items)
+      (seat_at helpers turn) ≡ slice_get task.queries.items (turn.number - 1) =
+      get_seat helpers (turn.helper - 1) task.queries.items (turn.number - 1)
+      (let within = of.helper in omega (arith, within)) in
+      let query =
+      sym of.query ∙ sym same ∙ ap (slice_get (seat_queries helpers task.queries.items)) here
+      ∙ is in
+      let block = sym of.block ∙ ap (slice_get (seat_blocks i)) here ∙ at in
+      (same_Some _ _ query, same_Some _ _ block)
+
+  -- its lines are fine
+  all_fine : (attempts : List Attempt) → AreAttempts helpers task x.seed x.stream attempts
+      → Fine (version_of task) task.depth (legal task x.stream)
+      (records_legal task.depth task.form x.stream) (seats_written helpers task x attempts)
+      (seat_queries helpers task.queries.items) (seat_blocks i)
+  all_fine attempts are =
+      lines_fine (version_of task) task.depth (legal task x.stream)
+      (records_legal task.depth task.form x.stream) helpers attempts 0
+      (seat_queries helpers task.queries.items) (seat_blocks i)
+      (λ k q b is at. subst (λ m. At (version_of task) task.depth (legal task x.stream)
+      (records_legal task.depth task.form x.stream) helpers attempts m q b)
+      (let e : k ≡ 0 + k = omega arith in e)
+      (written_right (version_of task) task.depth (legal task x.stream)
+      (records_legal task.depth task.form x.stream) helpers k q b attempts
+      (asks_seat attempts are k q b is at) are.judged))
+
+  -- ---- the bound, as of a run over all seats
+
+  wide_can : CanBeDone wide
+  wide_can = wide_done helpers task some can
+
+  -- an exchange with the same input, on which nothing was said
+  abbrev silent : Exchange
+  silent =
+      record {
+        stream = x.stream;
+        unread = x.unread;
+        seed = x.seed;
+        talk = [];
+        report = [];
+        kept = None;
+      }
+
+  abbrev OfVersion : Version → Inquiry
+  OfVersion v =
+      record {
+        version = v;
+        depth = task.depth;
+        form = task.form;
+        queries = seat_queries helpers task.queries.items;
+        challenges = drawn wide x.seed;
+      }
+
+  module _ where
+    run_clause : JointClause (OfVersion (version_of wide)) silent
+        (task_counted wide silent wide_can deep statuses.BadSeed refl refl).0.lines
+    run_clause = (task_counted wide silent wide_can deep statuses.BadSeed refl refl).1
+
+  abbrev Few : Version → Type 0
+  Few v = All (λ q. OfKind v task.depth (legal task x.stream) q (λ kind. kind.CanBeCounted))
+      (seat_queries helpers task.queries.items) → (strategy : Strategy) → IsOfBytes strategy
+      → misled m61_modulus task.depth strategy
+      (all_asked v task.depth (legal task x.stream) (seat_queries helpers task.queries.items))
+      ≤ bounds (all_asked v task.depth (legal task x.stream)
+      (seat_queries helpers task.queries.items)) * m61_modulus ^
+      (length (seat_queries helpers task.queries.items) * task.depth - 1)
+
+  few_here : Few (version_of task)
+  few_here = subst Few (needed-seats task.depth helpers task.queries.items some) run_clause.few
+
+  pub joint_counted : (attempts : List Attempt) → AreAttempts helpers task x.seed x.stream attempts
+      → JointCountOnPanel helpers task x attempts
+  joint_counted attempts are = record {
+    few = few_here;
+    vector =
+        λ challenges is. record {
+          size = (run_clause.vector challenges is).size;
+          below = (run_clause.vector challenges is).below;
+        };
+    counted = λ challenges is strategy talk.
+        let fine =
+        subst (λ (o : Option (List ℕ)).
+        Fine (version_of task) task.depth (legal task x.stream)
+        (records_legal task.depth task.form x.stream)
+        (seats_written helpers task x attempts)
+        (seat_queries helpers task.queries.items)
+        (elim o [
+          | Some challenges ↦ cut task.depth challenges
+          | None ↦
+              []
+        ])) is (all_fine attempts are) in
+        misled_by (version_of task) task.depth (legal task x.stream)
+        (records_legal task.depth task.form x.stream) strategy
+        (seats_written helpers task x attempts) (seat_queries helpers task.queries.items)
+        [] challenges _ fine fits talk;
+  }

@@ -1,0 +1,50 @@
+-- What came of the query, and of its line.
+use Rattle.std.proofs.Common.{◌≡◌, Err, ap, refl}
+use Rattle.std.proofs.lemmas.Result.{err_from_is_err_and}
+use Rattle.sip_ports.proofs.FaultLemmas.{Rose-positive}
+use Rattle.sip_verifier.specs.declared.asker.Unanswered.TheVariants as unanswered
+use Rattle.sip_verifier.specs.declared.session.SessionFault.TheVariants as faults
+use Rattle.sip_verifier.specs.Given.{States}
+use Rattle.sip_verifier.specs.Questions.{asking}
+use Rattle.sip_session.proofs.Tries.{drop_cut_closed, fault_tried, line_cut}
+use Rattle.sip_session.proofs.asking.ask_helper.Goals as goal
+
+pub returns-in_err-on_report-in-Ok-clause-tries : goal.returns-in_err-on_report-in-Ok-clause-tries
+returns-in_err-on_report-in-Ok-clause-tries g c = λ stream ask all first.
+    let s = c.args.session.now in
+    let asks = rw c.in-Ok.is at (c.ask_next.ensures.asks stream ask all first) in
+    let p = err_from_is_err_and c.from_residual.result c.from_residual.ensures.1 in
+    let on = rw c.in_err-on_report-in-Ok.was at c.on_report.ensures in
+    rw (p.1, p.2) (line_cut (asking s.version s.depth stream) ask _ _ _ _ _ _ asks.answer c.write_line.result c.in_err-on_report-in-Ok.field-0.0 asks.answered (c.write_line.ensures.line s.version s.depth stream ask.0 asks.answer asks.states) on)
+
+pub returns-in_ok-on_report-in-Ok-clause-tries : goal.returns-in_ok-on_report-in-Ok-clause-tries
+returns-in_ok-on_report-in-Ok-clause-tries g c = λ stream ask all first.
+    let s = c.args.session.now in
+    let asks = rw c.in-Ok.is at (c.ask_next.ensures.asks stream ask all first) in
+    let wrote = rw c.in_ok-on_report-in-Ok.ensures at (c.write_line.ensures.line s.version s.depth stream ask.0 asks.answer asks.states) in
+    record { answer = asks.answer; answered = asks.answered; wrote = wrote }
+
+pub returns-in_err-on_report-in-Err-Rejected-clause-tries :
+    goal.returns-in_err-on_report-in-Err-Rejected-clause-tries
+returns-in_err-on_report-in-Err-Rejected-clause-tries g c = λ stream ask all first.
+    let s = c.args.session.now in
+    let asks = rw (c.in-Err-Rejected.is, c.in-Err-Rejected.field-0-is) at (c.ask_next.ensures.asks stream ask all first) in
+    let p = err_from_is_err_and c.from_residual-in_err-on_report-in-Err-Rejected.result c.from_residual-in_err-on_report-in-Err-Rejected.ensures.1 in
+    let on = rw c.in_err-on_report-in-Err-Rejected.was at c.on_report-in-Err-Rejected.ensures in
+    let kept = ap (λ (t : _). t.items) c.close_and_drop.ensures.talk in
+    rw (p.1, p.2) (drop_cut_closed (asking s.version s.depth stream) ask _ _ _ _ _ _ _ c.in-Err-Rejected.round c.in-Err-Rejected.reason c.write_dropped.result c.in_err-on_report-in-Err-Rejected.field-0.0 kept asks c.write_dropped.ensures.talk on)
+
+pub returns-in_ok-on_report-in-Err-Rejected-clause-tries :
+    goal.returns-in_ok-on_report-in-Err-Rejected-clause-tries
+returns-in_ok-on_report-in-Err-Rejected-clause-tries g c = λ stream ask all first.
+    let asks = rw (c.in-Err-Rejected.is, c.in-Err-Rejected.field-0-is) at (c.ask_next.ensures.asks stream ask all first) in
+    let wrote = rw c.in_ok-on_report-in-Err-Rejected.ensures at c.write_dropped.ensures.talk in
+    rw c.close_and_drop.ensures.talk (record { rejected = asks; wrote = wrote })
+
+pub returns-in-Err-Fault-clause-tries : goal.returns-in-Err-Fault-clause-tries
+returns-in-Err-Fault-clause-tries g c = λ stream ask all first.
+    let s = c.args.session.now in
+    let asks = rw (c.in-Err-Fault.is, c.in-Err-Fault.field-0-is) at (c.ask_next.ensures.asks stream ask all first) in
+    rw c.status_of_fault.ensures (fault_tried (asking s.version s.depth stream) ask _ _ _ _ _ (λ given. States c.ask_next.new.self given ask.0) c.in-Err-Fault.fault asks
+    (λ e. Rose-positive 0 0 (c.ask_next.ensures.cause (let a = c.in-Err-Fault.is in let b = c.in-Err-Fault.field-0-is in let whole : c.ask_next.result ≡ Err (unanswered.Fault faults.PeerFault) = cc in whole)) refl)
+    (λ e. Rose-positive 0 0 (c.ask_next.ensures.keep_cause (let a = c.in-Err-Fault.is in let b = c.in-Err-Fault.field-0-is in let whole : c.ask_next.result ≡ Err (unanswered.Fault faults.KeepFault) = cc in whole)) refl))

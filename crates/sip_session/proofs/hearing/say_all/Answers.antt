@@ -1,0 +1,20 @@
+use Rattle.std.proofs.Common.{Err, arith}
+use Rattle.std.proofs.lemmas.Result.{err_from_is_err_and}
+use Rattle.sip_wire.specs.Spelling.{spelling}
+use Rattle.sip_session.proofs.Places.{links_cut, links_more, on_all}
+use Rattle.sip_session.proofs.hearing.say_all.Goals as goal
+
+pub returns-in_err-say-clause-talks : goal.returns-in_err-say-clause-talks
+returns-in_err-say-clause-talks g c =
+    let p = err_from_is_err_and c.from_residual.result c.from_residual.ensures.1 in
+    rw p.1 (on_all _ _ (spelling c.args.version c.args.message.now) (Err p.0)
+    (links_cut (λ x. x.kept.talk.items) _ c.loop-place.links 0 c.loop-place.place
+    (spelling c.args.version c.args.message.now) c.in_err-say.field-0.0 p.0
+    c.loop-place.invariant (omega arith) (omega arith) c.say.new.link c.index-links-place.result
+    (rw c.in_err-say.was at c.say.ensures.talk)))
+
+pub loop-place-preserved : goal.loop-place-preserved
+loop-place-preserved g c =
+    links_more (λ x. x.kept.talk.items) _ c.loop-place.links 0 c.loop-place.place _
+    c.loop-place.invariant (omega arith) (omega arith) c.say.new.link c.index-links-place.result
+    (rw c.in_ok-say.was at c.say.ensures.talk)

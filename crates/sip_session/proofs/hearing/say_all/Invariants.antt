@@ -1,0 +1,10 @@
+-- The message was sent on the links up to this place.
+use Rattle.std.proofs.Common.{map}
+use Rattle.sip_ports.specs.Ports.{outs}
+use Rattle.sip_wire.specs.Spelling.{spelling}
+use Rattle.sip_session.proofs.Places.{SaidUpTo}
+use Rattle.sip_session.proofs.hearing.say_all.Given as goal
+
+abbrev pub invariant-loop-place : goal.invariant-loop-place
+invariant-loop-place g l = SaidUpTo (map (λ x. x.kept.talk.items) l.fn.links)
+    (map (λ x. x.kept.talk.items) l.links) 0 l.place (outs (spelling l.version l.message))

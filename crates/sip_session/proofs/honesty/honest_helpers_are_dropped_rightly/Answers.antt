@@ -1,0 +1,6 @@
+use Rattle.sip_session.proofs.HonestAttempts.{none_or_said}
+use Rattle.sip_session.proofs.HonestDropped.{dropped_rightly}
+use Rattle.sip_session.proofs.honesty.honest_helpers_are_dropped_rightly.Goals as goal
+
+pub returns : goal.returns
+returns c = λ helpers task x attempts status some most room can are asked ends. dropped_rightly helpers task x some most room can attempts are asked (none_or_said helpers task x attempts status ends)

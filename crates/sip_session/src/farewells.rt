@@ -1,0 +1,18 @@
+//! How the helpers of a panel are let go.
+
+ghost use Rattle.std.specs.Prelude.{◌≡◌, ◌<◌, All, length, map, None};
+
+use sip_duel::HelperLink;
+
+/// Closes each helper that is left, and drops it. There is a link at least.
+pub(crate) fn let_all_go(links: &mut [HelperLink])
+    requires { 0 < length links.old }
+    ensures gone { All (λ link. link.helper ≡ None) links.new }
+    ensures talks { map (λ l. l.kept.talk.items) links.new
+        ≡ map (λ l. l.kept.talk.items) links.old }
+    ensures count { length links.new ≡ length links.old }
+{
+    for place in 0..links.len() {
+        links[place].close_and_drop();
+    }
+}
