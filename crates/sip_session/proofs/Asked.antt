@@ -1,5 +1,5 @@
 -- Helpers asked in turn: which seats are passed over, and where each attempt leads, by links.
-use Rattle.std.proofs.Common.{◌≡◌, ℕ, zero, suc, ◌+◌, ◌-◌, ◌*◌, ◌<◌, ◌≤◌, Option, Some, Result, Ok, Err, List, [], ◌∷◌, length, map, set, get_or, drop, inl, inr, sym, ap, ◌∙◌, subst, arith, add-one, mul-le-mul_right, drop-drop, length-drop}
+use Rattle.std.proofs.Common.{◌≡◌, ℕ, zero, suc, ◌+◌, ◌-◌, ◌*◌, ◌<◌, ◌≤◌, Option, Some, Result, Ok, Err, List, [], ◌∷◌, length, map, set, get_or, drop, inl, inr, sym, ap, ◌∙◌, subst, arith, add-one, drop-drop, length-drop}
 use Rattle.std.specs.Prelude.{All, slice_get}
 use Rattle.std.proofs.lemmas.Bool.{cases_eq}
 use Rattle.std.proofs.lemmas.List.{drop-map, get_or-map, length-map}
@@ -32,9 +32,6 @@ due_split queries asked h less = go (queries - asked) (omega arith)
   where
     go : (left : ℕ) → left + asked ≡ queries → left * h + asked * h ≡ queries * h
     go left is = let e : left * h + asked * h ≡ (left + asked) * h = omega arith in e ∙ ap (λ n. n * h) is
-
-pub due_most : (queries asked h : ℕ) → (queries - asked) * h ≤ queries * h
-due_most queries asked h = mul-le-mul_right h (let e : queries - asked ≤ queries = omega arith in e)
 
 -- a query is left, so there is a seat for each helper
 pub due_least : (queries asked h : ℕ) → asked < queries → h ≤ (queries - asked) * h
@@ -88,10 +85,10 @@ tried_behind stream asks s later early n gone asked old new blank full r came ne
       seat.0,
       seat.3,
       subst (λ (v : Version). Tries (asking v s.depth stream) seat.0 (suc gone) (suc asked) old new blank full came) version
-      (subst (λ (d : ℕ). Tries (asking later.version d stream) seat.0 (suc gone) (suc asked) old new blank full came) depth
-      (subst (λ (r : Result helper_came.Came Status). Tries (asking later.version later.depth stream) seat.0 (suc gone) (suc asked) old new blank full r) went
-      (subst (λ (n : ℕ). Tries (asking later.version later.depth stream) seat.0 (suc gone) n old new blank full r) (add-one asked)
-      (subst (λ (n : ℕ). Tries (asking later.version later.depth stream) seat.0 n (asked + 1) old new blank full r) (add-one gone) tried)))),
+          (subst (λ (d : ℕ). Tries (asking later.version d stream) seat.0 (suc gone) (suc asked) old new blank full came) depth
+          (subst (λ (r : Result helper_came.Came Status). Tries (asking later.version later.depth stream) seat.0 (suc gone) (suc asked) old new blank full r) went
+          (subst (λ (n : ℕ). Tries (asking later.version later.depth stream) seat.0 (suc gone) n old new blank full r) (add-one asked)
+          (subst (λ (n : ℕ). Tries (asking later.version later.depth stream) seat.0 n (asked + 1) old new blank full r) (add-one gone) tried)))),
     )
 
 -- what came of asking at the seat whose turn it is
