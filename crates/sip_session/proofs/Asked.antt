@@ -1,5 +1,5 @@
 -- Helpers asked in turn: which seats are passed over, and where each attempt leads, by links.
-use Rattle.std.proofs.Common.{◌≡◌, ℕ, zero, suc, ◌+◌, ◌-◌, ◌*◌, ◌<◌, ◌≤◌, Option, Some, Result, Ok, Err, List, [], ◌∷◌, length, map, set, get_or, drop, inl, inr, sym, ap, ◌∙◌, subst, arith, add-one, mul-le-mul_right, drop-drop, length-drop}
+use Rattle.std.proofs.Common.{◌≡◌, ℕ, zero, suc, ◌+◌, ◌-◌, ◌*◌, ◌<◌, ◌≤◌, Option, Some, Result, Ok, Err, List, [], ◌∷◌, length, map, set, get_or, drop, inl, inr, sym, ap, ◌∙◌, subst, arith, add-one, drop-drop, length-drop}
 use Rattle.std.specs.Prelude.{All, slice_get}
 use Rattle.std.proofs.lemmas.Bool.{cases_eq}
 use Rattle.std.proofs.lemmas.List.{drop-map, get_or-map, length-map}
@@ -32,9 +32,6 @@ due_split queries asked h less = go (queries - asked) (omega arith)
   where
     go : (left : ℕ) → left + asked ≡ queries → left * h + asked * h ≡ queries * h
     go left is = let e : left * h + asked * h ≡ (left + asked) * h = omega arith in e ∙ ap (λ n. n * h) is
-
-pub due_most : (queries asked h : ℕ) → (queries - asked) * h ≤ queries * h
-due_most queries asked h = mul-le-mul_right h (let e : queries - asked ≤ queries = omega arith in e)
 
 -- a query is left, so there is a seat for each helper
 pub due_least : (queries asked h : ℕ) → asked < queries → h ≤ (queries - asked) * h
@@ -77,22 +74,31 @@ stand_behind stream depth depth' all left n same is stand =
     subst (λ d. All (StandsFor d stream) left) (sym same) (subst (All (StandsFor depth stream)) (sym is) (All-drop (StandsFor depth stream) n all stand))
 
 -- what came of asking at the first seat behind those that were passed over
-pub seat_tried : (stream : List Update) (asks : List (Query × List ℕ)) (s later : Sitting) (early n gone asked : ℕ) (old new blank full : Option (List TalkEvent)) (r came : Result helper_came.Came Status)
+tried_behind : (stream : List Update) (asks : List (Query × List ℕ)) (s later : Sitting) (early n gone asked : ℕ) (old new blank full : Option (List TalkEvent)) (r came : Result helper_came.Came Status)
     → later.left ≡ drop early s.left → later.version ≡ s.version → later.depth ≡ s.depth → All (StandsFor s.depth stream) s.left → asks_left (drop early s.left) ≡ drop n asks → early < length s.left → r ≡ came
     → ((ask : Query × List ℕ) → All (StandsFor later.depth stream) later.left → IsFirst (remaining_of later) ask → Tries (asking later.version later.depth stream) ask (gone + 1) (asked + 1) old new blank full r)
     → (ask : Query × List ℕ) × (slice_get asks n ≡ Some ask) × Tries (asking s.version s.depth stream) ask (suc gone) (suc asked) old new blank full came
-seat_tried stream asks s later early n gone asked old new blank full r came next version depth stand is less went tries =
+tried_behind stream asks s later early n gone asked old new blank full r came next version depth stand is less went tries =
     let seat = at_seat s.left early n asks is less in
     let stands = stand_behind stream s.depth later.depth s.left later.left early depth next stand in
     let tried = tries seat.0 stands (record { more = seat.1; first = ap asks_left next ∙ seat.2 }) in (
       seat.0,
       seat.3,
       subst (λ (v : Version). Tries (asking v s.depth stream) seat.0 (suc gone) (suc asked) old new blank full came) version
-      (subst (λ (d : ℕ). Tries (asking later.version d stream) seat.0 (suc gone) (suc asked) old new blank full came) depth
-      (subst (λ (r : Result helper_came.Came Status). Tries (asking later.version later.depth stream) seat.0 (suc gone) (suc asked) old new blank full r) went
-      (subst (λ (n : ℕ). Tries (asking later.version later.depth stream) seat.0 (suc gone) n old new blank full r) (add-one asked)
-      (subst (λ (n : ℕ). Tries (asking later.version later.depth stream) seat.0 n (asked + 1) old new blank full r) (add-one gone) tried)))),
+          (subst (λ (d : ℕ). Tries (asking later.version d stream) seat.0 (suc gone) (suc asked) old new blank full came) depth
+          (subst (λ (r : Result helper_came.Came Status). Tries (asking later.version later.depth stream) seat.0 (suc gone) (suc asked) old new blank full r) went
+          (subst (λ (n : ℕ). Tries (asking later.version later.depth stream) seat.0 (suc gone) n old new blank full r) (add-one asked)
+          (subst (λ (n : ℕ). Tries (asking later.version later.depth stream) seat.0 n (asked + 1) old new blank full r) (add-one gone) tried)))),
     )
+
+-- what came of asking at the seat whose turn it is
+pub seat_tried : (stream : List Update) (asks : List (Query × List ℕ)) (s later : Sitting) (h queries gone asked : ℕ) (old new blank full : Option (List TalkEvent)) (r came : Result helper_came.Came Status)
+    → gone < h → asked < queries → (queries - asked) * h - gone ≤ length s.left → later.left ≡ drop (length s.left - ((queries - asked) * h - gone)) s.left → later.version ≡ s.version → later.depth ≡ s.depth
+    → All (StandsFor s.depth stream) s.left → asks_left (drop (length s.left - ((queries - asked) * h - gone)) s.left) ≡ drop (asked * h + gone) asks → r ≡ came
+    → ((ask : Query × List ℕ) → All (StandsFor later.depth stream) later.left → IsFirst (remaining_of later) ask → Tries (asking later.version later.depth stream) ask (gone + 1) (asked + 1) old new blank full r)
+    → (ask : Query × List ℕ) × (slice_get asks (asked * h + gone) ≡ Some ask) × Tries (asking s.version s.depth stream) ask (suc gone) (suc asked) old new blank full came
+seat_tried stream asks s later h queries gone asked old new blank full r came less more enough next version depth stand is went tries =
+    tried_behind stream asks s later _ (asked * h + gone) gone asked old new blank full r came next version depth stand is (omega (arith, due_least queries asked h more, less, enough)) went tries
 
 -- what is left behind the attempt, and those that were passed over
 pub left_behind : (all skipped : List Seated) (after : List (Query × List ℕ)) (early : ℕ) → skipped ≡ drop early all → after ≡ drop 1 (asks_left skipped) → after ≡ drop (early + 1) (asks_left all)
@@ -109,9 +115,14 @@ module _ (all left : List Seated) (queries asked gone h p : ℕ) (some : asked �
   pub left_enough : (queries - asked) * h - gone ≤ length left
   left_enough = omega (arith, left_are, due_split queries asked h some)
 
-  -- those before the one whose turn it is were passed over, or are
-  pub passed_sum : gone ≤ (queries - asked) * h → p + (length left - ((queries - asked) * h - gone)) ≡ asked * h + gone
-  passed_sum less = omega (arith, left_are, due_split queries asked h some)
+  module _ (less : gone < h) (more : asked < queries) where
+    -- those before the one whose turn it is were passed over, or are
+    pub passed_sum : p + (length left - ((queries - asked) * h - gone)) ≡ asked * h + gone
+    passed_sum = omega (arith, left_are, due_split queries asked h some, due_least queries asked h more, less)
+
+    -- so that one is the next
+    pub next_asks : asks_left (drop (length left - ((queries - asked) * h - gone)) left) ≡ drop (asked * h + gone) (asks_left all)
+    next_asks = behind_asks all left p (length left - ((queries - asked) * h - gone)) (asked * h + gone) is passed_sum
 
 -- ---- from the beginning on
 

@@ -1,6 +1,6 @@
 //! The queries of a panel, each asked of one helper after another.
 
-ghost use Rattle.std.specs.Prelude.{◌≡◌, ◌≢◌, ◌⊎◌, ◌+◌, ◌*◌, ◌-◌, ◌<◌, ◌≤◌, ℕ, suc, List, All, false, length, drop, map, set, slice_index_or, IfOk, OnOk, Option, Some, []};
+ghost use Rattle.std.specs.Prelude.{◌≡◌, ◌+◌, ◌*◌, ◌-◌, ◌<◌, ◌≤◌, ℕ, List, All, false, length, drop, map, IfOk, OnOk, Option, Some};
 ghost use Rattle.sip_ports.specs.Ports.{Lasts};
 ghost use Rattle.sip_ports.specs.declared.port.TalkEvent.{TalkEvent as AnyEvent};
 ghost use Rattle.sip_vector.specs.declared.query.Query.{Query as AnyQuery};

@@ -1,12 +1,12 @@
 -- Each attempt leads on, until all queries were answered or the panel halts.
-use Rattle.std.proofs.Common.{◌≡◌, ◌+◌, ◌-◌, ◌*◌, ◌≤◌, ℕ, Ok, Err, List, length, map, drop, refl, ap, sym, ◌∙◌, subst, arith, rules, drop-drop}
+use Rattle.std.proofs.Common.{◌≡◌, ◌<◌, ◌+◌, ◌-◌, ◌*◌, ◌≤◌, ℕ, Ok, Err, List, length, map, drop, refl, ap, sym, ◌∙◌, subst, arith, rules, drop-drop}
 use Rattle.std.proofs.lemmas.List.{length-map}
 use Rattle.std.proofs.lemmas.Result.{err_from_is_err_and}
 use Rattle.sip_vector.specs.declared.query.Query.{Query}
 use Rattle.sip_wire.specs.Table.{most_queries}
 use Rattle.sip_verifier.specs.Sittings.{asks_left}
 use Rattle.sip_session.specs.inside.Trying.{TrailsTo, turn_at}
-use Rattle.sip_session.proofs.Asked.{behind_asks, due_least, further, led_on, left_enough, passed_sum}
+use Rattle.sip_session.proofs.Asked.{further, led_on, left_enough, next_asks, passed_sum}
 use Rattle.sip_session.proofs.Attempts.{no_attempt}
 use Rattle.sip_session.proofs.asking.ask_all.Goals as goal
 
@@ -49,15 +49,15 @@ loop-at-preserved g c =
     let left = c.loop-at.session.left in
     let at = c.loop-at.at in
     let nearer = rw (c.in_ok-at.was, i.count) at c.ask_at.ensures.nearer in
-    let due : at.gone ≤ (c.args.queries - at.asked) * h = omega (arith, due_least c.args.queries at.asked h (omega arith), i.gone) in
+    let more : at.asked < c.args.queries = omega arith in
     let early = length left - ((c.args.queries - at.asked) * h - at.gone) in
-    let sum = passed_sum all.left left c.args.queries at.asked at.gone h i.passed.0 i.asked c.requires.left i.passed.1 i.passed.2 due in
+    let sum = passed_sum all.left left c.args.queries at.asked at.gone h i.passed.0 i.asked c.requires.left i.passed.1 i.passed.2 i.gone more in
     let next = rw i.count at c.ask_at.ensures.next in
     record {
       trail = λ stream stand.
           led_on all.version c.loop-at.session.version all.depth c.loop-at.session.depth stream h (length c.loop-at.links) c.args.queries (asks_left all.left) (map (λ l. l.kept.talk.items) c.args.links.now) (map (λ l. l.kept.talk.items) c.loop-at.links) (map (λ l. l.kept.talk.items) c.ask_at.new.links) (g.K.Sink.talk c.args.report.now) (g.K.Sink.talk c.loop-at.report) (g.K.Sink.talk c.ask_at.new.report) at.gone at.asked (Ok c.in_ok-at.at) i.version i.depth i.count (i.trail stream stand)
           (rw c.in_ok-at.was at (c.ask_at.ensures.leads stream (asks_left all.left) (map (λ l. l.kept.talk.items) c.args.links.now) (g.K.Sink.talk c.args.report.now) (i.stands stream stand)
-          (rw i.count (behind_asks all.left left i.passed.0 early (at.asked * h + at.gone) i.passed.2 sum))
+          (rw i.count (next_asks all.left left c.args.queries at.asked at.gone h i.passed.0 i.asked c.requires.left i.passed.1 i.passed.2 i.gone more))
           (length-map c.args.links.now (λ l. l.kept.talk.items) ∙ sym i.count)));
       passed = (
         i.passed.0 + (early + 1),
@@ -81,14 +81,12 @@ returns-in_err-at-clause-trails g c = λ stream stand.
     let h = length c.args.links.now in
     let left = c.loop-at.session.left in
     let at = c.loop-at.at in
-    let due : at.gone ≤ (c.args.queries - at.asked) * h = omega (arith, due_least c.args.queries at.asked h (omega arith), i.gone) in
-    let early = length left - ((c.args.queries - at.asked) * h - at.gone) in
-    let sum = passed_sum all.left left c.args.queries at.asked at.gone h i.passed.0 i.asked c.requires.left i.passed.1 i.passed.2 due in
+    let more : at.asked < c.args.queries = omega arith in
     let p = err_from_is_err_and c.from_residual.result c.from_residual.ensures.1 in
     rw (p.1, p.2)
     (led_on all.version c.loop-at.session.version all.depth c.loop-at.session.depth stream h (length c.loop-at.links) c.args.queries (asks_left all.left) (map (λ l. l.kept.talk.items) c.args.links.now) (map (λ l. l.kept.talk.items) c.loop-at.links) (map (λ l. l.kept.talk.items) c.ask_at.new.links) (g.K.Sink.talk c.args.report.now) (g.K.Sink.talk c.loop-at.report) (g.K.Sink.talk c.ask_at.new.report) at.gone at.asked (Err c.in_err-at.field-0.0) i.version i.depth i.count (i.trail stream stand)
     (rw c.in_err-at.was at (c.ask_at.ensures.leads stream (asks_left all.left) (map (λ l. l.kept.talk.items) c.args.links.now) (g.K.Sink.talk c.args.report.now) (i.stands stream stand)
-    (rw i.count (behind_asks all.left left i.passed.0 early (at.asked * h + at.gone) i.passed.2 sum))
+    (rw i.count (next_asks all.left left c.args.queries at.asked at.gone h i.passed.0 i.asked c.requires.left i.passed.1 i.passed.2 i.gone more))
     (length-map c.args.links.now (λ l. l.kept.talk.items) ∙ sym i.count))))
 
 pub returns-clause-trails : goal.returns-clause-trails

@@ -1,9 +1,9 @@
 -- What came of the attempt is added to those before it.
-use Rattle.std.proofs.Common.{◌≡◌, ◌+◌, ◌*◌, Ok, length, refl, ap, ◌∙◌, arith, add-one}
+use Rattle.std.proofs.Common.{◌≡◌, Ok, length, refl, ap, ◌∙◌, arith, add-one}
 use Rattle.std.proofs.lemmas.Result.{err_from_is_err_and}
 use Rattle.sip_session.specs.declared.asking.Came.{Came}
 use Rattle.sip_session.specs.declared.asking.Came.TheVariants as cames
-use Rattle.sip_session.proofs.Asked.{asked_answered, asked_dropped, asked_out, asked_stopped, due_least, left_behind, seat_tried}
+use Rattle.sip_session.proofs.Asked.{asked_answered, asked_dropped, asked_out, asked_stopped, left_behind, seat_tried}
 use Rattle.sip_session.proofs.asking.ask_at.Goals as goal
 
 pub returns-in_err-ask_helper-clause-leads : goal.returns-in_err-ask_helper-clause-leads
@@ -11,9 +11,8 @@ returns-in_err-ask_helper-clause-leads g c = λ stream asks old blank stand give
     let s = c.args.session.now in
     let h = length c.args.links.now in
     let at = c.args.at in
-    let least = due_least c.args.queries at.asked h c.requires.asked in
     let next = rw c.left.ensures at c.skip_seats.ensures.next in
-    let t = seat_tried stream asks s c.skip_seats.new.session _ (at.asked * h + at.gone) at.gone at.asked _ _ _ _ c.ask_helper.result _ next c.skip_seats.ensures.version c.skip_seats.ensures.depth stand given (omega (arith, least, c.requires.gone, c.requires.left)) c.in_err-ask_helper.was (c.ask_helper.ensures.tries stream) in
+    let t = seat_tried stream asks s c.skip_seats.new.session h c.args.queries at.gone at.asked _ _ _ _ c.ask_helper.result _ c.requires.gone c.requires.asked c.requires.left next c.skip_seats.ensures.version c.skip_seats.ensures.depth stand given c.in_err-ask_helper.was (c.ask_helper.ensures.tries stream) in
     let p = err_from_is_err_and c.from_residual.result c.from_residual.ensures.1 in
     rw (p.1, p.2) (asked_stopped (λ l. l.kept.talk.items) s.version s.depth stream h c.args.queries asks old c.args.links.now blank _ _ at.gone at.asked to size refl c.requires.gone c.requires.asked t.0 t.1 c.ask_helper.new.link c.index-links-at.result c.in_err-ask_helper.field-0.0 t.2)
 
@@ -28,10 +27,9 @@ returns-in-Answered-clause-leads g c = λ stream asks old blank stand given size
     let s = c.args.session.now in
     let h = length c.args.links.now in
     let at = c.args.at in
-    let least = due_least c.args.queries at.asked h c.requires.asked in
     let next = rw c.left.ensures at c.skip_seats.ensures.next in
     let same : c.ask_helper.result ≡ Ok cames.Answered = c.in_ok-ask_helper.was ∙ ap (λ (v : Came). Ok v) c.in-Answered.is in
-    let t = seat_tried stream asks s c.skip_seats.new.session _ (at.asked * h + at.gone) at.gone at.asked _ _ _ _ c.ask_helper.result _ next c.skip_seats.ensures.version c.skip_seats.ensures.depth stand given (omega (arith, least, c.requires.gone, c.requires.left)) same (c.ask_helper.ensures.tries stream) in
+    let t = seat_tried stream asks s c.skip_seats.new.session h c.args.queries at.gone at.asked _ _ _ _ c.ask_helper.result _ c.requires.gone c.requires.asked c.requires.left next c.skip_seats.ensures.version c.skip_seats.ensures.depth stand given same (c.ask_helper.ensures.tries stream) in
     rw (add-one at.asked) (asked_answered (λ l. l.kept.talk.items) s.version s.depth stream h c.args.queries asks old c.args.links.now blank _ _ at.gone at.asked to size refl c.requires.gone c.requires.asked t.0 t.1 c.ask_helper.new.link c.index-links-at.result t.2)
 
 pub returns-in-Answered-clause-next : goal.returns-in-Answered-clause-next
@@ -45,10 +43,9 @@ returns-then-at-helpers-clause-leads g c = λ stream asks old blank stand given 
     let s = c.args.session.now in
     let h = length c.args.links.now in
     let at = c.args.at in
-    let least = due_least c.args.queries at.asked h c.requires.asked in
     let next = rw c.left.ensures at c.skip_seats.ensures.next in
     let same : c.ask_helper.result ≡ Ok (cames.Dropped c.in-Dropped.round c.in-Dropped.reason) = c.in_ok-ask_helper.was ∙ ap (λ (v : Came). Ok v) c.in-Dropped.is in
-    let t = seat_tried stream asks s c.skip_seats.new.session _ (at.asked * h + at.gone) at.gone at.asked _ _ _ _ c.ask_helper.result _ next c.skip_seats.ensures.version c.skip_seats.ensures.depth stand given (omega (arith, least, c.requires.gone, c.requires.left)) same (c.ask_helper.ensures.tries stream) in
+    let t = seat_tried stream asks s c.skip_seats.new.session h c.args.queries at.gone at.asked _ _ _ _ c.ask_helper.result _ c.requires.gone c.requires.asked c.requires.left next c.skip_seats.ensures.version c.skip_seats.ensures.depth stand given same (c.ask_helper.ensures.tries stream) in
     rw (add-one at.asked) (asked_out (λ l. l.kept.talk.items) s.version s.depth stream h c.args.queries asks old c.args.links.now blank _ _ at.gone at.asked to size refl c.requires.gone c.requires.asked t.0 t.1 c.ask_helper.new.link c.index-links-at.result c.in-Dropped.round c.in-Dropped.reason t.2 (omega arith))
 
 pub returns-then-at-helpers-clause-next : goal.returns-then-at-helpers-clause-next
@@ -62,10 +59,9 @@ returns-else-at-helpers-clause-leads g c = λ stream asks old blank stand given 
     let s = c.args.session.now in
     let h = length c.args.links.now in
     let at = c.args.at in
-    let least = due_least c.args.queries at.asked h c.requires.asked in
     let next = rw c.left.ensures at c.skip_seats.ensures.next in
     let same : c.ask_helper.result ≡ Ok (cames.Dropped c.in-Dropped.round c.in-Dropped.reason) = c.in_ok-ask_helper.was ∙ ap (λ (v : Came). Ok v) c.in-Dropped.is in
-    let t = seat_tried stream asks s c.skip_seats.new.session _ (at.asked * h + at.gone) at.gone at.asked _ _ _ _ c.ask_helper.result _ next c.skip_seats.ensures.version c.skip_seats.ensures.depth stand given (omega (arith, least, c.requires.gone, c.requires.left)) same (c.ask_helper.ensures.tries stream) in
+    let t = seat_tried stream asks s c.skip_seats.new.session h c.args.queries at.gone at.asked _ _ _ _ c.ask_helper.result _ c.requires.gone c.requires.asked c.requires.left next c.skip_seats.ensures.version c.skip_seats.ensures.depth stand given same (c.ask_helper.ensures.tries stream) in
     rw (add-one at.gone) (asked_dropped (λ l. l.kept.talk.items) s.version s.depth stream h c.args.queries asks old c.args.links.now blank _ _ at.gone at.asked to size refl c.requires.gone c.requires.asked t.0 t.1 c.ask_helper.new.link c.index-links-at.result c.in-Dropped.round c.in-Dropped.reason t.2)
 
 pub returns-else-at-helpers-clause-next : goal.returns-else-at-helpers-clause-next
