@@ -103,7 +103,8 @@ def may_be_made(name):
 def to_of(words):
     """The name of the file that these words make, if they make one."""
     words = behind_progress(words)
-    at = {b"verify": 4, b"help": 2}.get(words[0] if words else b"")
+    places = {b"verify": 4, b"lookup": 4, b"moments": 4, b"help": 2, b"helplook": 2, b"helpmom": 2}
+    at = places.get(words[0] if words else b"")
     return words[at] if at and len(words) > at else None
 
 
