@@ -191,7 +191,7 @@ POWERS = [
     ),
     bytes.fromhex("250020 1fffffffffffffe4 0000000000000000 0000000000000000 0000000000000000"),
 ]
-BEFORE, ASK_NONE = bytes.fromhex("210009 02 0000000000000003"), bytes.fromhex("220009 00") + bytes(8)
+BEFORE, NONE = bytes.fromhex("210009 02 0000000000000003"), bytes.fromhex("220009 00") + bytes(8)
 
 # A helper, what it hears, what it writes, and how its talk ends: with the place of a bad frame.
 TALKS = [
@@ -202,7 +202,7 @@ TALKS = [
         ("Served", ""),
     ),
     ("helplook", BEGUN + ASK_NEXT + ASK_SUB, FOUND + SHOWN[0], ("PeerClosed", "Closed")),
-    ("helplook", OPEN + ENDS + BEFORE, ASK_NONE, ("PeerClosed", "Closed")),
+    ("helplook", OPEN + ENDS + BEFORE, NONE, ("PeerClosed", "Closed")),
     ("helplook", BEGUN + BYE, b"", ("BadFrame", "BadKind")),
     ("helplook", BEGUN + ASK_SUB, b"", ("BadFrame", "BadKind")),
     ("helplook", BEGUN + ASK_CUBES, b"", ("BadFrame", "BadKind")),
@@ -261,7 +261,7 @@ RUNS = [
     (
         [b"lookup", b"2", b"pred:3"],
         b"",
-        ASK_NONE + 2 * bytes.fromhex("14000100"),
+        NONE + 2 * bytes.fromhex("14000100"),
         (
             "Accepted",
             "",

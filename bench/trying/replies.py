@@ -125,7 +125,8 @@ def stuffed(chance, verb, depth, lo, question, messages):
     parts = honest.cut(rows, chance.choice((512, 511, 256)))
     version = version_needed(depth, [question])
     data = b"".join(
-        spelling(message, version) for message in [*messages, *(("Entries", part) for part in parts)]
+        spelling(message, version)
+        for message in [*messages, *(("Entries", part) for part in parts)]
     )
     words = words_of(verb, "text", depth, [question])
     return Case(words, {"stream": record((0, lo, 1), "text"), "seed": chance.seed_bytes()}, data)
