@@ -87,7 +87,8 @@ class Chances(random.Random):
             side, most = self.randrange(2), self.choice(ROOMY) + self.choice((0, 0, 1))
             short = most - vectors(updates)[side].weight
             if short > 0:
-                updates.append((side, self.choice(self.items(depth)), self.choice((1, -1)) * short))
+                items = [item for _, item, _ in updates[:20]] + self.items(depth)
+                updates.append((side, self.choice(items), self.choice((1, -1)) * short))
         return updates
 
     def ends(self, entries, depth):
@@ -136,9 +137,10 @@ class Chances(random.Random):
 
     def moment(self, both, _):
         side, degrees = self.randrange(2), range(3, 9)
-        fitting = [degree for degree in degrees if both[side].weight**degree <= HALF]
-        if not fitting or self.one_in(40):
-            fitting = degrees
+        high = [degree for degree in degrees if both[side].weight**degree > HALF]
+        fitting = [degree for degree in degrees if degree not in high]
+        if not fitting or high and self.one_in(12):
+            fitting = high[:1]
         return Question("moment", side, degree=self.choice(fitting))
 
     def other(self, question, both, depth):

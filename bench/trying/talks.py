@@ -84,6 +84,10 @@ def changed(chance, messages, depth):
     """A talk with one thing changed."""
     messages = list(messages)
     at = chance.randrange(len(messages))
+    if chance.one_in(3):
+        # Challenges are the most of a talk.
+        others = [at for at, message in enumerate(messages) if message[0] != "Reveal"]
+        at = chance.choice(others or [at])
     way = chance.choice(
         ("drop", "double", "swap", "number", "number", "insert", "insert", "ahead", "end")
     )
@@ -102,6 +106,8 @@ def changed(chance, messages, depth):
         del messages[at:]
     elif messages[at][0] == "Query":
         messages[at] = "Query", question_changed(chance, messages[at][1])
+    elif messages[at][0] in ("AskLook", "AskMoment") and chance.one_in(2):
+        messages[at] = ask_changed(chance, messages[at], depth)
     else:
         messages[at] = changes.message_changed(chance, messages[at])
     return messages or [("Bye",)]
@@ -111,6 +117,18 @@ def question_changed(chance, question):
     """A query with another number, which may fit no depth, or may have no spelling."""
     field = chance.choice(("side", "lo", "hi", "at_least", "num", "den"))
     return question._replace(**{field: changes.near(chance, getattr(question, field))})
+
+
+def ask_changed(chance, message, depth):
+    """An Ask with another number, at the edge of what is allowed."""
+    name, first, second = message
+    if name == "AskLook":
+        edges = (0, 4, 255), (2**depth - 1, 2**depth, 2**64 - 1)
+    else:
+        edges = (1 - first, 2, 255), (2, 3, 8, 9, 255)
+    if chance.one_in(2):
+        return name, chance.choice(edges[0]), second
+    return name, first, chance.choice(edges[1])
 
 
 def stray(chance, depth):
