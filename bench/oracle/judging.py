@@ -11,9 +11,9 @@ from .questions import LOOKUPS
 
 
 class Verdict(NamedTuple):
-    """`said` is None where the replies are rejected. `asked` are the messages that the verifier sends,
-    `ends` is where the reply to each of them ends, if it is whole and passes its tests, and `taken`
-    where the bytes end that show the verdict."""
+    """`said` is None where the replies are rejected. `asked` are the messages that the verifier
+    sends, `ends` is where the reply to each of them ends, if it is whole and passes its tests, and
+    `taken` where the bytes end that show the verdict."""
 
     said: object
     round: int
