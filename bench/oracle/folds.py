@@ -55,6 +55,11 @@ def extension(vector, challenges):
     return folded(vector.entries, line, challenges).get(0, 0) % P
 
 
+def value(coefficients, x):
+    """That of a polynomial."""
+    return sum(c * pow(x, m, P) for m, c in enumerate(coefficients)) % P
+
+
 def interval(challenges, lo, hi):
     """The extension of the list that is 1 from lo to hi and 0 elsewhere: a sum over its greatest
     aligned blocks, of each the product of the factors of the bits above it, since the factors of a

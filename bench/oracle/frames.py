@@ -10,6 +10,7 @@ KINDS = {
     0x01: "Open", 0x02: "Updates", 0x03: "EndStream", 0x04: "Query", 0x05: "Reveal", 0x06: "Bye",
     0x11: "Claim", 0x12: "Poly", 0x13: "Entries", 0x14: "Siblings", 0x15: "Leaves", 0x16: "Nodes",
     0x17: "LevelEnd", 0x18: "Refuse",
+    0x21: "AskLook", 0x22: "Found", 0x23: "End", 0x24: "AskMoment", 0x25: "Power",
 }  # fmt: skip
 CODES = {name: code for code, name in KINDS.items()}
 
@@ -24,6 +25,10 @@ PLACES = {
     "Poly": {"Poly", "Refuse"},
     "Leaves": {"Leaves", "LevelEnd", "Refuse"},
     "Nodes": {"Nodes", "LevelEnd", "Refuse"},
+    "AskedLook": {"AskLook", "End"},
+    "Found": {"Found", "Refuse"},
+    "AskedMoment": {"AskMoment", "End"},
+    "Power": {"Power", "Refuse"},
 }
 
 # The kinds of query by their codes.
@@ -40,6 +45,14 @@ ROWS = {
     "Leaves": (("item", "whole"), 512),
     "Nodes": (("item", "whole", "whole"), 256),
 }
+
+# The bytes of each number of a message that is a few numbers. A Power has one element more than its
+# degree.
+NUMBERS = {
+    "Open": (1, 1), "EndStream": (), "Reveal": (8,), "Bye": (), "Claim": (8,), "Poly": (8, 8, 8),
+    "LevelEnd": (), "Refuse": (1,), "AskLook": (1, 8), "Found": (1, 8), "End": (),
+    "AskMoment": (1, 1),
+}  # fmt: skip
 
 
 class Fault(Exception):
@@ -84,17 +97,17 @@ def body_of(message, version):
         return low(len(rows), 2) + b"".join(
             low(x, size) for row in rows for x, size in zip(row, sizes)
         )
-    if name == "Open":
-        return low(fields[0], 1) + low(fields[1], 1)
     if name == "Query":
         return query_body(fields[0], version)
     if name == "Siblings":
         left, right = fields
         flags = (left is not None) + 2 * (right is not None)
         return bytes([flags]) + b"".join(low(x, 8) for x in fields if x is not None)
-    if name == "Refuse":
-        return low(fields[0], 1)
-    return b"".join(low(x, 8) for x in fields)
+    return b"".join(low(x, size) for x, size in zip(fields, numbers(name, len(fields) - 1)))
+
+
+def numbers(name, degree):
+    return (8,) * (degree + 1) if name == "Power" else NUMBERS[name]
 
 
 def spelling(message, version):
@@ -102,18 +115,17 @@ def spelling(message, version):
     return bytes([CODES[message[0]]]) + low(len(body), 2) + body
 
 
-def has_length(name, length, version):
+def has_length(name, length, version, degree):
     """Whether a body of this kind may have this length."""
     if name in ROWS:
         layout, most = ROWS[name]
         row = sum(width(field, version) for field in layout)
         return length >= 2 and (length - 2) % row == 0 and 1 <= (length - 2) // row <= most
-    lengths = {
-        "Open": (2,), "EndStream": (0,), "Reveal": (8,), "Bye": (0,), "Claim": (8,), "Poly": (24,),
-        "Siblings": (1, 9, 17), "LevelEnd": (0,), "Refuse": (1,),
-        "Query": (1, 2, 9, 10) if version == 1 else (1, 2, 10, 17, 18),
-    }  # fmt: skip
-    return length in lengths[name]
+    if name == "Siblings":
+        return length in (1, 9, 17)
+    if name == "Query":
+        return length in ((1, 2, 9, 10) if version == 1 else (1, 2, 10, 17, 18))
+    return length == sum(numbers(name, degree))
 
 
 def query_length(kind, version):
@@ -177,18 +189,18 @@ def message_of(name, body, version):
     """The message of a body whose length and count are right, whatever its numbers are."""
     if name in ROWS:
         return name, rows_of(name, body, version)
-    if name == "Open":
-        return name, body[0], body[1]
     if name == "Query":
         return name, question_of(body, version)
     if name == "Siblings":
-        numbers = [whole(body[at : at + 8]) for at in range(1, len(body), 8)]
-        return name, numbers[0] if body[0] & 1 else None, numbers[-1] if body[0] & 2 else None
+        given = [whole(body[at : at + 8]) for at in range(1, len(body), 8)]
+        return name, given[0] if body[0] & 1 else None, given[-1] if body[0] & 2 else None
     if name == "Claim":
         return name, signed(body)
-    if name == "Refuse":
-        return name, body[0]
-    return name, *(whole(body[at : at + 8]) for at in range(0, len(body), 8))
+    fields, at = [], 0
+    for size in numbers(name, len(body) // 8 - 1):
+        fields.append(whole(body[at : at + size]))
+        at += size
+    return name, *fields
 
 
 def is_question(question):
@@ -224,7 +236,12 @@ def has_numbers(message):
         return all(hash_ < P and count < P for _, hash_, count in fields[0])
     if name == "Refuse":
         return 1 <= fields[0] <= 4
-    # Elements: those of Reveal, Poly and Siblings.
+    if name == "Found":
+        flag, index = fields
+        return flag == 1 or flag == index == 0
+    if name in ("AskLook", "AskMoment"):
+        return True
+    # Elements: those of Reveal, Poly, Power and Siblings.
     return all(x is None or x < P for x in fields)
 
 
@@ -237,16 +254,16 @@ def fault_end(data, at, reason):
     return at + 3 + whole(data[at + 1 : at + 3])
 
 
-def read(data, at, place, version):
+def read(data, at, place, version, degree=None):
     """The message that the bytes from here on begin with, and where the next one begins; else the
-    first fault."""
+    first fault. A degree is that of the polynomials at the place Power."""
     if len(data) - at < 3:
         raise Fault("Closed")
     name = KINDS.get(data[at])
     if name not in PLACES[place]:
         raise Fault("BadKind")
     length = whole(data[at + 1 : at + 3])
-    if not has_length(name, length, version):
+    if not has_length(name, length, version, degree):
         raise Fault("BadLength")
     body = data[at + 3 : at + 3 + length]
     if len(body) < length:

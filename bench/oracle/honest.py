@@ -1,5 +1,7 @@
 """The replies of an honest helper: of each, the list of its messages."""
 
+from math import comb
+
 from . import folds
 from .field import P
 
@@ -10,7 +12,10 @@ def replies(question, both, depth, challenges):
     code = question.refusal(both)
     if code:
         return iter([[("Refuse", code)]])
-    kinds = {"sub": entries, "heavy": counted, "share": counted}
+    kinds = {
+        "sub": entries, "heavy": counted, "share": counted, "moment": powers,
+        "index": looked, "pred": looked, "succ": looked,
+    }  # fmt: skip
     return kinds.get(question.kind, sums)(question, both, depth, challenges)
 
 
@@ -32,6 +37,39 @@ def entries(question, both, depth, challenges):
         wanted = siblings_asked(lo >> j, hi >> j)
         shown = (None if at is None else level.get(at, 0) % P for at in wanted)
         yield [*reply, ("Siblings", *shown)]
+
+
+def found(place):
+    return ("Found", 0, 0) if place is None else ("Found", 1, place)
+
+
+def looked(question, both, depth, challenges):
+    """Those to a lookup: where its answer stands, and those to the query that shows it."""
+    place, reply = question.place(both), []
+    reply.append(found(place))
+    for shown in entries(question.shown_by(place, depth), both, depth, challenges):
+        yield [*reply, *shown]
+        reply = []
+
+
+def powers(question, both, depth, challenges):
+    """Those to a moment."""
+    level, reply = both[question.side].entries, [("Claim", question.answer(both))]
+    for j in range(depth):
+        if j > 0:
+            level, reply = folds.line(level, challenges[j - 1]), []
+        yield [*reply, ("Power", *power(level, question.degree))]
+
+
+def power(level, degree):
+    """The coefficients of the sum over all pairs of neighbours of the powers of the line through
+    them."""
+    coefficients = [0] * (degree + 1)
+    for pair in {index >> 1 for index in level}:
+        u, w = level.get(2 * pair, 0), level.get(2 * pair + 1, 0)
+        for m in range(degree + 1):
+            coefficients[m] += comb(degree, m) * u ** (degree - m) * (w - u) ** m
+    return [c % P for c in coefficients]
 
 
 def sums(question, both, depth, challenges):

@@ -7,15 +7,18 @@ from . import folds
 from .field import P, WIDEST
 from .frames import Fault, fault_end, read
 from .honest import siblings_asked
+from .questions import LOOKUPS
 
 
 class Verdict(NamedTuple):
-    """`said` is None where the replies are rejected. `ends` is where each whole reply ends, and
+    """`said` is None where the replies are rejected. `asked` are the messages that the verifier
+    sends, `ends` is where the reply to each of them ends, if it is whole and passes its tests, and
     `taken` where the bytes end that show the verdict."""
 
     said: object
     round: int
     reason: str
+    asked: list
     ends: list
     taken: int
 
@@ -26,9 +29,9 @@ class Link:
     def __init__(self, data, at, version):
         self.data, self.at, self.version = data, at, version
 
-    def take(self, place):
+    def take(self, place, degree=None):
         try:
-            message, self.at = read(self.data, self.at, place, self.version)
+            message, self.at = read(self.data, self.at, place, self.version, degree)
         except Fault as fault:
             self.at = fault_end(self.data, self.at, fault.reason)
             raise
@@ -43,18 +46,45 @@ def need(holds, reason):
 
 
 def verdict(question, both, depth, challenges, data, at, version):
+    if question.kind in LOOKUPS:
+        return looked(question, both, depth, challenges, data, at, version)
     link = Link(data, at, version)
-    check = Entries if question.kind == "sub" else Counted if question.counts() else Sums
-    check = check(question, both, depth, challenges)
-    ends = []
+    kinds = {"sub": Entries, "heavy": Counted, "share": Counted, "moment": Powers}
+    check = kinds.get(question.kind, Sums)(question, both, depth, challenges)
+    asked, ends, said, reason = [], [], None, None
     try:
         for j in range(depth):
+            # The challenge of the last level is never sent.
+            asked.append(("Reveal", challenges[j - 1]) if j > 0 else question.message())
             check.reply(j, link)
             ends.append(link.at)
         check.end()
+        said = check.said()
     except Fault as fault:
-        return Verdict(None, len(ends), fault.reason, ends, link.at)
-    return Verdict(check.said(), depth, None, ends, link.at)
+        reason = fault.reason
+    return Verdict(said, len(ends), reason, asked, ends, link.at)
+
+
+def looked(lookup, both, depth, challenges, data, at, version):
+    """The place, and then the entries among which the one at the place has to be alone."""
+    link, asked = Link(data, at, version), [lookup.message()]
+    try:
+        _, flag, index = link.take("Found")
+        place = index if flag else None
+        need(lookup.may_be_at(place, depth), "BadFound")
+    except Fault as fault:
+        return Verdict(None, 0, fault.reason, asked, [], link.at)
+    shown = verdict(
+        lookup.shown_by(place, depth), both, depth, challenges, data, link.at, version
+    )
+    shown = shown._replace(asked=asked + shown.asked, ends=[link.at, *shown.ends])
+    if shown.reason:
+        return shown
+    if lookup.kind == "index":
+        return shown._replace(said=dict(shown.said).get(place, 0))
+    if [item for item, _ in shown.said] != ([] if place is None else [place]):
+        return shown._replace(said=None, reason="NotAlone")
+    return shown
 
 
 class Entries:
@@ -96,6 +126,8 @@ class Entries:
 class Sums:
     """A sum of products of two lists' entries."""
 
+    place, degree = "Poly", 2
+
     def __init__(self, question, both, depth, challenges):
         self.challenges = challenges
         first = folds.extension(both[0 if question.kind == "inner" else question.side], challenges)
@@ -110,16 +142,26 @@ class Sums:
         if j == 0:
             _, self.claim = link.take("Claim")
             self.expected = self.claim % P
-        _, c0, c1, c2 = link.take("Poly")
-        need((2 * c0 + c1 + c2) % P == self.expected, "Sum")
-        r = self.challenges[j]
-        self.expected = (c0 + c1 * r + c2 * r * r) % P
+        _, *coefficients = link.take(self.place, self.degree)
+        ends = folds.value(coefficients, 0) + folds.value(coefficients, 1)
+        need(ends % P == self.expected, "Sum")
+        self.expected = folds.value(coefficients, self.challenges[j])
 
     def end(self):
         need(self.expected == self.product, "Root")
 
     def said(self):
         return self.claim
+
+
+class Powers(Sums):
+    """A sum of powers of a list's entries."""
+
+    place = "Power"
+
+    def __init__(self, question, both, depth, challenges):
+        self.challenges, self.degree = challenges, question.degree
+        self.product = pow(folds.extension(both[question.side], challenges), self.degree, P)
 
 
 class Counted:

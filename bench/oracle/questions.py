@@ -1,12 +1,15 @@
-"""The six kinds of query, and what is answered to them."""
+"""The six kinds of query, the three lookups and the moments, and what is answered to them."""
 
 from typing import NamedTuple
 
-from .field import WIDEST
+from .field import HALF, WIDEST
+
+# The kinds of lookup; their codes are 1, 2 and 3.
+LOOKUPS = ("index", "pred", "succ")
 
 
 class Question(NamedTuple):
-    """A query. A kind leaves alone the numbers that it doesn't have."""
+    """A query, a lookup or a moment. A kind leaves alone the numbers that it doesn't have."""
 
     kind: str
     side: int = 0
@@ -15,6 +18,8 @@ class Question(NamedTuple):
     at_least: int = 0
     num: int = 0
     den: int = 0
+    item: int = 0
+    degree: int = 0
 
     def word(self):
         """As it is written among the words of a command."""
@@ -25,7 +30,16 @@ class Question(NamedTuple):
             "inner": "inner",
             "heavy": f"heavy:{self.side}:{self.at_least}",
             "share": f"share:{self.side}:{self.num}:{self.den}",
-        }[self.kind]
+            "moment": f"moment:{self.side}:{self.degree}",
+        }.get(self.kind, f"{self.kind}:{self.item}")
+
+    def message(self):
+        """What the verifier asks it by."""
+        if self.kind in LOOKUPS:
+            return "AskLook", LOOKUPS.index(self.kind) + 1, self.item
+        if self.kind == "moment":
+            return "AskMoment", self.side, self.degree
+        return "Query", self
 
     def counts(self):
         """Whether it asks for the entries of at least a threshold."""
@@ -45,6 +59,41 @@ class Question(NamedTuple):
             return False
         return both[self.side].total // self.threshold(both) > WIDEST
 
+    def is_too_high(self, both):
+        return self.kind == "moment" and both[self.side].weight**self.degree > HALF
+
+    def unfit(self, both):
+        """The status of a run that doesn't ask it, since a part of its answer has no room."""
+        if self.is_too_wide(both):
+            return "TooWide"
+        return "TooHigh" if self.is_too_high(both) else None
+
+    def place(self, both):
+        """The item of the entry that a lookup is for, or None where there is none."""
+        items = both[0].entries
+        if self.kind == "pred":
+            return max((item for item in items if item <= self.item), default=None)
+        if self.kind == "succ":
+            return min((item for item in items if item >= self.item), default=None)
+        return self.item
+
+    def may_be_at(self, place, depth):
+        """Whether a helper may say that a lookup has this place, or none."""
+        if place is None:
+            return self.kind != "index"
+        if self.kind == "index":
+            return place == self.item
+        return place <= self.item if self.kind == "pred" else self.item <= place < 2**depth
+
+    def shown_by(self, place, depth):
+        """The query for the entries among which the one at the place has to be alone."""
+        lo = hi = self.item
+        if self.kind == "pred":
+            lo = 0 if place is None else place
+        if self.kind == "succ":
+            hi = 2**depth - 1 if place is None else place
+        return Question("sub", 0, lo, hi)
+
     def answer(self, both):
         """A number, or the list of pairs."""
         mine, other = both[self.side].entries, both[1].entries
@@ -59,6 +108,12 @@ class Question(NamedTuple):
             return sum(value * other.get(item, 0) for item, value in both[0].entries.items())
         if self.kind == "heavy":
             return [(item, value) for item, value in mine.items() if value >= self.at_least]
+        if self.kind == "index":
+            return mine.get(self.item, 0)
+        if self.kind in LOOKUPS:
+            return [(item, value) for item, value in mine.items() if item == self.place(both)]
+        if self.kind == "moment":
+            return sum(value**self.degree for value in mine.values())
         total = both[self.side].total
         if total <= 0:
             return []

@@ -12,15 +12,15 @@ from .questions import rejection, version_needed
 from .streams import made, made_form, record, records, vectors
 from .transcripts import Bad, listing, told, wide
 from .turns import serve
-from .words import Usage, read_words
+from .words import COMMANDS, Usage, read_words
 
 # The most updates of a frame.
 FULL = 512
 
 CODES = {
     "Accepted": 0, "Served": 0, "Wrote": 0, "Page": 0, "Rejected": 1, "Usage": 2, "BadStream": 3,
-    "BadSeed": 3, "BadTranscript": 3, "BadFrame": 3, "TooWide": 3, "ReadFault": 4,
-    "WriteFault": 4, "PeerFault": 4, "PeerClosed": 4,
+    "BadSeed": 3, "BadTranscript": 3, "BadFrame": 3, "TooWide": 3, "TooHigh": 3,
+    "ReadFault": 4, "WriteFault": 4, "PeerFault": 4, "PeerClosed": 4,
 }  # fmt: skip
 
 
@@ -54,7 +54,8 @@ def run(words, files, may_be_made=lambda name: True):
         return Outcome("Usage", f"sip: usage at word {usage.word}", b"", None)
     port = Ports(said, files, may_be_made)
     return {
-        "verify": verify, "play": play, "help": help_, "audit": audit, "show": read_back,
+        "verify": verify, "lookup": verify, "moments": verify, "play": play, "help": help_,
+        "helplook": help_, "helpmom": help_, "audit": audit, "show": read_back,
         "convert": read_back, "gen": gen, "lines": copy, "widen": copy,
     }[verb](verb, said, port)  # fmt: skip
 
@@ -66,7 +67,7 @@ def behind_progress(words):
 def asks_for_text(words):
     """Words for help or the version, alone, or for help behind a verb."""
     helps, versions = [[b"--help"], [b"-h"]], [[b"--version"], [b"-V"]]
-    verbs = [[verb] for verb in (b"verify", b"play", b"help", b"audit", b"gen", b"lines", b"widen")]
+    verbs = [[verb.encode()] for verb in COMMANDS]
     return words in helps + versions or words[:1] in verbs and words[1:] in helps
 
 
@@ -97,10 +98,10 @@ def source(stream, depth, files):
     return None if data is None else records(data, depth, stream.form)
 
 
-def help_(_, __, port):
+def help_(verb, _, port):
     if port.replies is None:
         return Outcome("PeerFault", "sip: peer fault", b"", port.to)
-    served = serve(port.replies)
+    served = serve(port.replies, verb)
     if port.to is None and served.written:
         return Outcome("PeerFault", "sip: peer fault", b"", None)
     said = {
@@ -205,23 +206,24 @@ class Run:
             return self.ends("BadStream", bad_stream(fault), fault[1])
         self.updates, self.both = updates, vectors(updates)
         for number, question in enumerate(self.questions, 1):
-            if question.is_too_wide(self.both):
-                return self.ends("TooWide", f"sip: query {number} too wide")
+            status = question.unfit(self.both)
+            if status:
+                how = {"TooWide": "wide", "TooHigh": "high"}[status]
+                return self.ends(status, f"sip: query {number} too {how}")
         return None
 
     def ask(self, number, data, at):
         """Asks a query of replies that begin there. Tells where those of the next one begin, or the
         outcome."""
         question, block = self.questions[number - 1], self.blocks[number - 1]
-        self.send("Query", question)
         if data is None:
+            self.send(*question.message())
             return None, self.ends("PeerFault", "sip: peer fault")
         judged = verdict(question, self.both, self.depth, block, data, at, self.version)
         self.taken = judged.taken
-        # Challenge j leaves before reply j is taken, for each j from 1 to d - 1.
-        for j, end in enumerate([*judged.ends, len(data)][: self.depth]):
-            if j > 0:
-                self.send("Reveal", block[j - 1])
+        # A message leaves before the reply to it is taken, and behind the reply before.
+        for message, end in zip(judged.asked, [*judged.ends, len(data)]):
+            self.send(*message)
             self.turns.append((len(self.sent), end))
         if judged.reason:
             self.report += rejection(number, judged.round, judged.reason)
@@ -241,7 +243,7 @@ class Run:
         return None
 
 
-def verify(_, said, port):
+def verify(verb, said, port):
     going = Run(said)
     ended = going.gather(port, port.to is None)
     if ended:
@@ -249,7 +251,7 @@ def verify(_, said, port):
     ended = going.ask_all(port.replies, 0)
     if ended:
         return ended
-    going.send("Bye")
+    going.send("Bye" if verb == "verify" else "End")
     return going.ends("Accepted")
 
 
@@ -284,8 +286,7 @@ def play(_, said, port):
     if ended:
         return ended._replace(to=None)
     kept = going.both
-    weight = sum(abs(delta) for side, _, delta in going.updates if side == 0)
-    if said["helper"] == "skewed" and weight < WEIGHT:
+    if said["helper"] == "skewed" and kept[0].weight < WEIGHT:
         kept = vectors(going.updates + [(0, 0, 1)])
     for number, question in enumerate(going.questions, 1):
         if not question.is_asked(going.both):

@@ -96,10 +96,11 @@ class Vector:
     """What one side's deltas add up to; entries that are not 0 alone."""
 
     def __init__(self, updates, side):
-        entries = {}
+        entries, self.weight = {}, 0
         for of, item, delta in updates:
             if of == side:
                 entries[item] = entries.get(item, 0) + delta
+                self.weight += abs(delta)
         self.entries = {item: value for item, value in sorted(entries.items()) if value != 0}
         self.total = sum(entries.values())
         self.is_strict = all(value > 0 for value in self.entries.values())

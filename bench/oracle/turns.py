@@ -1,13 +1,15 @@
-"""The helper's end: what it may hear at which moment, what it writes, and how its talk ends."""
+"""The three helpers' ends: what each may hear at which moment, what it writes, and how its talk
+ends."""
 
 from typing import NamedTuple
 
 from . import honest
 from .field import WEIGHT
 from .frames import Fault, read, spelling
+from .questions import LOOKUPS, Question
 from .streams import vectors
 
-# The most queries of a talk.
+# The most queries, lookups or moments of a talk.
 QUERIES = 16
 
 
@@ -23,7 +25,8 @@ class Served(NamedTuple):
 
 
 class Talk:
-    """What was heard so far, all of it allowed."""
+    """What was heard so far, all of it allowed. To hear a message is to answer the reply that is
+    owed to it, which is no message to most, or None where it is not allowed."""
 
     def __init__(self):
         self.version = 1
@@ -32,61 +35,66 @@ class Talk:
         self.weights = [0, 0]
         self.both = None  # the vectors, from the end of the stream on
         self.queries = 0
-        self.open = None  # the query that is open
+        self.open = None  # the query or the moment that is open
         self.revealed = []
         self.done = False
 
+    def place(self):
+        return "ToHelper"
+
     def hear(self, message):
-        """Takes a message where it is allowed, and says whether it was."""
         name, *fields = message
         return getattr(self, f"hear_{name.lower()}")(*fields)
 
     def hear_open(self, version, depth):
         if self.depth is not None:
-            return False
+            return None
         self.version, self.depth = version, depth
-        return True
+        return []
 
     def hear_updates(self, updates):
         if self.depth is None or self.both:
-            return False
+            return None
         weights = list(self.weights)
         for side, item, delta in updates:
             weights[side] += abs(delta)
             if item >= 2**self.depth or weights[side] > WEIGHT:
-                return False
+                return None
         self.updates += updates
         self.weights = weights
-        return True
+        return []
 
     def hear_endstream(self):
         if self.depth is None or self.both:
-            return False
+            return None
         self.both = vectors(self.updates)
-        return True
+        return []
 
     def hear_query(self, question):
         if not self.both or self.open or self.queries == QUERIES:
-            return False
+            return None
         if question.kind in ("sub", "range") and question.hi >= 2**self.depth:
-            return False
-        self.queries += 1
-        self.open, self.revealed = question, []
-        self.replies = honest.replies(question, self.both, self.depth, self.revealed)
-        return True
+            return None
+        return self.begin(question)
 
     def hear_reveal(self, challenge):
         if not self.open or len(self.revealed) == self.depth - 1:
-            return False
+            return None
         self.revealed.append(challenge)
-        return True
+        return self.owed()
 
     def hear_bye(self):
         self.done = True
-        return True
+        return []
+
+    def begin(self, question):
+        self.queries += 1
+        self.open, self.revealed = question, []
+        self.replies = honest.replies(question, self.both, self.depth, self.revealed)
+        return self.owed()
 
     def owed(self):
-        """The reply that a Query or a Reveal is owed. A query is closed behind its last reply, or
+        """The reply to what was asked or revealed. A query is closed behind its last reply, or
         behind a refusal."""
         reply = next(self.replies)
         if reply[0][0] == "Refuse" or len(self.revealed) == self.depth - 1:
@@ -94,23 +102,78 @@ class Talk:
         return reply
 
 
-def serve(data):
-    talk, at, written, turns = Talk(), 0, b"", []
+class AskedTalk(Talk):
+    """A talk in which an Ask or an End is due behind the stream, and behind each answer."""
+
+    def is_due(self):
+        return self.both and not self.open
+
+    def place(self):
+        return self.asked if self.is_due() else "ToHelper"
+
+    def hear_bye(self):
+        return None
+
+    def hear_end(self):
+        self.done = True
+        return []
+
+
+class LookTalk(AskedTalk):
+    asked = "AskedLook"
+
+    def __init__(self):
+        super().__init__()
+        self.lookups = 0
+        self.found = False  # whether a query is due behind a Found
+
+    def is_due(self):
+        return super().is_due() and not self.found
+
+    def hear_asklook(self, code, item):
+        if self.lookups == QUERIES or not 1 <= code <= len(LOOKUPS) or item >= 2**self.depth:
+            return None
+        self.lookups += 1
+        self.found = True
+        return [honest.found(Question(LOOKUPS[code - 1], item=item).place(self.both))]
+
+    def hear_query(self, question):
+        reply = super().hear_query(question)
+        self.found = self.found and reply is None
+        return reply
+
+
+class MomentTalk(AskedTalk):
+    asked = "AskedMoment"
+
+    def hear_askmoment(self, side, degree):
+        moment = Question("moment", side, degree=degree)
+        if self.queries == QUERIES or side > 1 or not 3 <= degree <= 8:
+            return None
+        return None if moment.is_too_high(self.both) else self.begin(moment)
+
+
+TALKS = {"help": Talk, "helplook": LookTalk, "helpmom": MomentTalk}
+
+
+def serve(data, verb):
+    talk, at, written, turns = TALKS[verb](), 0, b"", []
 
     def ends(status, upto, reason="", last=b""):
         return Served(status, at, written + last, [*turns, (len(written), upto)], reason)
 
     while not talk.done:
         try:
-            message, end = read(data, at, "ToHelper", talk.version)
+            message, end = read(data, at, talk.place(), talk.version)
         except Fault as fault:
             return ends(
                 "PeerClosed" if fault.reason == "Closed" else "BadFrame", len(data), fault.reason
             )
-        if not talk.hear(message):
+        reply = talk.hear(message)
+        if reply is None:
             return ends("BadFrame", end, "OutOfTurn", spelling(("Refuse", 4), talk.version))
-        if message[0] in ("Query", "Reveal"):
+        if reply:
             turns.append((len(written), end))
-            written += b"".join(spelling(part, talk.version) for part in talk.owed())
+            written += b"".join(spelling(part, talk.version) for part in reply)
         at = end
     return ends("Served", at)

@@ -3,16 +3,21 @@
 import re
 from typing import NamedTuple
 
-from .questions import Question
+from .questions import LOOKUPS, Question
 
 NUMBER = re.compile(r"0|[1-9][0-9]*", re.ASCII)
 HELPERS = ("honest", "skewed", "mute")
 QUERIES = 16
 
-# The shapes of a command's words behind its verb. The last of `queries` stands for 1 to 16 of them.
+# The shapes of a command's words behind its verb. A last one of `queries`, `lookups` or `moments`
+# stands for 1 to 16 of them.
 COMMANDS = {
     "verify": ("stream", "seed", "from", "to", "record", "depth", "queries"),
     "help": ("from", "to"),
+    "lookup": ("stream", "seed", "from", "to", "depth", "lookups"),
+    "helplook": ("from", "to"),
+    "moments": ("stream", "seed", "from", "to", "depth", "moments"),
+    "helpmom": ("from", "to"),
     "audit": ("stored", "transcript"),
     "show": ("transcript",),
     "convert": ("transcript",),
@@ -21,6 +26,7 @@ COMMANDS = {
     "widen": ("stream", "depth"),
     "play": ("stream", "seed", "helper", "record", "depth", "queries"),
 }
+ASKED = ("queries", "lookups", "moments")
 
 
 class Usage(Exception):
@@ -61,18 +67,22 @@ def stream(word):
     return Stream(word, "binary") if word else None
 
 
-def question(word, depth):
-    """A query that fits the depth; None where the word is none."""
+def question(shape, word, depth):
+    """A query, a lookup or a moment that fits the depth; None where the word is none."""
     kind, *fields = word.split(":")
     last, most = 2**depth - 1, 2**63 - 1
     limits = {
-        "sub": ((0, last), (0, last)),
-        "range": ((0, 1), (0, last), (0, last)),
-        "f2": ((0, 1),),
-        "inner": (),
-        "heavy": ((0, 1), (1, most)),
-        "share": ((0, 1), (1, 1_000_000), (1, 1_000_000)),
-    }.get(kind)
+        "queries": {
+            "sub": ((0, last), (0, last)),
+            "range": ((0, 1), (0, last), (0, last)),
+            "f2": ((0, 1),),
+            "inner": (),
+            "heavy": ((0, 1), (1, most)),
+            "share": ((0, 1), (1, 1_000_000), (1, 1_000_000)),
+        },
+        "lookups": {lookup: ((0, last),) for lookup in LOOKUPS},
+        "moments": {"moment": ((0, 1), (3, 8))},
+    }[shape].get(kind)
     if limits is None or len(limits) != len(fields):
         return None
     numbers = [number(field, *limit) for field, limit in zip(fields, limits)]
@@ -84,6 +94,10 @@ def question(word, depth):
         return Question(kind, numbers[0], at_least=numbers[1])
     if kind == "share":
         return Question(kind, numbers[0], num=numbers[1], den=numbers[2])
+    if kind in LOOKUPS:
+        return Question(kind, item=numbers[0])
+    if kind == "moment":
+        return Question(kind, numbers[0], degree=numbers[1])
     return Question(kind, *numbers)
 
 
@@ -94,8 +108,8 @@ def value(shape, word, depth):
     if shape == "stored":
         held = stream(word)
         return None if held is None or held.form == "made" else held
-    if shape == "queries":
-        return question(word, depth)
+    if shape in ASKED:
+        return question(shape, word, depth)
     if shape == "helper":
         return word if word in HELPERS else None
     if shape in ("number", "count", "depth"):
@@ -105,21 +119,22 @@ def value(shape, word, depth):
 
 
 def read_words(words):
-    """The verb and a dict of what its words say, by their shapes."""
+    """The verb and a dict of what its words say, by their shapes; lookups and moments are `queries`
+    there too."""
     if not words or words[0] not in COMMANDS:
         raise Usage(0)
     shapes = COMMANDS[words[0]]
     said = {}
     for at, word in enumerate(words[1:], 1):
-        is_query = at >= len(shapes) and shapes[-1] == "queries"
+        is_query = at >= len(shapes) and shapes[-1] in ASKED
         if at > len(shapes) + (QUERIES - 1 if is_query else 0):
             raise Usage(at)
-        shape = "queries" if is_query else shapes[at - 1]
+        shape = shapes[-1] if is_query else shapes[at - 1]
         read = value(shape, word, said.get("depth"))
         if read is None:
             raise Usage(at)
         if is_query:
-            said.setdefault(shape, []).append(read)
+            said.setdefault("queries", []).append(read)
         else:
             said[shape] = read
     if len(said) < len(shapes):

@@ -4,10 +4,13 @@ often."""
 import random
 
 from oracle.field import HALF, P, WEIGHT
-from oracle.questions import Question
-from oracle.streams import illegal
+from oracle.questions import LOOKUPS, Question
+from oracle.streams import illegal, vectors
 
 FORMS = ("binary", "text", "wide")
+
+# The greatest weights of a side that have room for its moments of the degrees 3 to 8.
+ROOMY = (1_048_575, 32_767, 4_095, 1_023, 380, 181)
 
 # How many seeds there are in a run: their challenges are computed once.
 SEEDS = 50
@@ -57,13 +60,13 @@ class Chances(random.Random):
             return self.choice((WEIGHT, WEIGHT - 1, WEIGHT // 2, 65_536, 65_537, 131_073, 1))
         return self.randint(1, 9)
 
-    def legal(self, depth):
+    def legal(self, depth, styles=(60, 20, 8, 12)):
         """The updates of a legal stream."""
         size = self.choices(
             (0, self.randint(1, 8), self.randint(9, 40), self.randint(500, 1100)), (5, 50, 43, 2)
         )[0]
         items = self.items(depth)
-        style = self.choices(("few", "mixed", "great", "whole"), (60, 20, 8, 12))[0]
+        style = self.choices(("few", "mixed", "great", "whole"), styles)[0]
         updates, weights = [], [0, 0]
         for _ in range(size):
             update = self.choice((0, 0, 1)), self.choice(items), self.delta(style)
@@ -76,11 +79,28 @@ class Chances(random.Random):
                     updates.append((side, item, -delta))
         return updates
 
-    def interval(self, entries, depth):
+    def light(self, depth):
+        """The updates of a legal stream that mostly has room for some moments: often a side has the
+        greatest weight that has room for one, or 1 more."""
+        updates = self.legal(depth, (66, 28, 1, 5))
+        if self.one_in(3):
+            side, most = self.randrange(2), self.choice(ROOMY) + self.choice((0, 0, 1))
+            short = most - vectors(updates)[side].weight
+            if short > 0:
+                items = [item for _, item, _ in updates[:20]] + self.items(depth)
+                updates.append((side, self.choice(items), self.choice((1, -1)) * short))
+        return updates
+
+    def ends(self, entries, depth):
+        """Items at an edge, or about what is there."""
         last = 2**depth - 1
         ends = [0, last, self.randint(0, last)]
         for item in list(entries)[:20]:
             ends += [max(item - 1, 0), item, min(item + 1, last)]
+        return ends
+
+    def interval(self, entries, depth):
+        ends = self.ends(entries, depth)
         return sorted((self.choice(ends), self.choice(ends)))
 
     def question(self, both, depth):
@@ -111,14 +131,32 @@ class Chances(random.Random):
             num = self.choice((1, den, self.randint(1, den), max(den // 3, 1)))
         return Question(kind, side, lo, hi, at_least, num, den)
 
-    def questions(self, both, depth, most=16):
+    def lookup(self, both, depth):
+        item = self.choice(self.ends(both[0].entries, depth))
+        return Question(self.choice(LOOKUPS), item=item)
+
+    def moment(self, both, _):
+        side, degrees = self.randrange(2), range(3, 9)
+        high = [degree for degree in degrees if both[side].weight**degree > HALF]
+        fitting = [degree for degree in degrees if degree not in high]
+        if not fitting or high and self.one_in(12):
+            fitting = high[:1]
+        return Question("moment", side, degree=self.choice(fitting))
+
+    def other(self, question, both, depth):
+        """Another one of its sort."""
+        if question.kind in LOOKUPS:
+            return self.lookup(both, depth)
+        return (self.moment if question.kind == "moment" else self.question)(both, depth)
+
+    def questions(self, both, depth, most=16, draw=None):
         count = min(
             self.choices(
                 (1, 2, 3, self.randint(4, 8), self.randint(9, 16)), (40, 30, 15, 12, 3)
             )[0],
             most,
         )
-        return [self.question(both, depth) for _ in range(count)]
+        return [(draw or self.question)(both, depth) for _ in range(count)]
 
     def form(self, depth):
         return self.choice(FORMS if depth <= 32 else FORMS[1:])

@@ -47,8 +47,11 @@ def frame_changed(chance, frames):
     elif way == "length":
         length = int.from_bytes(frame[1:3], "big")
         length = chance.choice(
-            (length - 1, length + 1, length + 12, length + 20, 0, 1, 2, 8, 9, 17, 0xFFFF)
-        ) % 65536
+            (
+                length - 1, length + 1, length - 8, length + 8, length + 12, length + 20, 0, 1, 2,
+                8, 9, 17, 0xFFFF,
+            )
+        ) % 65536  # fmt: skip
         frame[1:3] = length.to_bytes(2, "big")
     elif way == "mark" and len(frame) > 3:
         place = chance.randrange(3, min(len(frame), 5))
@@ -128,6 +131,9 @@ def message_changed(chance, message):
         return name, *fields
     if name == "Refuse":
         return name, chance.randrange(7)
+    if name == "Power" and chance.one_in(6):
+        # Another degree.
+        return name, *chance.choice((fields[:-1], [*fields, chance.number(61)]))
     if not fields or not all(isinstance(x, int) for x in fields):
         return message
     at = chance.randrange(len(fields))
@@ -150,6 +156,8 @@ def stray(chance, depth):
             ("Entries", [(index, 1)]),
             ("Leaves", [(index, chance.randrange(9))]),
             ("Nodes", [(index, chance.number(61), chance.randrange(9))]),
+            ("Found", chance.randrange(3), chance.choice((0, index))),
+            ("Power", *(chance.number(61) for _ in range(chance.randint(4, 9)))),
             ("Bye",),
             ("Reveal", 5),
         )

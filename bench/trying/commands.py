@@ -1,17 +1,20 @@
 """Cases of words: of each command, mostly with something changed, over files that are there or
 not."""
 
+from oracle import honest
+from oracle.chacha import challenges
 from oracle.frames import spelling
 from oracle.questions import Question
 from oracle.runs import behind_progress
-from oracle.streams import record
+from oracle.streams import record, vectors
 from oracle.words import Usage, read_words
 
 from .case import Case
 from .program import FROM, TO
 
 WORDS = (
-    "verify", "help", "gen", "lines", "widen", "play", "audit", "show", "convert", "", "-",
+    "verify", "help", "lookup", "helplook", "moments", "helpmom", "gen", "lines", "widen", "play",
+    "audit", "show", "convert", "", "-",
     "--help", "--version", "-h", "-V", "honest", "skewed", "mute", "stream", "text:lines",
     "wide:records", "made:7:3", "made:0:0", "made:7:10000000", "made:7:10000001",
     "made:18446744073709551615:1", "made:18446744073709551616:1", "made:07:1", "made:7:",
@@ -23,13 +26,19 @@ WORDS = (
     "inner", "inner:", "inner:0", "INNER", "heavy:0:1", "heavy:1:4", "heavy:0:0",
     "heavy:0:9223372036854775807", "heavy:0:9223372036854775808", "heavy:0", "heavy:2:1",
     "share:0:1:2", "share:1:1:1", "share:0:0:1", "share:0:2:1", "share:0:1:1000000",
-    "share:0:1:1000001", "share:0:1", "lookup:0", "moment:0:3", "99999999999999999999999999",
+    "share:0:1:1000001", "share:0:1", "lookup:0", "index:0", "index:3", "index:4", "index:00",
+    "index:0:0", "index", "index:", "pred:1", "pred:2", "pred:281474976710655",
+    "pred:281474976710656", "PRED:1", "succ:0", "succ:1", "succ:-1", "moment:0:3", "moment:1:8",
+    "moment:0:2", "moment:0:9", "moment:2:3", "moment:0:03", "moment:0", "moment:0:3:3", "moment",
+    "99999999999999999999999999",
 )  # fmt: skip
 
 # Those that fit each depth.
 QUERIES = (
     "sub:0:1", "f2:0", "f2:1", "inner", "heavy:0:4", "heavy:1:1", "share:0:1:2", "range:0:0:1"
 )
+LOOKUPS = ("index:0", "index:1", "pred:0", "pred:1", "succ:0", "succ:1")
+MOMENTS = ("moment:0:3", "moment:0:8", "moment:1:3", "moment:1:5")
 
 # Bytes that are not UTF-8.
 NO_TEXT = (b"\xff", b"a\xc0\xafb", b"\xed\xa0\x80")
@@ -56,17 +65,26 @@ FILES = {
     "deep": RECORD[:5] + b"\x21" + RECORD[6:],
 }
 
-TALK = b"".join(
-    spelling(message, 1)
-    for message in (
-        ("Open", 1, 2),
-        ("Updates", UPDATES),
-        ("EndStream",),
-        ("Query", Question("sub", 0, 1, 2)),
-        ("Reveal", 2),
-        ("Bye",),
-    )
+
+def spelled(*messages):
+    return b"".join(spelling(message, 1) for message in messages)
+
+
+# What each verifier hears that asks one thing of that stream, and what each helper does.
+MOMENT = Question("moment", 0, degree=3)
+FOUND = spelled(("Found", 1, 2)) + SUB
+POWERS = spelled(
+    *sum(honest.replies(MOMENT, vectors(UPDATES), 2, challenges(FILES["seed"], 2, 1)[0]), [])
 )
+REPLIES = {b"lookup": FOUND, b"moments": POWERS}
+
+HEARD = spelled(("Open", 1, 2), ("Updates", UPDATES), ("EndStream",))
+QUERY = spelled(("Query", Question("sub", 0, 1, 2)), ("Reveal", 2))
+TALKS = {
+    b"help": HEARD + QUERY + spelled(("Bye",)),
+    b"helplook": HEARD + spelled(("AskLook", 3, 1)) + QUERY + spelled(("End",)),
+    b"helpmom": HEARD + spelled(("AskMoment", 0, 3), ("Reveal", 2), ("End",)),
+}
 
 
 def case(chance):
@@ -78,8 +96,10 @@ def case(chance):
         words.insert(0, b"--progress")
     if words and chance.one_in(200):
         words[chance.randrange(len(words))] = chance.choice(NO_TEXT)
-    replies = chance.choice((SUB, b"", SUB[:20]))
-    return Case(words, FILES, TALK if behind_progress(words)[:1] == [b"help"] else replies)
+    verb = (behind_progress(words) or [b""])[0]
+    replies = REPLIES.get(verb, SUB)
+    replies = chance.choice((replies, b"", replies[:20]))
+    return Case(words, FILES, TALKS.get(verb, replies))
 
 
 def short_and_apart(words):
@@ -94,7 +114,8 @@ def short_and_apart(words):
     read = {said.get("seed"), said.get("from"), stream.path if stream else None}
     read -= {*FILES, FROM}
     if "to" in said and said["to"] in read:
-        return [*words[:-1], "apart"] if words[0] == "help" else [*words[:4], "apart", *words[5:]]
+        at = 2 if words[0].encode() in TALKS else 4
+        return [*words[:at], "apart", *words[at + 1 :]]
     if said.get("record", "-") != "-" and said["record"] in read:
         at = 5 if words[0] == "verify" else 4
         return [*words[:at], "kept", *words[at + 1 :]]
@@ -105,8 +126,8 @@ def whole(chance):
     """The words of a command."""
     verb = chance.choice(
         (
-            "verify", "verify", "play", "play", "help", "audit", "show", "convert", "gen", "lines",
-            "widen",
+            "verify", "verify", "play", "play", "help", "lookup", "helplook", "moments", "helpmom",
+            "audit", "show", "convert", "gen", "lines", "widen",
         )
     )
     stream = chance.choice(("stream", "text:lines", "wide:records", "made:7:3", "none"))
@@ -114,14 +135,22 @@ def whole(chance):
     transcript = chance.choice(("record", "record", "broken", "deep", "stream", "none"))
     depth = chance.choice(("2", "2", "2", "1", "20", "32", "33", "48"))
     kept = chance.choice(("-", "-", "-", "-", "-", "-", "kept", "kept", seed, TO))
-    queries = ["sub:1:2"] if depth != "1" else []
-    queries += [chance.choice(QUERIES) for _ in range(chance.choice((0, 0, 1, 2, 15, 16)))]
+    first, others = {"lookup": ("succ:1", LOOKUPS), "moments": ("moment:0:3", MOMENTS)}.get(
+        verb, ("sub:1:2", QUERIES)
+    )
+    queries = [first] if depth != "1" else []
+    queries += [chance.choice(others) for _ in range(chance.choice((0, 0, 1, 2, 15, 16)))]
+    asked = [verb, stream, seed, FROM, TO, depth, *queries]
     return {
         "verify": [verb, stream, seed, FROM, TO, kept, depth, *queries],
         "play": [
             verb, stream, seed, chance.choice(("honest", "skewed", "mute")), kept, depth, *queries
         ],
         "help": [verb, FROM, TO],
+        "lookup": asked,
+        "helplook": [verb, FROM, TO],
+        "moments": asked,
+        "helpmom": [verb, FROM, TO],
         "audit": [verb, stream, transcript],
         "show": [verb, transcript],
         "convert": [verb, transcript],

@@ -61,7 +61,7 @@ def by_another_run(chance, asked, updates):
         block[chance.randrange(asked.depth)] = chance.number(61) % P
         return asked.honest(block=block)
     if way == "query":
-        return asked.honest(question=chance.question(asked.both, asked.depth))
+        return asked.honest(question=chance.other(asked.question, asked.both, asked.depth))
     if way == "sides":
         return asked.honest(both=(asked.both[1], asked.both[0]))
     replies = asked.honest()
@@ -93,8 +93,11 @@ def by_knowledge(chance, asked, _):
     has to be accepted."""
     if asked.question.refusal(asked.both):
         return asked.honest()
-    kind = {"sub": entries, "heavy": counted, "share": counted}.get(asked.question.kind, sums)
-    return kind(chance, asked)
+    kinds = {
+        "sub": entries, "heavy": counted, "share": counted,
+        "index": placed, "pred": placed, "succ": placed,
+    }  # fmt: skip
+    return kinds.get(asked.question.kind, sums)(chance, asked)
 
 
 def entries(chance, asked):
@@ -129,6 +132,20 @@ def entries(chance, asked):
     return replies
 
 
+def placed(chance, asked):
+    """A place, mostly another one than the true one, and what a helper could reply to the query
+    that it leads to."""
+    lookup, both, depth = asked.question, asked.both, asked.depth
+    places = [None, *chance.ends(both[0].entries, depth), changes.near(chance, lookup.item)]
+    place = chance.choice((lookup.place(both), chance.choice(places)))
+    found = honest.found(place)
+    if not lookup.may_be_at(place, depth):
+        return [[found], *asked.honest()[1:]]
+    shown = Asked(lookup.shown_by(place, depth), both, depth, asked.block)
+    first, *later = entries(chance, shown) if chance.one_in(2) else shown.honest()
+    return [[found, *first], *later]
+
+
 def weight(block, level, index):
     """The factor of a node in the root."""
     product = 1
@@ -151,9 +168,9 @@ def sums(chance, asked):
     made_good = chance.randrange(depth)
     expected = wrong % P
     for j in range(depth):
-        _, c0, c1, c2 = replies[j][-1]
+        name, c0, c1, *rest = replies[j][-1]
         # The difference from the true polynomial has to add up to the difference from the true sum.
-        short = (expected - (2 * c0 + c1 + c2)) % P
+        short = (expected - 2 * c0 - c1 - sum(rest)) % P
         if short == 0:
             break
         r = block[j]
@@ -164,8 +181,8 @@ def sums(chance, asked):
         else:
             a = chance.choice((0, 1, chance.number(61)))
             c0, c1 = (c0 + a) % P, (c1 + short - 2 * a) % P
-        replies[j][-1] = ("Poly", c0, c1, c2)
-        expected = (c0 + c1 * r + c2 * r * r) % P
+        replies[j][-1] = name, c0, c1, *rest
+        expected = folds.value((c0, c1, *rest), r)
     return replies
 
 

@@ -2,9 +2,7 @@
 
 import os
 import select
-import shutil
 import signal
-import tempfile
 from typing import NamedTuple, Optional
 
 # A run that takes longer, in seconds, hangs.
@@ -41,26 +39,16 @@ def rings(*_):
 
 
 class Program:
-    def __init__(self, path):
-        self.path = os.path.abspath(path)
-        self.home = os.getcwd()
-        memory = "/dev/shm" if os.access("/dev/shm", os.W_OK) else None
-        self.folder = tempfile.mkdtemp(prefix="sip-", dir=memory)
+    def __init__(self, path, folder):
+        self.path = path
         self.out, self.err = os.memfd_create("report"), os.memfd_create("said")
         signal.signal(signal.SIGALRM, rings)
         signal.signal(signal.SIGPIPE, signal.SIG_IGN)
-        self.files, self.fifos = (os.path.join(self.folder, name) for name in ("files", "fifos"))
+        self.files, self.fifos = (os.path.join(folder, name) for name in ("files", "fifos"))
         for folder in (self.files, self.fifos):
             os.mkdir(folder)
         os.mkfifo(os.path.join(self.fifos, FROM))
         os.mkfifo(os.path.join(self.fifos, TO))
-
-    def __enter__(self):
-        return self
-
-    def __exit__(self, *_):
-        os.chdir(self.home)
-        shutil.rmtree(self.folder)
 
     def start(self, words):
         for written in (self.out, self.err):

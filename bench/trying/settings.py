@@ -13,4 +13,8 @@ class Settings:
             raise SystemExit(page)
         case = os.environ.get("CASE")
         self.numbers = range(self.cases) if case is None else [int(case)]
-        self.keep = os.environ.get("KEEP")
+        self.keep = os.path.abspath(os.environ["KEEP"]) if os.environ.get("KEEP") else None
+        jobs = os.environ.get("JOBS", str(len(os.sched_getaffinity(0))))
+        if not jobs.isdecimal() or int(jobs) < 1:
+            raise SystemExit(page)
+        self.jobs = min(int(jobs), max(len(self.numbers), 1))

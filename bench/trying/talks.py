@@ -2,7 +2,7 @@
 
 from oracle.field import P, WEIGHT
 from oracle.frames import spelling
-from oracle.questions import Question, version_needed
+from oracle.questions import LOOKUPS, Question, version_needed
 from oracle.streams import vectors
 
 from . import changes
@@ -13,15 +13,31 @@ from .program import FROM, TO
 def case(chance):
     """Words of `help`, and the bytes of a verifier: a talk, mostly with something changed."""
     depth = chance.depth()
-    updates = chance.legal(depth)
+    return saying(chance, b"help", depth, chance.legal(depth), chance.question)
+
+
+def look_case(chance):
+    """The same for `helplook`."""
+    depth = chance.depth()
+    return saying(chance, b"helplook", depth, chance.legal(depth), chance.lookup)
+
+
+def moment_case(chance):
+    """The same for `helpmom`."""
+    depth = chance.depth()
+    return saying(chance, b"helpmom", depth, chance.light(depth), chance.moment)
+
+
+def saying(chance, verb, depth, updates, draw):
     both = vectors(updates)
-    questions = chance.questions(both, depth)
+    questions = chance.questions(both, depth, draw=draw)
     if chance.one_in(15):
-        questions = [chance.question(both, depth) for _ in range(chance.choice((16, 17, 18)))]
+        questions = [draw(both, depth) for _ in range(chance.choice((16, 17, 18)))]
     version = version_needed(depth, questions)
     if chance.one_in(4):
         version = 2
     messages = talk(chance, depth, updates, questions, version)
+    messages.append(("Bye",) if verb == b"help" else ("End",))
     for _ in range(chance.choice((0, 0, 1, 1, 1, 2))):
         messages = changed(chance, messages, depth)
     frames = [spelling(message, other_version(chance, version)) for message in messages]
@@ -30,7 +46,7 @@ def case(chance):
     data = b"".join(frames)
     if chance.one_in(6):
         data = changes.bytes_changed(chance, data)
-    return Case([b"help", FROM.encode(), TO.encode()], {}, data)
+    return Case([verb, FROM.encode(), TO.encode()], {}, data)
 
 
 def other_version(chance, version):
@@ -38,18 +54,24 @@ def other_version(chance, version):
 
 
 def talk(chance, depth, updates, questions, version):
-    """A verifier's talk, its updates in frames of any lengths."""
+    """A verifier's talk up to its last message, its updates in frames of any lengths."""
     messages, at = [("Open", version, depth)], 0
     while at < len(updates):
         end = at + chance.choice((1, 2, 7, 512, 512))
         messages.append(("Updates", updates[at:end]))
         at = end
     messages.append(("EndStream",))
+    both = vectors(updates)
     for question in questions:
-        messages.append(("Query", question))
+        messages.append(question.message())
+        if question.kind in LOOKUPS:
+            # The query that shows the place, or any other.
+            shown = question.shown_by(question.place(both), depth)
+            question = chance.question(both, depth) if chance.one_in(10) else shown
+            messages.append(question.message())
         if not refused_or_short(chance, question, updates):
             messages += [("Reveal", chance.number(61) % P) for _ in range(depth - 1)]
-    return [*messages, ("Bye",)]
+    return messages
 
 
 def refused_or_short(chance, question, updates):
@@ -62,6 +84,10 @@ def changed(chance, messages, depth):
     """A talk with one thing changed."""
     messages = list(messages)
     at = chance.randrange(len(messages))
+    if chance.one_in(3):
+        # Challenges are the most of a talk.
+        others = [at for at, message in enumerate(messages) if message[0] != "Reveal"]
+        at = chance.choice(others or [at])
     way = chance.choice(
         ("drop", "double", "swap", "number", "number", "insert", "insert", "ahead", "end")
     )
@@ -80,6 +106,8 @@ def changed(chance, messages, depth):
         del messages[at:]
     elif messages[at][0] == "Query":
         messages[at] = "Query", question_changed(chance, messages[at][1])
+    elif messages[at][0] in ("AskLook", "AskMoment") and chance.one_in(2):
+        messages[at] = ask_changed(chance, messages[at], depth)
     else:
         messages[at] = changes.message_changed(chance, messages[at])
     return messages or [("Bye",)]
@@ -89,6 +117,18 @@ def question_changed(chance, question):
     """A query with another number, which may fit no depth, or may have no spelling."""
     field = chance.choice(("side", "lo", "hi", "at_least", "num", "den"))
     return question._replace(**{field: changes.near(chance, getattr(question, field))})
+
+
+def ask_changed(chance, message, depth):
+    """An Ask with another number, at the edge of what is allowed."""
+    name, first, second = message
+    if name == "AskLook":
+        edges = (0, 4, 255), (2**depth - 1, 2**depth, 2**64 - 1)
+    else:
+        edges = (1 - first, 2, 255), (2, 3, 8, 9, 255)
+    if chance.one_in(2):
+        return name, chance.choice(edges[0]), second
+    return name, first, chance.choice(edges[1])
 
 
 def stray(chance, depth):
@@ -122,9 +162,12 @@ def stray(chance, depth):
                     "share", chance.randrange(2), num=1, den=chance.choice((1, 10**6, 10**6 + 1))
                 ),
             ),
+            ("AskLook", chance.randrange(5), chance.choice((0, last, last + 1))),
+            ("AskMoment", chance.randrange(3), chance.randint(2, 9)),
             ("Reveal", chance.number()),
             ("Reveal", 1),
             ("Bye",),
+            ("End",),
             changes.stray(chance, depth),
         )
     )

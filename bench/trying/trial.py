@@ -1,8 +1,9 @@
-"""Runs cases one after another, compares each run with what it has to be, and counts what was
-seen."""
+"""Runs cases, compares each run with what it has to be, and counts what was seen."""
 
+import multiprocessing
 import os
 import sys
+import tempfile
 import time
 from collections import Counter
 from typing import Callable, NamedTuple
@@ -31,17 +32,22 @@ class Group(NamedTuple):
 class Trial:
     """The cases of one group."""
 
-    def __init__(self, name, group, program, settings):
-        self.name, self.group, self.program, self.settings = name, group, program, settings
+    def __init__(self, name, group, path, settings):
+        self.name, self.group, self.path, self.settings = name, group, path, settings
         self.seen = Counter()
         self.wrong = 0
 
     def tries(self):
         begun = time.monotonic()
-        for number in self.settings.numbers:
-            for line in self.differences(number):
-                self.wrong += 1
-                print(line, flush=True)
+        memory = "/dev/shm" if os.access("/dev/shm", os.W_OK) else None
+        with tempfile.TemporaryDirectory(prefix="sip-", dir=memory) as folder:
+            workers = self.workers(folder)
+            for at, _ in enumerate(self.settings.numbers):
+                outcome, lines = workers[at % len(workers)].recv()
+                self.seen[outcome] += 1
+                self.wrong += len(lines)
+                for line in lines:
+                    print(line, flush=True)
         cases = len(self.settings.numbers)
         each = (time.monotonic() - begun) / max(cases, 1) * 1000
         print(f"{self.name}: {cases} cases, {self.wrong} differences, {each:.1f} ms each")
@@ -55,15 +61,33 @@ class Trial:
             self.wrong += 1
             print(f"{self.name}: never seen: {', '.join(missing)}", flush=True)
 
+    def workers(self, folder):
+        """Starts processes that take the cases in turn, and gives what comes from each of them."""
+        jobs, heard = self.settings.jobs, []
+        fork = multiprocessing.get_context("fork")
+        for job in range(jobs):
+            own = os.path.join(folder, str(job))
+            os.mkdir(own)
+            hears, says = fork.Pipe(duplex=False)
+            numbers = self.settings.numbers[job::jobs]
+            fork.Process(target=self.work, args=(numbers, own, says), daemon=True).start()
+            says.close()
+            heard.append(hears)
+        return heard
+
+    def work(self, numbers, folder, says):
+        self.program = Program(self.path, folder)
+        for number in numbers:
+            says.send(self.differences(number))
+
     def differences(self, number):
-        """Runs a case. What is other than it has to be, one line each."""
+        """Runs a case. What it came to, and what is other than it has to be, one line each."""
         name = f"{self.name} {self.settings.seed} {number}"
         chance = Chances(name, self.settings.seed)
         case = self.group.make(chance)
         over_fifos = bool(self.group.fifos) and chance.one_in(self.group.fifos)
         files = {**case.files, FROM: case.data} if case.data is not None else case.files
         outcome = run(case.words, files, may_be_made)
-        self.seen[f"{outcome.status} {outcome.reason}".rstrip()] += 1
         if over_fifos and outcome.to is not None:
             size = len(case.data)
             cuts = sorted(chance.randint(0, size) for _ in range(chance.choice((0, 1, 3, 20))))
@@ -79,17 +103,17 @@ class Trial:
         found += [f"it changes {name}, which it reads" for name in lost]
         if found and self.settings.keep:
             keep(os.path.join(self.settings.keep, name.replace(" ", "-")), case, files)
-        return [f"{name}: {' '.join(map(repr, case.words))}: {line}" for line in found]
+        lines = [f"{name}: {' '.join(map(repr, case.words))}: {line}" for line in found]
+        return f"{outcome.status} {outcome.reason}".rstrip(), lines
 
 
 def tried(groups, settings):
     """Tries the groups that are asked for. 1 where something differs."""
-    wrong = 0
-    with Program(proved("sip", ["--version"])) as program:
-        for name in settings.groups:
-            trial = Trial(name, groups[name], program, settings)
-            trial.tries()
-            wrong += trial.wrong
+    wrong, path = 0, os.path.abspath(proved("sip", ["--version"]))
+    for name in settings.groups:
+        trial = Trial(name, groups[name], path, settings)
+        trial.tries()
+        wrong += trial.wrong
     if wrong:
         print(f"{wrong} differences", file=sys.stderr)
     return 1 if wrong else 0
@@ -103,7 +127,8 @@ def may_be_made(name):
 def to_of(words):
     """The name of the file that these words make, if they make one."""
     words = behind_progress(words)
-    at = {b"verify": 4, b"help": 2}.get(words[0] if words else b"")
+    places = {b"verify": 4, b"lookup": 4, b"moments": 4, b"help": 2, b"helplook": 2, b"helpmom": 2}
+    at = places.get(words[0] if words else b"")
     return words[at] if at and len(words) > at else None
 
 
