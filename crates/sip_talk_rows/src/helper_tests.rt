@@ -162,8 +162,8 @@ fn leaves_by_512(rt: HostRuntime) {
     expect(&rt, 2, &is_shown(&rt, alloc, 2, &BYE, &leaves));
 }
 
-// At the threshold 3 no leaf is shown, and all 512 nodes above them, by 256 in a frame: each has the
-// hash 1 + 2 + 4 + 8.
+// At the threshold 3 no leaf is shown, and all 512 nodes above them, by 256 in a frame: each has
+// the hash 1 + 2 + 4 + 8.
 #[test]
 fn nodes_by_256(rt: HostRuntime) {
     let alloc = rt.alloc();

@@ -75,8 +75,8 @@ impl Before {
     }
 }
 
-// What came before, the last bytes that are heard, whether the link's end was found behind them, the
-// round and the reason.
+// What came before, the last bytes that are heard, whether the link's end was found behind them,
+// the round and the reason.
 type Row<'a> = (Before, &'a [u8], bool, u8, Reason);
 
 const OF_CLAIMS: [Row<'static>; 4] = [
