@@ -1,96 +1,105 @@
 // What a helper says, over whole talks.
 ghost use Rattle.std.specs.Prelude.{◌≤◌};
 
+use crate::events::sent_in;
 use crate::facts::expect;
 use crate::talks::{
     BYE, END, ENDS, ENTRIES, ENTRY_AND_SIBLINGS, HITTERS, NO_SIBLINGS, REFUSALS, REVEALED,
     SHARES_IN_VERSION_1, STREAM, SUB_1_2, SUMS, Talk,
 };
 use sip_helper::{HelpStatus, serve};
-use sip_ports::{MemoryLink, TalkEvent};
+use sip_ports::MemoryLink;
 use std::alloc::Global;
 use std::process::Abort;
-use std::test::Fail;
 
 // Serves a talk over a link in memory, and answers how it ended and what was sent.
 fn served(
+    rt: &impl Abort,
     alloc: Global,
     incoming: &[u8],
     chunk: usize,
     fails: &[u64],
-) -> Result<(HelpStatus, Vec<u8>), Fail>
+) -> (HelpStatus, Vec<u8>)
     requires { 1 ≤ chunk }
 {
-    let incoming = incoming.to_vec(alloc)?;
-    let mut link = MemoryLink::new(alloc, incoming, chunk, fails.to_vec(alloc)?);
+    let incoming = incoming.to_vec(alloc).expect(rt, "memory");
+    let fails = fails.to_vec(alloc).expect(rt, "memory");
+    let mut link = MemoryLink::new(alloc, incoming, chunk, fails);
     let status = serve(alloc, &mut link);
-    let mut sent = Vec::new(alloc);
-    for event in link.talk() {
-        if let TalkEvent::Out(byte) = event {
-            sent.push(*byte)?;
-        }
-    }
-    Ok((status, sent))
+    let sent = sent_in(rt, alloc, link.talk());
+    (status, sent)
+}
+
+// Whether a talk in pieces of this size ends so, and whether this is sent.
+fn is_served(
+    rt: &impl Abort,
+    alloc: Global,
+    talk: &[u8],
+    chunk: usize,
+    status: HelpStatus,
+    want: &[u8],
+) -> [bool; 2]
+    requires { 1 ≤ chunk }
+{
+    let (ended, sent) = served(rt, alloc, talk, chunk, &[]);
+    [ended == status, sent.as_slice() == want]
 }
 
 // Each talk, in pieces of one byte and in one piece.
-fn are_served(rt: &impl Abort, alloc: Global, talks: &[Talk]) -> Result<(), Fail> {
+fn are_served(rt: &impl Abort, alloc: Global, talks: &[Talk]) {
     for (row, (parts, status, sent)) in talks.iter().enumerate() {
-        let talk = parts.concat(alloc)?;
-        let want = sent.concat(alloc)?;
-        let slow = served(alloc, &talk, 1, &[])?;
-        let whole = served(alloc, &talk, 10_000, &[])?;
-        let facts = [
-            slow.0 == *status,
-            slow.1 == want,
-            whole.0 == *status,
-            whole.1 == want,
-        ];
-        expect(rt, row, &facts);
+        let talk = parts.concat(alloc).expect(rt, "memory");
+        let want = sent.concat(alloc).expect(rt, "memory");
+        expect(rt, row, &is_served(rt, alloc, &talk, 1, *status, &want));
+        expect(
+            rt,
+            row,
+            &is_served(rt, alloc, &talk, 10_000, *status, &want),
+        );
     }
-    Ok(())
 }
 
 #[test]
-fn entries_are_answered(rt: HostRuntime) -> Result<(), Fail> {
-    are_served(&rt, rt.alloc(), &ENTRIES)
+fn entries_are_answered(rt: HostRuntime) {
+    are_served(&rt, rt.alloc(), &ENTRIES);
 }
 
 #[test]
-fn a_talk_ends(rt: HostRuntime) -> Result<(), Fail> {
-    are_served(&rt, rt.alloc(), &ENDS)
+fn a_talk_ends(rt: HostRuntime) {
+    are_served(&rt, rt.alloc(), &ENDS);
 }
 
 #[test]
-fn a_share_in_version_1(rt: HostRuntime) -> Result<(), Fail> {
-    are_served(&rt, rt.alloc(), &SHARES_IN_VERSION_1)
+fn a_share_in_version_1(rt: HostRuntime) {
+    are_served(&rt, rt.alloc(), &SHARES_IN_VERSION_1);
 }
 
 #[test]
-fn sums_are_answered(rt: HostRuntime) -> Result<(), Fail> {
-    are_served(&rt, rt.alloc(), &SUMS)
+fn sums_are_answered(rt: HostRuntime) {
+    are_served(&rt, rt.alloc(), &SUMS);
 }
 
 #[test]
-fn hitters_and_shares_are_answered(rt: HostRuntime) -> Result<(), Fail> {
-    are_served(&rt, rt.alloc(), &HITTERS)
+fn hitters_and_shares_are_answered(rt: HostRuntime) {
+    are_served(&rt, rt.alloc(), &HITTERS);
 }
 
 #[test]
-fn hitters_are_refused(rt: HostRuntime) -> Result<(), Fail> {
-    are_served(&rt, rt.alloc(), &REFUSALS)
+fn hitters_are_refused(rt: HostRuntime) {
+    are_served(&rt, rt.alloc(), &REFUSALS);
 }
 
 // Six frames are received, two calls each where there is a body, and three are sent: 13 calls in
 // all.
 #[test]
-fn a_link_fails_at_each_call(rt: HostRuntime) -> Result<(), Fail> {
+fn a_link_fails_at_each_call(rt: HostRuntime) {
     let alloc = rt.alloc();
     let parts: [&[u8]; 4] = [&STREAM, &SUB_1_2, &REVEALED, &BYE];
-    let talk = parts.concat(alloc)?;
-    let replies = [ENTRY_AND_SIBLINGS.as_slice(), &NO_SIBLINGS].concat(alloc)?;
+    let talk = parts.concat(alloc).expect(&rt, "memory");
+    let parts: [&[u8]; 2] = [&ENTRY_AND_SIBLINGS, &NO_SIBLINGS];
+    let replies = parts.concat(alloc).expect(&rt, "memory");
     for call in 1..15 {
-        let (status, sent) = served(alloc, &talk, 10_000, &[call])?;
+        let (status, sent) = served(&rt, alloc, &talk, 10_000, &[call]);
         let want = if call < 14 {
             HelpStatus::PeerFault
         } else {
@@ -99,61 +108,70 @@ fn a_link_fails_at_each_call(rt: HostRuntime) -> Result<(), Fail> {
         let facts = [status == want, replies.starts_with(sent.as_slice())];
         expect(&rt, call as usize, &facts);
     }
-    Ok(())
 }
 
 // In version 1 the opening of a talk over 1,024 items with 1 in each, and their end.
-fn ones(alloc: Global) -> Result<Vec<u8>, Fail> {
-    let mut talk = [1, 0, 2, 1, 10].to_vec(alloc)?;
+fn ones(rt: &impl Abort, alloc: Global) -> Vec<u8> {
+    let mut talk = [1, 0, 2, 1, 10].to_vec(alloc).expect(rt, "memory");
     for item in 0..1024_u32 {
         if item % 512 == 0 {
-            talk.extend_from_slice(&[2, 0x1a, 0x02, 2, 0])?;
+            let head = [2, 0x1a, 0x02, 2, 0];
+            talk.extend_from_slice(&head).expect(rt, "memory");
         }
-        talk.push(0)?;
-        talk.extend_from_slice(&item.to_be_bytes())?;
-        talk.extend_from_slice(&[0, 0, 0, 0, 0, 0, 0, 1])?;
+        talk.push(0).expect(rt, "memory");
+        let item = item.to_be_bytes();
+        talk.extend_from_slice(&item).expect(rt, "memory");
+        let one = [0, 0, 0, 0, 0, 0, 0, 1];
+        talk.extend_from_slice(&one).expect(rt, "memory");
     }
-    talk.extend_from_slice(&[3, 0, 0])?;
-    Ok(talk)
+    talk.extend_from_slice(&[3, 0, 0]).expect(rt, "memory");
+    talk
 }
 
 // So many rows from 0 on with these bytes behind the index, in two frames, and the end of a level.
-fn two_frames(alloc: Global, rows: u32, header: &[u8], row: &[u8]) -> Result<Vec<u8>, Fail> {
+fn two_frames(rt: &impl Abort, alloc: Global, rows: u32, header: &[u8], row: &[u8]) -> Vec<u8> {
     let mut sent = Vec::new(alloc);
     for index in 0..rows {
         if index == 0 || index == rows / 2 {
-            sent.extend_from_slice(header)?;
+            sent.extend_from_slice(header).expect(rt, "memory");
         }
-        sent.extend_from_slice(&index.to_be_bytes())?;
-        sent.extend_from_slice(row)?;
+        let at = index.to_be_bytes();
+        sent.extend_from_slice(&at).expect(rt, "memory");
+        sent.extend_from_slice(row).expect(rt, "memory");
     }
-    sent.extend_from_slice(&END)?;
-    Ok(sent)
+    sent.extend_from_slice(&END).expect(rt, "memory");
+    sent
 }
 
-// Whether a talk is served with these replies.
-fn says(alloc: Global, talk: &[u8], replies: &[u8]) -> Result<bool, Fail> {
-    let (status, sent) = served(alloc, talk, 10_000, &[])?;
-    Ok(status == HelpStatus::Served && sent.as_slice() == replies)
+// Whether a talk over those items, whose query has this threshold, is served with these replies.
+fn is_shown(rt: &impl Abort, alloc: Global, least: u8, asked: &[u8], replies: &[u8]) -> [bool; 2] {
+    let stream = ones(rt, alloc);
+    let query = [4, 0, 10, 5, 0, 0, 0, 0, 0, 0, 0, 0, least];
+    let parts = [stream.as_slice(), &query, asked];
+    let talk = parts.concat(alloc).expect(rt, "memory");
+    is_served(rt, alloc, &talk, 10_000, HelpStatus::Served, replies)
 }
 
 // Every pair of leaves is 2, so that all 1,024 leaves are shown at the threshold 2, by 512 in a
-// frame. At the threshold 3 none is, and all 512 nodes above them, by 256 in a frame: each has the
-// hash 1 + 2 + 4 + 8.
+// frame.
 #[test]
-fn leaves_by_512_and_nodes_by_256(rt: HostRuntime) -> Result<(), Fail> {
+fn leaves_by_512(rt: HostRuntime) {
     let alloc = rt.alloc();
-    let stream = ones(alloc)?;
     let leaf = [0, 0, 0, 0, 0, 0, 0, 1];
+    let leaves = two_frames(&rt, alloc, 1024, &[0x15, 0x18, 0x02, 2, 0], &leaf);
+    expect(&rt, 2, &is_shown(&rt, alloc, 2, &BYE, &leaves));
+}
+
+// At the threshold 3 no leaf is shown, and all 512 nodes above them, by 256 in a frame: each has
+// the hash 1 + 2 + 4 + 8.
+#[test]
+fn nodes_by_256(rt: HostRuntime) {
+    let alloc = rt.alloc();
     let node = [0, 0, 0, 0, 0, 0, 0, 15, 0, 0, 0, 0, 0, 0, 0, 2];
-    let leaves = two_frames(alloc, 1024, &[0x15, 0x18, 0x02, 2, 0], &leaf)?;
-    let nodes = two_frames(alloc, 512, &[0x16, 0x14, 0x02, 1, 0], &node)?;
-    let at_least_2 = [4, 0, 10, 5, 0, 0, 0, 0, 0, 0, 0, 0, 2];
-    let at_least_3 = [4, 0, 10, 5, 0, 0, 0, 0, 0, 0, 0, 0, 3];
-    let first = [stream.as_slice(), &at_least_2, &BYE].concat(alloc)?;
-    let second = [stream.as_slice(), &at_least_3, &REVEALED, &BYE].concat(alloc)?;
-    let shown = [END.as_slice(), &nodes].concat(alloc)?;
-    let facts = [says(alloc, &first, &leaves)?, says(alloc, &second, &shown)?];
-    expect(&rt, 0, &facts);
-    Ok(())
+    let nodes = two_frames(&rt, alloc, 512, &[0x16, 0x14, 0x02, 1, 0], &node);
+    let asked = [REVEALED.as_slice(), &BYE]
+        .concat(alloc)
+        .expect(&rt, "memory");
+    let shown = [END.as_slice(), &nodes].concat(alloc).expect(&rt, "memory");
+    expect(&rt, 3, &is_shown(&rt, alloc, 3, &asked, &shown));
 }

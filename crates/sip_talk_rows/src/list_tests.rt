@@ -275,14 +275,14 @@ fn asked_of(
 }
 
 fn check_row(rt: &impl Abort, alloc: Global, number: usize, row: &ListRow) -> Result<(), Fail> {
-    let mut places = vec![in alloc; FREE; row.places.len()]?;
+    let mut places = vec![in alloc; FREE; row.places.len()].expect(rt, "memory");
     let talked = asked_of(alloc, row.frames, &mut places, row.fails)?;
     let facts = [
         talked.said == row.said,
         places.as_slice() == row.places,
         talked.learnt.as_slice() == row.learnt,
-        talked.link.talk() == events(alloc, row.talk)?.as_slice(),
-        talked.keep.bytes() == row.kept.concat(alloc)?.as_slice(),
+        talked.link.talk() == events(rt, alloc, row.talk).as_slice(),
+        talked.keep.bytes() == row.kept.concat(alloc).expect(rt, "memory").as_slice(),
     ];
     expect(rt, number, &facts);
     Ok(())

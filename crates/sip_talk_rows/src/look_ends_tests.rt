@@ -2,17 +2,19 @@
 ghost use Rattle.std.specs.Prelude.{◌≤◌, IfOk};
 ghost use Rattle.sip_lookup.specs.Tasks.{CanLookUp};
 
+use crate::events::sent_in;
 use crate::session_facts::expect;
 use arrayvec::ArrayVec;
-use sip_field::{Field, draw_challenges};
+use sip_field::{Field, M61, draw_challenges};
 use sip_helper::HelpStatus;
 use sip_lookup::{LookTask, Lookup, look_stream, serve_look};
-use sip_ports::{MemoryLink, MemorySink, MemorySource, TalkEvent};
+use sip_ports::{MemoryLink, MemorySink, MemorySource};
 use sip_stream::Form;
 use sip_vector::Depth;
 use sip_verifier::Status;
 use std::alloc::Global;
 use std::process::Abort;
+use std::slice::Iter;
 use std::test::Fail;
 
 // The opening of a talk over four items, the vector (3, 0, 5, 1) and its end.
@@ -51,7 +53,7 @@ type Talk = (
     &'static [&'static [u8]],
 );
 
-const TALKS: [Talk; 14] = [
+const TALKS: [Talk; 7] = [
     (
         "a whole lookup",
         &[&STREAM, ASK_SUCC_1, SUB_1_2, REVEALED, END],
@@ -89,6 +91,9 @@ const TALKS: [Talk; 14] = [
         HelpStatus::BadFrame { offset: 5 },
         &[],
     ),
+];
+
+const OUT_OF_TURNS: [Talk; 7] = [
     (
         "an End where the query is due",
         &[&STREAM, ASK_SUCC_1, END],
@@ -133,43 +138,53 @@ const TALKS: [Talk; 14] = [
     ),
 ];
 
-// What was sent on a link.
-fn sent(alloc: Global, talk: &[TalkEvent]) -> Result<Vec<u8>, Fail> {
-    let mut sent = Vec::new(alloc);
-    for event in talk {
-        if let TalkEvent::Out(byte) = event {
-            sent.push(*byte)?;
-        }
-    }
-    Ok(sent)
-}
-
 // How a helper over these bytes ends, and what it sends.
-fn served(alloc: Global, incoming: &[u8], chunk: usize) -> Result<(HelpStatus, Vec<u8>), Fail>
+fn served(rt: &impl Abort, alloc: Global, incoming: &[u8], chunk: usize) -> (HelpStatus, Vec<u8>)
     requires { 1 ≤ chunk }
 {
-    let mut link = MemoryLink::new(alloc, incoming.to_vec(alloc)?, chunk, Vec::new(alloc));
+    let incoming = incoming.to_vec(alloc).expect(rt, "memory");
+    let mut link = MemoryLink::new(alloc, incoming, chunk, Vec::new(alloc));
     let status = serve_look(alloc, &mut link);
-    Ok((status, sent(alloc, link.talk())?))
+    let sent = sent_in(rt, alloc, link.talk());
+    (status, sent)
+}
+
+// Whether a helper over these bytes ends so, and whether it sends this.
+fn is_served(
+    rt: &impl Abort,
+    alloc: Global,
+    talk: &[u8],
+    chunk: usize,
+    status: HelpStatus,
+    want: &[u8],
+) -> [bool; 2]
+    requires { 1 ≤ chunk }
+{
+    let (ended, sent) = served(rt, alloc, talk, chunk);
+    [ended == status, sent.as_slice() == want]
+}
+
+fn are_served(rt: &impl Abort, alloc: Global, talks: &[Talk]) {
+    for (name, parts, status, want) in talks {
+        let talk = parts.concat(alloc).expect(rt, "memory");
+        let want = want.concat(alloc).expect(rt, "memory");
+        expect(rt, name, &is_served(rt, alloc, &talk, 1, *status, &want));
+        expect(
+            rt,
+            name,
+            &is_served(rt, alloc, &talk, 10_000, *status, &want),
+        );
+    }
 }
 
 #[test]
-fn lookups_are_served(rt: HostRuntime) -> Result<(), Fail> {
-    let alloc = rt.alloc();
-    for (name, parts, status, want) in &TALKS {
-        let talk = parts.concat(alloc)?;
-        let want = want.concat(alloc)?;
-        let slow = served(alloc, &talk, 1)?;
-        let whole = served(alloc, &talk, 10_000)?;
-        let facts = [
-            slow.0 == *status,
-            slow.1 == want,
-            whole.0 == *status,
-            whole.1 == want,
-        ];
-        expect(&rt, name, &facts);
-    }
-    Ok(())
+fn lookups_are_served(rt: HostRuntime) {
+    are_served(&rt, rt.alloc(), &TALKS);
+}
+
+#[test]
+fn what_may_not_come_in_a_talk_of_lookups(rt: HostRuntime) {
+    are_served(&rt, rt.alloc(), &OUT_OF_TURNS);
 }
 
 // Over two items: the value at 0 is asked for, and the query for it has one reply, the sibling 0.
@@ -182,25 +197,23 @@ const SUB_0_0: &[u8] = &[4, 0, 9, 1, 0, 0, 0, 0, 0, 0, 0, 0];
 const SIBLING_1: &[u8] = &[0x14, 0, 9, 2, 0, 0, 0, 0, 0, 0, 0, 0];
 
 #[test]
-fn the_17th_lookup_is_out_of_turn(rt: HostRuntime) -> Result<(), Fail> {
+fn the_17th_lookup_is_out_of_turn(rt: HostRuntime) {
     let alloc = rt.alloc();
-    let mut talk = [1, 0, 2, 1, 1, 3, 0, 0].to_vec(alloc)?;
+    let mut talk = [1, 0, 2, 1, 1, 3, 0, 0].to_vec(alloc).expect(&rt, "memory");
     let mut want = Vec::new(alloc);
     for _ in 0..16 {
-        talk.extend_from_slice(ASK_INDEX_0)?;
-        talk.extend_from_slice(SUB_0_0)?;
-        want.extend_from_slice(FOUND_0)?;
-        want.extend_from_slice(SIBLING_1)?;
+        talk.extend_from_slice(ASK_INDEX_0).expect(&rt, "memory");
+        talk.extend_from_slice(SUB_0_0).expect(&rt, "memory");
+        want.extend_from_slice(FOUND_0).expect(&rt, "memory");
+        want.extend_from_slice(SIBLING_1).expect(&rt, "memory");
     }
-    talk.extend_from_slice(ASK_INDEX_0)?;
-    want.extend_from_slice(OUT_OF_TURN)?;
-    let (status, said) = served(alloc, &talk, 7)?;
+    talk.extend_from_slice(ASK_INDEX_0).expect(&rt, "memory");
+    want.extend_from_slice(OUT_OF_TURN).expect(&rt, "memory");
     let end = HelpStatus::BadFrame {
         offset: 8 + 16 * 24,
     };
-    let facts = [status == end, said == want];
-    expect(&rt, "17 lookups", &facts);
-    Ok(())
+    let is_served = is_served(&rt, alloc, &talk, 7, end, &want);
+    expect(&rt, "17 lookups", &is_served);
 }
 
 // ---- both ends
@@ -342,81 +355,96 @@ fn task(depth: u8, asked: &[Asked]) -> Result<LookTask, Fail>
 }
 
 // Puts an Ask and the query for the interval, in the version of the depth.
-fn put_question(said: &mut Vec<u8>, depth: u8, asked: &Asked) -> Result<(), Fail> {
+fn put_question(rt: &impl Abort, said: &mut Vec<u8>, depth: u8, asked: &Asked) {
     let (lookup, lo, hi) = asked;
     let (code, item) = match lookup {
         Lookup::Index(item) => (1, item),
         Lookup::Pred(item) => (2, item),
         Lookup::Succ(item) => (3, item),
     };
-    said.extend_from_slice(&[0x21, 0, 9, code])?;
-    said.extend_from_slice(&item.to_be_bytes())?;
-    if depth > 32 {
-        said.extend_from_slice(&[4, 0, 17, 1])?;
-        said.extend_from_slice(&lo.to_be_bytes())?;
-        said.extend_from_slice(&hi.to_be_bytes())?;
-    } else {
-        said.extend_from_slice(&[4, 0, 9, 1])?;
-        said.extend_from_slice(&u32::try_from(*lo).map_err(|_| "an item")?.to_be_bytes())?;
-        said.extend_from_slice(&u32::try_from(*hi).map_err(|_| "an item")?.to_be_bytes())?;
+    // An item has four bytes up to depth 32, and eight above.
+    let (length, from) = if depth > 32 { (17, 0) } else { (9, 4) };
+    let ask = [0x21, 0, 9, code];
+    said.extend_from_slice(&ask).expect(rt, "memory");
+    said.extend_from_slice(&item.to_be_bytes())
+        .expect(rt, "memory");
+    let query = [4, 0, length, 1];
+    said.extend_from_slice(&query).expect(rt, "memory");
+    for end in [lo, hi] {
+        said.extend_from_slice(&end.to_be_bytes()[from..])
+            .expect(rt, "memory");
     }
-    Ok(())
 }
 
-// All that is said to a helper in a run at the challenges of 32 zero bytes. The last challenge of a
-// lookup never leaves.
-fn said_in(alloc: Global, run: &Run) -> Result<Vec<u8>, Fail> {
-    let drawn = draw_challenges::<MOST_CHALLENGES>([0; 32], MOST_CHALLENGES)?;
+// Puts the challenges of a lookup that are revealed: all but the last, which never leaves.
+fn put_reveals(rt: &impl Abort, said: &mut Vec<u8>, depth: u8, challenges: &mut Iter<M61>) {
+    for _ in 1..depth {
+        let challenge = challenges.next().expect(rt, "a challenge");
+        said.extend_from_slice(&[5, 0, 8]).expect(rt, "memory");
+        said.extend_from_slice(&challenge.number().to_be_bytes())
+            .expect(rt, "memory");
+    }
+    challenges.next();
+}
+
+// All that is said to a helper in a run at the challenges of 32 zero bytes.
+fn said_in(rt: &impl Abort, alloc: Global, run: &Run) -> Vec<u8> {
+    let drawn = draw_challenges::<MOST_CHALLENGES>([0; 32], MOST_CHALLENGES);
+    let drawn = drawn.expect(rt, "challenges");
     let mut challenges = drawn.iter();
-    let mut said = run.opening.to_vec(alloc)?;
+    let mut said = run.opening.to_vec(alloc).expect(rt, "memory");
     for asked in run.asked {
-        put_question(&mut said, run.depth, asked)?;
-        for _ in 1..run.depth {
-            let challenge = challenges.next().ok_or("a challenge")?;
-            said.extend_from_slice(&[5, 0, 8])?;
-            said.extend_from_slice(&challenge.number().to_be_bytes())?;
-        }
-        challenges.next();
+        put_question(rt, &mut said, run.depth, asked);
+        put_reveals(rt, &mut said, run.depth, &mut challenges);
     }
-    said.extend_from_slice(END)?;
-    Ok(said)
+    said.extend_from_slice(END).expect(rt, "memory");
+    said
 }
 
-// How a run ends over these replies, what it reports and what it sends.
-fn looked(
+// Of a run over these replies: that it is accepted, reports what it has to, and sends this.
+fn is_looked(
+    rt: &impl Abort,
     alloc: Global,
-    task: &LookTask,
-    lines: &[u8],
-    replies: &[u8],
-) -> Result<(Status, Vec<u8>, Vec<u8>), Fail>
-    requires { CanLookUp task.now }
-{
-    let mut first = MemorySource::new(lines.to_vec(alloc)?, 5, Vec::new(alloc));
-    let mut second = MemorySource::new(vec![in alloc; 0; 32]?, 5, Vec::new(alloc));
-    let mut peer = MemoryLink::new(alloc, replies.to_vec(alloc)?, 5, Vec::new(alloc));
+    run: &Run,
+    replies: Vec<u8>,
+    asked: &[u8],
+) -> Result<[bool; 3], Fail> {
+    let task = task(run.depth, run.asked)?;
+    let lines = run.lines.to_vec(alloc).expect(rt, "memory");
+    let seed = vec![in alloc; 0; 32].expect(rt, "memory");
+    let mut first = MemorySource::new(lines, 5, Vec::new(alloc));
+    let mut second = MemorySource::new(seed, 5, Vec::new(alloc));
+    let mut peer = MemoryLink::new(alloc, replies, 5, Vec::new(alloc));
     let mut report = MemorySink::new(alloc, 5, Vec::new(alloc));
-    let status = look_stream(alloc, task, &mut first, &mut second, &mut peer, &mut report);
-    let said = sent(alloc, peer.talk())?;
-    Ok((status, report.bytes().to_vec(alloc)?, said))
+    let status = look_stream(
+        alloc,
+        &task,
+        &mut first,
+        &mut second,
+        &mut peer,
+        &mut report,
+    );
+    Ok([
+        status == Status::Accepted,
+        report.bytes() == run.report,
+        sent_in(rt, alloc, peer.talk()).as_slice() == asked,
+    ])
 }
 
 // Each end is one call, over what the other one sends. A reply hangs on nothing that is said behind
 // its question, so this is what both come to over one link.
+fn are_one_talk(rt: &impl Abort, alloc: Global, run: &Run) -> Result<(), Fail> {
+    let asked = said_in(rt, alloc, run);
+    let (end, replies) = served(rt, alloc, &asked, 5);
+    expect(rt, run.name, &[end == HelpStatus::Served]);
+    expect(rt, run.name, &is_looked(rt, alloc, run, replies, &asked)?);
+    Ok(())
+}
+
 #[test]
 fn both_ends_come_to_the_answers(rt: HostRuntime) -> Result<(), Fail> {
-    let alloc = rt.alloc();
     for run in &RUNS {
-        let task = task(run.depth, run.asked)?;
-        let asked = said_in(alloc, run)?;
-        let (end, replies) = served(alloc, &asked, 5)?;
-        let (status, report, said) = looked(alloc, &task, run.lines, &replies)?;
-        let facts = [
-            end == HelpStatus::Served,
-            status == Status::Accepted,
-            report.as_slice() == run.report,
-            said == asked,
-        ];
-        expect(&rt, run.name, &facts);
+        are_one_talk(&rt, rt.alloc(), run)?;
     }
     Ok(())
 }

@@ -112,12 +112,14 @@ const NOT_ALONE: Status = Status::Rejected {
     reason: Reason::NotAlone,
 };
 
-// A run: its stream, its lookup, the talk in parts, each sent or received, its status and report.
+// A run: its stream and what is sent of it, its lookup, what is sent and received then, by turns, its
+// status and report.
 type Row<'a> = (
     &'a str,
     &'a [u8],
+    &'a [u8],
     Lookup,
-    &'a [(bool, &'a [u8])],
+    &'a [&'a [u8]],
     Status,
     &'a [u8],
 );
@@ -219,16 +221,16 @@ const ROWS: [Row<'static>; 6] = [
     (
         "the value at 1",
         LINES,
+        &STREAM,
         Lookup::Index(1),
         &[
-            (true, &STREAM),
-            (true, &ASK_INDEX_1),
-            (false, &FOUND_1),
-            (true, &SUB_1_1),
-            (false, &REPLY_1_1),
-            (true, &REVEAL),
-            (false, &NODE_1),
-            (true, &END),
+            &ASK_INDEX_1,
+            &FOUND_1,
+            &SUB_1_1,
+            &REPLY_1_1,
+            &REVEAL,
+            &NODE_1,
+            &END,
         ],
         Status::Accepted,
         b"index:1 0\n",
@@ -236,16 +238,16 @@ const ROWS: [Row<'static>; 6] = [
     (
         "the nearest up to 1",
         LINES,
+        &STREAM,
         Lookup::Pred(1),
         &[
-            (true, &STREAM),
-            (true, &ASK_PRED_1),
-            (false, &FOUND_0),
-            (true, &SUB_0_1),
-            (false, &REPLY_0_1),
-            (true, &REVEAL),
-            (false, &NODE_1),
-            (true, &END),
+            &ASK_PRED_1,
+            &FOUND_0,
+            &SUB_0_1,
+            &REPLY_0_1,
+            &REVEAL,
+            &NODE_1,
+            &END,
         ],
         Status::Accepted,
         b"pred:1 0:3\n",
@@ -253,16 +255,16 @@ const ROWS: [Row<'static>; 6] = [
     (
         "the nearest from 1 on",
         LINES,
+        &STREAM,
         Lookup::Succ(1),
         &[
-            (true, &STREAM),
-            (true, &ASK_SUCC_1),
-            (false, &FOUND_2),
-            (true, &SUB_1_2),
-            (false, &REPLY_1_2),
-            (true, &REVEAL),
-            (false, &NO_SIBLINGS),
-            (true, &END),
+            &ASK_SUCC_1,
+            &FOUND_2,
+            &SUB_1_2,
+            &REPLY_1_2,
+            &REVEAL,
+            &NO_SIBLINGS,
+            &END,
         ],
         Status::Accepted,
         b"succ:1 2:5\n",
@@ -270,16 +272,16 @@ const ROWS: [Row<'static>; 6] = [
     (
         "none up to 3",
         &[],
+        &NO_STREAM,
         Lookup::Pred(3),
         &[
-            (true, &NO_STREAM),
-            (true, &ASK_PRED_3),
-            (false, &FOUND_NONE),
-            (true, &SUB_0_3),
-            (false, &NO_SIBLINGS),
-            (true, &REVEAL),
-            (false, &NO_SIBLINGS),
-            (true, &END),
+            &ASK_PRED_3,
+            &FOUND_NONE,
+            &SUB_0_3,
+            &NO_SIBLINGS,
+            &REVEAL,
+            &NO_SIBLINGS,
+            &END,
         ],
         Status::Accepted,
         b"pred:3 none\n",
@@ -287,23 +289,24 @@ const ROWS: [Row<'static>; 6] = [
     (
         "a place below the item",
         LINES,
+        &STREAM,
         Lookup::Succ(1),
-        &[(true, &STREAM), (true, &ASK_SUCC_1), (false, &FOUND_0)],
+        &[&ASK_SUCC_1, &FOUND_0],
         BAD_FOUND,
         b"rejected query 1 round 0 BadFound\n",
     ),
     (
         "a place behind the nearest",
         LINES,
+        &STREAM,
         Lookup::Succ(1),
         &[
-            (true, &STREAM),
-            (true, &ASK_SUCC_1),
-            (false, &FOUND_3),
-            (true, &SUB_1_3),
-            (false, &REPLY_1_3),
-            (true, &REVEAL),
-            (false, &NO_SIBLINGS),
+            &ASK_SUCC_1,
+            &FOUND_3,
+            &SUB_1_3,
+            &REPLY_1_3,
+            &REVEAL,
+            &NO_SIBLINGS,
         ],
         NOT_ALONE,
         b"rejected query 1 round 2 NotAlone\n",
@@ -327,26 +330,40 @@ fn task(lookup: Lookup) -> Result<LookTask, Fail>
     })
 }
 
+// All that is sent and received in a run, and what is received of it.
+fn talk_of(rt: &impl Abort, alloc: Global, row: &Row) -> (Vec<TalkEvent>, Vec<u8>) {
+    let (_, _, stream, _, parts, want, _) = row;
+    let mut talk = events(rt, alloc, &[(true, *stream)]);
+    let mut heard = Vec::new(alloc);
+    for (turn, bytes) in parts.iter().enumerate() {
+        for byte in *bytes {
+            if turn % 2 == 0 {
+                talk.push(TalkEvent::Out(*byte)).expect(rt, "memory");
+            } else {
+                talk.push(TalkEvent::In(*byte)).expect(rt, "memory");
+                heard.push(*byte).expect(rt, "memory");
+            }
+        }
+    }
+    if *want == rejected(Reason::Closed) {
+        talk.push(TalkEvent::Ended).expect(rt, "memory");
+    }
+    (talk, heard)
+}
+
 fn check(rt: &impl Abort, alloc: Global, row: &Row, chunk: usize) -> Result<(), Fail>
     requires { 1 ≤ chunk }
 {
-    let (name, stream, lookup, parts, want, report) = row;
+    let (name, lines, _, lookup, _, want, report) = row;
     let task = task(*lookup)?;
-    let mut first = MemorySource::new(stream.to_vec(alloc)?, chunk, Vec::new(alloc));
-    let mut second = MemorySource::new(vec![in alloc; 0; 32]?, chunk, Vec::new(alloc));
-    let mut heard = Vec::new(alloc);
-    for (is_sent, bytes) in *parts {
-        if !*is_sent {
-            heard.extend_from_slice(bytes)?;
-        }
-    }
+    let (talk, heard) = talk_of(rt, alloc, row);
+    let lines = lines.to_vec(alloc).expect(rt, "memory");
+    let seed = vec![in alloc; 0; 32].expect(rt, "memory");
+    let mut first = MemorySource::new(lines, chunk, Vec::new(alloc));
+    let mut second = MemorySource::new(seed, chunk, Vec::new(alloc));
     let mut peer = MemoryLink::new(alloc, heard, chunk, Vec::new(alloc));
     let mut lines = MemorySink::new(alloc, chunk, Vec::new(alloc));
     let status = look_stream(alloc, &task, &mut first, &mut second, &mut peer, &mut lines);
-    let mut talk = events(alloc, parts)?;
-    if *want == rejected(Reason::Closed) {
-        talk.push(TalkEvent::Ended)?;
-    }
     let facts = [
         status == *want,
         peer.talk() == talk.as_slice(),
@@ -356,24 +373,40 @@ fn check(rt: &impl Abort, alloc: Global, row: &Row, chunk: usize) -> Result<(), 
     Ok(())
 }
 
-#[test]
-fn lookups_are_answered_or_rejected(rt: HostRuntime) -> Result<(), Fail> {
-    let alloc = rt.alloc();
-    for row in &ROWS {
-        check(&rt, alloc, row, 1)?;
-        check(&rt, alloc, row, 10_000)?;
+fn check_rows(rt: &impl Abort, alloc: Global, rows: &[Row]) -> Result<(), Fail> {
+    for row in rows {
+        check(rt, alloc, row, 1)?;
+        check(rt, alloc, row, 10_000)?;
     }
     Ok(())
 }
 
 #[test]
+fn lookups_are_answered_or_rejected(rt: HostRuntime) -> Result<(), Fail> {
+    check_rows(&rt, rt.alloc(), &ROWS)
+}
+
+// Checks a run whose second part is a Found that is none.
+fn check_found(
+    rt: &impl Abort,
+    alloc: Global,
+    name: &str,
+    lookup: Lookup,
+    parts: &[&[u8]],
+    reason: Reason,
+    report: &[u8],
+) -> Result<(), Fail> {
+    let status = rejected(reason);
+    let row: Row = (name, LINES, &STREAM, lookup, parts, status, report);
+    check(rt, alloc, &row, 1)?;
+    check(rt, alloc, &row, 10_000)
+}
+
+#[test]
 fn no_found_is_a_rejection(rt: HostRuntime) -> Result<(), Fail> {
-    let alloc = rt.alloc();
     for (name, lookup, ask, answer, reason, report) in &HOSTILE {
-        let parts: [(bool, &[u8]); 3] = [(true, &STREAM), (true, ask), (false, answer)];
-        let row: Row = (name, LINES, *lookup, &parts, rejected(*reason), report);
-        check(&rt, alloc, &row, 1)?;
-        check(&rt, alloc, &row, 10_000)?;
+        let parts = [*ask, *answer];
+        check_found(&rt, rt.alloc(), name, *lookup, &parts, *reason, report)?;
     }
     Ok(())
 }
@@ -381,20 +414,11 @@ fn no_found_is_a_rejection(rt: HostRuntime) -> Result<(), Fail> {
 // The link ends behind each part of a Found that is not all of it.
 #[test]
 fn a_cut_found_is_a_rejection(rt: HostRuntime) -> Result<(), Fail> {
-    let alloc = rt.alloc();
-    let mut cut = Vec::new(alloc);
-    for byte in &FOUND_0 {
-        let parts: [(bool, &[u8]); 3] = [
-            (true, &STREAM),
-            (true, &ASK_PRED_1),
-            (false, cut.as_slice()),
-        ];
-        let report = b"rejected query 1 round 0 Closed\n";
-        let status = rejected(Reason::Closed);
-        let row: Row = ("a cut", LINES, Lookup::Pred(1), &parts, status, report);
-        check(&rt, alloc, &row, 1)?;
-        check(&rt, alloc, &row, 10_000)?;
-        cut.push(*byte)?;
+    let (lookup, reason) = (Lookup::Pred(1), Reason::Closed);
+    let report = b"rejected query 1 round 0 Closed\n";
+    for end in 0..FOUND_0.len() {
+        let parts: [&[u8]; 2] = [&ASK_PRED_1, &FOUND_0[..end]];
+        check_found(&rt, rt.alloc(), "a cut", lookup, &parts, reason, report)?;
     }
     Ok(())
 }

@@ -51,230 +51,165 @@ const LARGE: [u8; 35] = [
     0, 0, 1, 65, 31, 0xff, 0xff, 0xff, 0xff, 0xff, 0xff, 0xff,
 ];
 
-// The replies, part by part, whether the link's end was found behind them, and what is written.
-type Row<'a> = (&'a [(bool, &'a [u8])], bool, u8, Reason, &'a [u8]);
+// What was said and heard behind the question before a reply with a fault comes.
+#[derive(Clone, Copy)]
+enum Before {
+    Nothing,
+    FalseClaim,
+    Claim,
+    Reveal,
+}
 
-const ROWS: &[Row<'static>] = &[
-    (
-        &[],
-        true,
-        0,
-        Reason::Closed,
-        b"rejected query 1 round 0 Closed\n",
-    ),
-    (
-        &[(false, &FALSE_CLAIM), (false, &FIRST)],
-        false,
-        0,
-        Reason::Sum,
-        b"rejected query 1 round 0 Sum\n",
-    ),
-    (
-        &[(false, &HIGH_CLAIM)],
-        false,
-        0,
-        Reason::BadNumber,
-        b"rejected query 1 round 0 BadNumber\n",
-    ),
-    // A power where a claim is due, and a claim, a polynomial of a sum or an End where a power is.
-    (
-        &[(false, &[0x25, 0, 32])],
-        false,
-        0,
-        Reason::BadKind,
-        b"rejected query 1 round 0 BadKind\n",
-    ),
-    (
-        &[(false, &CLAIM), (false, &[0x11, 0, 8])],
-        false,
-        0,
-        Reason::BadKind,
-        b"rejected query 1 round 0 BadKind\n",
-    ),
-    (
-        &[(false, &CLAIM), (false, &[0x12, 0, 24])],
-        false,
-        0,
-        Reason::BadKind,
-        b"rejected query 1 round 0 BadKind\n",
-    ),
-    (
-        &[(false, &CLAIM), (false, &END)],
-        false,
-        0,
-        Reason::BadKind,
-        b"rejected query 1 round 0 BadKind\n",
-    ),
-    // Powers of degree 2 and 4, and of a part of a coefficient.
-    (
-        &[(false, &CLAIM), (false, &[0x25, 0, 24])],
-        false,
-        0,
-        Reason::BadLength,
-        b"rejected query 1 round 0 BadLength\n",
-    ),
-    (
-        &[(false, &CLAIM), (false, &[0x25, 0, 40])],
-        false,
-        0,
-        Reason::BadLength,
-        b"rejected query 1 round 0 BadLength\n",
-    ),
-    (
-        &[(false, &CLAIM), (false, &[0x25, 1, 33])],
-        false,
-        0,
-        Reason::BadLength,
-        b"rejected query 1 round 0 BadLength\n",
-    ),
-    (
-        &[(false, &CLAIM), (false, &LARGE)],
-        false,
-        0,
-        Reason::BadNumber,
-        b"rejected query 1 round 0 BadNumber\n",
-    ),
-    (
-        &[(false, &CLAIM), (false, &[0x18, 0, 1, 1])],
-        false,
-        0,
-        Reason::Refused(1),
-        b"rejected query 1 round 0 Refused(1)\n",
-    ),
-    (
-        &[(false, &CLAIM), (false, &[0x25, 0, 32, 0, 0])],
-        true,
-        0,
-        Reason::Closed,
-        b"rejected query 1 round 0 Closed\n",
-    ),
-    // A power of an earlier round where the next is due, and one that fails the last test.
-    (
-        &[
-            (false, &CLAIM),
-            (false, &FIRST),
-            (true, &REVEAL),
-            (false, &FIRST),
-        ],
-        false,
-        1,
-        Reason::Sum,
-        b"rejected query 1 round 1 Sum\n",
-    ),
-    (
-        &[(false, &CLAIM), (false, &FIRST), (true, &REVEAL)],
-        true,
-        1,
-        Reason::Closed,
-        b"rejected query 1 round 1 Closed\n",
-    ),
-    // Where that power is due, a claim, a power of degree 4, one that is cut, and a refusal.
-    (
-        &[
-            (false, &CLAIM),
-            (false, &FIRST),
-            (true, &REVEAL),
-            (false, &[0x11, 0, 8]),
-        ],
-        false,
-        1,
-        Reason::BadKind,
-        b"rejected query 1 round 1 BadKind\n",
-    ),
-    (
-        &[
-            (false, &CLAIM),
-            (false, &FIRST),
-            (true, &REVEAL),
-            (false, &[0x25, 0, 40]),
-        ],
-        false,
-        1,
-        Reason::BadLength,
-        b"rejected query 1 round 1 BadLength\n",
-    ),
-    (
-        &[
-            (false, &CLAIM),
-            (false, &FIRST),
-            (true, &REVEAL),
-            (false, &[0x25, 0, 32, 28, 60, 56, 17]),
-        ],
-        true,
-        1,
-        Reason::Closed,
-        b"rejected query 1 round 1 Closed\n",
-    ),
-    (
-        &[
-            (false, &CLAIM),
-            (false, &FIRST),
-            (true, &REVEAL),
-            (false, &[0x18, 0, 1, 1]),
-        ],
-        false,
-        1,
-        Reason::Refused(1),
-        b"rejected query 1 round 1 Refused(1)\n",
-    ),
-    (
-        &[
-            (false, &CLAIM),
-            (false, &FIRST),
-            (true, &REVEAL),
-            (false, &FALSE_SECOND),
-        ],
-        false,
-        2,
-        Reason::Root,
-        b"rejected query 1 round 2 Root\n",
-    ),
+impl Before {
+    fn put(self, rt: &impl Abort, talk: &mut Talk) {
+        match self {
+            Before::Nothing => {}
+            Before::FalseClaim => talk.hear(rt, &FALSE_CLAIM),
+            Before::Claim => talk.hear(rt, &CLAIM),
+            Before::Reveal => {
+                talk.hear(rt, &CLAIM);
+                talk.hear(rt, &FIRST);
+                talk.say(rt, &REVEAL);
+            }
+        }
+    }
+}
+
+// What came before, the last bytes that are heard, whether the link's end was found behind them,
+// the round and the reason.
+type Row<'a> = (Before, &'a [u8], bool, u8, Reason);
+
+const OF_CLAIMS: [Row<'static>; 4] = [
+    (Before::Nothing, &[], true, 0, Reason::Closed),
+    (Before::FalseClaim, &FIRST, false, 0, Reason::Sum),
+    (Before::Nothing, &HIGH_CLAIM, false, 0, Reason::BadNumber),
+    // A power where a claim is due.
+    (Before::Nothing, &[0x25, 0, 32], false, 0, Reason::BadKind),
 ];
+
+const OF_FIRST: [Row<'static>; 9] = [
+    // A claim, a polynomial of a sum or an End where a power is due.
+    (Before::Claim, &[0x11, 0, 8], false, 0, Reason::BadKind),
+    (Before::Claim, &[0x12, 0, 24], false, 0, Reason::BadKind),
+    (Before::Claim, &END, false, 0, Reason::BadKind),
+    // Powers of degree 2 and 4, and of a part of a coefficient.
+    (Before::Claim, &[0x25, 0, 24], false, 0, Reason::BadLength),
+    (Before::Claim, &[0x25, 0, 40], false, 0, Reason::BadLength),
+    (Before::Claim, &[0x25, 1, 33], false, 0, Reason::BadLength),
+    (Before::Claim, &LARGE, false, 0, Reason::BadNumber),
+    (
+        Before::Claim,
+        &[0x18, 0, 1, 1],
+        false,
+        0,
+        Reason::Refused(1),
+    ),
+    (Before::Claim, &[0x25, 0, 32, 0, 0], true, 0, Reason::Closed),
+];
+
+const OF_SECOND: [Row<'static>; 7] = [
+    // A power of an earlier round where the next is due.
+    (Before::Reveal, &FIRST, false, 1, Reason::Sum),
+    (Before::Reveal, &[], true, 1, Reason::Closed),
+    // Where that power is due, a claim, a power of degree 4, one that is cut, and a refusal.
+    (Before::Reveal, &[0x11, 0, 8], false, 1, Reason::BadKind),
+    (Before::Reveal, &[0x25, 0, 40], false, 1, Reason::BadLength),
+    (
+        Before::Reveal,
+        &[0x25, 0, 32, 28, 60, 56, 17],
+        true,
+        1,
+        Reason::Closed,
+    ),
+    (
+        Before::Reveal,
+        &[0x18, 0, 1, 1],
+        false,
+        1,
+        Reason::Refused(1),
+    ),
+    // One that fails the last test.
+    (Before::Reveal, &FALSE_SECOND, false, 2, Reason::Root),
+];
+
+// How the line of a rejection ends.
+fn name_of(reason: Reason) -> &'static [u8] {
+    match reason {
+        Reason::Closed => b"Closed\n",
+        Reason::Sum => b"Sum\n",
+        Reason::BadNumber => b"BadNumber\n",
+        Reason::BadKind => b"BadKind\n",
+        Reason::BadLength => b"BadLength\n",
+        Reason::Refused(1) => b"Refused(1)\n",
+        Reason::Root => b"Root\n",
+        _ => b"another reason\n",
+    }
+}
+
+// The line of a rejection in a round below 10.
+fn line_of(rt: &impl Abort, alloc: Global, round: u8, reason: Reason) -> Vec<u8> {
+    let round = [b'0'.wrapping_add(round)];
+    let parts = [
+        b"rejected query 1 round ".as_slice(),
+        &round,
+        b" ",
+        name_of(reason),
+    ];
+    parts.concat(alloc).expect(rt, "memory")
+}
+
+// All that is said where a row's last bytes come.
+fn talk_of(rt: &impl Abort, alloc: Global, row: &Row) -> Talk {
+    let (before, last, is_ended, _, _) = row;
+    let mut talk = Talk::new(alloc);
+    talk.say(rt, &FOUR_SENT);
+    talk.say(rt, &ASK);
+    before.put(rt, &mut talk);
+    talk.hear(rt, last);
+    if *is_ended {
+        talk.events.push(TalkEvent::Ended).expect(rt, "memory");
+    }
+    talk
+}
 
 fn check_row(rt: &impl Abort, alloc: Global, row: &Row, chunk: usize) -> Result<(), Fail>
     requires { 1 ≤ chunk }
 {
-    let (parts, is_ended, round, reason, report) = row;
     let task = one(2, Side::First, 3)?;
-    let mut talk = Talk::new(alloc);
-    talk.say(&FOUR_SENT)?;
-    talk.say(&ASK)?;
-    for (is_sent, bytes) in *parts {
-        if *is_sent {
-            talk.say(bytes)?;
-        } else {
-            talk.hear(bytes)?;
-        }
-    }
-    if *is_ended {
-        talk.events.push(TalkEvent::Ended)?;
-    }
+    let (round, reason) = (row.3, row.4);
+    let talk = talk_of(rt, alloc, row);
+    let line = line_of(rt, alloc, round, reason);
     let want = Status::Rejected {
         query: 1,
-        round: *round,
-        reason: *reason,
+        round,
+        reason,
     };
-    check(
-        rt,
-        alloc,
-        "a rejection",
-        &task,
-        FOUR,
-        chunk,
-        &talk,
-        want,
-        report,
-    )
+    let name = "a rejection";
+    check(rt, alloc, name, &task, FOUR, chunk, &talk, want, &line);
+    Ok(())
+}
+
+fn check_rows(rt: &impl Abort, alloc: Global, rows: &[Row]) -> Result<(), Fail> {
+    for row in rows {
+        check_row(rt, alloc, row, 1)?;
+        check_row(rt, alloc, row, 10_000)?;
+    }
+    Ok(())
 }
 
 #[test]
-fn hostile_replies_are_rejected(rt: HostRuntime) -> Result<(), Fail> {
-    let alloc = rt.alloc();
-    for row in ROWS {
-        check_row(&rt, alloc, row, 1)?;
-        check_row(&rt, alloc, row, 10_000)?;
-    }
-    Ok(())
+fn hostile_claims_are_rejected(rt: HostRuntime) -> Result<(), Fail> {
+    check_rows(&rt, rt.alloc(), &OF_CLAIMS)
+}
+
+#[test]
+fn hostile_first_replies_are_rejected(rt: HostRuntime) -> Result<(), Fail> {
+    check_rows(&rt, rt.alloc(), &OF_FIRST)
+}
+
+#[test]
+fn hostile_later_replies_are_rejected(rt: HostRuntime) -> Result<(), Fail> {
+    check_rows(&rt, rt.alloc(), &OF_SECOND)
 }
 
 #[test]
@@ -282,23 +217,15 @@ fn a_cube_is_accepted(rt: HostRuntime) -> Result<(), Fail> {
     let alloc = rt.alloc();
     let task = one(2, Side::First, 3)?;
     let mut talk = Talk::new(alloc);
-    talk.say(&FOUR_SENT)?;
-    talk.say(&ASK)?;
-    talk.hear(&CLAIM)?;
-    talk.hear(&FIRST)?;
-    talk.say(&REVEAL)?;
-    talk.hear(&SECOND)?;
-    talk.say(&END)?;
+    talk.say(&rt, &FOUR_SENT);
+    talk.say(&rt, &ASK);
+    talk.hear(&rt, &CLAIM);
+    talk.hear(&rt, &FIRST);
+    talk.say(&rt, &REVEAL);
+    talk.hear(&rt, &SECOND);
+    talk.say(&rt, &END);
     let want = Status::Accepted;
-    check(
-        &rt,
-        alloc,
-        "four",
-        &task,
-        FOUR,
-        5,
-        &talk,
-        want,
-        b"moment:0:3 153\n",
-    )
+    let line = b"moment:0:3 153\n";
+    check(&rt, alloc, "four", &task, FOUR, 5, &talk, want, line);
+    Ok(())
 }

@@ -4,6 +4,8 @@ use crate::moment_runs::{Asked, END, Talk, check, one, task};
 use sip_moments::Moment;
 use sip_vector::Side;
 use sip_verifier::Status;
+use std::alloc::Global;
+use std::process::Abort;
 use std::test::Fail;
 
 // The vectors (3, 0, -5, -2, 0, 0, 0, 1) and (0, 2, 0, 0, 0, 0, -4, 0), and what is sent of them.
@@ -346,69 +348,92 @@ const LIMIT: Asked = Asked {
     )],
 };
 
+// The six questions, and what is said of them.
+fn six(rt: &impl Abort, alloc: Global) -> (Vec<Moment>, Talk) {
+    let mut talk = Talk::new(alloc);
+    let mut moments = Vec::new(alloc);
+    talk.say(rt, &EIGHT_SENT);
+    for asked in &SIX {
+        let (side, degree) = (asked.side, asked.degree);
+        moments.push(Moment { side, degree }).expect(rt, "memory");
+        talk.ask(rt, asked);
+    }
+    talk.say(rt, &END);
+    (moments, talk)
+}
+
+const SIX_LINES: &[u8] = b"moment:0:3 -105\nmoment:1:4 272\nmoment:0:5 -2913\n\
+    moment:1:6 4160\nmoment:0:7 -76065\nmoment:1:8 65792\n";
+
 #[test]
 fn moments_of_each_degree_are_accepted(rt: HostRuntime) -> Result<(), Fail> {
     let alloc = rt.alloc();
-    let mut talk = Talk::new(alloc);
-    talk.say(&EIGHT_SENT)?;
-    let mut moments = Vec::new(alloc);
-    for asked in &SIX {
-        moments.push(Moment {
-            side: asked.side,
-            degree: asked.degree,
-        })?;
-        talk.ask(asked)?;
-    }
+    let (moments, talk) = six(&rt, alloc);
     let task = task(3, &moments)?;
-    talk.say(&END)?;
-    let mut report = Vec::new(alloc);
-    report.extend_from_slice(b"moment:0:3 -105\nmoment:1:4 272\nmoment:0:5 -2913\n")?;
-    report.extend_from_slice(b"moment:1:6 4160\nmoment:0:7 -76065\nmoment:1:8 65792\n")?;
     let want = Status::Accepted;
-    check(&rt, alloc, "six", &task, EIGHT, 1, &talk, want, &report)?;
+    check(&rt, alloc, "six", &task, EIGHT, 1, &talk, want, SIX_LINES);
     check(
-        &rt, alloc, "six", &task, EIGHT, 10_000, &talk, want, &report,
-    )
+        &rt, alloc, "six", &task, EIGHT, 10_000, &talk, want, SIX_LINES,
+    );
+    Ok(())
+}
+
+// What is said where the last of 2^48 items is asked for.
+fn deep(rt: &impl Abort, alloc: Global) -> Talk {
+    let mut talk = Talk::new(alloc);
+    talk.say(rt, &DEEP_SENT);
+    talk.say(rt, &[0x24, 0, 2, 0, 3]);
+    for (round, (revealed, cube)) in DEEP.iter().enumerate() {
+        if round == 0 {
+            talk.hear(
+                rt,
+                &[0x11, 0, 8, 0xff, 0xff, 0xff, 0xff, 0xff, 0xff, 0xff, 0xf8],
+            );
+        } else {
+            talk.say(rt, &[5, 0, 8]);
+            talk.say(rt, &revealed.to_be_bytes());
+        }
+        talk.hear(rt, &[0x25, 0, 32]);
+        talk.hear(rt, &[0; 24]);
+        talk.hear(rt, &cube.to_be_bytes());
+    }
+    talk.say(rt, &END);
+    talk
 }
 
 #[test]
 fn moments_are_asked_of_deep_streams(rt: HostRuntime) -> Result<(), Fail> {
     let alloc = rt.alloc();
     let task = one(48, Side::First, 3)?;
-    let mut talk = Talk::new(alloc);
-    talk.say(&DEEP_SENT)?;
-    talk.say(&[0x24, 0, 2, 0, 3])?;
-    for (round, (revealed, cube)) in DEEP.iter().enumerate() {
-        if round == 0 {
-            talk.hear(&[0x11, 0, 8, 0xff, 0xff, 0xff, 0xff, 0xff, 0xff, 0xff, 0xf8])?;
-        } else {
-            talk.say(&[5, 0, 8])?;
-            talk.say(&revealed.to_be_bytes())?;
-        }
-        talk.hear(&[0x25, 0, 32])?;
-        talk.hear(&[0; 24])?;
-        talk.hear(&cube.to_be_bytes())?;
-    }
-    talk.say(&END)?;
+    let talk = deep(&rt, alloc);
     let report = b"moment:0:3 -8\n";
     let want = Status::Accepted;
-    check(&rt, alloc, "deep", &task, LAST, 1, &talk, want, report)?;
-    check(&rt, alloc, "deep", &task, LAST, 10_000, &talk, want, report)
+    check(&rt, alloc, "deep", &task, LAST, 1, &talk, want, report);
+    check(&rt, alloc, "deep", &task, LAST, 10_000, &talk, want, report);
+    Ok(())
 }
 
 #[test]
-fn moments_without_room_in_a_claim_are_not_asked(rt: HostRuntime) -> Result<(), Fail> {
+fn the_greatest_moment_is_asked(rt: HostRuntime) -> Result<(), Fail> {
     let alloc = rt.alloc();
     let task = one(1, Side::First, 8)?;
-    let mut light = Talk::new(alloc);
-    light.say(&LIGHT_SENT)?;
-    light.ask(&LIMIT)?;
-    light.say(&END)?;
+    let mut talk = Talk::new(alloc);
+    talk.say(&rt, &LIGHT_SENT);
+    talk.ask(&rt, &LIMIT);
+    talk.say(&rt, &END);
     let report = b"moment:0:8 1151936657823500641\n";
     let want = Status::Accepted;
-    check(&rt, alloc, "181", &task, LIGHT, 7, &light, want, report)?;
-    let mut heavy = Talk::new(alloc);
-    heavy.say(&HEAVY_SENT)?;
+    check(&rt, alloc, "181", &task, LIGHT, 7, &talk, want, report);
+    Ok(())
+}
+
+#[test]
+fn a_moment_without_room_in_a_claim_is_not_asked(rt: HostRuntime) -> Result<(), Fail> {
+    let alloc = rt.alloc();
+    let task = one(1, Side::First, 8)?;
+    let mut talk = Talk::new(alloc);
+    talk.say(&rt, &HEAVY_SENT);
     let want = Status::TooHigh { query: 1 };
-    check(&rt, alloc, "182", &task, HEAVY, 7, &heavy, want, b"")
+    check(&rt, alloc, "182", &task, HEAVY, 7, &talk, want, b"");
+    Ok(())
 }

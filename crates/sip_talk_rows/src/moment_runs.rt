@@ -40,43 +40,46 @@ impl Talk {
         }
     }
 
-    pub(crate) fn say(&mut self, bytes: &[u8]) -> Result<(), Fail> {
+    pub(crate) fn say(&mut self, rt: &impl Abort, bytes: &[u8]) {
         for byte in bytes {
-            self.events.push(TalkEvent::Out(*byte))?;
+            let event = TalkEvent::Out(*byte);
+            self.events.push(event).expect(rt, "memory");
         }
-        Ok(())
     }
 
-    pub(crate) fn hear(&mut self, bytes: &[u8]) -> Result<(), Fail> {
+    pub(crate) fn hear(&mut self, rt: &impl Abort, bytes: &[u8]) {
         for byte in bytes {
-            self.events.push(TalkEvent::In(*byte))?;
-            self.heard.push(*byte)?;
+            self.events.push(TalkEvent::In(*byte)).expect(rt, "memory");
+            self.heard.push(*byte).expect(rt, "memory");
         }
-        Ok(())
+    }
+
+    fn hear_polynomial(&mut self, rt: &impl Abort, polynomial: &[u64]) {
+        let count = u8::try_from(polynomial.len()).expect(rt, "a degree");
+        let length = count.checked_mul(8).expect(rt, "a degree");
+        self.hear(rt, &[0x25, 0, length]);
+        for coefficient in polynomial {
+            self.hear(rt, &coefficient.to_be_bytes());
+        }
     }
 
     /// A question, and all replies to it.
-    pub(crate) fn ask(&mut self, asked: &Asked) -> Result<(), Fail> {
+    pub(crate) fn ask(&mut self, rt: &impl Abort, asked: &Asked) {
         let side = match asked.side {
             Side::First => 0,
             Side::Second => 1,
         };
-        self.say(&[0x24, 0, 2, side, asked.degree])?;
+        self.say(rt, &[0x24, 0, 2, side, asked.degree]);
         for (round, (revealed, polynomial)) in asked.rounds.iter().enumerate() {
             if round == 0 {
-                self.hear(&[0x11, 0, 8])?;
-                self.hear(&asked.claim.to_be_bytes())?;
+                self.hear(rt, &[0x11, 0, 8]);
+                self.hear(rt, &asked.claim.to_be_bytes());
             } else {
-                self.say(&[5, 0, 8])?;
-                self.say(&revealed.to_be_bytes())?;
+                self.say(rt, &[5, 0, 8]);
+                self.say(rt, &revealed.to_be_bytes());
             }
-            let coefficients = u8::try_from(polynomial.len()).map_err(|_| "a degree")?;
-            self.hear(&[0x25, 0, coefficients.checked_mul(8).ok_or("a degree")?])?;
-            for coefficient in *polynomial {
-                self.hear(&coefficient.to_be_bytes())?;
-            }
+            self.hear_polynomial(rt, polynomial);
         }
-        Ok(())
     }
 }
 
@@ -119,13 +122,16 @@ pub(crate) fn check(
     talk: &Talk,
     want: Status,
     report: &[u8],
-) -> Result<(), Fail>
+)
     requires task { CanBeDone task.now }
     requires chunk { 1 ≤ chunk }
 {
-    let mut first = MemorySource::new(stream.to_vec(alloc)?, chunk, Vec::new(alloc));
-    let mut second = MemorySource::new(vec![in alloc; 0; 32]?, chunk, Vec::new(alloc));
-    let mut peer = MemoryLink::new(alloc, talk.heard.to_vec(alloc)?, chunk, Vec::new(alloc));
+    let stream = stream.to_vec(alloc).expect(rt, "memory");
+    let seed = vec![in alloc; 0; 32].expect(rt, "memory");
+    let heard = talk.heard.to_vec(alloc).expect(rt, "memory");
+    let mut first = MemorySource::new(stream, chunk, Vec::new(alloc));
+    let mut second = MemorySource::new(seed, chunk, Vec::new(alloc));
+    let mut peer = MemoryLink::new(alloc, heard, chunk, Vec::new(alloc));
     let mut lines = MemorySink::new(alloc, chunk, Vec::new(alloc));
     let status = moment_stream(alloc, task, &mut first, &mut second, &mut peer, &mut lines);
     let facts = [
@@ -134,5 +140,4 @@ pub(crate) fn check(
         lines.bytes() == report,
     ];
     expect(rt, name, &facts);
-    Ok(())
 }

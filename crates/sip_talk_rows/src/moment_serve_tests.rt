@@ -1,12 +1,13 @@
 // What a helper of moments says, over whole talks, and a run of moments against what it said.
 ghost use Rattle.std.specs.Prelude.{◌≤◌};
 
+use crate::events::sent_in;
 use crate::facts::expect;
 use crate::moment_runs::one;
 use crate::talks::{BYE, REVEALED, STREAM, SUB_1_2, Talk};
 use sip_helper::HelpStatus;
 use sip_moments::{moment_stream, serve_moments};
-use sip_ports::{MemoryLink, MemorySink, MemorySource, TalkEvent};
+use sip_ports::{MemoryLink, MemorySink, MemorySource};
 use sip_vector::Side;
 use sip_verifier::Status;
 use std::alloc::Global;
@@ -41,8 +42,8 @@ const SIDE_1: [u8; 52] = [
     0xff, 0xff, 0xff, 0xff, 0xff, 0xff, 0xf9, 1, 0, 0, 0, 2, 0, 0, 0, 0, 0, 0, 0, 1, 3, 0, 0,
 ];
 
-// Its fifth moment is -16774, by the polynomials (33, -725, 6490, -29170, 65615, -59050) and, behind
-// the challenge 2, (-16 + 15x)^5.
+// Its fifth moment is -16774, by the polynomials (33, -725, 6490, -29170, 65615, -59050) and,
+// behind the challenge 2, (-16 + 15x)^5.
 const OF_SIDE_1: [u8; 113] = [
     0x11, 0, 8, 0xff, 0xff, 0xff, 0xff, 0xff, 0xff, 0xbe, 122, 0x25, 0, 48, 0, 0, 0, 0, 0, 0, 0,
     33, 31, 0xff, 0xff, 0xff, 0xff, 0xff, 0xfd, 42, 0, 0, 0, 0, 0, 0, 25, 90, 31, 0xff, 0xff, 0xff,
@@ -111,7 +112,7 @@ const SERVED: [Talk; 7] = [
 ];
 
 // Talks with a message that may not come, or none.
-const REFUSED: [Talk; 13] = [
+const REFUSED: [Talk; 12] = [
     // A side above 1, degrees beside 3 to 8, and a moment for which a claim may have no room.
     (
         &[&STREAM, &[0x24, 0, 2, 2, 3]],
@@ -181,100 +182,92 @@ const REFUSED: [Talk; 13] = [
         HelpStatus::BadFrame { offset: 57 },
         &[&CLAIM, &FIRST],
     ),
-    // The 17th.
-    (
-        &[
-            &NOTHING, &ASK, &ASK, &ASK, &ASK, &ASK, &ASK, &ASK, &ASK, &ASK, &ASK, &ASK, &ASK, &ASK,
-            &ASK, &ASK, &ASK, &ASK,
-        ],
-        HelpStatus::BadFrame { offset: 88 },
-        &[
-            &ZERO,
-            &ZERO,
-            &ZERO,
-            &ZERO,
-            &ZERO,
-            &ZERO,
-            &ZERO,
-            &ZERO,
-            &ZERO,
-            &ZERO,
-            &ZERO,
-            &ZERO,
-            &ZERO,
-            &ZERO,
-            &ZERO,
-            &ZERO,
-            &OUT_OF_TURN,
-        ],
-    ),
 ];
-
-// The bytes that were sent.
-fn sent_in(alloc: Global, talk: &[TalkEvent]) -> Result<Vec<u8>, Fail> {
-    let mut sent = Vec::new(alloc);
-    for event in talk {
-        if let TalkEvent::Out(byte) = event {
-            sent.push(*byte)?;
-        }
-    }
-    Ok(sent)
-}
 
 // Serves a talk over a link in memory, and answers how it ended and what was sent.
 fn served(
+    rt: &impl Abort,
     alloc: Global,
     incoming: &[u8],
     chunk: usize,
     fails: &[u64],
-) -> Result<(HelpStatus, Vec<u8>), Fail>
+) -> (HelpStatus, Vec<u8>)
     requires { 1 ≤ chunk }
 {
-    let incoming = incoming.to_vec(alloc)?;
-    let mut link = MemoryLink::new(alloc, incoming, chunk, fails.to_vec(alloc)?);
+    let incoming = incoming.to_vec(alloc).expect(rt, "memory");
+    let fails = fails.to_vec(alloc).expect(rt, "memory");
+    let mut link = MemoryLink::new(alloc, incoming, chunk, fails);
     let status = serve_moments(alloc, &mut link);
-    let sent = sent_in(alloc, link.talk())?;
-    Ok((status, sent))
+    let sent = sent_in(rt, alloc, link.talk());
+    (status, sent)
+}
+
+// Whether a talk in pieces of this size ends so, and whether this is sent.
+fn is_served(
+    rt: &impl Abort,
+    alloc: Global,
+    talk: &[u8],
+    chunk: usize,
+    status: HelpStatus,
+    want: &[u8],
+) -> [bool; 2]
+    requires { 1 ≤ chunk }
+{
+    let (ended, sent) = served(rt, alloc, talk, chunk, &[]);
+    [ended == status, sent.as_slice() == want]
 }
 
 // Each talk, in pieces of one byte and in one piece.
-fn are_served(rt: &impl Abort, alloc: Global, talks: &[Talk]) -> Result<(), Fail> {
+fn are_served(rt: &impl Abort, alloc: Global, talks: &[Talk]) {
     for (row, (parts, status, sent)) in talks.iter().enumerate() {
-        let talk = parts.concat(alloc)?;
-        let want = sent.concat(alloc)?;
-        let slow = served(alloc, &talk, 1, &[])?;
-        let whole = served(alloc, &talk, 10_000, &[])?;
-        let facts = [
-            slow.0 == *status,
-            slow.1 == want,
-            whole.0 == *status,
-            whole.1 == want,
-        ];
-        expect(rt, row, &facts);
+        let talk = parts.concat(alloc).expect(rt, "memory");
+        let want = sent.concat(alloc).expect(rt, "memory");
+        expect(rt, row, &is_served(rt, alloc, &talk, 1, *status, &want));
+        expect(
+            rt,
+            row,
+            &is_served(rt, alloc, &talk, 10_000, *status, &want),
+        );
     }
-    Ok(())
 }
 
 #[test]
-fn moments_are_served(rt: HostRuntime) -> Result<(), Fail> {
-    are_served(&rt, rt.alloc(), &SERVED)
+fn moments_are_served(rt: HostRuntime) {
+    are_served(&rt, rt.alloc(), &SERVED);
 }
 
 #[test]
-fn moments_are_out_of_turn(rt: HostRuntime) -> Result<(), Fail> {
-    are_served(&rt, rt.alloc(), &REFUSED)
+fn moments_are_out_of_turn(rt: HostRuntime) {
+    are_served(&rt, rt.alloc(), &REFUSED);
+}
+
+#[test]
+fn the_17th_moment_is_out_of_turn(rt: HostRuntime) {
+    let alloc = rt.alloc();
+    let mut talk = NOTHING.to_vec(alloc).expect(&rt, "memory");
+    let mut want = Vec::new(alloc);
+    for _ in 0..16 {
+        talk.extend_from_slice(&ASK).expect(&rt, "memory");
+        want.extend_from_slice(&ZERO).expect(&rt, "memory");
+    }
+    talk.extend_from_slice(&ASK).expect(&rt, "memory");
+    want.extend_from_slice(&OUT_OF_TURN).expect(&rt, "memory");
+    let status = HelpStatus::BadFrame { offset: 88 };
+    expect(&rt, 1, &is_served(&rt, alloc, &talk, 1, status, &want));
+    expect(&rt, 2, &is_served(&rt, alloc, &talk, 10_000, status, &want));
 }
 
 // Six frames are received, two calls each where there is a body, and three are sent: 13 calls in
 // all.
 #[test]
-fn a_link_of_moments_fails_at_each_call(rt: HostRuntime) -> Result<(), Fail> {
+fn a_link_of_moments_fails_at_each_call(rt: HostRuntime) {
     let alloc = rt.alloc();
     let parts: [&[u8]; 4] = [&STREAM, &ASK, &REVEALED, &END];
-    let talk = parts.concat(alloc)?;
-    let replies = [CLAIM.as_slice(), &FIRST, &SECOND].concat(alloc)?;
+    let talk = parts.concat(alloc).expect(&rt, "memory");
+    let parts: [&[u8]; 3] = [&CLAIM, &FIRST, &SECOND];
+    let replies = parts.concat(alloc).expect(&rt, "memory");
     for call in 1..15 {
-        let (status, sent) = served(alloc, &talk, 10_000, &[call])?;
+        let (status, sent) = served(&rt, alloc, &talk, 10_000, &[call]);
         let want = if call < 14 {
             HelpStatus::PeerFault
         } else {
@@ -283,25 +276,26 @@ fn a_link_of_moments_fails_at_each_call(rt: HostRuntime) -> Result<(), Fail> {
         let facts = [status == want, replies.starts_with(sent.as_slice())];
         expect(&rt, call as usize, &facts);
     }
-    Ok(())
 }
 
 // The first challenge of 32 zero bytes.
 const AT_SEED: [u8; 11] = [5, 0, 8, 0x12, 0x07, 0xbe, 0x34, 0x15, 0xbc, 0x17, 0x0e];
 
-// What a verifier says is served, and what was served is accepted where it is said.
-#[test]
-fn both_ends_fit_together(rt: HostRuntime) -> Result<(), Fail> {
-    let alloc = rt.alloc();
-    let parts: [&[u8]; 4] = [&STREAM, &ASK, &AT_SEED, &END];
-    let talk = parts.concat(alloc)?;
-    let (ended, sent) = served(alloc, &talk, 10_000, &[])?;
-    let lines = b"0 0 3\n0 2 5\n0 3 1\n";
-    let mut first = MemorySource::new(lines.to_vec(alloc)?, 7, Vec::new(alloc));
-    let mut second = MemorySource::new(vec![in alloc; 0; 32]?, 7, Vec::new(alloc));
-    let mut peer = MemoryLink::new(alloc, sent, 7, Vec::new(alloc));
-    let mut report = MemorySink::new(alloc, 7, Vec::new(alloc));
+// Of a run for the third moment of side 0 over these replies: that it is accepted, reports it, and
+// sends this.
+fn is_asked(
+    rt: &impl Abort,
+    alloc: Global,
+    replies: Vec<u8>,
+    talk: &[u8],
+) -> Result<[bool; 3], Fail> {
     let task = one(2, Side::First, 3)?;
+    let lines = b"0 0 3\n0 2 5\n0 3 1\n".to_vec(alloc).expect(rt, "memory");
+    let seed = vec![in alloc; 0; 32].expect(rt, "memory");
+    let mut first = MemorySource::new(lines, 7, Vec::new(alloc));
+    let mut second = MemorySource::new(seed, 7, Vec::new(alloc));
+    let mut peer = MemoryLink::new(alloc, replies, 7, Vec::new(alloc));
+    let mut report = MemorySink::new(alloc, 7, Vec::new(alloc));
     let status = moment_stream(
         alloc,
         &task,
@@ -310,13 +304,21 @@ fn both_ends_fit_together(rt: HostRuntime) -> Result<(), Fail> {
         &mut peer,
         &mut report,
     );
-    let said = sent_in(alloc, peer.talk())?;
-    let facts = [
-        ended == HelpStatus::Served,
+    Ok([
         status == Status::Accepted,
-        said == talk,
         report.bytes() == b"moment:0:3 153\n".as_slice(),
-    ];
-    expect(&rt, 0, &facts);
+        sent_in(rt, alloc, peer.talk()).as_slice() == talk,
+    ])
+}
+
+// What a verifier says is served, and what was served is accepted where it is said.
+#[test]
+fn both_ends_fit_together(rt: HostRuntime) -> Result<(), Fail> {
+    let alloc = rt.alloc();
+    let parts: [&[u8]; 4] = [&STREAM, &ASK, &AT_SEED, &END];
+    let talk = parts.concat(alloc).expect(&rt, "memory");
+    let (ended, sent) = served(&rt, alloc, &talk, 10_000, &[]);
+    expect(&rt, 0, &[ended == HelpStatus::Served]);
+    expect(&rt, 1, &is_asked(&rt, alloc, sent, &talk)?);
     Ok(())
 }

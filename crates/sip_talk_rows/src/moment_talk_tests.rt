@@ -148,12 +148,12 @@ fn asked_of(
 }
 
 fn check_row(rt: &impl Abort, alloc: Global, number: usize, row: &Row) -> Result<(), Fail> {
-    let incoming = row.incoming.concat(alloc)?;
+    let incoming = row.incoming.concat(alloc).expect(rt, "memory");
     let (said, link, keep) = asked_of(alloc, &incoming)?;
     let facts = [
         said == row.said,
-        link.talk() == events(alloc, row.talk)?.as_slice(),
-        keep.bytes() == row.kept.concat(alloc)?.as_slice(),
+        link.talk() == events(rt, alloc, row.talk).as_slice(),
+        keep.bytes() == row.kept.concat(alloc).expect(rt, "memory").as_slice(),
     ];
     expect(rt, number, &facts);
     Ok(())

@@ -67,14 +67,16 @@ impl Row<'_> {
     fn check(&self, rt: &impl Abort, alloc: Global, chunk: usize) -> Result<(), Fail>
         requires { 1 ≤ chunk }
     {
-        let stream = self.stream.to_vec(alloc)?;
-        let mut first = MemorySource::new(stream, chunk, vec![in alloc; self.fails.0]?);
-        let seed = vec![in alloc; 7; self.seed]?;
-        let mut second = MemorySource::new(seed, 5, vec![in alloc; self.fails.1]?);
-        let fails = vec![in alloc; self.fails.2]?;
+        let task = task(self.form)?;
+        let stream = self.stream.to_vec(alloc).expect(rt, "memory");
+        let seed = vec![in alloc; 7; self.seed].expect(rt, "memory");
+        let fails = vec![in alloc; self.fails.0].expect(rt, "memory");
+        let mut first = MemorySource::new(stream, chunk, fails);
+        let fails = vec![in alloc; self.fails.1].expect(rt, "memory");
+        let mut second = MemorySource::new(seed, 5, fails);
+        let fails = vec![in alloc; self.fails.2].expect(rt, "memory");
         let mut peer = MemoryLink::new(alloc, Vec::new(alloc), chunk, fails);
         let mut keep = MemorySink::new(alloc, 10, Vec::new(alloc));
-        let task = task(self.form)?;
         let refused = gather(&task, &mut first, &mut second, &mut peer, &mut keep).err();
         let facts = [
             refused == self.want,
@@ -219,29 +221,39 @@ fn a_failing_port_is_named(rt: HostRuntime) -> Result<(), Fail> {
     check_failing(&rt, rt.alloc(), &FAILING)
 }
 
-// 512 updates go out with the last of them, and the one behind them with the end.
+// 513 lines of text, and what is sent of the first 512.
+fn many(rt: &impl Abort, alloc: Global) -> (Vec<u8>, Vec<u8>) {
+    let mut lines = Vec::new(alloc);
+    let mut sent = OPENING.to_vec(alloc).expect(rt, "memory");
+    sent.extend_from_slice(&[2, 26, 2, 2, 0])
+        .expect(rt, "memory");
+    for _ in 0..512 {
+        lines.extend_from_slice(b"0 3 1\n").expect(rt, "memory");
+        sent.extend_from_slice(&[0, 0, 0, 0, 3, 0, 0, 0, 0, 0, 0, 0, 1])
+            .expect(rt, "memory");
+    }
+    lines.extend_from_slice(b"0 3 1\n").expect(rt, "memory");
+    (lines, sent)
+}
+
+// 512 updates go out with the last of them, and the one behind them does not where no end comes.
 #[test]
 fn a_full_frame_goes_out_at_once(rt: HostRuntime) -> Result<(), Fail> {
-    let alloc = rt.alloc();
-    let mut lines = Vec::new(alloc);
-    let mut sent = OPENING.to_vec(alloc)?;
-    sent.extend_from_slice(&[2, 26, 2, 2, 0])?;
-    for _ in 0..512 {
-        lines.extend_from_slice(b"0 3 1\n")?;
-        sent.extend_from_slice(&[0, 0, 0, 0, 3, 0, 0, 0, 0, 0, 0, 0, 1])?;
-    }
-    let bad = [lines.as_slice(), b"0 3 1\n0 4 1\n"].concat(alloc)?;
-    lines.extend_from_slice(b"0 3 1\n")?;
+    let (mut lines, sent) = many(&rt, rt.alloc());
+    lines.extend_from_slice(b"0 4 1\n").expect(&rt, "memory");
+    let (at, form) = (Some((513, Why::BadItem)), Form::Text);
+    let stream: Stream = ("513 and item 4", form, &lines, at, &sent);
+    check_streams(&rt, rt.alloc(), &[stream], 4096)
+}
+
+// The one behind them goes out with the end.
+#[test]
+fn the_last_update_goes_out_with_the_end(rt: HostRuntime) -> Result<(), Fail> {
+    let (lines, mut sent) = many(&rt, rt.alloc());
     let rest = [
         2, 0, 15, 0, 1, 0, 0, 0, 0, 3, 0, 0, 0, 0, 0, 0, 0, 1, 3, 0, 0,
     ];
-    let all = [sent.as_slice(), &rest].concat(alloc)?;
-    let (at, form) = (Some((513, Why::BadItem)), Form::Text);
-    check_streams(
-        &rt,
-        alloc,
-        &[("513 and item 4", form, &bad, at, &sent)],
-        4096,
-    )?;
-    check_streams(&rt, alloc, &[("513 lines", form, &lines, None, &all)], 4096)
+    sent.extend_from_slice(&rest).expect(&rt, "memory");
+    let stream: Stream = ("513 lines", Form::Text, &lines, None, &sent);
+    check_streams(&rt, rt.alloc(), &[stream], 4096)
 }

@@ -1,6 +1,7 @@
 // The queries of a run, asked one after another over a link in memory.
 ghost use Rattle.std.specs.Prelude.{◌≡◌, ◌≤◌, IfOk, false, is_err};
 
+use crate::events::events;
 use crate::session_facts::expect;
 use sip_field::{Field, M61};
 use sip_ports::{MemoryLink, MemorySink, TalkEvent};
@@ -10,13 +11,6 @@ use sip_wire::Version;
 use std::alloc::Global;
 use std::process::Abort;
 use std::test::Fail;
-
-fn link(alloc: Global, incoming: &[u8], chunk: usize) -> Result<MemoryLink, Fail>
-    requires { 1 ≤ chunk }
-{
-    let incoming = incoming.to_vec(alloc)?;
-    Ok(MemoryLink::new(alloc, incoming, chunk, Vec::new(alloc)))
-}
 
 fn update(side: Side, item: u64, delta: i64) -> Update
     ensures { result.item ≡ item }
@@ -64,50 +58,57 @@ const HONEST: [u8; 41] = [
     3, 0, 0, 0, 0, 0, 0, 0, 1, 0x14, 0, 1, 0,
 ];
 
-// Adds what is said where the query is asked and answered.
-fn put_talk(said: &mut Vec<TalkEvent>) -> Result<(), Fail> {
-    for byte in [4, 0, 9, 1, 0, 0, 0, 1, 0, 0, 0, 2] {
-        said.push(TalkEvent::Out(byte))?;
-    }
-    for byte in &HONEST[..37] {
-        said.push(TalkEvent::In(*byte))?;
-    }
-    for byte in [5, 0, 8, 0, 0, 0, 0, 0, 0, 0, 2] {
-        said.push(TalkEvent::Out(byte))?;
-    }
-    for byte in &HONEST[37..] {
-        said.push(TalkEvent::In(*byte))?;
-    }
+// What is said where the query is asked and answered.
+fn talk(rt: &impl Abort, alloc: Global) -> Vec<TalkEvent> {
+    let parts = [
+        (true, [4, 0, 9, 1, 0, 0, 0, 1, 0, 0, 0, 2].as_slice()),
+        (false, &HONEST[..37]),
+        (true, [5, 0, 8, 0, 0, 0, 0, 0, 0, 0, 2].as_slice()),
+        (false, &HONEST[37..]),
+    ];
+    events(rt, alloc, &parts)
+}
+
+// Asks the next query, which is answered by pairs.
+fn ask_pairs(alloc: Global, session: &mut Session, peer: &mut MemoryLink) -> Result<(), Fail>
+    requires { session.old.spent ≡ false }
+    ensures { IfOk result (λ _. session.new.spent ≡ false) }
+{
+    let Ok(Verdict::Pairs) = ask(alloc, session, peer)? else {
+        return Err("pairs")?;
+    };
     Ok(())
+}
+
+// Whether a session has found the entry, and so many queries are left.
+fn has_found(session: &Session, left: usize) -> [bool; 2] {
+    let entries = [Entry { index: 2, value: 5 }];
+    [
+        session.entries() == entries.as_slice(),
+        session.left() == left,
+    ]
 }
 
 fn answers_pairs(rt: &impl Abort, alloc: Global, chunk: usize) -> Result<(), Fail>
     requires { 1 ≤ chunk }
 {
-    let mut peer = link(alloc, &[HONEST, HONEST].concat(alloc)?, chunk)?;
     let mut session = pairs(alloc)?;
-    let new = session.left() == 2 && session.entries().is_empty();
-    let Ok(Verdict::Pairs) = ask(alloc, &mut session, &mut peer)? else {
-        return Err("the first pairs")?;
-    };
-    let mut said = Vec::new(alloc);
-    put_talk(&mut said)?;
-    let entries = [Entry { index: 2, value: 5 }];
-    let found = session.entries() == entries.as_slice();
-    let one_left = session.left() == 1;
-    let once = peer.talk() == said.as_slice();
-    put_talk(&mut said)?;
-    let facts = [
-        new,
-        found,
-        one_left,
-        once,
-        ask(alloc, &mut session, &mut peer)? == Ok(Verdict::Pairs),
-        session.entries() == entries.as_slice(),
-        session.left() == 0,
-        peer.talk() == said.as_slice(),
+    let new = [session.left() == 2, session.entries().is_empty()];
+    expect(rt, "no query for pairs", &new);
+    let once = talk(rt, alloc);
+    let replies = [HONEST, HONEST].concat(alloc).expect(rt, "memory");
+    let mut peer = MemoryLink::new(alloc, replies, chunk, Vec::new(alloc));
+    ask_pairs(alloc, &mut session, &mut peer)?;
+    expect(rt, "one query for pairs", &has_found(&session, 1));
+    expect(rt, "its talk", &[peer.talk() == once.as_slice()]);
+    ask_pairs(alloc, &mut session, &mut peer)?;
+    expect(rt, "two queries for pairs", &has_found(&session, 0));
+    let (first, second) = (peer.talk().get(..once.len()), peer.talk().get(once.len()..));
+    let twice = [
+        first == Some(once.as_slice()),
+        second == Some(once.as_slice()),
     ];
-    expect(rt, "two queries for pairs", &facts);
+    expect(rt, "their talk", &twice);
     Ok(())
 }
 
@@ -157,24 +158,28 @@ fn sums(alloc: Global) -> Result<Session, Fail>
 }
 
 // The replies that state a sum.
-fn replies_of(alloc: Global, sum: &Sum) -> Result<Vec<u8>, Fail> {
-    let mut replies = [0x11, 0, 8].to_vec(alloc)?;
-    replies.extend_from_slice(&sum.0.to_be_bytes())?;
+fn replies_of(rt: &impl Abort, alloc: Global, sum: &Sum) -> Vec<u8> {
+    let mut replies = [0x11, 0, 8].to_vec(alloc).expect(rt, "memory");
+    let claim = sum.0.to_be_bytes();
+    replies.extend_from_slice(&claim).expect(rt, "memory");
     for polynomial in [sum.1, sum.2] {
-        replies.extend_from_slice(&[0x12, 0, 24])?;
+        let head = [0x12, 0, 24];
+        replies.extend_from_slice(&head).expect(rt, "memory");
         for coefficient in polynomial {
-            replies.extend_from_slice(&coefficient.to_be_bytes())?;
+            let number = coefficient.to_be_bytes();
+            replies.extend_from_slice(&number).expect(rt, "memory");
         }
     }
-    Ok(replies)
+    replies
 }
 
 // Asks the next query, whose replies state this sum, and gives the number that is answered.
-fn ask_sum(alloc: Global, session: &mut Session, sum: &Sum) -> Result<i64, Fail>
+fn ask_sum(rt: &impl Abort, alloc: Global, session: &mut Session, sum: &Sum) -> Result<i64, Fail>
     requires { session.old.spent ≡ false }
     ensures { IfOk result (λ _. session.new.spent ≡ false) }
 {
-    let mut peer = link(alloc, &replies_of(alloc, sum)?, 10_000)?;
+    let replies = replies_of(rt, alloc, sum);
+    let mut peer = MemoryLink::new(alloc, replies, 10_000, Vec::new(alloc));
     let Ok(Verdict::Number(value)) = ask(alloc, session, &mut peer)? else {
         return Err("a number")?;
     };
@@ -185,10 +190,13 @@ fn ask_sum(alloc: Global, session: &mut Session, sum: &Sum) -> Result<i64, Fail>
 fn sums_are_numbers(rt: HostRuntime) -> Result<(), Fail> {
     let alloc = rt.alloc();
     let mut session = sums(alloc)?;
+    let sums = [
+        ask_sum(&rt, alloc, &mut session, &SQUARES)?,
+        ask_sum(&rt, alloc, &mut session, &PRODUCTS)?,
+        ask_sum(&rt, alloc, &mut session, &ENTRIES)?,
+    ];
     let facts = [
-        ask_sum(alloc, &mut session, &SQUARES)? == 35,
-        ask_sum(alloc, &mut session, &PRODUCTS)? == 11,
-        ask_sum(alloc, &mut session, &ENTRIES)? == 6,
+        sums == [35, 11, 6],
         session.entries().is_empty(),
         session.left() == 0,
     ];

@@ -6,9 +6,10 @@ use crate::session_facts::expect;
 use sip_field::{Field, M61};
 use sip_ports::{MemoryLink, MemorySink};
 use sip_vector::{Depth, Entry, Query, Side, Update};
-use sip_verifier::{Seats, SessionFault, Verdict, ask_sub};
+use sip_verifier::{Seats, Verdict, ask_sub};
 use sip_wire::{Frame, Reason, Version};
 use std::alloc::Global;
+use std::process::Abort;
 use std::test::Fail;
 
 fn update(item: u64, delta: i64) -> Update
@@ -61,23 +62,33 @@ fn replies(left: u8) -> ([u8; 37], [u8; 4]) {
     (first, [0x14, 0, 1, 0])
 }
 
-// What comes of these replies, the entries that are shown then, and whether each part was said in
-// its turn.
-fn asked(
+// Of a talk over these replies: whether this comes of it, so many entries are shown then, and each
+// part was said in its turn.
+fn is_asked(
+    rt: &impl Abort,
     alloc: Global,
     left: u8,
-) -> Result<(Result<Verdict, SessionFault>, Vec<Entry>, bool), Fail> {
+    want: Verdict,
+    shown: &[Entry],
+) -> Result<[bool; 3], Fail> {
     let seats = seats()?;
     let root = seats.root(0).ok_or("a root")?;
     if root.seat.depth() != 2 {
         return Err("two challenges")?;
     }
     let (first, second) = replies(left);
-    let incoming = [first.as_slice(), second.as_slice()].concat(alloc)?;
+    let parts = [
+        (true, [4, 0, 9, 1, 0, 0, 0, 1, 0, 0, 0, 2].as_slice()),
+        (false, first.as_slice()),
+        (true, [5, 0, 8, 0, 0, 0, 0, 0, 0, 0, 2].as_slice()),
+        (false, second.as_slice()),
+    ];
+    let incoming = [first.as_slice(), second.as_slice()].concat(alloc);
+    let incoming = incoming.expect(rt, "memory");
     let mut peer = MemoryLink::new(alloc, incoming, 1, Vec::new(alloc));
     let mut keep = MemorySink::new(alloc, 1, Vec::new(alloc));
-    let mut frame = Frame::new(alloc).ok().ok_or("a frame")?;
-    let mut entries = Vec::with_capacity(alloc, 2)?;
+    let mut frame = Frame::new(alloc).ok().expect(rt, "a frame");
+    let mut entries = Vec::with_capacity(alloc, 2).expect(rt, "memory");
     let verdict = ask_sub(
         Version::One,
         root,
@@ -88,33 +99,29 @@ fn asked(
         &mut frame,
         &mut entries,
     );
-    let parts = [
-        (true, [4, 0, 9, 1, 0, 0, 0, 1, 0, 0, 0, 2].as_slice()),
-        (false, first.as_slice()),
-        (true, [5, 0, 8, 0, 0, 0, 0, 0, 0, 0, 2].as_slice()),
-        (false, second.as_slice()),
-    ];
-    let said = events(alloc, &parts)?;
-    let in_turn = peer.talk() == said.as_slice();
-    Ok((verdict, entries, in_turn))
+    let said = events(rt, alloc, &parts);
+    Ok([
+        verdict == Ok(want),
+        entries.as_slice() == shown,
+        peer.talk() == said.as_slice(),
+    ])
 }
 
 #[test]
 fn a_sub_vector_is_asked_for_by_a_root(rt: HostRuntime) -> Result<(), Fail> {
-    let (verdict, entries, in_turn) = asked(rt.alloc(), 3)?;
-    let (refused, none, as_far) = asked(rt.alloc(), 4)?;
-    let facts = [
-        verdict == Ok(Verdict::Pairs),
-        entries.as_slice() == [Entry { index: 2, value: 5 }].as_slice(),
-        in_turn,
-        refused
-            == Ok(Verdict::Rejected {
-                round: 2,
-                reason: Reason::Root,
-            }),
-        none.is_empty(),
-        as_far,
-    ];
+    let entries = [Entry { index: 2, value: 5 }];
+    let facts = is_asked(&rt, rt.alloc(), 3, Verdict::Pairs, &entries)?;
     expect(&rt, "a sub-vector by a root", &facts);
+    Ok(())
+}
+
+#[test]
+fn a_sub_vector_with_a_wrong_sibling_is_rejected(rt: HostRuntime) -> Result<(), Fail> {
+    let rejected = Verdict::Rejected {
+        round: 2,
+        reason: Reason::Root,
+    };
+    let facts = is_asked(&rt, rt.alloc(), 4, rejected, &[])?;
+    expect(&rt, "a wrong sibling", &facts);
     Ok(())
 }

@@ -248,12 +248,12 @@ fn asked_of(
 }
 
 fn check_row(rt: &impl Abort, alloc: Global, number: usize, row: &SumRow) -> Result<(), Fail> {
-    let incoming = row.incoming.concat(alloc)?;
+    let incoming = row.incoming.concat(alloc).expect(rt, "memory");
     let (said, link, keep) = asked_of(alloc, &incoming, 9)?;
     let facts = [
         said == row.said,
-        link.talk() == events(alloc, row.talk)?.as_slice(),
-        keep.bytes() == row.kept.concat(alloc)?.as_slice(),
+        link.talk() == events(rt, alloc, row.talk).as_slice(),
+        keep.bytes() == row.kept.concat(alloc).expect(rt, "memory").as_slice(),
     ];
     expect(rt, number, &facts);
     Ok(())
