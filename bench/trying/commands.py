@@ -7,7 +7,7 @@ from oracle.frames import spelling
 from oracle.questions import Question
 from oracle.runs import behind_progress
 from oracle.streams import record, vectors
-from oracle.words import Usage, read_words
+from oracle.words import COMMANDS, Usage, read_words
 
 from .case import Case
 from .program import FROM, TO
@@ -88,7 +88,7 @@ TALKS = {
 
 
 def case(chance):
-    words = whole(chance)
+    words = for_a_text(chance) if chance.one_in(50) else whole(chance)
     for _ in range(chance.choice((0, 0, 0, 1, 1, 1, 2))):
         words = changed(chance, words)
     words = [word.encode() for word in short_and_apart(words)]
@@ -120,6 +120,12 @@ def short_and_apart(words):
         at = 5 if words[0] == "verify" else 4
         return [*words[:at], "kept", *words[at + 1 :]]
     return words
+
+
+def for_a_text(chance):
+    """Words that ask for help or the version, or nearly."""
+    text = chance.choice(("--help", "-h", "--version", "-V"))
+    return [text] if chance.one_in(3) else [chance.choice(tuple(COMMANDS)), text]
 
 
 def whole(chance):
