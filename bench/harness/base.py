@@ -1,4 +1,5 @@
-"""Both ends of a talk beside those of an older program, which has to take some times as long."""
+"""Both ends of a talk beside those of an older program, which has to take some times as long, and whose verifier has to hold as much memory of its own at
+least."""
 
 from harness.talks import Talks, made, parts
 
@@ -23,6 +24,7 @@ def measure(programs, settings, work):
             talks = Talks(made(programs["sip"], records, depth), depth, work)
             for end, least in least_times(talks, programs, settings.rounds).items():
                 slow += show(f"{end:6} {depth}", least, LEAST_GAIN[end])
+            slow += show_memory(f"verify {depth}", own_memory(talks, programs))
     return slow
 
 
@@ -34,6 +36,17 @@ def least_times(talks, programs, rounds):
             for end, child in zip(LEAST_GAIN, talks.talk(name, program, parts(1))):
                 least[end][name] = min(child.cpu * 1e3, least[end].get(name, float("inf")))
     return least
+
+
+def own_memory(talks, programs):
+    """What the verifier holds at its end that is its own, in KiB, by the program. What is mapped of the program's file and of libraries isn't in it."""
+    return {name: talks.talk(name, program, parts(1), traced=True)[1].own for name, program in programs.items()}
+
+
+def show_memory(line, own):
+    is_above = own["sip"] > own["base"]
+    print(f"{line + ', own KiB':26}{own['sip']:9}{own['base']:9}" + ("  above" if is_above else ""), flush=True)
+    return [f"base: {line} holds {own['sip']} KiB of its own, and the base {own['base']}"] if is_above else []
 
 
 def show(line, least, wanted):

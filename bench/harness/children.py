@@ -28,6 +28,7 @@ class Child:
         self.code = None
         self.cpu = 0.0  # seconds of user and system time
         self.peak = None  # the most memory that was resident, in KiB
+        self.own = None  # the memory at its end that is its own, and no part of a file, in KiB
         self.stack = None  # the bytes from the start of the stack down to the lowest page that was touched
         self.pid = os.fork()
         if self.pid == 0:
@@ -67,6 +68,9 @@ class Child:
         for line in open(f"/proc/{self.pid}/status"):
             if line.startswith("VmHWM:"):
                 self.peak = int(line.split()[1])
+        for line in open(f"/proc/{self.pid}/smaps_rollup"):
+            if line.startswith("Anonymous:"):
+                self.own = int(line.split()[1])
         stack = next(line for line in open(f"/proc/{self.pid}/maps") if line.rstrip().endswith("[stack]"))
         low, high = (int(address, 16) for address in stack.split()[0].split("-"))
         # Field 28 is where the stack began; the name in brackets, field 2, may have spaces.
