@@ -88,10 +88,10 @@ seat_tried stream asks s later early n gone asked old new blank full r came next
       seat.0,
       seat.3,
       subst (λ (v : Version). Tries (asking v s.depth stream) seat.0 (suc gone) (suc asked) old new blank full came) version
-      (subst (λ (d : ℕ). Tries (asking later.version d stream) seat.0 (suc gone) (suc asked) old new blank full came) depth
-      (subst (λ (r : Result helper_came.Came Status). Tries (asking later.version later.depth stream) seat.0 (suc gone) (suc asked) old new blank full r) went
-      (subst (λ (n : ℕ). Tries (asking later.version later.depth stream) seat.0 (suc gone) n old new blank full r) (add-one asked)
-      (subst (λ (n : ℕ). Tries (asking later.version later.depth stream) seat.0 n (asked + 1) old new blank full r) (add-one gone) tried)))),
+          (subst (λ (d : ℕ). Tries (asking later.version d stream) seat.0 (suc gone) (suc asked) old new blank full came) depth
+          (subst (λ (r : Result helper_came.Came Status). Tries (asking later.version later.depth stream) seat.0 (suc gone) (suc asked) old new blank full r) went
+          (subst (λ (n : ℕ). Tries (asking later.version later.depth stream) seat.0 (suc gone) n old new blank full r) (add-one asked)
+          (subst (λ (n : ℕ). Tries (asking later.version later.depth stream) seat.0 n (asked + 1) old new blank full r) (add-one gone) tried)))),
     )
 
 -- what is left behind the attempt, and those that were passed over
