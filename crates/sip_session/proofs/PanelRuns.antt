@@ -237,19 +237,3 @@ beginning_stops first firsts second seconds report reports status fault =
     caused_by (counts first second 0 0 0) (counts firsts seconds 0 0 0)
     (counts first second 0 report 0) (counts firsts seconds 0 reports 0) (λ r. r) (λ r. r)
     never_rose never_rose never_rose status fault
-
--- whatever the ports tell, no link has a fault, and no record of the talk
-module _ (first firsts second seconds report reports : ℕ) (status : Status)
-    (fault : FaultClause (counts first second 0 report 0) (counts firsts seconds 0 reports 0)
-    status) where
-  pub no_peer_fault : status ≢ statuses.PeerFault
-  no_peer_fault is =
-      never_rose (subst (λ (s : Status).
-      FaultClause (counts first second 0 report 0) (counts firsts seconds 0 reports 0) s) is
-      fault)
-
-  pub no_keep_fault : status ≢ statuses.WriteFault ports.Keep
-  no_keep_fault is =
-      never_rose (subst (λ (s : Status).
-      FaultClause (counts first second 0 report 0) (counts firsts seconds 0 reports 0) s) is
-      fault)

@@ -24,6 +24,11 @@ returns-in_err-session-clause-keeps g c =
     omega (arith, c.get-levels.ensures.same, c.get-levels.ensures.some) in
     let old : AllTalks = map (λ l. l.kept.talk.items) c.args.links.now in
     let mid : AllTalks = map (λ l. l.kept.talk.items) c.begin.new.links in
+    let before =
+    counts (g.A.Source.faults c.args.first.now) (g.B.Source.faults c.args.second.now) 0
+    (g.K.Sink.faults c.args.report.now) 0 in
+    let now = counts (g.A.Source.faults c.begin.new.first) (g.B.Source.faults c.begin.new.second) 0
+    (g.K.Sink.faults c.args.report.now) 0 in
     let p = err_from_is_err_and c.from_residual.result c.from_residual.ensures.1 in
     let stop = c.in_err-session.ensures.fault in
     let cause =
@@ -33,7 +38,7 @@ returns-in_err-session-clause-keeps g c =
     c.in_err-session.field-0.0 stop.1 in
     rw (p.1, p.2) (record {
       promises = λ x t.
-          not_begun (length c.args.links.now) task c.requires.some c.requires.done deep x _ _
+          not_begun (length c.args.links.now) task c.requires.some c.requires.done deep x before now
           never_rose never_rose (g.A.Source.left c.begin.new.first) old
           (length-map c.args.links.now (λ l. l.kept.talk.items))
           (told_nothing (λ l. l.kept.talk.items) c.args.links.now c.requires.new) mid t.talks
@@ -60,6 +65,11 @@ returns-in_err-gone-clause-keeps g c =
     let some : 0 < length old =
     omega (arith, length-map c.args.links.now (λ l. l.kept.talk.items), c.requires.some) in
     let lent = c.deref_mut.ensures.value in
+    let before =
+    counts (g.A.Source.faults c.args.first.now) (g.B.Source.faults c.args.second.now) 0
+    (g.K.Sink.faults c.args.report.now) 0 in
+    let now = counts (g.A.Source.faults c.begin.new.first) (g.B.Source.faults c.begin.new.second) 0
+    (g.K.Sink.faults c.ask_all.new.report) 0 in
     let p = err_from_is_err_and c.from_residual-in_err-gone.result
     c.from_residual-in_err-gone.ensures.1 in
     let stops =
@@ -75,8 +85,9 @@ returns-in_err-gone-clause-keeps g c =
           let stand =
           (seats_left _ _ _ (legal task x.stream) seats _ _ (heard.each 0 some).stand
           starts).1 in
-          stopped_asking (length c.args.links.now) task c.requires.some c.requires.done deep x _ _
-          _ t.unread old mid (length-map c.args.links.now (λ l. l.kept.talk.items))
+          stopped_asking (length c.args.links.now) task c.requires.some c.requires.done deep x
+          before now (g.A.Source.left c.begin.new.first) t.unread old mid
+          (length-map c.args.links.now (λ l. l.kept.talk.items))
           (told_length (λ l. l.kept.talk.items) c.args.links.now c.begin.new.links
           c.begin.ensures.count) (told_nothing (λ l. l.kept.talk.items) c.args.links.now
           c.requires.new) seats heard c.in_ok-session.session.value starts
@@ -132,7 +143,8 @@ returns-clause-keeps g c =
           let stand =
           (seats_left _ _ _ (legal task x.stream) seats _ _ (heard.each 0 some).stand
           starts).1 in
-          said_farewell (length c.args.links.now) task c.requires.some c.requires.done deep x _ _ _
+          said_farewell (length c.args.links.now) task c.requires.some c.requires.done deep x
+          before now (g.A.Source.left c.begin.new.first)
           t.unread old mid (length-map c.args.links.now (λ l. l.kept.talk.items))
           (told_length (λ l. l.kept.talk.items) c.args.links.now c.begin.new.links
           c.begin.ensures.count) (told_nothing (λ l. l.kept.talk.items) c.args.links.now
