@@ -35,6 +35,15 @@ impl Watched {
         })
     }
 
+    // Those of three helpers.
+    pub(crate) fn three(alloc: Global) -> Result<[Watched; 3], Fail> {
+        Ok([
+            Watched::new(alloc)?,
+            Watched::new(alloc)?,
+            Watched::new(alloc)?,
+        ])
+    }
+
     // A helper that has as many answers of an honest one. Behind them memory is refused to it where
     // it fails, and else it has ended.
     fn counting(&self, honest: Honest, answers: u32, fails: bool) -> Result<Counting, Fail> {
@@ -72,12 +81,14 @@ impl Watched {
         self.asked.get()
     }
 
+    // It was closed and dropped once.
+    pub(crate) fn is_let_go(&self) -> bool {
+        self.closed.get() == 1 && self.dropped.get() == 1
+    }
+
     // It was heard and asked so often, and closed and dropped once.
     pub(crate) fn is_gone(&self, heard: u32, asked: u32) -> bool {
-        self.heard() == heard
-            && self.asked() == asked
-            && self.closed.get() == 1
-            && self.dropped.get() == 1
+        self.heard() == heard && self.asked() == asked && self.is_let_go()
     }
 }
 

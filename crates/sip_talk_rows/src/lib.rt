@@ -46,6 +46,10 @@ mod moment_serve_tests;
 #[cfg(test)]
 mod moment_talk_tests;
 #[cfg(test)]
+mod panel_exit_tests;
+#[cfg(test)]
+mod panel_lie_tests;
+#[cfg(test)]
 mod panel_tests;
 #[cfg(test)]
 mod replaying_tests;

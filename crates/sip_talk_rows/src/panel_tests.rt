@@ -9,7 +9,7 @@ ghost use Rattle.std.specs.Prelude.{◌≡◌, [], All, IfOk, length};
 ghost use Rattle.sip_verifier.specs.Tasks.{CanBeDone};
 
 use crate::duel_counting::Watched;
-use crate::duel_runs::{FOUR, task};
+use crate::duel_runs::{FOUR, Ports, task};
 use crate::session_facts::expect;
 use sip_duel::{Helper, HelperLink, Honest, Mute, Skewed};
 use sip_ports::{MemorySink, MemorySource};
@@ -54,7 +54,7 @@ fn three_links(alloc: Global, names: [Name; 3]) -> Result<Vec<HelperLink>, Fail>
     Ok(links)
 }
 
-fn two_queries(first: Query, second: Query) -> Result<Task, Fail>
+pub(crate) fn two_queries(first: Query, second: Query) -> Result<Task, Fail>
     ensures done { IfOk result CanBeDone }
     ensures count { IfOk result (λ task. length task.queries.items ≡ 2) }
 {
@@ -65,9 +65,9 @@ fn two_queries(first: Query, second: Query) -> Result<Task, Fail>
     Ok(task)
 }
 
-const SUB: Query = Query::Sub { lo: 1, hi: 2 };
+pub(crate) const SUB: Query = Query::Sub { lo: 1, hi: 2 };
 
-const SQUARES: Query = Query::F2 { side: Side::First };
+pub(crate) const SQUARES: Query = Query::F2 { side: Side::First };
 
 // The total is 9, so nothing is asked.
 const ABOVE: Query = Query::Heavy {
@@ -183,20 +183,23 @@ const ROWS: [Row<'static>; 12] = [
     ),
 ];
 
-// Runs a task over these links, over a seed of zeros.
-fn run(
+// Runs a task over these links and ports, over a seed of zeros.
+pub(crate) fn run(
     alloc: Global,
     task: &Task,
     links: &mut Vec<HelperLink>,
+    ports: Ports,
 ) -> Result<(Status, MemorySink), Fail>
     requires done { CanBeDone task.now }
     requires queries { length task.now.queries.items ≡ 2 }
     requires new { All (λ l. l.kept.talk.items ≡ []) links.old.items }
     requires helpers { length links.old.items ≡ 3 }
 {
-    let mut first = MemorySource::new(FOUR.stream.to_vec(alloc)?, 5, Vec::new(alloc));
-    let mut second = MemorySource::new(vec![in alloc; 0; 32]?, 5, Vec::new(alloc));
-    let mut report = MemorySink::new(alloc, 10_000, Vec::new(alloc));
+    let fails = ports.first_fails.to_vec(alloc)?;
+    let mut first = MemorySource::new(ports.stream.to_vec(alloc)?, 5, fails);
+    let fails = ports.second_fails.to_vec(alloc)?;
+    let mut second = MemorySource::new(vec![in alloc; 0; ports.seed]?, 5, fails);
+    let mut report = MemorySink::new(alloc, 10_000, ports.report_fails.to_vec(alloc)?);
     let status = panel(alloc, task, &mut first, &mut second, links, &mut report);
     Ok((status, report))
 }
@@ -205,7 +208,7 @@ fn check(rt: &impl Abort, alloc: Global, row: &Row) -> Result<(), Fail> {
     let &(names, [first, second], status, lines) = row;
     let task = two_queries(first, second)?;
     let mut links = three_links(alloc, names)?;
-    let (ended, report) = run(alloc, &task, &mut links)?;
+    let (ended, report) = run(alloc, &task, &mut links, FOUR)?;
     let facts = [ended == status, report.bytes() == lines.as_bytes()];
     expect(rt, lines, &facts);
     Ok(())
@@ -219,16 +222,40 @@ fn helpers_are_asked_in_turn(rt: HostRuntime) -> Result<(), Fail> {
     Ok(())
 }
 
-// A link to a helper that counts what is called of it.
-fn watched_link(alloc: Global, watched: &Watched, gives: bool) -> Result<HelperLink, Fail>
+// A link to a helper that counts what is called of it: an honest one, or one that has no reply, and
+// where it fails is refused memory.
+fn watched_link(
+    alloc: Global,
+    watched: &Watched,
+    honest: bool,
+    fails: bool,
+) -> Result<HelperLink, Fail>
     ensures { IfOk result (λ l. l.kept.talk.items ≡ []) }
 {
-    let helper: Box<dyn Helper> = if gives {
-        Box::new(alloc, watched.honest(alloc)?)?
+    let helper = if honest {
+        watched.honest(alloc)?
     } else {
-        Box::new(alloc, watched.helper(alloc, false, false)?)?
+        watched.helper(alloc, false, fails)?
     };
+    let helper: Box<dyn Helper> = Box::new(alloc, helper)?;
     Ok(HelperLink::new(alloc, helper).ok().ok_or("a link")?)
+}
+
+// Links to three such helpers, of which the first one has no reply.
+pub(crate) fn watched_links(
+    alloc: Global,
+    watched: &[Watched; 3],
+    honest: bool,
+    fails: bool,
+) -> Result<Vec<HelperLink>, Fail>
+    ensures new { IfOk result (λ links. All (λ l. l.kept.talk.items ≡ []) links.items) }
+    ensures count { IfOk result (λ links. length links.items ≡ 3) }
+{
+    let mut links = Vec::new(alloc);
+    links.push(watched_link(alloc, &watched[0], false, fails)?)?;
+    links.push(watched_link(alloc, &watched[1], honest, false)?)?;
+    links.push(watched_link(alloc, &watched[2], honest, false)?)?;
+    Ok(links)
 }
 
 // Each hears the opening, a frame of updates and the end. The first gives nothing: it hears one
@@ -237,17 +264,10 @@ fn watched_link(alloc: Global, watched: &Watched, gives: bool) -> Result<HelperL
 #[test]
 fn each_helper_is_closed_once(rt: HostRuntime) -> Result<(), Fail> {
     let alloc = rt.alloc();
-    let watched = [
-        Watched::new(alloc)?,
-        Watched::new(alloc)?,
-        Watched::new(alloc)?,
-    ];
-    let mut links = Vec::new(alloc);
-    links.push(watched_link(alloc, &watched[0], false)?)?;
-    links.push(watched_link(alloc, &watched[1], true)?)?;
-    links.push(watched_link(alloc, &watched[2], true)?)?;
+    let watched = Watched::three(alloc)?;
+    let mut links = watched_links(alloc, &watched, true, false)?;
     let task = two_queries(SUB, SQUARES)?;
-    let (status, report) = run(alloc, &task, &mut links)?;
+    let (status, report) = run(alloc, &task, &mut links, FOUR)?;
     let lines = "dropped helper 1 query 1 round 0 Closed\nsub:1:2 2:5\nf2:0 35\n";
     let facts = [
         status == Status::Accepted,
