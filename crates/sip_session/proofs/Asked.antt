@@ -1,5 +1,5 @@
 -- Helpers asked in turn: which seats are passed over, and where each attempt leads, by links.
-use Rattle.std.proofs.Common.{◌≡◌, ℕ, zero, suc, ◌+◌, ◌-◌, ◌*◌, ◌<◌, ◌≤◌, Option, Some, Result, Ok, Err, List, [], ◌∷◌, length, map, set, get_or, drop, inl, inr, sym, ap, ◌∙◌, subst, arith, add-one, drop-drop, length-drop}
+use Rattle.std.proofs.Common.{◌≡◌, ℕ, zero, suc, ◌+◌, ◌-◌, ◌*◌, ◌<◌, ◌≤◌, Option, Some, Result, Ok, Err, List, [], ◌∷◌, length, map, set, get_or, drop, inl, inr, sym, ap, ◌∙◌, subst, arith, add-one, mul-le-mul_right, drop-drop, length-drop}
 use Rattle.std.specs.Prelude.{All, slice_get}
 use Rattle.std.proofs.lemmas.Bool.{cases_eq}
 use Rattle.std.proofs.lemmas.List.{drop-map, get_or-map, length-map}
@@ -32,6 +32,9 @@ due_split queries asked h less = go (queries - asked) (omega arith)
   where
     go : (left : ℕ) → left + asked ≡ queries → left * h + asked * h ≡ queries * h
     go left is = let e : left * h + asked * h ≡ (left + asked) * h = omega arith in e ∙ ap (λ n. n * h) is
+
+pub due_most : (queries asked h : ℕ) → (queries - asked) * h ≤ queries * h
+due_most queries asked h = mul-le-mul_right h (let e : queries - asked ≤ queries = omega arith in e)
 
 -- a query is left, so there is a seat for each helper
 pub due_least : (queries asked h : ℕ) → asked < queries → h ≤ (queries - asked) * h

@@ -1,6 +1,6 @@
 -- What a panel promises at each of its ends.
-use Rattle.std.proofs.Common.{◌≡◌, ◌≢◌, ℕ, suc, ◌-◌, ◌<◌, ◌≤◌, ◌==◌, Bool, true, false, ◌&&◌, Option, Some, None, Ok, Err, List, [], ◌∷◌, ◌++◌, length, map, take, drop, get_or, if◌then◌else◌, inl, inr, refl, sym, ap, ◌∙◌, subst, arith, append-nil, take-append-drop}
-use Rattle.std.specs.Prelude.{option_map, slice_get}
+use Rattle.std.proofs.Common.{◌≡◌, ◌≢◌, ◌⊎◌, ℕ, zero, suc, ◌+◌, ◌-◌, ◌*◌, ◌<◌, ◌≤◌, ◌==◌, Bool, true, false, ◌&&◌, Option, Some, None, Result, Ok, Err, List, [], ◌∷◌, ◌++◌, length, map, take, drop, get_or, if◌then◌else◌, inl, inr, refl, sym, ap, ◌∙◌, subst, arith, append-nil, append_assoc, take-append-drop}
+use Rattle.std.specs.Prelude.{All, option_map, slice_get}
 use Rattle.std.proofs.lemmas.Bool.{cases_lt, le-leb, lt-ltb, lt-leb}
 use Rattle.std.proofs.lemmas.List.Elements.{All-nil, All-weaker}
 use Rattle.std.proofs.lemmas.Option.{slice_get-map, same_Some}
@@ -14,35 +14,41 @@ use Rattle.sip_stream.specs.Records.{records}
 use Rattle.sip_stream.proofs.LegalRecords.{records_legal}
 use Rattle.sip_vector.specs.declared.query.Query.{Query}
 use Rattle.sip_vector.specs.declared.update.Update.{Update}
+use Rattle.sip_vector.specs.Limits.{most_depth}
 use Rattle.sip_vector.specs.Pieces.{cut}
 use Rattle.sip_wire.specs.declared.version.Version.{Version}
 use Rattle.sip_wire.specs.declared.message.Message.TheVariants as messages
 use Rattle.sip_wire.specs.Spelling.{spelling}
+use Rattle.sip_wire.specs.Table.{most_queries}
 use Rattle.sip_verifier.specs.declared.status.Port.TheVariants as ports
 use Rattle.sip_verifier.specs.declared.status.Status.{Status}
 use Rattle.sip_verifier.specs.declared.status.Status.TheVariants as statuses
 use Rattle.sip_verifier.specs.declared.task.Task.{Task}
-use Rattle.sip_verifier.specs.Draws.{blocks}
+use Rattle.sip_verifier.specs.Draws.{blocks, drawn}
 use Rattle.sip_verifier.specs.Gathering.{EndsLegally, HasSeed, IsPassedOn, Refuses, before_end, legal}
 use Rattle.sip_verifier.specs.Moments.{Counts}
 use Rattle.sip_verifier.specs.Questions.{Question, asking}
 use Rattle.sip_verifier.specs.QuerySeats.{Seated}
-use Rattle.sip_verifier.specs.runs.CauseClause.{CanBeJudged, CauseClause}
+use Rattle.sip_verifier.specs.runs.CauseClause.{CanBeJudged, CauseClause, HasGoodInput}
 use Rattle.sip_verifier.specs.Seats.{Seating}
 use Rattle.sip_verifier.specs.Sittings.{Sitting, Starts, asks_left}
 use Rattle.sip_verifier.specs.Statuses.{FaultClause}
 use Rattle.sip_verifier.specs.Talks.{bye_sent, opening_sent, stream_sent, whole_frames}
 use Rattle.sip_verifier.specs.Tasks.{CanBeDone, version_of}
-use Rattle.sip_verifier.specs.Widths.{first_wide_seat}
+use Rattle.sip_verifier.specs.Widths.{first_wide, first_wide_seat}
 use Rattle.sip_verifier.proofs.RunTalks.{front_before}
 use Rattle.sip_verifier.proofs.WideSeats.{first_is}
 use Rattle.sip_session.specs.inside.Beginning.{IsHeard, query_of_seat, task_of_seats}
 use Rattle.sip_session.specs.inside.Hearing.{AllTalks, Each, IsPassedInPart, Says}
 use Rattle.sip_session.specs.inside.Trying.{Halts, IsSeated, Trail, TrailsTo, turn_at}
 use Rattle.sip_session.specs.PanelClause.{PanelClause}
-use Rattle.sip_session.specs.PanelEnds.{Ends, MayHear, NoneAsked, OfEach, Went, all_sent, due, said_to}
+use Rattle.sip_session.specs.PanelEnds.{AllAnswered, CutInTalk, Ends, MayHear, NoneAsked, OfEach, Went, all_sent, due, line_of, lines, said_to}
 use Rattle.sip_session.specs.PanelExchanges.{PanelExchange, without_links}
-use Rattle.sip_session.specs.Panels.{Attempt, AreAttempts, IsJudged, IsOfTurn, Turn, are_answered, first_turn, inquiry_of_panel, is_left, seat_at, seat_queries, turn_behind}
+use Rattle.sip_session.specs.Panels.{Attempt, AreAttempts, IsJudged, IsOfTurn, Turn, are_answered, first_turn, inquiry_of_panel, inquiry_of_seats, is_left, seat_at, seat_blocks, seat_queries, turn_behind}
+use Rattle.sip_session.proofs.HonestAnswers.{answers_are_own}
+use Rattle.sip_session.proofs.HonestAttempts.{none_or_said}
+use Rattle.sip_session.proofs.HonestCarried.{carried}
+use Rattle.sip_session.proofs.HonestDropped.{dropped_rightly}
 use Rattle.sip_session.proofs.JointPanels.{joint_counted}
 use Rattle.sip_session.proofs.Seats.{first_query, get_seat, needed-seats, no_query}
 
@@ -69,7 +75,8 @@ abbrev ask_of : Seated → Query × List ℕ
 ask_of s = (s.query, s.block)
 
 module _ (helpers : ℕ) (task : Task) (x : PanelExchange) (some : 0 < helpers)
-    (can : CanBeDone task) (deep : 1 ≤ task.depth) (before now : Counts) where
+    (can : CanBeDone task) (deep : 1 ≤ task.depth) (most : task.depth ≤ most_depth)
+    (room : length task.queries.items ≤ most_queries) (before now : Counts) where
   abbrev wide : Task
   wide = task_of_seats helpers task
 
@@ -107,6 +114,13 @@ module _ (helpers : ℕ) (task : Task) (x : PanelExchange) (some : 0 < helpers)
         cause = cause;
         asked = asked;
         joint = joint_counted helpers task x some can deep attempts are;
+        rightly =
+            dropped_rightly helpers task x deep most room can attempts are asked
+            (none_or_said helpers task x attempts status ends);
+        carried = λ one good none.
+            carried helpers task x deep most room can attempts are good before now status ends
+            cause none;
+        own = answers_are_own helpers task x deep most room can attempts status are asked ends;
       }
 
   -- no helper was asked
@@ -270,7 +284,8 @@ module _ (helpers : ℕ) (task : Task) (x : PanelExchange) (some : 0 < helpers)
 -- ---- behind the stream
 
 module _ (helpers : ℕ) (task : Task) (x : PanelExchange) (some : 0 < helpers)
-    (can : CanBeDone task) (deep : 1 ≤ task.depth) (before now : Counts)
+    (can : CanBeDone task) (deep : 1 ≤ task.depth) (most : task.depth ≤ most_depth)
+    (room : length task.queries.items ≤ most_queries) (before now : Counts)
     (left : Option (List ℕ)) (unread : left ≡ Some x.unread) (old mid : AllTalks)
     (size : length old ≡ helpers) (count : length mid ≡ length old)
     (fresh : (k : ℕ) → k < length old → get_or old k [] ≡ [])
@@ -445,7 +460,7 @@ module _ (helpers : ℕ) (task : Task) (x : PanelExchange) (some : 0 < helpers)
           → CauseClause asking (inquiry_of_panel helpers task x.seed) (without_links x) before now
           status → Promise status
       promise attempts rest written status t ends cause =
-          clause helpers task x some can deep before now attempts status
+          clause helpers task x some can deep most room before now attempts status
           (are_attempts new blank full attempts rest written t) ends cause
           (λ any. can_be_judged)
 
@@ -544,7 +559,7 @@ module _ (helpers : ℕ) (task : Task) (x : PanelExchange) (some : 0 < helpers)
           × (gone ≤ place → Says o n (spelling (version_of task) messages.Bye) (Ok u))) new
           last → Promise statuses.Accepted
       all_answered u each =
-          clause helpers task x some can deep before now to.attempts statuses.Accepted
+          clause helpers task x some can deep most room before now to.attempts statuses.Accepted
           (are_attempts new blank full to.attempts _ _ to.trail)
           (record {
             all = ap (λ (t : Turn). t.number) to.behind;
@@ -589,7 +604,7 @@ module _ (helpers : ℕ) (task : Task) (x : PanelExchange) (some : 0 < helpers)
           × (gone ≤ place → Says o n (spelling (version_of task) messages.Bye) (Err stop))) new
           last → Promise statuses.OutOfMemory
       cut_in_farewell stop each =
-          clause helpers task x some can deep before now to.attempts statuses.OutOfMemory
+          clause helpers task x some can deep most room before now to.attempts statuses.OutOfMemory
           (are_attempts new blank full to.attempts _ _ to.trail)
           (inr (inl (record {
             current = None;

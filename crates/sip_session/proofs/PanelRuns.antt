@@ -1,15 +1,19 @@
 -- All that a panel keeps, from what its parts did.
-use Rattle.std.proofs.Common.{◌≡◌, ◌≢◌, ℕ, ◌<◌, ◌≤◌, Option, Some, Result, Ok, Err, IsSome, List, [], ◌∷◌, length, map, get_or, All, inl, inr, refl, sym, ap, ◌∙◌, subst, arith}
+use Rattle.std.proofs.Common.{◌≡◌, ◌≢◌, ◌⊎◌, ℕ, ◌+◌, ◌*◌, ◌<◌, ◌≤◌, Option, Some, None, Result, Ok, Err, IsSome, List, [], ◌∷◌, ◌++◌, length, map, get_or, All, true, inl, inr, refl, sym, ap, ◌∙◌, subst, arith, append-nil, true≢false}
 use Rattle.std.proofs.lemmas.List.{get_or-map, length-map}
 use Rattle.sip_ports.specs.declared.port.PortStop.{PortStop}
 use Rattle.sip_ports.specs.declared.port.PortStop.TheVariants as port_stops
 use Rattle.sip_ports.specs.declared.port.TalkEvent.{TalkEvent}
 use Rattle.sip_ports.specs.Ports.{GoesOn, Rose, outs}
+use Rattle.sip_ports.proofs.FaultLemmas.{Rose-since}
+use Rattle.sip_ports.proofs.TalkLemmas.{GoesOn-refl}
 use Rattle.sip_vector.specs.declared.query.Query.{Query}
 use Rattle.sip_vector.specs.declared.update.Update.{Update}
+use Rattle.sip_vector.specs.Limits.{most_depth}
 use Rattle.sip_wire.specs.declared.message.Message.TheVariants as messages
 use Rattle.sip_wire.specs.declared.version.Version.{Version}
 use Rattle.sip_wire.specs.Spelling.{spelling}
+use Rattle.sip_wire.specs.Table.{most_queries}
 use Rattle.sip_verifier.specs.declared.status.Port.TheVariants as ports
 use Rattle.sip_verifier.specs.declared.status.Status.{Status}
 use Rattle.sip_verifier.specs.declared.status.Status.TheVariants as statuses
@@ -25,11 +29,11 @@ use Rattle.sip_verifier.specs.Statuses.{FaultClause, IsListed, Stops, stops_aski
 use Rattle.sip_verifier.specs.Tasks.{CanBeDone, version_of}
 use Rattle.sip_verifier.proofs.QueriesChecked.{OnLink}
 use Rattle.sip_verifier.proofs.RunPromises.{asking_listed}
-use Rattle.sip_verifier.proofs.RunTalks.{goes_to, some_value}
+use Rattle.sip_verifier.proofs.RunTalks.{goes_to, nothing_reported, some_value, written_is}
 use Rattle.sip_session.specs.inside.Beginning.{Begins, IsHeard, task_of_seats}
 use Rattle.sip_session.specs.inside.Hearing.{AllTalks, Each, Says}
-use Rattle.sip_session.specs.inside.Trying.{Halts, Trails}
-use Rattle.sip_session.specs.PanelClause.{PanelClause}
+use Rattle.sip_session.specs.inside.Trying.{Halts, Trails, TrailsTo, turn_at}
+use Rattle.sip_session.specs.PanelClause.{PanelClause, PanelRunClause}
 use Rattle.sip_session.specs.PanelExchanges.{PanelExchange, PanelIsTold, PanelMoment, PanelTells}
 use Rattle.sip_session.proofs.Begun.{caused_by, never_rose}
 use Rattle.sip_session.proofs.PanelEndings.{all_answered, cut_in_farewell, depth_is, halted, in_part, refused, too_wide, version_is}
@@ -91,7 +95,8 @@ halts_wrote version depth stream helpers queries asks old new blank full
 halts_wrote version depth stream helpers queries asks old new blank full _ h = absurd h
 
 module _ (helpers : ℕ) (task : Task) (some : 0 < helpers) (can : CanBeDone task)
-    (deep : 1 ≤ task.depth) (x : PanelExchange) (before now : Counts)
+    (deep : 1 ≤ task.depth) (most : task.depth ≤ most_depth)
+    (room : length task.queries.items ≤ most_queries) (x : PanelExchange) (before now : Counts)
     (no_peer : ¬ Rose before.peer now.peer) (no_keep : ¬ Rose before.keep now.keep)
     (left : Option (List ℕ)) (old : AllTalks) (size : length old ≡ helpers)
     (fresh : (k : ℕ) → k < length old → get_or old k [] ≡ []) where
@@ -103,24 +108,24 @@ module _ (helpers : ℕ) (task : Task) (some : 0 < helpers) (can : CanBeDone tas
       → PanelClause helpers task x before now status
   not_begun new told count blank (statuses.TooWide query) (seats, heard, seat, wide_seat, is)
       fault =
-      too_wide helpers task x some can deep before now old new told size count fresh blank left
+      too_wide helpers task x some can deep most room before now old new told size count fresh blank left
       seats heard seat query wide_seat is
   not_begun new told count blank statuses.OutOfMemory begins fault =
-      in_part helpers task x some can deep before now old new told size count fresh blank begins
+      in_part helpers task x some can deep most room before now old new told size count fresh blank begins
   not_begun new told count blank (statuses.BadStream at why) begins fault =
-      refused helpers task x some can deep before now old new told size count fresh blank
+      refused helpers task x some can deep most room before now old new told size count fresh blank
       (statuses.BadStream at why) begins (λ e. cc) fault no_peer no_keep
   not_begun new told count blank statuses.BadSeed begins fault =
-      refused helpers task x some can deep before now old new told size count fresh blank
+      refused helpers task x some can deep most room before now old new told size count fresh blank
       statuses.BadSeed begins (λ e. cc) fault no_peer no_keep
   not_begun new told count blank statuses.SeedSpent begins fault =
-      refused helpers task x some can deep before now old new told size count fresh blank
+      refused helpers task x some can deep most room before now old new told size count fresh blank
       statuses.SeedSpent begins (λ e. cc) fault no_peer no_keep
   not_begun new told count blank (statuses.ReadFault port) begins fault =
-      refused helpers task x some can deep before now old new told size count fresh blank
+      refused helpers task x some can deep most room before now old new told size count fresh blank
       (statuses.ReadFault port) begins (λ e. cc) fault no_peer no_keep
   not_begun new told count blank (statuses.WriteFault port) begins fault =
-      refused helpers task x some can deep before now old new told size count fresh blank
+      refused helpers task x some can deep most room before now old new told size count fresh blank
       (statuses.WriteFault port) begins (λ e. cc) fault no_peer no_keep
   not_begun new told count blank statuses.PeerFault begins fault = absurd (no_peer fault)
   not_begun new told count blank _ begins fault =
@@ -129,7 +134,8 @@ module _ (helpers : ℕ) (task : Task) (some : 0 < helpers) (can : CanBeDone tas
 -- ---- behind the stream
 
 module _ (helpers : ℕ) (task : Task) (some : 0 < helpers) (can : CanBeDone task)
-    (deep : 1 ≤ task.depth) (x : PanelExchange) (before now : Counts) (left : Option (List ℕ))
+    (deep : 1 ≤ task.depth) (most : task.depth ≤ most_depth)
+    (room : length task.queries.items ≤ most_queries) (x : PanelExchange) (before now : Counts) (left : Option (List ℕ))
     (unread : left ≡ Some x.unread)
     (old mid : AllTalks) (size : length old ≡ helpers) (count : length mid ≡ length old)
     (fresh : (k : ℕ) → k < length old → get_or old k [] ≡ [])
@@ -153,10 +159,10 @@ module _ (helpers : ℕ) (task : Task) (some : 0 < helpers) (can : CanBeDone tas
   in_terms : (new : AllTalks) (r : Result ℕ Status) → OfSession new r → OfTask new r
   in_terms new r trails =
       let v : session.version ≡ version_of task =
-      version_is helpers task x some can deep before now left unread old mid size count fresh
+      version_is helpers task x some can deep most room before now left unread old mid size count fresh
       seats heard session starts in
       let d : session.depth ≡ task.depth =
-      depth_is helpers task x some can deep before now left unread old mid size count fresh
+      depth_is helpers task x some can deep most room before now left unread old mid size count fresh
       seats heard session starts in
       subst (λ (n : ℕ). Trails (version_of task) task.depth (legal task x.stream) helpers n
       (asks_left session.left) mid new blank full r) number
@@ -170,7 +176,7 @@ module _ (helpers : ℕ) (task : Task) (some : 0 < helpers) (can : CanBeDone tas
       → (status : Status) → OfSession new (Err status) → FaultClause before now status
       → PanelClause helpers task x before now status
   stopped_asking new told sized status trails fault =
-      halted helpers task x some can deep before now left unread old mid size count fresh seats
+      halted helpers task x some can deep most room before now left unread old mid size count fresh seats
       heard session starts blank full wrote new told sized status
       (in_terms new (Err status) trails) fault
 
@@ -183,7 +189,7 @@ module _ (helpers : ℕ) (task : Task) (some : 0 < helpers) (can : CanBeDone tas
       × (gone ≤ place → Says o n (spelling (version_of task) messages.Bye) sent)) new last
       → PanelClause helpers task x before now (status_of r)
   said_farewell new last told sized long gone trails (Ok u) (Ok v) on never each =
-      all_answered helpers task x some can deep before now left unread old mid size count fresh
+      all_answered helpers task x some can deep most room before now left unread old mid size count fresh
       seats heard session starts blank full wrote new last told sized long gone
       (in_terms new (Ok gone) trails) u each
   said_farewell new last told sized long gone trails (Ok u) (Err status) (port, is, same) never
@@ -196,7 +202,7 @@ module _ (helpers : ℕ) (task : Task) (some : 0 < helpers) (can : CanBeDone tas
       let stop : port_stops.OutOfMemory ≡ port = err_same port is in
       subst (λ (s : Status). PanelClause helpers task x before now s)
       (sym (same ∙ ap status_of_link (sym stop)))
-      (cut_in_farewell helpers task x some can deep before now left unread old mid size count fresh
+      (cut_in_farewell helpers task x some can deep most room before now left unread old mid size count fresh
       seats heard session starts blank full wrote new last told sized long gone
       (in_terms new (Ok gone) trails) port_stops.OutOfMemory each)
     where
@@ -237,3 +243,19 @@ beginning_stops first firsts second seconds report reports status fault =
     caused_by (counts first second 0 0 0) (counts firsts seconds 0 0 0)
     (counts first second 0 report 0) (counts firsts seconds 0 reports 0) (λ r. r) (λ r. r)
     never_rose never_rose never_rose status fault
+
+-- whatever the ports tell, no link has a fault, and no record of the talk
+module _ (first firsts second seconds report reports : ℕ) (status : Status)
+    (fault : FaultClause (counts first second 0 report 0) (counts firsts seconds 0 reports 0)
+    status) where
+  pub no_peer_fault : status ≢ statuses.PeerFault
+  no_peer_fault is =
+      never_rose (subst (λ (s : Status).
+      FaultClause (counts first second 0 report 0) (counts firsts seconds 0 reports 0) s) is
+      fault)
+
+  pub no_keep_fault : status ≢ statuses.WriteFault ports.Keep
+  no_keep_fault is =
+      never_rose (subst (λ (s : Status).
+      FaultClause (counts first second 0 report 0) (counts firsts seconds 0 reports 0) s) is
+      fault)

@@ -5,6 +5,6 @@ pub mod PanelExchanges
 pub mod PanelEnds
 pub mod PanelCounts
 pub mod PanelExamples
-pub mod PanelClause
 pub mod PanelHonesty
+pub mod PanelClause
 pub mod inside

@@ -1,4 +1,4 @@
--- What a panel promises.
+-- What a panel promises, of any helpers and of honest ones.
 use Rattle.std.specs.Prelude.{◌≢◌, ℕ, List, []}
 use Rattle.sip_verifier.specs.declared.status.Status.{Status}
 use Rattle.sip_verifier.specs.declared.task.Task.{Task}
@@ -9,6 +9,7 @@ use Rattle.sip_verifier.specs.Statuses.{FaultClause, IsListed}
 use Rattle.sip_session.specs.PanelCounts.{JointCountOnPanel}
 use Rattle.sip_session.specs.PanelEnds.{Ends}
 use Rattle.sip_session.specs.PanelExchanges.{PanelExchange, PanelIsTold, PanelMoment, PanelTells, without_links}
+use Rattle.sip_session.specs.PanelHonesty.{AnswersAreOwn, AreDroppedRightly, IsCarried}
 use Rattle.sip_session.specs.Panels.{Attempt, AreAttempts, inquiry_of_panel}
 
 -- A task was done with so many helpers. The ports had failed so often `before`, and so often `now`.
@@ -32,6 +33,12 @@ pub record PanelClause (helpers : ℕ) (task : Task) (x : PanelExchange) (before
   -- how many challenges the helpers can win by together, and that no line of an answer is wrong but
   -- at those, whichever helper brought it about
   pub joint : JointCountOnPanel helpers task x attempts
+  -- an honest helper is dropped for want of memory, for its limits or for a negative entry alone
+  pub rightly : AreDroppedRightly helpers task x attempts
+  -- one honest helper is enough for an answer to each query, unless memory ran out
+  pub carried : IsCarried helpers task x attempts before now status
+  -- where all helpers are honest, the answers are the stream's own
+  pub own : AnswersAreOwn helpers task x attempts status
 
 -- all that a panel keeps, from the moment before it to the moment after
 pub record PanelRunClause (helpers : ℕ) (task : Task) (before now : PanelMoment)

@@ -1,4 +1,5 @@
--- Honest helpers of a panel: why they may be dropped, and what they come to.
+-- Honest helpers of a panel: why they may be dropped, and what they come to. `PanelClause` promises
+-- it of each run.
 --
 -- A helper is honest here where the talk of its link is an honest one: by the turns of a helper, up
 -- to where the other side left them, or to the end. Such is the talk of each link to a helper that

@@ -1,6 +1,6 @@
 //! The queries of a panel, each asked of one helper after another.
 
-ghost use Rattle.std.specs.Prelude.{◌≡◌, ◌+◌, ◌*◌, ◌-◌, ◌<◌, ◌≤◌, ℕ, List, All, false, length, drop, map, IfOk, OnOk, Option, Some};
+ghost use Rattle.std.specs.Prelude.{◌≡◌, ◌≢◌, ◌+◌, ◌*◌, ◌-◌, ◌<◌, ◌≤◌, ℕ, List, All, false, length, drop, map, IfOk, Ok, OnOk, Option, Some};
 ghost use Rattle.sip_ports.specs.Ports.{Lasts};
 ghost use Rattle.sip_ports.specs.declared.port.TalkEvent.{TalkEvent as AnyEvent};
 ghost use Rattle.sip_vector.specs.declared.query.Query.{Query as AnyQuery};
@@ -12,7 +12,9 @@ ghost use Rattle.sip_verifier.specs.QuerySeats.{StandsFor};
 ghost use Rattle.sip_verifier.specs.runs.Askers.{IsFirst};
 ghost use Rattle.sip_verifier.specs.Sittings.{asks_left, remaining_of};
 ghost use Rattle.sip_verifier.specs.Statuses.{Stops, stops_asking};
+ghost use Rattle.sip_duel.specs.Story.{IsHonestTalk};
 ghost use Rattle.sip_session.specs.inside.Hearing.{AllTalks};
+ghost use Rattle.sip_session.specs.inside.Links.{EachLink};
 ghost use Rattle.sip_session.specs.inside.Trying.{Leads, Trails, TrailsTo, Tries, turn_at};
 
 use sip_duel::HelperLink;
@@ -62,6 +64,11 @@ fn ask_helper<K: Sink>(
     ensures live { OnOk result (session.new.spent ≡ false) }
     ensures fault { Stops stops_asking (counts 0 0 0 (K.faults report.old) 0)
         (counts 0 0 0 (K.faults report.new) 0) result }
+    ensures honest { ⟦<HelperLink as Sink>⟧.is_sure link.old
+        → IsHonestTalk link.new.kept.talk.items }
+    ensures sure { result ≡ Ok Came.Answered
+        → ⟦<HelperLink as Sink>⟧.is_sure link.old
+        → ⟦<HelperLink as Sink>⟧.is_sure link.new }
     ensures report { Lasts K.faults K.wants K.is_sure report.old report.new }
 {
     match session.ask_next(link, &mut NullSink::new()) {
@@ -135,6 +142,13 @@ fn ask_at<K: Sink>(
         × (at.gone ≤ to.gone)) }
     ensures fault { Stops stops_asking (counts 0 0 0 (K.faults report.old) 0)
         (counts 0 0 0 (K.faults report.new) 0) result }
+    ensures others { EachLink (λ place l m. place ≢ at.gone → m ≡ l) links.old links.new }
+    ensures honest { EachLink (λ place l m. place ≡ at.gone
+        → ⟦<HelperLink as Sink>⟧.is_sure l
+        → IsHonestTalk m.kept.talk.items) links.old links.new }
+    ensures sure { IfOk result (λ to. EachLink (λ place l m. to.gone ≤ place
+        → ⟦<HelperLink as Sink>⟧.is_sure l
+        → ⟦<HelperLink as Sink>⟧.is_sure m) links.old links.new) }
     ensures report { Lasts K.faults K.wants K.is_sure report.old report.new }
 {
     let helpers = links.len();
@@ -192,6 +206,11 @@ pub(crate) fn ask_all<K: Sink>(
     ensures count { length links.new ≡ length links.old }
     ensures fault { Stops stops_asking (counts 0 0 0 (K.faults report.old) 0)
         (counts 0 0 0 (K.faults report.new) 0) result }
+    ensures honest { EachLink (λ _ l m. ⟦<HelperLink as Sink>⟧.is_sure l
+        → IsHonestTalk m.kept.talk.items) links.old links.new }
+    ensures sure { IfOk result (λ gone. EachLink (λ place l m. gone ≤ place
+        → ⟦<HelperLink as Sink>⟧.is_sure l
+        → ⟦<HelperLink as Sink>⟧.is_sure m) links.old links.new) }
     ensures report { Lasts K.faults K.wants K.is_sure report.old report.new }
 {
     let mut at = At { gone: 0, asked: 0 };

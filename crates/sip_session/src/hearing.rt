@@ -17,9 +17,10 @@ ghost use Rattle.sip_verifier.specs.QuerySeats.{HaveRoom};
 ghost use Rattle.sip_verifier.specs.Seats.{AreSeats};
 ghost use Rattle.sip_verifier.specs.Statuses.{Stops, stops_following};
 ghost use Rattle.sip_session.specs.inside.Hearing.{Each, HearsStream, Says, SaysAll};
+ghost use Rattle.sip_session.specs.inside.Links.{EachLink};
 
 use sip_duel::HelperLink;
-use sip_ports::{PortStop, Source};
+use sip_ports::{PortStop, Sink, Source};
 use sip_stream::Reader;
 use sip_vector::{Depth, Update};
 use sip_verifier::{Feed, Seats, Status, Task, on_link, on_stream};
@@ -30,6 +31,8 @@ fn say(link: &mut HelperLink, message: &Message, version: Version) -> Result<(),
     requires { IsTrue (fits version message.now) }
     ensures talk { Says link.old.kept.talk.items link.new.kept.talk.items
         (spelling version message.now) result }
+    ensures sure { ⟦<HelperLink as Sink>⟧.is_sure link.old
+        → ⟦<HelperLink as Sink>⟧.is_sure link.new }
     ensures cause { result ≢ Err PortStop.Failed }
 {
     encode(message, version, link)
@@ -41,6 +44,8 @@ fn copy(link: &mut HelperLink, feed: &Feed) -> Result<(), PortStop>
     ensures talk { Says link.old.kept.talk.items link.new.kept.talk.items
         (spelling feed.now.version (messages.Updates (record { items = feed.now.waiting })))
         result }
+    ensures sure { ⟦<HelperLink as Sink>⟧.is_sure link.old
+        → ⟦<HelperLink as Sink>⟧.is_sure link.new }
     ensures cause { result ≢ Err PortStop.Failed }
 {
     feed.copy_to(link)
@@ -56,6 +61,8 @@ pub(crate) fn say_all(
     ensures talks { SaysAll (map (λ l. l.kept.talk.items) links.old)
         (map (λ l. l.kept.talk.items) links.new) (spelling version message.now) result }
     ensures count { length links.new ≡ length links.old }
+    ensures sure { EachLink (λ _ l m. ⟦<HelperLink as Sink>⟧.is_sure l
+        → ⟦<HelperLink as Sink>⟧.is_sure m) links.old links.new }
     ensures cause { result ≢ Err PortStop.Failed }
 {
     for place in 0..links.len() {
@@ -72,6 +79,8 @@ fn copy_all(links: &mut [HelperLink], feed: &Feed) -> Result<(), PortStop>
         (spelling feed.now.version (messages.Updates (record { items = feed.now.waiting })))
         result }
     ensures count { length links.new ≡ length links.old }
+    ensures sure { EachLink (λ _ l m. ⟦<HelperLink as Sink>⟧.is_sure l
+        → ⟦<HelperLink as Sink>⟧.is_sure m) links.old links.new }
     ensures cause { result ≢ Err PortStop.Failed }
 {
     for place in 0..links.len() {
@@ -99,6 +108,8 @@ fn pass_on_all(
         (map (λ l. l.kept.talk.items) links.new)
         (due_with feed.old.version feed.old.waiting update.now) result }
     ensures count { length links.new ≡ length links.old }
+    ensures sure { EachLink (λ _ l m. ⟦<HelperLink as Sink>⟧.is_sure l
+        → ⟦<HelperLink as Sink>⟧.is_sure m) links.old links.new }
     ensures version { feed.new.version ≡ feed.old.version }
     ensures waiting { OnOk result (feed.new.waiting
         ≡ waiting_with feed.old.waiting update.now) }
@@ -129,6 +140,8 @@ fn finish_all(links: &mut [HelperLink], feed: &Feed, version: Version) -> Result
     ensures talks { SaysAll (map (λ l. l.kept.talk.items) links.old)
         (map (λ l. l.kept.talk.items) links.new) (due_at_end version feed.now.waiting) result }
     ensures count { length links.new ≡ length links.old }
+    ensures sure { EachLink (λ _ l m. ⟦<HelperLink as Sink>⟧.is_sure l
+        → ⟦<HelperLink as Sink>⟧.is_sure m) links.old links.new }
     ensures cause { result ≢ Err PortStop.Failed }
 {
     if feed.waiting().is_empty() {
@@ -149,6 +162,8 @@ pub(crate) fn say_bye(
         × (gone ≤ place → Says o n (spelling version messages.Bye) result))
         (map (λ l. l.kept.talk.items) links.old) (map (λ l. l.kept.talk.items) links.new) }
     ensures count { length links.new ≡ length links.old }
+    ensures sure { EachLink (λ _ l m. ⟦<HelperLink as Sink>⟧.is_sure l
+        → ⟦<HelperLink as Sink>⟧.is_sure m) links.old links.new }
     ensures cause { result ≢ Err PortStop.Failed }
 {
     for place in gone..links.len() {
@@ -177,6 +192,8 @@ pub(crate) fn follow_all<A: Source>(
         → Each (λ _ o n. HearsStream task.now bytes at_blocks (A.left first.new) seats.new result o
         n) (map (λ l. l.kept.talk.items) links.old) (map (λ l. l.kept.talk.items) links.new) }
     ensures count { length links.new ≡ length links.old }
+    ensures sure { EachLink (λ _ l m. ⟦<HelperLink as Sink>⟧.is_sure l
+        → ⟦<HelperLink as Sink>⟧.is_sure m) links.old links.new }
     ensures seats { IfOk result (λ _. (stream : List AnyUpdate) × AreOf task.now stream seats.new) }
     ensures fault { Stops stops_following (counts (A.faults first.old) 0 0 0 0)
         (counts (A.faults first.new) 0 0 0 0) result }

@@ -16,10 +16,11 @@
 //! | `specs/PanelExchanges` | what the ports of a panel tell |
 //! | `specs/PanelEnds` | the talk of each link and the lines, by the status |
 //! | `specs/PanelCounts` | the joint count of the seats |
-//! | `specs/PanelClause` | all that [`panel`] promises |
 //! | `specs/PanelHonesty` | why honest helpers may be dropped, and what they come to |
+//! | `specs/PanelClause` | all that [`panel`] promises, of any helpers and of honest ones |
 //!
-//! `specs/inside/` says what the private parts of a panel did. No promise rests on a reading of it.
+//! `specs/inside/` says what the private parts of a panel did. No promise rests on a reading of it,
+//! but for `Links` there: what holds of each link, as it was and as it is now.
 //!
 //! A query's row in the table of kinds says how its replies are read and how many values of one
 //! challenge let a wrong answer pass: so each kind is counted here as it is alone, and a share as
@@ -35,6 +36,7 @@
 //!   joint strategy's.
 //! - [`honesty`]: why honest helpers of a panel are dropped; that a panel with one answers each query
 //!   unless memory runs out; and that one of honest helpers alone gives the stream's own answers.
+//!   [`panel`] promises the three of each run.
 //! - [`examples`]: counts worked out one by one; [`turns`]: the same for the turns of a panel.
 #![tactic(auto)]
 

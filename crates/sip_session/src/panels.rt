@@ -3,6 +3,7 @@
 ghost use Rattle.std.specs.Prelude.{◌≡◌, ◌≢◌, ◌*◌, ◌<◌, ◌≤◌, ℕ, List, [], All, length, map, false, None, Some, Ok, Err, IfErr, IfOk, IsSome, MatchResult};
 ghost use Rattle.sip_ports.specs.Ports.{Lasts};
 ghost use Rattle.sip_wire.specs.Table.{most_queries};
+ghost use Rattle.sip_duel.specs.Story.{IsHonestTalk};
 ghost use Rattle.sip_verifier.specs.Concluding.{status_of};
 ghost use Rattle.sip_verifier.specs.Exchanges.{TakesAtMost};
 ghost use Rattle.sip_verifier.specs.inside.Passing.{left};
@@ -10,6 +11,7 @@ ghost use Rattle.sip_verifier.specs.Moments.{counts};
 ghost use Rattle.sip_verifier.specs.Statuses.{FaultClause, IsListed, Stops, stops_gathering};
 ghost use Rattle.sip_verifier.specs.Tasks.{CanBeDone};
 ghost use Rattle.sip_session.specs.inside.Beginning.{Begins, GathersAll, by_query, task_of_seats};
+ghost use Rattle.sip_session.specs.inside.Links.{EachLink};
 ghost use Rattle.sip_session.specs.PanelClause.{PanelRunClause};
 ghost use Rattle.sip_session.specs.PanelExchanges.{panel_moment};
 ghost use Rattle.sip_session.specs.Panels.{seat_queries};
@@ -72,6 +74,8 @@ fn gather_all<A: Source, B: Source>(
         (map (λ l. l.kept.talk.items) links.old) (map (λ l. l.kept.talk.items) links.new)
         (left gathered.new result) }
     ensures count { length links.new ≡ length links.old }
+    ensures sure { EachLink (λ _ l m. ⟦<HelperLink as Sink>⟧.is_sure l
+        → ⟦<HelperLink as Sink>⟧.is_sure m) links.old links.new }
     ensures seated { IfOk (left gathered.new result) (λ seats. (seats.depth ≡ wide.now.depth)
         × (map (λ s. s.query) seats.seats ≡ wide.now.queries.items)) }
     ensures fault { Stops stops_gathering
@@ -113,6 +117,8 @@ fn begin<A: Source, B: Source>(
         length session.value.left ≡ length wide.now.queries.items) }
     ensures live { IfOk result (λ session. session.value.spent ≡ false) }
     ensures count { length links.new ≡ length links.old }
+    ensures sure { EachLink (λ _ l m. ⟦<HelperLink as Sink>⟧.is_sure l
+        → ⟦<HelperLink as Sink>⟧.is_sure m) links.old links.new }
     ensures fault { IfErr result (λ status. IsListed status × FaultClause
         (counts (A.faults first.old) (B.faults second.old) 0 0 0)
         (counts (A.faults first.new) (B.faults second.new) 0 0 0) status) }
@@ -153,6 +159,8 @@ fn steps<A: Source, B: Source, K: Sink>(
         (K.faults report.new))
         (status_of result) }
     ensures count { length links.new ≡ length links.old }
+    ensures honest { EachLink (λ _ l m. ⟦<HelperLink as Sink>⟧.is_sure l
+        → IsHonestTalk m.kept.talk.items) links.old links.new }
     ensures first { Lasts A.faults A.wants A.is_sure first.old first.new }
     ensures seed { TakesAtMost 32 (B.left second.old) (B.left second.new) }
     ensures second { Lasts B.faults B.wants B.is_sure second.old second.new }
@@ -189,6 +197,8 @@ fn run<A: Source, B: Source, K: Sink>(
         (K.faults report.new))
         result }
     ensures count { length links.new ≡ length links.old }
+    ensures honest { EachLink (λ _ l m. ⟦<HelperLink as Sink>⟧.is_sure l
+        → IsHonestTalk m.kept.talk.items) links.old links.new }
     ensures first { Lasts A.faults A.wants A.is_sure first.old first.new }
     ensures seed { TakesAtMost 32 (B.left second.old) (B.left second.new) }
     ensures second { Lasts B.faults B.wants B.is_sure second.old second.new }
@@ -200,19 +210,24 @@ fn run<A: Source, B: Source, K: Sink>(
     }
 }
 
-/// Does a task over links to several helpers, which hear the same stream: draws a block of challenges
-/// for each query and helper from `second`, reads the stream of `first` and sends it to each, and asks
-/// each query of one helper after another until the replies of one are accepted.
+/// Does a task over links to several helpers, which hear the same stream: draws a block of
+/// challenges for each query and helper from `second`, reads the stream of `first` and sends it to
+/// each, and asks each query of one helper after another until the replies of one are accepted.
 ///
-/// The line of its answer is then written to `report`. A helper whose replies have a fault is closed and
-/// dropped at once, and a line says so; it is never asked again. At the end each helper that is left
-/// hears a farewell. At every exit each is closed and dropped; the talks stay on the links.
+/// The line of its answer is then written to `report`. A helper whose replies have a fault is
+/// closed and dropped at once, and a line says so; it is never asked again. At the end each helper
+/// that is left hears a farewell. At every exit each is closed and dropped; the talks stay on the
+/// links.
+///
+/// The link to a helper that keeps to its turns tells an honest talk. Such a helper is dropped only
+/// for want of memory, for its limits or for a negative entry; one is enough for an answer to each
+/// query, unless memory runs out; and where all are such, the answers are the stream's own.
 ///
 /// The answers are those of a run over one helper, but for these: `Rejected` where every helper was
-/// dropped, with the place of the last fault, whose line was written before; no fault of the peer, since
-/// the links count none; and no fault of a record of the talk, since none is kept. `TooWide` names the
-/// query. The memory is that of [`Session::new`] for a query for each seat; the time is that of a run
-/// for each helper.
+/// dropped, with the place of the last fault, whose line was written before; no fault of the peer,
+/// since the links count none; and no fault of a record of the talk, since none is kept. `TooWide`
+/// names the query. The memory is that of [`Session::new`] for a query for each seat; the time is
+/// that of a run for each helper.
 pub fn panel<A: Source, B: Source, K: Sink>(
     alloc: Global,
     task: &Task,
@@ -235,6 +250,8 @@ pub fn panel<A: Source, B: Source, K: Sink>(
         result }
     ensures peer { result ≢ Status.PeerFault }
     ensures keep { result ≢ Status.WriteFault Port.Keep }
+    ensures honest { EachLink (λ _ l m. ⟦<HelperLink as Sink>⟧.is_sure l
+        → IsHonestTalk m.kept.talk.items) links.old.items links.new.items }
     ensures gone { All (λ link. link.helper ≡ None) links.new.items }
     ensures count { length links.new.items ≡ length links.old.items }
     ensures first { Lasts A.faults A.wants A.is_sure first.old first.new }

@@ -2,12 +2,16 @@
 use Rattle.std.proofs.Common.{◌≡◌, ◌<◌, ◌+◌, ◌-◌, ◌*◌, ◌≤◌, ℕ, Ok, Err, List, length, map, drop, refl, ap, sym, ◌∙◌, subst, arith, rules, drop-drop}
 use Rattle.std.proofs.lemmas.List.{length-map}
 use Rattle.std.proofs.lemmas.Result.{err_from_is_err_and}
+use Rattle.sip_duel.specs.Story.{IsHonestTalk}
+use Rattle.sip_duel.proofs.KeepsLemmas.{kept_is_honest}
 use Rattle.sip_vector.specs.declared.query.Query.{Query}
 use Rattle.sip_wire.specs.Table.{most_queries}
 use Rattle.sip_verifier.specs.Sittings.{asks_left}
 use Rattle.sip_session.specs.inside.Trying.{TrailsTo, turn_at}
 use Rattle.sip_session.proofs.Asked.{further, led_on, left_enough, next_asks, passed_sum}
 use Rattle.sip_session.proofs.Attempts.{no_attempt}
+use Rattle.sip_session.proofs.AskedLinks.{all_last, all_tell}
+use Rattle.sip_session.proofs.LinkLemmas.{links_stay}
 use Rattle.sip_session.proofs.asking.ask_all.Goals as goal
 
 pub loop-at-init : goal.loop-at-init
@@ -21,6 +25,8 @@ loop-at-init g c = record {
   gone = c.requires.some;
   asked = omega arith;
   count = refl;
+  honest = links_stay _ c.args.links.now (λ place l k. kept_is_honest _ l.kept k);
+  sure = links_stay _ c.args.links.now (λ place l most k. k);
   report = search rules;
 }
 
@@ -71,6 +77,12 @@ loop-at-preserved g c =
       gone = nearer.0;
       asked = nearer.1;
       count = c.ask_at.ensures.count ∙ i.count;
+      honest = all_tell _ (λ m. IsHonestTalk m.kept.talk.items) c.args.links.now c.loop-at.links
+          c.ask_at.new.links at.gone c.ask_at.ensures.count i.honest i.sure
+          c.ask_at.ensures.others c.ask_at.ensures.honest;
+      sure = all_last _ c.args.links.now c.loop-at.links c.ask_at.new.links at.gone
+          c.in_ok-at.at.gone c.ask_at.ensures.count nearer.4 i.sure
+          (rw c.in_ok-at.was at c.ask_at.ensures.sure);
       report = search rules;
     }
 
@@ -95,3 +107,10 @@ returns-clause-trails g c = λ stream stand.
     let all = c.args.session.now in
     let end : c.loop-at.at.asked ≡ c.args.queries = omega (arith, i.asked) in
     subst (λ (n : ℕ). TrailsTo all.version all.depth stream (length c.args.links.now) c.args.queries (asks_left all.left) (map (λ l. l.kept.talk.items) c.args.links.now) (map (λ l. l.kept.talk.items) c.loop-at.links) (g.K.Sink.talk c.args.report.now) (g.K.Sink.talk c.loop-at.report) (turn_at c.loop-at.at.gone n)) end (i.trail stream stand)
+
+pub returns-in_err-at-clause-honest : goal.returns-in_err-at-clause-honest
+returns-in_err-at-clause-honest g c =
+    let i = c.loop-at.invariant in
+    all_tell _ (λ m. IsHonestTalk m.kept.talk.items) c.args.links.now c.loop-at.links
+    c.ask_at.new.links c.loop-at.at.gone c.ask_at.ensures.count i.honest i.sure
+    c.ask_at.ensures.others c.ask_at.ensures.honest

@@ -1,9 +1,12 @@
 -- So many helpers were dropped and so many queries answered, and all before the next seat was passed over.
 use Rattle.std.proofs.Common.{◌≡◌, ◌+◌, ◌-◌, ◌*◌, ◌<◌, ◌≤◌, ℕ, List, length, drop, map, All, false}
+use Rattle.std.specs.Option.{option_and_then}
 use Rattle.sip_ports.specs.Ports.{Lasts}
 use Rattle.sip_vector.specs.declared.update.Update.{Update}
 use Rattle.sip_verifier.specs.QuerySeats.{StandsFor}
 use Rattle.sip_verifier.specs.Sittings.{asks_left}
+use Rattle.sip_duel.specs.Story.{IsHonestTalk, Keeps}
+use Rattle.sip_session.specs.inside.Links.{EachLink}
 use Rattle.sip_session.specs.inside.Trying.{TrailsTo, turn_at}
 use Rattle.sip_session.proofs.asking.ask_all.Given as goal
 
@@ -20,6 +23,14 @@ invariant-loop-at g l = record {
   gone : l.at.gone < length l.fn.links;
   asked : l.at.asked ≤ l.queries;
   count : length l.links ≡ length l.fn.links;
+  honest : EachLink (λ _ x y. Keeps
+      (option_and_then (λ b. (goal.Helper-dyn g (b.vtable, b.value)).honest_state b.value) x.helper)
+      x.kept → IsHonestTalk y.kept.talk.items) l.fn.links l.links;
+  sure : EachLink (λ place x y. l.at.gone ≤ place → Keeps
+      (option_and_then (λ b. (goal.Helper-dyn g (b.vtable, b.value)).honest_state b.value) x.helper)
+      x.kept → Keeps
+      (option_and_then (λ b. (goal.Helper-dyn g (b.vtable, b.value)).honest_state b.value) y.helper)
+      y.kept) l.fn.links l.links;
   report : Lasts g.K.Sink.faults g.K.Sink.wants g.K.Sink.is_sure l.fn.report l.report;
 }
 

@@ -1,9 +1,11 @@
 -- What came of the attempt is added to those before it.
-use Rattle.std.proofs.Common.{◌≡◌, Ok, length, refl, ap, ◌∙◌, arith, add-one}
+use Rattle.std.proofs.Common.{◌≡◌, ◌+◌, Ok, length, refl, ap, ◌∙◌, arith, add-one}
 use Rattle.std.proofs.lemmas.Result.{err_from_is_err_and}
+use Rattle.sip_duel.specs.Story.{IsHonestTalk}
 use Rattle.sip_session.specs.declared.asking.Came.{Came}
 use Rattle.sip_session.specs.declared.asking.Came.TheVariants as cames
 use Rattle.sip_session.proofs.Asked.{asked_answered, asked_dropped, asked_out, asked_stopped, left_behind, seat_tried}
+use Rattle.sip_session.proofs.AskedLinks.{asked_lasts, asked_tells, dropped_aside, others_stay}
 use Rattle.sip_session.proofs.asking.ask_at.Goals as goal
 
 pub returns-in_err-ask_helper-clause-leads : goal.returns-in_err-ask_helper-clause-leads
@@ -69,3 +71,57 @@ returns-else-at-helpers-clause-next g c =
     let s = c.args.session.now in
     let next = rw c.left.ensures at c.skip_seats.ensures.next in
     left_behind s.left c.skip_seats.new.session.left _ _ next c.ask_helper.ensures.next
+
+-- ---- what was done to the links
+
+pub returns-in_err-ask_helper-clause-others : goal.returns-in_err-ask_helper-clause-others
+returns-in_err-ask_helper-clause-others g c =
+    others_stay c.args.links.now c.args.at.gone c.ask_helper.new.link
+    c.index-links-at.result c.requires.gone
+
+pub returns-in_err-ask_helper-clause-honest : goal.returns-in_err-ask_helper-clause-honest
+returns-in_err-ask_helper-clause-honest g c =
+    asked_tells _ (λ m. IsHonestTalk m.kept.talk.items) c.args.links.now c.args.at.gone
+    c.ask_helper.new.link c.index-links-at.result c.requires.gone c.ask_helper.ensures.honest
+
+pub returns-in-Answered-clause-others : goal.returns-in-Answered-clause-others
+returns-in-Answered-clause-others g c =
+    others_stay c.args.links.now c.args.at.gone c.ask_helper.new.link
+    c.index-links-at.result c.requires.gone
+
+pub returns-in-Answered-clause-honest : goal.returns-in-Answered-clause-honest
+returns-in-Answered-clause-honest g c =
+    asked_tells _ (λ m. IsHonestTalk m.kept.talk.items) c.args.links.now c.args.at.gone
+    c.ask_helper.new.link c.index-links-at.result c.requires.gone c.ask_helper.ensures.honest
+
+pub returns-then-at-helpers-clause-others : goal.returns-then-at-helpers-clause-others
+returns-then-at-helpers-clause-others g c =
+    others_stay c.args.links.now c.args.at.gone c.ask_helper.new.link
+    c.index-links-at.result c.requires.gone
+
+pub returns-then-at-helpers-clause-honest : goal.returns-then-at-helpers-clause-honest
+returns-then-at-helpers-clause-honest g c =
+    asked_tells _ (λ m. IsHonestTalk m.kept.talk.items) c.args.links.now c.args.at.gone
+    c.ask_helper.new.link c.index-links-at.result c.requires.gone c.ask_helper.ensures.honest
+
+pub returns-else-at-helpers-clause-others : goal.returns-else-at-helpers-clause-others
+returns-else-at-helpers-clause-others g c =
+    others_stay c.args.links.now c.args.at.gone c.ask_helper.new.link
+    c.index-links-at.result c.requires.gone
+
+pub returns-else-at-helpers-clause-honest : goal.returns-else-at-helpers-clause-honest
+returns-else-at-helpers-clause-honest g c =
+    asked_tells _ (λ m. IsHonestTalk m.kept.talk.items) c.args.links.now c.args.at.gone
+    c.ask_helper.new.link c.index-links-at.result c.requires.gone c.ask_helper.ensures.honest
+
+pub returns-in-Answered-clause-sure : goal.returns-in-Answered-clause-sure
+returns-in-Answered-clause-sure g c =
+    let same : c.ask_helper.result ≡ Ok cames.Answered =
+    c.in_ok-ask_helper.was ∙ ap (λ (v : Came). Ok v) c.in-Answered.is in
+    asked_lasts _ c.args.links.now c.args.at.gone c.ask_helper.new.link
+    c.index-links-at.result c.requires.gone (c.ask_helper.ensures.sure same)
+
+pub returns-else-at-helpers-clause-sure : goal.returns-else-at-helpers-clause-sure
+returns-else-at-helpers-clause-sure g c =
+    dropped_aside _ c.args.links.now c.args.at.gone (c.args.at.gone + 1)
+    c.ask_helper.new.link c.index-links-at.result c.requires.gone (omega arith)

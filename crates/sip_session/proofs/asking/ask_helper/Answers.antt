@@ -1,6 +1,8 @@
 -- What came of the query, and of its line.
-use Rattle.std.proofs.Common.{◌≡◌, Err, ap, refl}
+use Rattle.std.proofs.Common.{◌≡◌, Err, ap, refl, subst, sym}
 use Rattle.std.proofs.lemmas.Result.{err_from_is_err_and}
+use Rattle.sip_duel.specs.Story.{IsHonestTalk}
+use Rattle.sip_duel.proofs.KeepsLemmas.{kept_is_honest}
 use Rattle.sip_ports.proofs.FaultLemmas.{Rose-positive}
 use Rattle.sip_verifier.specs.declared.asker.Unanswered.TheVariants as unanswered
 use Rattle.sip_verifier.specs.declared.session.SessionFault.TheVariants as faults
@@ -48,3 +50,32 @@ returns-in-Err-Fault-clause-tries g c = λ stream ask all first.
     rw c.status_of_fault.ensures (fault_tried (asking s.version s.depth stream) ask _ _ _ _ _ (λ given. States c.ask_next.new.self given ask.0) c.in-Err-Fault.fault asks
     (λ e. Rose-positive 0 0 (c.ask_next.ensures.cause (let a = c.in-Err-Fault.is in let b = c.in-Err-Fault.field-0-is in let whole : c.ask_next.result ≡ Err (unanswered.Fault faults.PeerFault) = cc in whole)) refl)
     (λ e. Rose-positive 0 0 (c.ask_next.ensures.keep_cause (let a = c.in-Err-Fault.is in let b = c.in-Err-Fault.field-0-is in let whole : c.ask_next.result ≡ Err (unanswered.Fault faults.KeepFault) = cc in whole)) refl))
+
+-- ---- what an honest helper's link tells
+
+pub returns-in_err-on_report-in-Ok-clause-honest : goal.returns-in_err-on_report-in-Ok-clause-honest
+returns-in_err-on_report-in-Ok-clause-honest g c = λ k.
+    kept_is_honest _ c.ask_next.new.link.kept (c.ask_next.ensures.link.sure k)
+
+pub returns-in_ok-on_report-in-Ok-clause-honest : goal.returns-in_ok-on_report-in-Ok-clause-honest
+returns-in_ok-on_report-in-Ok-clause-honest g c = λ k.
+    kept_is_honest _ c.ask_next.new.link.kept (c.ask_next.ensures.link.sure k)
+
+pub returns-in_err-on_report-in-Err-Rejected-clause-honest :
+    goal.returns-in_err-on_report-in-Err-Rejected-clause-honest
+returns-in_err-on_report-in-Err-Rejected-clause-honest g c = λ k.
+    subst (λ t. IsHonestTalk t.items) (sym c.close_and_drop.ensures.talk)
+    (kept_is_honest _ c.ask_next.new.link.kept (c.ask_next.ensures.link.sure k))
+
+pub returns-in_ok-on_report-in-Err-Rejected-clause-honest :
+    goal.returns-in_ok-on_report-in-Err-Rejected-clause-honest
+returns-in_ok-on_report-in-Err-Rejected-clause-honest g c = λ k.
+    subst (λ t. IsHonestTalk t.items) (sym c.close_and_drop.ensures.talk)
+    (kept_is_honest _ c.ask_next.new.link.kept (c.ask_next.ensures.link.sure k))
+
+pub returns-in-Err-Fault-clause-honest : goal.returns-in-Err-Fault-clause-honest
+returns-in-Err-Fault-clause-honest g c = λ k.
+    kept_is_honest _ c.ask_next.new.link.kept (c.ask_next.ensures.link.sure k)
+
+pub returns-in_ok-on_report-in-Ok-clause-sure : goal.returns-in_ok-on_report-in-Ok-clause-sure
+returns-in_ok-on_report-in-Ok-clause-sure g c = λ _ k. c.ask_next.ensures.link.sure k

@@ -8,6 +8,7 @@ use Rattle.sip_verifier.specs.Feeding.{due_at_end}
 use Rattle.sip_verifier.proofs.DueFrames.{due-none, due-some}
 use Rattle.sip_verifier.proofs.FramesFit.{end_fits}
 use Rattle.sip_session.proofs.Heard.{all_same, all_short, all_then}
+use Rattle.sip_session.proofs.LinkLemmas.{links_then}
 use Rattle.sip_session.proofs.Places.{told_length}
 use Rattle.sip_session.proofs.hearing.finish_all.Goals as goal
 
@@ -45,3 +46,15 @@ returns-clause-talks g c =
     (all_then _ (map (λ l. l.kept.talk.items) c.copy_all.new.links) _ _ _ c.say_all-2.result
     (told_length (λ l. l.kept.talk.items) c.args.links.now c.copy_all.new.links
     c.copy_all.ensures.count) said c.say_all-2.ensures.talks)
+
+pub returns-clause-sure : goal.returns-clause-sure
+returns-clause-sure g c =
+    links_then _ _ _ c.args.links.now c.copy_all.new.links c.say_all-2.new.links
+    c.say_all-2.ensures.count (λ place l m n p q k. q (p k)) c.copy_all.ensures.sure
+    c.say_all-2.ensures.sure
+
+pub returns-then-is_empty-clause-sure : goal.returns-then-is_empty-clause-sure
+returns-then-is_empty-clause-sure g c = c.say_all.ensures.sure
+
+pub returns-in_err-copy_all-clause-sure : goal.returns-in_err-copy_all-clause-sure
+returns-in_err-copy_all-clause-sure g c = c.copy_all.ensures.sure

@@ -17,6 +17,7 @@ use Rattle.sip_verifier.proofs.FramesFit.{item_below, open_fits}
 use Rattle.sip_verifier.proofs.Gathered.{IsFollowed, followed_many, followed_on, followed_one, followed_room, fair_items}
 use Rattle.sip_verifier.proofs.SeatsHead.{depth-shallow}
 use Rattle.sip_session.proofs.Heard.{at_last, heard_first, heard_more, if_ok, last_listed, link_listed, link_stops, part_after, part_first, stream_stops}
+use Rattle.sip_session.proofs.LinkLemmas.{links_then}
 use Rattle.sip_session.proofs.Places.{within}
 use Rattle.sip_session.proofs.hearing.follow_all.Goals as goal
 
@@ -64,6 +65,7 @@ loop-update-init g c =
           λ k less. heard_first task bytes _ _ at_blocks has _ _ _ c.new-feed.result.waiting all
           c.new-reader.ensures.after none (said k less);
       count = c.say_all.ensures.count;
+      sure = c.say_all.ensures.sure;
       version = ap (λ (w : Waiting). w.version) c.new-feed.ensures ∙ c.version-version.ensures;
       few = few;
       items = subst (All (λ (u : Update). u.item < 2 ^ task.depth)) (sym none)
@@ -173,6 +175,9 @@ loop-update-preserved g c =
           (c.pass_on_all.ensures.stands _ _ _ so.said.sent so.stand) waiting depth form took.3
           took.4 took.2 c.take_held.ensures.few;
       count = c.pass_on_all.ensures.count ∙ c.loop-update.invariant.count;
+      sure = links_then _ _ _ c.args.links.now c.loop-update.links c.pass_on_all.new.links
+          c.pass_on_all.ensures.count (λ place l m n p q k. q (p k))
+          c.loop-update.invariant.sure c.pass_on_all.ensures.sure;
       version = c.take_held.ensures.version ∙ c.pass_on_all.ensures.version
           ∙ c.loop-update.invariant.version;
       few = c.take_held.ensures.few;
@@ -270,3 +275,21 @@ returns-in_err-on_link-2-clause-fault g c =
 pub returns-clause-fault : goal.returns-clause-fault
 returns-clause-fault g c = last_listed _ _ c.finish_all.result c.on_link-2.result
     c.on_link-2.ensures c.finish_all.ensures.cause
+
+pub returns-in_err-on_link-2-clause-sure : goal.returns-in_err-on_link-2-clause-sure
+returns-in_err-on_link-2-clause-sure g c =
+    links_then _ _ _ c.args.links.now c.loop-update.links c.pass_on_all.new.links
+    c.pass_on_all.ensures.count (λ place l m n p q k. q (p k)) c.loop-update.invariant.sure
+    c.pass_on_all.ensures.sure
+
+pub returns-clause-sure : goal.returns-clause-sure
+returns-clause-sure g c =
+    links_then _ _ _ c.args.links.now c.loop-update.links c.finish_all.new.links
+    c.finish_all.ensures.count (λ place l m n p q k. q (p k)) c.loop-update.invariant.sure
+    c.finish_all.ensures.sure
+
+pub returns-in_err-on_link-clause-sure : goal.returns-in_err-on_link-clause-sure
+returns-in_err-on_link-clause-sure g c = c.say_all.ensures.sure
+
+pub returns-in_err-update-clause-sure : goal.returns-in_err-update-clause-sure
+returns-in_err-update-clause-sure g c = c.loop-update.invariant.sure

@@ -2,6 +2,7 @@
 -- stand for these.
 use Rattle.std.proofs.Common.{◌≡◌, ◌<◌, ◌^◌, ℕ, List, [], length, map, All, Some, false}
 use Rattle.std.specs.Prelude.{IsSome}
+use Rattle.std.specs.Option.{option_and_then}
 use Rattle.sip_ports.specs.Ports.{Lasts}
 use Rattle.sip_stream.specs.Reading.{room}
 use Rattle.sip_vector.specs.declared.update.Update.{Update}
@@ -10,6 +11,8 @@ use Rattle.sip_verifier.specs.Tasks.{version_of}
 use Rattle.sip_verifier.specs.Seats.{AreSeats}
 use Rattle.sip_verifier.proofs.Gathered.{IsFollowed, IsUnderway}
 use Rattle.sip_session.specs.inside.Hearing.{Each}
+use Rattle.sip_duel.specs.Story.{Keeps}
+use Rattle.sip_session.specs.inside.Links.{EachLink}
 use Rattle.sip_session.proofs.hearing.follow_all.Given as goal
 
 abbrev pub invariant-loop-update : goal.invariant-loop-update
@@ -20,6 +23,11 @@ invariant-loop-update g l = record {
       (Some n) l.reader l.seats l.feed.waiting) (map (λ x. x.kept.talk.items) l.fn.links)
       (map (λ x. x.kept.talk.items) l.links);
   count : length l.links ≡ length l.fn.links;
+  sure : EachLink (λ _ a b. Keeps (option_and_then
+      (λ x. (goal.Helper-dyn g (x.vtable, x.value)).honest_state x.value) a.helper) a.kept
+      → Keeps (option_and_then
+      (λ x. (goal.Helper-dyn g (x.vtable, x.value)).honest_state x.value) b.helper) b.kept)
+      l.fn.links l.links;
   version : l.feed.version ≡ version_of l.fn.task;
   few : length l.feed.waiting < most_rows;
   items : All (λ (u : Update). u.item < 2 ^ l.fn.task.depth) l.feed.waiting;

@@ -6,6 +6,7 @@ use Rattle.sip_vector.specs.declared.update.Update.{Update}
 use Rattle.sip_verifier.specs.QuerySeats.{HaveRoom}
 use Rattle.sip_verifier.specs.Seats.{AreSeats}
 use Rattle.sip_session.proofs.Heard.{all_nothing, all_same, due_full, due_nothing, taken_full}
+use Rattle.sip_session.proofs.LinkLemmas.{links_stay}
 use Rattle.sip_session.proofs.hearing.pass_on_all.Goals as goal
 
 pub returns-then-not-is_full-clause-talks : goal.returns-then-not-is_full-clause-talks
@@ -73,3 +74,12 @@ update_all-requires-clause-room g c =
     search rules in
     subst (λ (l : List Update). (side : Side)
     → HaveRoom c.args.seats.now.seats l side) (sym block) c.requires.room
+
+pub returns-then-not-is_full-clause-sure : goal.returns-then-not-is_full-clause-sure
+returns-then-not-is_full-clause-sure g c = links_stay _ _ (λ place l k. k)
+
+pub returns-in_err-copy_all-clause-sure : goal.returns-in_err-copy_all-clause-sure
+returns-in_err-copy_all-clause-sure g c = c.copy_all.ensures.sure
+
+pub returns-clause-sure : goal.returns-clause-sure
+returns-clause-sure g c = c.copy_all.ensures.sure

@@ -5,6 +5,7 @@ use Rattle.sip_verifier.specs.Draws.{blocks}
 use Rattle.sip_verifier.specs.inside.Drawing.{HasDrawn}
 use Rattle.sip_session.proofs.Begun.{sending_stops}
 use Rattle.sip_session.proofs.Heard.{all_heard, draw_stops, follow_stops}
+use Rattle.sip_session.proofs.LinkLemmas.{links_stay}
 use Rattle.sip_session.proofs.panels.gather_all.Goals as goal
 
 pub returns-in_err-draw-clause-gathers : goal.returns-in_err-draw-clause-gathers
@@ -43,3 +44,17 @@ pub returns-in_default-clause-gathers : goal.returns-in_default-clause-gathers
 returns-in_default-clause-gathers g c = λ bytes seed all told.
     rw c.in_default.is (draw_stops c.args.wide.now bytes seed (g.A.Source.left c.args.first.now) _
     c.in_default.field-0 (rw c.in_default.is at c.in_ok-draw.ensures.draws seed told))
+
+-- the links, where the stream was not sent, and where it was
+
+pub returns-in_err-draw-clause-sure : goal.returns-in_err-draw-clause-sure
+returns-in_err-draw-clause-sure g c = links_stay _ c.args.links.now (λ place l sure. sure)
+
+pub returns-in_err-follow_all-clause-sure : goal.returns-in_err-follow_all-clause-sure
+returns-in_err-follow_all-clause-sure g c = c.follow_all.ensures.sure
+
+pub returns-in_ok-follow_all-clause-sure : goal.returns-in_ok-follow_all-clause-sure
+returns-in_ok-follow_all-clause-sure g c = c.follow_all.ensures.sure
+
+pub returns-in_default-clause-sure : goal.returns-in_default-clause-sure
+returns-in_default-clause-sure g c = links_stay _ c.args.links.now (λ place l sure. sure)

@@ -1,8 +1,11 @@
 -- At each end of the steps the facts of the calls before it are handed to the lemma of that end.
-use Rattle.std.proofs.Common.{◌≤◌, ◌<◌, [], Err, ap, subst, ◌∙◌, arith, length, map}
+use Rattle.std.proofs.Common.{◌≡◌, ◌≤◌, ◌<◌, ℕ, [], Err, ap, subst, ◌∙◌, arith, length, map}
 use Rattle.std.proofs.lemmas.List.{length-map}
 use Rattle.std.proofs.lemmas.Result.{err_from_is_err_and}
 use Rattle.sip_ports.proofs.TalkLemmas.{GoesOn-refl}
+use Rattle.sip_vector.specs.Limits.{most_depth}
+use Rattle.sip_wire.specs.Table.{most_queries}
+use Rattle.sip_duel.proofs.KeepsLemmas.{kept_is_honest}
 use Rattle.sip_verifier.specs.declared.task.Task.{Task}
 use Rattle.sip_verifier.specs.Gathering.{legal}
 use Rattle.sip_verifier.specs.Moments.{counts}
@@ -11,7 +14,8 @@ use Rattle.sip_verifier.proofs.RunTalks.{nothing_reported, some_value, written_i
 use Rattle.sip_verifier.proofs.SeatedBehind.{seats_left}
 use Rattle.sip_session.specs.inside.Beginning.{Begins}
 use Rattle.sip_session.specs.inside.Hearing.{AllTalks}
-use Rattle.sip_session.proofs.Begun.{helpers_few, never_rose, wide_done}
+use Rattle.sip_session.proofs.Begun.{helpers_few, never_rose, queries_few, wide_done}
+use Rattle.sip_session.proofs.PanelLinks.{told_asking, told_early, told_farewell}
 use Rattle.sip_session.proofs.PanelRuns.{asking_stops, beginning_stops, farewell_listed, halts_wrote, not_begun, panel_tells, said_farewell, stopped_asking, told_nothing}
 use Rattle.sip_session.proofs.Places.{told_length}
 use Rattle.sip_session.proofs.Seats.{length-seats}
@@ -22,13 +26,12 @@ returns-in_err-session-clause-keeps g c =
     let task = c.args.task.now in
     let deep : 1 ≤ task.depth =
     omega (arith, c.get-levels.ensures.same, c.get-levels.ensures.some) in
+    let most : task.depth ≤ most_depth =
+    omega (arith, c.get-levels.ensures.same, c.get-levels.ensures.most) in
+    let room : length task.queries.items ≤ most_queries =
+    queries_few _ (length task.queries.items) _ c.requires.some c.requires.few in
     let old : AllTalks = map (λ l. l.kept.talk.items) c.args.links.now in
     let mid : AllTalks = map (λ l. l.kept.talk.items) c.begin.new.links in
-    let before =
-    counts (g.A.Source.faults c.args.first.now) (g.B.Source.faults c.args.second.now) 0
-    (g.K.Sink.faults c.args.report.now) 0 in
-    let now = counts (g.A.Source.faults c.begin.new.first) (g.B.Source.faults c.begin.new.second) 0
-    (g.K.Sink.faults c.args.report.now) 0 in
     let p = err_from_is_err_and c.from_residual.result c.from_residual.ensures.1 in
     let stop = c.in_err-session.ensures.fault in
     let cause =
@@ -38,7 +41,8 @@ returns-in_err-session-clause-keeps g c =
     c.in_err-session.field-0.0 stop.1 in
     rw (p.1, p.2) (record {
       promises = λ x t.
-          not_begun (length c.args.links.now) task c.requires.some c.requires.done deep x before now
+          not_begun (length c.args.links.now) task c.requires.some c.requires.done deep most
+          room x _ _
           never_rose never_rose (g.A.Source.left c.begin.new.first) old
           (length-map c.args.links.now (λ l. l.kept.talk.items))
           (told_nothing (λ l. l.kept.talk.items) c.args.links.now c.requires.new) mid t.talks
@@ -60,16 +64,15 @@ returns-in_err-gone-clause-keeps g c =
     let task = c.args.task.now in
     let deep : 1 ≤ task.depth =
     omega (arith, c.get-levels.ensures.same, c.get-levels.ensures.some) in
+    let most : task.depth ≤ most_depth =
+    omega (arith, c.get-levels.ensures.same, c.get-levels.ensures.most) in
+    let room : length task.queries.items ≤ most_queries =
+    queries_few _ (length task.queries.items) _ c.requires.some c.requires.few in
     let old : AllTalks = map (λ l. l.kept.talk.items) c.args.links.now in
     let mid : AllTalks = map (λ l. l.kept.talk.items) c.begin.new.links in
     let some : 0 < length old =
     omega (arith, length-map c.args.links.now (λ l. l.kept.talk.items), c.requires.some) in
     let lent = c.deref_mut.ensures.value in
-    let before =
-    counts (g.A.Source.faults c.args.first.now) (g.B.Source.faults c.args.second.now) 0
-    (g.K.Sink.faults c.args.report.now) 0 in
-    let now = counts (g.A.Source.faults c.begin.new.first) (g.B.Source.faults c.begin.new.second) 0
-    (g.K.Sink.faults c.ask_all.new.report) 0 in
     let p = err_from_is_err_and c.from_residual-in_err-gone.result
     c.from_residual-in_err-gone.ensures.1 in
     let stops =
@@ -85,9 +88,9 @@ returns-in_err-gone-clause-keeps g c =
           let stand =
           (seats_left _ _ _ (legal task x.stream) seats _ _ (heard.each 0 some).stand
           starts).1 in
-          stopped_asking (length c.args.links.now) task c.requires.some c.requires.done deep x
-          before now (g.A.Source.left c.begin.new.first) t.unread old mid
-          (length-map c.args.links.now (λ l. l.kept.talk.items))
+          stopped_asking (length c.args.links.now) task c.requires.some c.requires.done deep most
+          room x _ _
+          _ t.unread old mid (length-map c.args.links.now (λ l. l.kept.talk.items))
           (told_length (λ l. l.kept.talk.items) c.args.links.now c.begin.new.links
           c.begin.ensures.count) (told_nothing (λ l. l.kept.talk.items) c.args.links.now
           c.requires.new) seats heard c.in_ok-session.session.value starts
@@ -121,6 +124,10 @@ returns-clause-keeps g c =
     let task = c.args.task.now in
     let deep : 1 ≤ task.depth =
     omega (arith, c.get-levels.ensures.same, c.get-levels.ensures.some) in
+    let most : task.depth ≤ most_depth =
+    omega (arith, c.get-levels.ensures.same, c.get-levels.ensures.most) in
+    let room : length task.queries.items ≤ most_queries =
+    queries_few _ (length task.queries.items) _ c.requires.some c.requires.few in
     let old : AllTalks = map (λ l. l.kept.talk.items) c.args.links.now in
     let mid : AllTalks = map (λ l. l.kept.talk.items) c.begin.new.links in
     let some : 0 < length old =
@@ -143,8 +150,8 @@ returns-clause-keeps g c =
           let stand =
           (seats_left _ _ _ (legal task x.stream) seats _ _ (heard.each 0 some).stand
           starts).1 in
-          said_farewell (length c.args.links.now) task c.requires.some c.requires.done deep x
-          before now (g.A.Source.left c.begin.new.first)
+          said_farewell (length c.args.links.now) task c.requires.some c.requires.done deep most
+          room x _ _ _
           t.unread old mid (length-map c.args.links.now (λ l. l.kept.talk.items))
           (told_length (λ l. l.kept.talk.items) c.args.links.now c.begin.new.links
           c.begin.ensures.count) (told_nothing (λ l. l.kept.talk.items) c.args.links.now
@@ -193,3 +200,24 @@ ask_all-requires-clause-left g c =
     ∙ ap (λ (t : Task). length t.queries.items) c.seats_task-wide.ensures in
     rw (c.len-queries.ensures.value, c.begin.ensures.count)
     (asked ∙ length-seats (length c.args.links.now) c.args.task.now.queries.items)
+
+-- what honest helpers told
+
+pub returns-in_err-session-clause-honest : goal.returns-in_err-session-clause-honest
+returns-in_err-session-clause-honest g c =
+    told_early _ (λ l. l.kept.talk.items) (λ l sure. kept_is_honest _ l.kept sure)
+    c.args.links.now c.begin.new.links c.begin.ensures.sure
+
+pub returns-in_err-gone-clause-honest : goal.returns-in_err-gone-clause-honest
+returns-in_err-gone-clause-honest g c =
+    told_asking _ (λ l. l.kept.talk.items) (λ l sure. kept_is_honest _ l.kept sure)
+    c.args.links.now c.begin.new.links c.ask_all.new.links c.ask_all.ensures.count
+    c.begin.ensures.sure c.ask_all.ensures.honest
+
+pub returns-clause-honest : goal.returns-clause-honest
+returns-clause-honest g c =
+    told_farewell _ (λ l. l.kept.talk.items) (λ l sure. kept_is_honest _ l.kept sure)
+    c.args.links.now c.begin.new.links c.ask_all.new.links c.say_bye.new.links c.in_ok-gone.gone
+    c.ask_all.ensures.count c.say_bye.ensures.count c.begin.ensures.sure
+    c.ask_all.ensures.honest c.in_ok-gone.ensures.sure c.say_bye.ensures.sure
+    (λ place less dropped. (c.say_bye.ensures.talks place less).0 dropped)

@@ -1,0 +1,91 @@
+-- What was done to each link by one that was asked, and by those that were asked before.
+use Rattle.std.proofs.Common.{◌≡◌, ◌≢◌, ℕ, ◌<◌, ◌≤◌, List, length, set, get_or, inl, inr, refl, sym, ap, ◌∙◌, subst, arith, get_or-set_same, get_or-set_other}
+use Rattle.std.proofs.lemmas.Bool.{cases_eq}
+use Rattle.std.proofs.lemmas.Option.{get_or_from_slice_get}
+use Rattle.sip_session.specs.inside.Links.{EachLink}
+use Rattle.sip_session.proofs.LinkLemmas.{links_then}
+
+module _ {L : Type 0} where
+  -- one link was put in the place of another
+  pub link_put : (P : ℕ → L → L → Type 0) (links : List L) (i : ℕ) (one read : L)
+      → i < length links → P i (get_or links i read) one
+      → ((place : ℕ) (l : L) → place ≢ i → P place l l) → EachLink P links (set links i one)
+  link_put P links i one read less at rest = λ place before now was is.
+      elim (cases_eq place i) [
+        | inl same ↦
+            let was_is : get_or links i read ≡ before =
+            ap (λ n. get_or links n read) (sym same)
+            ∙ get_or_from_slice_get links place before read was in
+            let now_is : one ≡ now =
+            sym (get_or-set_same links i one read less)
+            ∙ ap (λ n. get_or (set links i one) n read) (sym same)
+            ∙ get_or_from_slice_get (set links i one) place now read is in
+            subst (λ n. P n before now) (sym same)
+            (subst (P i before) now_is (subst (λ l. P i l one) was_is at))
+        | inr other ↦
+            let still : before ≡ now =
+            sym (get_or_from_slice_get links place before read was)
+            ∙ sym (get_or-set_other links i place one read other)
+            ∙ get_or_from_slice_get (set links i one) place now read is in
+            subst (P place before) still (rest place before other)
+      ]
+
+  -- no other link was written to
+  pub others_stay : (links : List L) (i : ℕ) (one read : L) → i < length links
+      → EachLink (λ place l m. place ≢ i → m ≡ l) links (set links i one)
+  others_stay links i one read less =
+      link_put (λ place l m. place ≢ i → m ≡ l) links i one read less
+      (λ other. absurd (other refl)) (λ place l other _. refl)
+
+  module _ (K : L → Type 0) where
+    -- it answered, so it is one of those that are left
+    pub asked_lasts : (links : List L) (i : ℕ) (one read : L) → i < length links
+        → (K (get_or links i read) → K one)
+        → EachLink (λ place l m. i ≤ place → K l → K m) links (set links i one)
+    asked_lasts links i one read less lasts =
+        link_put (λ place l m. i ≤ place → K l → K m) links i one read less
+        (λ _. lasts) (λ place l other _ k. k)
+
+    -- it was dropped, so it is none of those that are left
+    pub dropped_aside : (links : List L) (i to : ℕ) (one read : L) → i < length links → i < to
+        → EachLink (λ place l m. to ≤ place → K l → K m) links (set links i one)
+    dropped_aside links i to one read less behind =
+        link_put (λ place l m. to ≤ place → K l → K m) links i one read less
+        (λ most. absurd (omega (arith, behind, most))) (λ place l other _ k. k)
+
+    -- one more was asked: which last
+    pub all_last : (old mid new : List L) (i to : ℕ) → length new ≡ length mid → i ≤ to
+        → EachLink (λ place l m. i ≤ place → K l → K m) old mid
+        → EachLink (λ place l m. to ≤ place → K l → K m) mid new
+        → EachLink (λ place l m. to ≤ place → K l → K m) old new
+    all_last old mid new i to count further lasts more =
+        links_then (λ place l m. i ≤ place → K l → K m) (λ place l m. to ≤ place → K l → K m)
+        (λ place l m. to ≤ place → K l → K m) old mid new count
+        (λ place l m n p q most k. q most (p (omega (arith, further, most)) k)) lasts more
+
+    module _ (H : L → Type 0) where
+      -- what the one that was asked tells
+      pub asked_tells : (links : List L) (i : ℕ) (one read : L) → i < length links
+          → (K (get_or links i read) → H one)
+          → EachLink (λ place l m. place ≡ i → K l → H m) links (set links i one)
+      asked_tells links i one read less tells =
+          link_put (λ place l m. place ≡ i → K l → H m) links i one read less
+          (λ _. tells) (λ place l other same. absurd (other same))
+
+      -- one more was asked: what all tell
+      pub all_tell : (old mid new : List L) (i : ℕ) → length new ≡ length mid
+          → EachLink (λ _ l m. K l → H m) old mid
+          → EachLink (λ place l m. i ≤ place → K l → K m) old mid
+          → EachLink (λ place l m. place ≢ i → m ≡ l) mid new
+          → EachLink (λ place l m. place ≡ i → K l → H m) mid new
+          → EachLink (λ _ l m. K l → H m) old new
+      all_tell old mid new i count told lasts others tells =
+          links_then (λ place l m. (K l → H m) × (i ≤ place → K l → K m))
+          (λ place l m. (place ≢ i → m ≡ l) × (place ≡ i → K l → H m)) (λ _ l m. K l → H m)
+          old mid new count
+          (λ place l m n p q k. elim (cases_eq place i) [
+            | inl same ↦ q.1 same (p.1 (omega (arith, same)) k)
+            | inr other ↦ subst H (sym (q.0 other)) (p.0 k)
+          ])
+          (λ place l m was is. (told place l m was is, lasts place l m was is))
+          (λ place l m was is. (others place l m was is, tells place l m was is))
