@@ -2,7 +2,7 @@
 use Rattle.std.proofs.Common.{◌≡◌, ◌≢◌, ℕ, ◌<◌, ◌≤◌, List, length, set, get_or, inl, inr, refl, sym, ap, ◌∙◌, subst, arith, get_or-set_same, get_or-set_other}
 use Rattle.std.proofs.lemmas.Bool.{cases_eq}
 use Rattle.std.proofs.lemmas.Option.{get_or_from_slice_get}
-use Rattle.sip_session.specs.inside.Links.{EachLink}
+use Rattle.sip_session.specs.Links.{EachLink}
 use Rattle.sip_session.proofs.LinkLemmas.{links_then}
 
 module _ {L : Type 0} where

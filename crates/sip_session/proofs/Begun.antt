@@ -1,5 +1,5 @@
 -- How a panel begins, and why it may not.
-use Rattle.std.proofs.Common.{◌≡◌, ◌⊎◌, ℕ, zero, suc, ◌+◌, ◌*◌, ◌<◌, ◌≤◌, Bool, true, false, Option, Some, None, Result, Ok, Err, List, [], ◌++◌, length, map, inl, inr, refl, sym, ap, ◌∙◌, subst, arith, append-nil, le-mul_of_pos_right, true≢false}
+use Rattle.std.proofs.Common.{◌≡◌, ◌⊎◌, ℕ, ◌*◌, ◌<◌, ◌≤◌, true, Option, Result, Ok, Err, List, [], length, map, inl, inr, refl, sym, ap, ◌∙◌, subst, arith, append-nil, le-mul_of_pos_right, true≢false}
 use Rattle.std.proofs.Math.Nat.{mul-pos, mul_comm}
 use Rattle.std.specs.Prelude.{IfErr, IsTrue}
 use Rattle.sip_ports.specs.Ports.{Rose}
@@ -15,15 +15,15 @@ use Rattle.sip_verifier.specs.inside.Ending.{status_of_start}
 use Rattle.sip_verifier.specs.Moments.{Counts, counts}
 use Rattle.sip_verifier.specs.QuerySeats.{Seated}
 use Rattle.sip_verifier.specs.Seats.{Seating}
-use Rattle.sip_verifier.specs.Sittings.{Sitting, Starts}
+use Rattle.sip_verifier.specs.Sittings.{Starts}
 use Rattle.sip_verifier.specs.Statuses.{FaultClause, IsListed, Stops, stops_following, stops_gathering}
 use Rattle.sip_verifier.specs.Talks.{stream_sent}
 use Rattle.sip_verifier.specs.Tasks.{CanBeAsked, CanBeDone, version_of}
-use Rattle.sip_verifier.specs.Widths.{first_wide_seat, is_wide_seat}
+use Rattle.sip_verifier.specs.Widths.{is_wide_seat}
 use Rattle.sip_wire.specs.declared.version.Version.{Version}
 use Rattle.sip_verifier.proofs.KeptHead.{following_gathers}
 use Rattle.sip_verifier.proofs.RunPromises.{gathering_listed}
-use Rattle.sip_session.specs.inside.Beginning.{Begins, GathersAll, IsHeard, by_query, query_of_seat, task_of_seats}
+use Rattle.sip_session.specs.inside.Beginning.{Begins, GathersAll, IsHeard, by_query, task_of_seats}
 use Rattle.sip_session.specs.inside.Hearing.{AllTalks, Each, IsPassedInPart}
 use Rattle.sip_session.proofs.Seats.{All-seats, first_some, length-seats}
 

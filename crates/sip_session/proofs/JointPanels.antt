@@ -3,9 +3,8 @@
 use Rattle.std.proofs.Common.{◌≡◌, ◌≢◌, ◌⊎◌, ℕ, zero, suc, ◌+◌, ◌-◌, ◌*◌, ◌^◌, ◌<◌, ◌≤◌, ◌==◌, Bool, true, false, pos, Option, List, [], ◌∷◌, ◌++◌, length, map, take, drop, All, Some, None, inl, inr, if◌then◌else◌, refl, sym, ap, subst, ◌∙◌, arith}
 use Rattle.std.specs.Prelude.{⊤, nat_le, slice_get, slice_index_or, ◌≤ℤ◌}
 use Rattle.std.specs.List.{enumerate_from, zip}
-use Rattle.std.proofs.Math.Nat.{mul_comm}
 use Rattle.std.proofs.Math.Seq.{take-length}
-use Rattle.std.proofs.lemmas.Bool.{cases_Bool, eqb-true, leb-false, lt-leb, or_left, or_right}
+use Rattle.std.proofs.lemmas.Bool.{cases_Bool, eqb-true, leb-false, or_left, or_right}
 use Rattle.std.proofs.lemmas.Option.{same_Some}
 use Rattle.std.proofs.lemmas.List.Elements.{All-cons, All-nil, All-head, All-tail, All-weaker, recursion_from_All}
 use Rattle.sip_field.specs.Moduli.{m61_modulus}
@@ -31,16 +30,15 @@ use Rattle.sip_heavy.proofs.FewFooledByBytes as heavies
 use Rattle.sip_heavy.specs.Protocol.{HeavyState, count_of, heavy_asked}
 use Rattle.sip_heavy.proofs.FewFooledByBytes.{positive_is}
 use Rattle.sip_heavy.proofs.TrueLevels.{sum_positive}
-use Rattle.sip_verifier.specs.Asking.{question_of}
 use Rattle.sip_verifier.specs.CountClause.{accepts_in, Written, questions_written}
-use Rattle.sip_verifier.specs.Draws.{challenge_count, drawn}
+use Rattle.sip_verifier.specs.Draws.{drawn}
 use Rattle.sip_verifier.specs.Exchanges.{Exchange}
 use Rattle.sip_verifier.specs.Gathering.{legal}
-use Rattle.sip_verifier.specs.Inquiries.{Inquiry, inquiry_of}
-use Rattle.sip_verifier.specs.JointClause.{asked_by, all_asked, RepliesSo, IsJointVector, IsMisledBy, JointClause}
+use Rattle.sip_verifier.specs.Inquiries.{Inquiry}
+use Rattle.sip_verifier.specs.JointClause.{asked_by, all_asked, RepliesSo, JointClause}
 use Rattle.sip_verifier.specs.Kinds.{kind_row, OfKind}
-use Rattle.sip_verifier.specs.Questions.{Question, Accepts}
-use Rattle.sip_verifier.specs.Tasks.{CanBeAsked, CanBeDone, version_of}
+use Rattle.sip_verifier.specs.Questions.{Accepts}
+use Rattle.sip_verifier.specs.Tasks.{CanBeDone, version_of}
 use Rattle.sip_verifier.specs.declared.status.Status.TheVariants as statuses
 use Rattle.sip_verifier.specs.declared.task.Task.{Task}
 use Rattle.sip_verifier.proofs.CountedQuestions.{never_sum, question_counts}
@@ -48,7 +46,7 @@ use Rattle.sip_verifier.proofs.JointReports.{none_heavy, task_counted}
 use Rattle.sip_verifier.proofs.ShareAnswers.{share_answer, share_reached}
 use Rattle.sip_session.specs.inside.Beginning.{task_of_seats}
 use Rattle.sip_session.specs.PanelCounts.{JointCountOnPanel, seats_written, unwritten, written_at, written_or}
-use Rattle.sip_session.specs.PanelExchanges.{PanelExchange, without_links}
+use Rattle.sip_session.specs.PanelExchanges.{PanelExchange}
 use Rattle.sip_session.specs.Panels as panels
 use Rattle.sip_session.specs.Panels.{Attempt, AreAttempts, IsJudged, Outcome, inquiry_of_seats, seat_at, seat_blocks, seat_queries}
 use Rattle.sip_session.proofs.Begun.{wide_done}

@@ -1,6 +1,6 @@
 -- What a panel promises at each of its ends.
-use Rattle.std.proofs.Common.{◌≡◌, ◌≢◌, ◌⊎◌, ℕ, zero, suc, ◌+◌, ◌-◌, ◌*◌, ◌<◌, ◌≤◌, ◌==◌, Bool, true, false, ◌&&◌, Option, Some, None, Result, Ok, Err, List, [], ◌∷◌, ◌++◌, length, map, take, drop, get_or, if◌then◌else◌, inl, inr, refl, sym, ap, ◌∙◌, subst, arith, append-nil, append_assoc, take-append-drop}
-use Rattle.std.specs.Prelude.{All, option_map, slice_get}
+use Rattle.std.proofs.Common.{◌≡◌, ◌≢◌, ℕ, suc, ◌-◌, ◌<◌, ◌≤◌, ◌==◌, Bool, true, false, ◌&&◌, Option, Some, None, Ok, Err, List, [], ◌∷◌, ◌++◌, length, map, take, drop, get_or, if◌then◌else◌, inl, inr, refl, sym, ap, ◌∙◌, subst, arith, append-nil, take-append-drop}
+use Rattle.std.specs.Prelude.{option_map, slice_get}
 use Rattle.std.proofs.lemmas.Bool.{cases_lt, le-leb, lt-ltb, lt-leb}
 use Rattle.std.proofs.lemmas.List.Elements.{All-nil, All-weaker}
 use Rattle.std.proofs.lemmas.Option.{slice_get-map, same_Some}
@@ -24,27 +24,27 @@ use Rattle.sip_verifier.specs.declared.status.Port.TheVariants as ports
 use Rattle.sip_verifier.specs.declared.status.Status.{Status}
 use Rattle.sip_verifier.specs.declared.status.Status.TheVariants as statuses
 use Rattle.sip_verifier.specs.declared.task.Task.{Task}
-use Rattle.sip_verifier.specs.Draws.{blocks, drawn}
+use Rattle.sip_verifier.specs.Draws.{blocks}
 use Rattle.sip_verifier.specs.Gathering.{EndsLegally, HasSeed, IsPassedOn, Refuses, before_end, legal}
 use Rattle.sip_verifier.specs.Moments.{Counts}
 use Rattle.sip_verifier.specs.Questions.{Question, asking}
 use Rattle.sip_verifier.specs.QuerySeats.{Seated}
-use Rattle.sip_verifier.specs.runs.CauseClause.{CanBeJudged, CauseClause, HasGoodInput}
+use Rattle.sip_verifier.specs.runs.CauseClause.{CanBeJudged, CauseClause}
 use Rattle.sip_verifier.specs.Seats.{Seating}
 use Rattle.sip_verifier.specs.Sittings.{Sitting, Starts, asks_left}
 use Rattle.sip_verifier.specs.Statuses.{FaultClause}
 use Rattle.sip_verifier.specs.Talks.{bye_sent, opening_sent, stream_sent, whole_frames}
 use Rattle.sip_verifier.specs.Tasks.{CanBeDone, version_of}
-use Rattle.sip_verifier.specs.Widths.{first_wide, first_wide_seat}
+use Rattle.sip_verifier.specs.Widths.{first_wide_seat}
 use Rattle.sip_verifier.proofs.RunTalks.{front_before}
 use Rattle.sip_verifier.proofs.WideSeats.{first_is}
 use Rattle.sip_session.specs.inside.Beginning.{IsHeard, query_of_seat, task_of_seats}
 use Rattle.sip_session.specs.inside.Hearing.{AllTalks, Each, IsPassedInPart, Says}
 use Rattle.sip_session.specs.inside.Trying.{Halts, IsSeated, Trail, TrailsTo, turn_at}
 use Rattle.sip_session.specs.PanelClause.{PanelClause}
-use Rattle.sip_session.specs.PanelEnds.{AllAnswered, CutInTalk, Ends, MayHear, NoneAsked, OfEach, Went, all_sent, due, line_of, lines, said_to}
+use Rattle.sip_session.specs.PanelEnds.{Ends, MayHear, NoneAsked, OfEach, Went, all_sent, due, said_to}
 use Rattle.sip_session.specs.PanelExchanges.{PanelExchange, without_links}
-use Rattle.sip_session.specs.Panels.{Attempt, AreAttempts, IsJudged, IsOfTurn, Turn, are_answered, first_turn, inquiry_of_panel, inquiry_of_seats, is_left, seat_at, seat_blocks, seat_queries, turn_behind}
+use Rattle.sip_session.specs.Panels.{Attempt, AreAttempts, IsJudged, IsOfTurn, Turn, are_answered, first_turn, inquiry_of_panel, is_left, seat_at, seat_queries, turn_behind}
 use Rattle.sip_session.proofs.HonestAnswers.{answers_are_own}
 use Rattle.sip_session.proofs.HonestAttempts.{none_or_said}
 use Rattle.sip_session.proofs.HonestCarried.{carried}

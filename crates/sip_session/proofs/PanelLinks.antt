@@ -7,7 +7,7 @@ use Rattle.std.proofs.lemmas.List.{get_or-map, length-map}
 use Rattle.std.proofs.lemmas.Option.{get_or_from_slice_get, slice_get-get_or, slice_get_within}
 use Rattle.sip_ports.specs.declared.port.TalkEvent.{TalkEvent}
 use Rattle.sip_duel.specs.Story.{IsHonestTalk}
-use Rattle.sip_session.specs.inside.Links.{EachLink}
+use Rattle.sip_session.specs.Links.{EachLink}
 use Rattle.sip_session.proofs.LinkLemmas.{links_then}
 
 -- a talk is told at its place

@@ -1,12 +1,10 @@
 -- All that a panel keeps, from what its parts did.
-use Rattle.std.proofs.Common.{◌≡◌, ◌≢◌, ◌⊎◌, ℕ, ◌+◌, ◌*◌, ◌<◌, ◌≤◌, Option, Some, None, Result, Ok, Err, IsSome, List, [], ◌∷◌, ◌++◌, length, map, get_or, All, true, inl, inr, refl, sym, ap, ◌∙◌, subst, arith, append-nil, true≢false}
+use Rattle.std.proofs.Common.{◌≡◌, ◌≢◌, ℕ, ◌<◌, ◌≤◌, Option, Some, Result, Ok, Err, IsSome, List, [], ◌∷◌, length, map, get_or, All, inl, inr, refl, sym, ap, ◌∙◌, subst, arith}
 use Rattle.std.proofs.lemmas.List.{get_or-map, length-map}
 use Rattle.sip_ports.specs.declared.port.PortStop.{PortStop}
 use Rattle.sip_ports.specs.declared.port.PortStop.TheVariants as port_stops
 use Rattle.sip_ports.specs.declared.port.TalkEvent.{TalkEvent}
 use Rattle.sip_ports.specs.Ports.{GoesOn, Rose, outs}
-use Rattle.sip_ports.proofs.FaultLemmas.{Rose-since}
-use Rattle.sip_ports.proofs.TalkLemmas.{GoesOn-refl}
 use Rattle.sip_vector.specs.declared.query.Query.{Query}
 use Rattle.sip_vector.specs.declared.update.Update.{Update}
 use Rattle.sip_vector.specs.Limits.{most_depth}
@@ -29,11 +27,11 @@ use Rattle.sip_verifier.specs.Statuses.{FaultClause, IsListed, Stops, stops_aski
 use Rattle.sip_verifier.specs.Tasks.{CanBeDone, version_of}
 use Rattle.sip_verifier.proofs.QueriesChecked.{OnLink}
 use Rattle.sip_verifier.proofs.RunPromises.{asking_listed}
-use Rattle.sip_verifier.proofs.RunTalks.{goes_to, nothing_reported, some_value, written_is}
+use Rattle.sip_verifier.proofs.RunTalks.{goes_to, some_value}
 use Rattle.sip_session.specs.inside.Beginning.{Begins, IsHeard, task_of_seats}
 use Rattle.sip_session.specs.inside.Hearing.{AllTalks, Each, Says}
-use Rattle.sip_session.specs.inside.Trying.{Halts, Trails, TrailsTo, turn_at}
-use Rattle.sip_session.specs.PanelClause.{PanelClause, PanelRunClause}
+use Rattle.sip_session.specs.inside.Trying.{Halts, Trails}
+use Rattle.sip_session.specs.PanelClause.{PanelClause}
 use Rattle.sip_session.specs.PanelExchanges.{PanelExchange, PanelIsTold, PanelMoment, PanelTells}
 use Rattle.sip_session.proofs.Begun.{caused_by, never_rose}
 use Rattle.sip_session.proofs.PanelEndings.{all_answered, cut_in_farewell, depth_is, halted, in_part, refused, too_wide, version_is}

@@ -6,5 +6,6 @@ pub mod PanelEnds
 pub mod PanelCounts
 pub mod PanelExamples
 pub mod PanelHonesty
+pub mod Links
 pub mod PanelClause
 pub mod inside

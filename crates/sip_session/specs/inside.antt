@@ -1,4 +1,3 @@
 pub mod Beginning
 pub mod Hearing
 pub mod Trying
-pub mod Links

@@ -14,7 +14,7 @@ ghost use Rattle.sip_verifier.specs.Sittings.{asks_left, remaining_of};
 ghost use Rattle.sip_verifier.specs.Statuses.{Stops, stops_asking};
 ghost use Rattle.sip_duel.specs.Story.{IsHonestTalk};
 ghost use Rattle.sip_session.specs.inside.Hearing.{AllTalks};
-ghost use Rattle.sip_session.specs.inside.Links.{EachLink};
+ghost use Rattle.sip_session.specs.Links.{EachLink};
 ghost use Rattle.sip_session.specs.inside.Trying.{Leads, Trails, TrailsTo, Tries, turn_at};
 
 use sip_duel::HelperLink;

@@ -17,7 +17,7 @@ ghost use Rattle.sip_verifier.specs.QuerySeats.{HaveRoom};
 ghost use Rattle.sip_verifier.specs.Seats.{AreSeats};
 ghost use Rattle.sip_verifier.specs.Statuses.{Stops, stops_following};
 ghost use Rattle.sip_session.specs.inside.Hearing.{Each, HearsStream, Says, SaysAll};
-ghost use Rattle.sip_session.specs.inside.Links.{EachLink};
+ghost use Rattle.sip_session.specs.Links.{EachLink};
 
 use sip_duel::HelperLink;
 use sip_ports::{PortStop, Sink, Source};

@@ -17,10 +17,10 @@
 //! | `specs/PanelEnds` | the talk of each link and the lines, by the status |
 //! | `specs/PanelCounts` | the joint count of the seats |
 //! | `specs/PanelHonesty` | why honest helpers may be dropped, and what they come to |
+//! | `specs/Links` | what holds of each link, as it was and as it is now |
 //! | `specs/PanelClause` | all that [`panel`] promises, of any helpers and of honest ones |
 //!
-//! `specs/inside/` says what the private parts of a panel did. No promise rests on a reading of it,
-//! but for `Links` there: what holds of each link, as it was and as it is now.
+//! `specs/inside/` says what the private parts of a panel did. No promise rests on a reading of it.
 //!
 //! A query's row in the table of kinds says how its replies are read and how many values of one
 //! challenge let a wrong answer pass: so each kind is counted here as it is alone, and a share as

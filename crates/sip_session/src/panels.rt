@@ -11,7 +11,7 @@ ghost use Rattle.sip_verifier.specs.Moments.{counts};
 ghost use Rattle.sip_verifier.specs.Statuses.{FaultClause, IsListed, Stops, stops_gathering};
 ghost use Rattle.sip_verifier.specs.Tasks.{CanBeDone};
 ghost use Rattle.sip_session.specs.inside.Beginning.{Begins, GathersAll, by_query, task_of_seats};
-ghost use Rattle.sip_session.specs.inside.Links.{EachLink};
+ghost use Rattle.sip_session.specs.Links.{EachLink};
 ghost use Rattle.sip_session.specs.PanelClause.{PanelRunClause};
 ghost use Rattle.sip_session.specs.PanelExchanges.{panel_moment};
 ghost use Rattle.sip_session.specs.Panels.{seat_queries};

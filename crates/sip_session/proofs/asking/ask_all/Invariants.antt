@@ -6,7 +6,7 @@ use Rattle.sip_vector.specs.declared.update.Update.{Update}
 use Rattle.sip_verifier.specs.QuerySeats.{StandsFor}
 use Rattle.sip_verifier.specs.Sittings.{asks_left}
 use Rattle.sip_duel.specs.Story.{IsHonestTalk, Keeps}
-use Rattle.sip_session.specs.inside.Links.{EachLink}
+use Rattle.sip_session.specs.Links.{EachLink}
 use Rattle.sip_session.specs.inside.Trying.{TrailsTo, turn_at}
 use Rattle.sip_session.proofs.asking.ask_all.Given as goal
 

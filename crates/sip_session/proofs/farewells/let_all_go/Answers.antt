@@ -1,4 +1,4 @@
-use Rattle.std.proofs.Common.{◌≡◌, ◌<◌, ◌≤◌, None, ap, ◌∙◌, arith, length-set}
+use Rattle.std.proofs.Common.{◌≡◌, None, ap, ◌∙◌, arith, length-set}
 use Rattle.sip_session.proofs.Places.{all_more, all_taken, links_same}
 use Rattle.sip_session.proofs.farewells.let_all_go.Goals as goal
 

@@ -5,7 +5,7 @@ use Rattle.sip_ports.specs.Ports.{outs}
 use Rattle.sip_wire.specs.declared.message.Message.TheVariants as messages
 use Rattle.sip_wire.specs.Spelling.{spelling}
 use Rattle.sip_duel.specs.Story.{Keeps}
-use Rattle.sip_session.specs.inside.Links.{EachLink}
+use Rattle.sip_session.specs.Links.{EachLink}
 use Rattle.sip_session.proofs.Places.{SaidUpTo}
 use Rattle.sip_session.proofs.hearing.copy_all.Given as goal
 

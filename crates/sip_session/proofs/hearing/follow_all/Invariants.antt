@@ -12,7 +12,7 @@ use Rattle.sip_verifier.specs.Seats.{AreSeats}
 use Rattle.sip_verifier.proofs.Gathered.{IsFollowed, IsUnderway}
 use Rattle.sip_session.specs.inside.Hearing.{Each}
 use Rattle.sip_duel.specs.Story.{Keeps}
-use Rattle.sip_session.specs.inside.Links.{EachLink}
+use Rattle.sip_session.specs.Links.{EachLink}
 use Rattle.sip_session.proofs.hearing.follow_all.Given as goal
 
 abbrev pub invariant-loop-update : goal.invariant-loop-update

@@ -4,7 +4,7 @@ use Rattle.std.specs.Option.{option_and_then}
 use Rattle.sip_ports.specs.Ports.{outs}
 use Rattle.sip_wire.specs.Spelling.{spelling}
 use Rattle.sip_duel.specs.Story.{Keeps}
-use Rattle.sip_session.specs.inside.Links.{EachLink}
+use Rattle.sip_session.specs.Links.{EachLink}
 use Rattle.sip_session.proofs.Places.{SaidUpTo}
 use Rattle.sip_session.proofs.hearing.say_all.Given as goal
 

@@ -1,5 +1,5 @@
 -- The session of what was gathered, or why there is none.
-use Rattle.std.proofs.Common.{◌≡◌, ◌≤◌, ◌∙◌, arith, length}
+use Rattle.std.proofs.Common.{◌≤◌, arith, length}
 use Rattle.std.proofs.lemmas.Result.{err_from_is_err_and}
 use Rattle.sip_vector.specs.Limits.{most_depth}
 use Rattle.sip_verifier.specs.Moments.{counts}

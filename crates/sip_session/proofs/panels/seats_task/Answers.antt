@@ -1,5 +1,5 @@
 -- There is room for each query once for each helper.
-use Rattle.std.proofs.Common.{◌≡◌, ◌<◌, length, ap, arith}
+use Rattle.std.proofs.Common.{length, ap, arith}
 use Rattle.sip_session.proofs.Seats.{seats_front}
 use Rattle.sip_session.proofs.panels.seats_task.Goals as goal
 

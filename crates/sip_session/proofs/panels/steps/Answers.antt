@@ -1,5 +1,5 @@
 -- At each end of the steps the facts of the calls before it are handed to the lemma of that end.
-use Rattle.std.proofs.Common.{◌≡◌, ◌≤◌, ◌<◌, ℕ, [], Err, ap, subst, ◌∙◌, arith, length, map}
+use Rattle.std.proofs.Common.{◌≤◌, ◌<◌, [], Err, ap, subst, ◌∙◌, arith, length, map}
 use Rattle.std.proofs.lemmas.List.{length-map}
 use Rattle.std.proofs.lemmas.Result.{err_from_is_err_and}
 use Rattle.sip_ports.proofs.TalkLemmas.{GoesOn-refl}

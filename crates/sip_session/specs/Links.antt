@@ -1,4 +1,4 @@
--- What a call did to each of some links.
+-- What holds of each of some links, as it was before a call and as it is behind it.
 use Rattle.std.specs.Prelude.{◌≡◌, ℕ, List, Some}
 use Rattle.std.specs.List.{slice_get}
 
