@@ -14,10 +14,10 @@ ghost use Rattle.sip_cli.specs.declared.verb.Verb.{Verb as AnyVerb};
 
 use crate::asked::{Asked, read_asked};
 use crate::decimal::read_decimal;
+use crate::helper_name::read_helpers;
 use crate::shape::Shape;
 use crate::stream::{stored_of, stream_of};
 use crate::verb::Verb;
-use crate::helper_name::read_helpers;
 use crate::{HelperName, Usage, Words};
 use arrayvec::ArrayVec;
 use sip_lookup::{LookTask, Lookup};

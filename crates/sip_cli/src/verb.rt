@@ -97,12 +97,7 @@ const MOMENTS: [Shape; 5] = [
 
 const HELP_MOMENTS: [Shape; 2] = [Shape::Name, Shape::Name];
 
-const PANEL: [Shape; 4] = [
-    Shape::Stream,
-    Shape::Name,
-    Shape::Helpers,
-    Shape::Depth,
-];
+const PANEL: [Shape; 4] = [Shape::Stream, Shape::Name, Shape::Helpers, Shape::Depth];
 
 impl Verb {
     /// The verb that a word is.
