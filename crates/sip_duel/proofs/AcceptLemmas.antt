@@ -60,17 +60,17 @@ use Rattle.sip_duel.proofs.DoneLemmas.{Posed, done_rounds, fault_row, how, quest
 
 -- ---- pieces of a stream
 
-pieces_fine : (n : ℕ) (us : List Update) → n ≡ (length us + 511) / 512 → All IsPiece (pieces 512 n us)
+pub pieces_fine : (n : ℕ) (us : List Update) → n ≡ (length us + 511) / 512 → All IsPiece (pieces 512 n us)
 pieces_fine zero us e = All-nil IsPiece
 pieces_fine (suc n) us e =
     All-cons IsPiece (take 512 us) (pieces 512 n (drop 512 us)) (omega (arith, e, length-take 512 us), omega (arith, length-take 512 us))
     (pieces_fine n (drop 512 us) (omega (arith, e, length-drop 512 us)))
 
-pieces_all : (n : ℕ) (us : List Update) → n ≡ (length us + 511) / 512 → flat_map (λ p. p) (pieces 512 n us) ≡ us
+pub pieces_all : (n : ℕ) (us : List Update) → n ≡ (length us + 511) / 512 → flat_map (λ p. p) (pieces 512 n us) ≡ us
 pieces_all zero us e = sym (nil_from_length us (omega (arith, e)))
 pieces_all (suc n) us e = ap (λ l. take 512 us ++ l) (pieces_all n (drop 512 us) (omega (arith, e, length-drop 512 us))) ∙ take-append-drop 512 us
 
-exchange_feed : (v : Version) (ps : List (List Update)) (tail : List Round)
+pub exchange_feed : (v : Version) (ps : List (List Update)) (tail : List Round)
     → exchange v (feed ps tail) ≡ outs (flat_map (spelling v) (map (λ us. messages.Updates (record { items = us })) ps)) ++ exchange v tail
 exchange_feed v [] tail = refl
 exchange_feed v (us ∷ ps) tail =
@@ -79,7 +79,7 @@ exchange_feed v (us ∷ ps) tail =
     ap (λ l. outs (spelling v m) ++ l) (exchange_feed v ps tail)
     ∙ sym (append_assoc (outs (spelling v m)) (outs more) (exchange v tail)) ∙ ap (λ l. l ++ exchange v tail) (sym (outs-append (spelling v m) more))
 
-ends_in : (r : Reason) → ((r ≡ reasons.Closed) × (ending r ≡ Ended ∷ [])) ⊎ ((r ≢ reasons.Closed) × (ending r ≡ []))
+pub ends_in : (r : Reason) → ((r ≡ reasons.Closed) × (ending r ≡ Ended ∷ [])) ⊎ ((r ≢ reasons.Closed) × (ending r ≡ []))
 ends_in reasons.Closed = inl (refl, refl)
 ends_in reasons.BadKind = inr (λ e. cc, refl)
 ends_in reasons.BadLength = inr (λ e. cc, refl)
@@ -98,7 +98,7 @@ ends_in reasons.Root = inr (λ e. cc, refl)
 ends_in reasons.BadFound = inr (λ e. cc, refl)
 ends_in reasons.NotAlone = inr (λ e. cc, refl)
 
-shallow_of : (v : Version) (depth : ℕ) (qs : List Query) → 0 < length qs → All (Speaks v depth) qs → depth ≤ deepest v
+pub shallow_of : (v : Version) (depth : ℕ) (qs : List Query) → 0 < length qs → All (Speaks v depth) qs → depth ≤ deepest v
 shallow_of v depth [] some all = absurd (omega (arith, some))
 shallow_of v depth (q ∷ qs) some all = (All-head (Speaks v depth) q qs all).shallow
 

@@ -46,13 +46,13 @@ reveal_fits : (v : Version) (r : ℕ) → r < m61_modulus → IsTrue (fits v (me
 unfolding fits has_room all_hold
 reveal_fits v r lt = grind (arith, nat_tests)
 
-reveals_fit : (v : Version) (rs : List ℕ) → All (λ r. r < m61_modulus) rs → All (λ c. IsMessage v (messages.Reveal c)) rs
+pub reveals_fit : (v : Version) (rs : List ℕ) → All (λ r. r < m61_modulus) rs → All (λ c. IsMessage v (messages.Reveal c)) rs
 reveals_fit v [] below = All-nil (λ c. IsMessage v (messages.Reveal c))
 reveals_fit v (r ∷ rs) below =
     All-cons (λ c. IsMessage v (messages.Reveal c)) r rs (record { has_spelling = reveal_fits v r (All-head (λ x. x < m61_modulus) r rs below); to_helper = refl; in_range = tt })
     (reveals_fit v rs (All-tail (λ x. x < m61_modulus) r rs below))
 
-fits_below : (depth : ℕ) (q : Query) → Fits depth q → is_below depth q ≡ true
+pub fits_below : (depth : ℕ) (q : Query) → Fits depth q → is_below depth q ≡ true
 fits_below depth (Sub lo hi) fits = lt-ltb hi (2 ^ depth) fits.1
 fits_below depth (Range side lo hi) fits = lt-ltb hi (2 ^ depth) fits.1
 fits_below depth (F2 side) fits = refl
@@ -66,7 +66,7 @@ abbrev pub question_rounds : Query → List ℕ → List (List ℕ) → List Rou
 question_rounds q block [] tail = tail
 question_rounds q block (b ∷ bs) tail = record { message = messages.Query q; reply = b } ∷ (reveals block bs ++ tail)
 
-exchanged_is : (v : Version) (block : List ℕ) (b : List ℕ) (bs : List (List ℕ)) (tail : List Round) → length bs ≤ length block → ins b ++ exchange v (reveals block bs ++ tail) ≡ exchanged v (b ∷ bs) block ++ exchange v tail
+pub exchanged_is : (v : Version) (block : List ℕ) (b : List ℕ) (bs : List (List ℕ)) (tail : List Round) → length bs ≤ length block → ins b ++ exchange v (reveals block bs ++ tail) ≡ exchanged v (b ∷ bs) block ++ exchange v tail
 exchanged_is v block b [] tail few = refl
 exchanged_is v [] b (n ∷ bs) tail few = absurd (omega (arith, few))
 exchanged_is v (r ∷ rs) b (n ∷ bs) tail few =
@@ -76,7 +76,7 @@ exchanged_is v (r ∷ rs) b (n ∷ bs) tail few =
     ∙ ap (λ l. l ++ exchange v tail) (sym (append_assoc (ins b) (outs (spelling v (messages.Reveal r))) (exchanged v (n ∷ bs) rs))
     ∙ ap (λ l. (ins b ++ outs l) ++ exchanged v (n ∷ bs) rs) (sym (append-nil (spelling v (messages.Reveal r)))))
 
-asked_is : (v : Version) (q : Query) (block : List ℕ) (b : List ℕ) (bs : List (List ℕ)) (tail : List Round) → length bs ≤ length block → asked v (messages.Query q) block (b ∷ bs) ++ exchange v tail ≡ exchange v (question_rounds q block (b ∷ bs) tail)
+pub asked_is : (v : Version) (q : Query) (block : List ℕ) (b : List ℕ) (bs : List (List ℕ)) (tail : List Round) → length bs ≤ length block → asked v (messages.Query q) block (b ∷ bs) ++ exchange v tail ≡ exchange v (question_rounds q block (b ∷ bs) tail)
 asked_is v q block b bs tail few =
     append_assoc (sent v (messages.Query q ∷ [])) (exchanged v (b ∷ bs) block) (exchange v tail)
     ∙ ap (λ l. outs l ++ (exchanged v (b ∷ bs) block ++ exchange v tail)) (append-nil (spelling v (messages.Query q)))

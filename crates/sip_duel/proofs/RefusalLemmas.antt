@@ -24,7 +24,7 @@ abbrev pub refusal_frame : Version → List ℕ
 refusal_frame v = spelling v (messages.Refuse want_of_memory)
 
 -- of two fronts of the same bytes one is a front of the other
-two_fronts : (a u b w : List ℕ) → a ++ u ≡ b ++ w → ((more : List ℕ) × (b ≡ a ++ more)) ⊎ ((more : List ℕ) × (a ≡ b ++ more))
+pub two_fronts : (a u b w : List ℕ) → a ++ u ≡ b ++ w → ((more : List ℕ) × (b ≡ a ++ more)) ⊎ ((more : List ℕ) × (a ≡ b ++ more))
 two_fronts [] u b w e = inl (b, refl)
 two_fronts (x ∷ a) u [] w e = inr (x ∷ a, refl)
 two_fronts (x ∷ a) u (y ∷ b) w e =
@@ -44,11 +44,11 @@ module _ {S : Type 0} (R : Rules S) (s : S) where
   unfolding read_from
   read_nothing = refl
 
-  read_closed : (bytes : List ℕ) → read_frame R.version (R.place s) bytes ≡ Err faults.Closed → read_reply R s bytes ≡ Err reasons.Closed
+  pub read_closed : (bytes : List ℕ) → read_frame R.version (R.place s) bytes ≡ Err faults.Closed → read_reply R s bytes ≡ Err reasons.Closed
   read_closed [] e = read_nothing
   read_closed (b ∷ bytes) e = read_by_frame bytes b ∙ ap (frame_says R (read_from R (length bytes)) s) e
 
-  read_refused : (code : ℕ) (bytes rest : List ℕ) → R.step s (messages.Refuse code) ≡ Err (reasons.Refused code) → bytes ≢ [] → read_frame R.version (R.place s) bytes ≡ Ok (messages.Refuse code, rest) → read_reply R s bytes ≡ Err (reasons.Refused code)
+  pub read_refused : (code : ℕ) (bytes rest : List ℕ) → R.step s (messages.Refuse code) ≡ Err (reasons.Refused code) → bytes ≢ [] → read_frame R.version (R.place s) bytes ≡ Ok (messages.Refuse code, rest) → read_reply R s bytes ≡ Err (reasons.Refused code)
   read_refused code [] rest step some e = absurd (some refl)
   read_refused code (b ∷ bytes) rest step some e =
       read_by_frame bytes b ∙ ap (frame_says R (read_from R (length bytes)) s) e ∙ ap (Rattle.sip_replies.specs.Replies.step_says (read_from R (length bytes)) rest) step

@@ -27,11 +27,11 @@ exchange_goes_on v (r ∷ rest) =
     All-append (λ (e : TalkEvent). e ≢ Ended) (outs (spelling v r.message)) (ins r.reply ++ exchange v rest) (outs_are_no_end (spelling v r.message))
     (All-append (λ (e : TalkEvent). e ≢ Ended) (ins r.reply) (exchange v rest) (ins_are_no_end r.reply) (exchange_goes_on v rest))
 
-no_end_in : (a b : List TalkEvent) → GoesOn (a ++ Ended ∷ b) → ⊥
+pub no_end_in : (a b : List TalkEvent) → GoesOn (a ++ Ended ∷ b) → ⊥
 no_end_in [] b all = All-head (λ (e : TalkEvent). e ≢ Ended) Ended b all refl
 no_end_in (x ∷ a) b all = no_end_in a b (All-tail (λ (e : TalkEvent). e ≢ Ended) x (a ++ Ended ∷ b) all)
 
-one_end : (a b x y : List TalkEvent) → GoesOn a → GoesOn b → a ++ Ended ∷ x ≡ b ++ Ended ∷ y → a ≡ b
+pub one_end : (a b x y : List TalkEvent) → GoesOn a → GoesOn b → a ++ Ended ∷ x ≡ b ++ Ended ∷ y → a ≡ b
 one_end [] [] x y on also e = refl
 one_end [] (c ∷ b) x y on also e = absurd (All-head (λ (t : TalkEvent). t ≢ Ended) c b also (let same : Ended ≡ c = cc in sym same))
 one_end (c ∷ a) [] x y on also e = absurd (All-head (λ (t : TalkEvent). t ≢ Ended) c a on cc)
@@ -42,25 +42,25 @@ one_end (c ∷ a) (d ∷ b) x y on also e =
 
 -- ---- steps as turns
 
-abbrev turns : List Step → List Turn
+abbrev pub turns : List Step → List Turn
 turns steps = turns_of steps []
 
-frames_are : (steps : List Step) (part give : List ℕ) (talk : List TalkEvent) → Follows steps part give talk → written talk ≡ frames_of fresh (turns steps) ++ part
+pub frames_are : (steps : List Step) (part give : List ℕ) (talk : List TalkEvent) → Follows steps part give talk → written talk ≡ frames_of fresh (turns steps) ++ part
 frames_are steps part give talk f = f.sent ∙ ap (λ l. l ++ part) (sym ((turned steps [] f.are).frames ∙ append-nil (frames steps)))
 
-replies_are : (steps : List Step) (part give : List ℕ) (talk : List TalkEvent) → Follows steps part give talk → heard talk ++ (give ++ owed (state_after steps)) ≡ replies_of fresh (turns steps)
+pub replies_are : (steps : List Step) (part give : List ℕ) (talk : List TalkEvent) → Follows steps part give talk → heard talk ++ (give ++ owed (state_after steps)) ≡ replies_of fresh (turns steps)
 replies_are steps part give talk f =
     sym (append_assoc (heard talk) give (owed (state_after steps))) ∙ ap (λ l. l ++ owed (state_after steps)) f.came
     ∙ sym ((turned steps [] f.are).said ∙ append-nil (said steps ++ owed (state_after steps)))
 
-messages_are : (steps : List Step) (part give : List ℕ) (talk : List TalkEvent) → Follows steps part give talk → AreMessages fresh (turns steps)
+pub messages_are : (steps : List Step) (part give : List ℕ) (talk : List TalkEvent) → Follows steps part give talk → AreMessages fresh (turns steps)
 messages_are steps part give talk f = are_messages steps [] f.are tt
 
-state_is : (steps : List Step) (part give : List ℕ) (talk : List TalkEvent) → Follows steps part give talk → owed (state_after steps) ≡ [] → state_behind fresh (turns steps) ≡ state_after steps
+pub state_is : (steps : List Step) (part give : List ℕ) (talk : List TalkEvent) → Follows steps part give talk → owed (state_after steps) ≡ [] → state_behind fresh (turns steps) ≡ state_after steps
 state_is steps part give talk f none = same_state steps [] f.are ∙ unowed_state (state_after steps) none
 
 module _ (Last : List ℕ → List ℕ → Type 0) (v : Version) (rounds : List Round) (walk : Walk Last v fresh rounds) where
-  no_stray : (end talk : List TalkEvent) → written end ≡ [] → talk ≡ exchange v rounds ++ end → IsStray talk → ⊥
+  pub no_stray : (end talk : List TalkEvent) → written end ≡ [] → talk ≡ exchange v rounds ++ end → IsStray talk → ⊥
   no_stray end talk silent is p =
       walk_stray Last v fresh (turns p.steps) rounds p.now p.later end p.bytes (p.give ++ owed (state_after p.steps)) walk (messages_are p.steps p.bytes p.give p.now p.follows)
       (sym p.split ∙ is) silent (frames_are p.steps p.bytes p.give p.now p.follows) (replies_are p.steps p.bytes p.give p.now p.follows)

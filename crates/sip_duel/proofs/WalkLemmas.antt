@@ -98,7 +98,7 @@ pub record Holds (Last : List ℕ → List ℕ → Type 0) : Type 0 where
 
 module _ (Last : List ℕ → List ℕ → Type 0) (v : Version) where
   -- nothing more was heard
-  walk_silent : (s : HelperState) (rounds : List Round) → Walk Last v s rounds → heard (exchange v rounds) ≡ [] → Holds Last
+  pub walk_silent : (s : HelperState) (rounds : List Round) → Walk Last v s rounds → heard (exchange v rounds) ≡ [] → Holds Last
   walk_silent s [] walk none = absurd walk
   walk_silent s (r ∷ []) walk none =
       let nothing = nil_parts r.reply [] (sym (heard_exchange v r []) ∙ none) in

@@ -1,7 +1,7 @@
 -- One step of a power, of the sum of a polynomial's ends, and of Pascal's rule.
 use Rattle.std.proofs.Common.{◌≡◌, ◌≢◌, ℕ, zero, suc, ◌+◌, ◌*◌, ◌-◌, ◌%◌, ◌^◌, ◌<◌, ◌≤◌, List, [], ◌∷◌, length, get_or, drop, map, sum, refl, ap, sym, ◌∙◌, add-one, arith}
 use Rattle.std.proofs.Math.Nat.{mod-add-mod, mod-eq_of_lt, pow-zero, pow-suc, pow-le-pow_right}
-use Rattle.std.proofs.lemmas.Nat.{mul-mod_first}
+use Rattle.std.proofs.lemmas.Nat.{mul-mod, mul-mod_first, pow-add}
 use Rattle.std.proofs.lemmas.List.{drop_more}
 use Rattle.std.proofs.lemmas.List.Sums.{sum_by-cons}
 use Rattle.sip_counts.specs.Rounds.{sum_of_ends}
@@ -11,9 +11,6 @@ use Rattle.sip_moments.proofs.Binomials.{binomial-most}
 
 -- ---- powers
 
-pub power-first : (p x v : ℕ) → v ≡ 1 % p → v ≡ (x ^ 0) % p
-power-first p x v e = e ∙ ap (λ n. n % p) (sym (pow-zero x))
-
 pub first-power : (p x : ℕ) → x < p → x ≡ (x ^ 1) % p
 first-power p x below =
     sym (ap (λ n. n % p) (pow-suc x 0 ∙ ap (λ n. n * x) (pow-zero x) ∙ (let e : 1 * x ≡ x = omega arith in e)) ∙ mod-eq_of_lt below)
@@ -21,6 +18,11 @@ first-power p x below =
 pub power-next : (p x i v w : ℕ) → v ≡ (x ^ i) % p → w ≡ (v * x) % p → w ≡ (x ^ (i + 1)) % p
 power-next p x i v w e f =
     f ∙ ap (λ n. (n * x) % p) e ∙ mul-mod_first (x ^ i) x p ∙ ap (λ n. n % p) (sym (pow-suc x i) ∙ ap (λ n. x ^ n) (sym (add-one i)))
+
+pub power-double : (p x i v w : ℕ) → v ≡ (x ^ i) % p → w ≡ (v * v) % p → w ≡ (x ^ (i + i)) % p
+power-double p x i v w e f =
+    f ∙ ap (λ n. (n * n) % p) e ∙ sym (mul-mod (x ^ i) (x ^ i) p)
+    ∙ ap (λ n. n % p) (sym (pow-add x i i))
 
 -- ---- the sum of the values at 0 and 1
 

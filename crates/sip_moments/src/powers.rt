@@ -4,15 +4,23 @@ ghost use Rattle.sip_counts.specs.Rounds.{sum_of_ends};
 
 use sip_field::Field;
 
-/// `x` to this power. A `times` for each degree.
+/// `x` to this power, by squares of its halves: at most two `times` for each bit of the degree.
 pub(crate) fn power<F: Field>(x: F, degree: u8) -> F
     ensures { F.number result ≡ (F.number x ^ degree) % F.MODULUS }
 {
-    let mut power = F::of(1);
-    for _step in 0..degree {
-        power = power.times(x);
+    if degree == 0 {
+        F::of(1)
+    } else if degree == 1 {
+        x
+    } else {
+        let half = power(x, degree / 2);
+        let square = half.times(half);
+        if degree % 2 == 0 {
+            square
+        } else {
+            square.times(x)
+        }
     }
-    power
 }
 
 /// The sum of a polynomial's values at 0 and at 1, from its coefficients. No `times`.

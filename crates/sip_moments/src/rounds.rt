@@ -22,8 +22,8 @@ use sip_vector::{Level, Spot};
 /// powers add up to `expected`.
 ///
 /// O(m) for m entries that are not 0, without memory. At degree k it takes 3(k - 1) `times` for each
-/// pair of neighbours that are not 0, k for an entry at an even place whose neighbour is 0, and k +
-/// 1.
+/// pair of neighbours that are not 0, at most 4 for an entry at an even place whose neighbour is 0,
+/// and k + 1.
 pub(crate) fn fill_polynomial<F: Field>(poly: &mut [F], degree: u8, level: &Level<F>, expected: F)
     requires some { 1 ≤ degree }
     requires degree { degree ≤ most_degree }

@@ -4,22 +4,22 @@ pub mod SeatTotals
 pub mod WideSeats
 pub mod WideQueries
 pub mod FramesFit
-mod Sends
-mod DueFrames
+pub mod Sends
+pub mod DueFrames
 mod HeldRows
 mod SeatsGiven
-mod SeatsDrawn
+pub mod SeatsDrawn
 mod Challenges
-mod SeatsHead
+pub mod SeatsHead
 pub mod Lines
 pub mod FramesCut
 pub mod StreamSent
 pub mod StreamSending
 pub mod SeedRead
 pub mod Gathered
-mod QueryAsked
-mod SeatAsked
-mod SessionAsks
+pub mod QueryAsked
+pub mod SeatAsked
+pub mod SessionAsks
 pub mod QueriesChecked
 pub mod RunTalks
 pub mod SeatedBehind
@@ -35,7 +35,7 @@ pub mod CountedReports
 pub mod JointReports
 pub mod Blocks
 pub mod HeardTalks
-mod KeptHead
+pub mod KeptHead
 pub mod KeptReplies
 pub mod KeptQueries
 pub mod KeptRuns
@@ -44,7 +44,7 @@ pub mod HonestQuestions
 pub mod HonestRuns
 pub mod CompleteRuns
 mod RoomForAnswers
-mod RunPromises
+pub mod RunPromises
 mod AnswersCounted
 mod FrameSizes
 mod TakenReplies
