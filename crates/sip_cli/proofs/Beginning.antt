@@ -245,8 +245,9 @@ ended_asked verb words n b i low high =
 
 -- helpers that a word names have a seat each for one query
 one_seat_each : (w : List ℕ) → IsOf (get_or (shapes Panel) 2 Name) w → HasSeats Panel w 1
-one_seat_each w (names, few, are) =
-    let count = count_named w names (few, are) in
+one_seat_each w (names, are) =
+    let count = count_named w names are in
+    let few = are.0 in
     omega arith
 
 -- and each query of it has its seats

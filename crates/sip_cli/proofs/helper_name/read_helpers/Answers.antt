@@ -1,4 +1,5 @@
 use Rattle.std.proofs.Common.{◌≡◌, None, length, lit<, sym, ap, ◌∙◌, arith, rules}
+use Rattle.std.proofs.lemmas.Bool.{eqb-true}
 use Rattle.std.proofs.lemmas.Iterator.Consumers.{YieldsList-at, YieldsList-end, YieldsList-turn}
 use Rattle.std.proofs.lemmas.Iterator.Splits.{YieldsList-from_str_split}
 use Rattle.std.proofs.lemmas.List.{length-map}
@@ -22,7 +23,8 @@ returns-then-is_full c = λ names are.
     let named = ap length c.loop-name.invariant.named in
     let yielded = length-map c.loop-name.yielded (λ x. x.now) in
     let read = length-map c.loop-name.names.items helper_word in
-    absurd (omega (arith, count, few, named, yielded, read, t.0, c.if-is_full.ensures))
+    let full : length c.loop-name.names.items ≡ 16 = eqb-true _ _ (sym c.is_full.ensures.value ∙ c.if-is_full.true) in
+    absurd (omega (arith, count, few, named, yielded, read, t.0, full))
 
 pub returns : goal.returns
 returns c =
