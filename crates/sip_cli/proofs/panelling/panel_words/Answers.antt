@@ -1,3 +1,4 @@
+use Rattle.sip_cli.specs.Words.{word}
 use Rattle.sip_cli.proofs.HelperWords.{some_named}
 use Rattle.sip_cli.proofs.PanelLemmas.{unbegun}
 use Rattle.sip_cli.proofs.RunLemmas.{seated, seats_for_all}
@@ -8,7 +9,7 @@ panel_named-requires g c =
     let spells = c.in_ok-task.ensures in
     record {
       done = seated _ _ _ spells;
-      some = some_named _ _ spells.2;
+      some = some_named (word c.args.words.now 3) _ spells.2;
       few = seats_for_all _ _ _ spells;
     }
 
@@ -21,6 +22,6 @@ returns-in-Err-clause-seated g c =
       spells,
       record {
         talks = _;
-        keeps = rw (same.0, same.1, same.2) (unbegun _ _ (some_named _ _ spells.2) (seated _ _ _ spells) spells.1.depth.0 _ _ _ _ _ _);
+        keeps = rw (same.0, same.1, same.2) (unbegun _ _ (some_named (word c.args.words.now 3) _ spells.2) (seated _ _ _ spells) spells.1.depth.0 _ _ _ _ _ _);
       },
     )
