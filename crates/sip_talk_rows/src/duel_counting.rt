@@ -6,8 +6,8 @@ use sip_ports::MemorySink;
 use sip_wire::Message;
 use std::alloc::Global;
 use std::cell::Cell;
+use std::process::Abort;
 use std::rc::Rc;
-use std::test::Fail;
 
 // A count that a helper and its test share.
 type Count = Rc<Cell<u32>>;
@@ -26,42 +26,48 @@ pub(crate) struct Watched {
 }
 
 impl Watched {
-    pub(crate) fn new(alloc: Global) -> Result<Watched, Fail> {
-        Ok(Watched {
-            heard: Rc::new(alloc, Cell::new(0))?,
-            asked: Rc::new(alloc, Cell::new(0))?,
-            closed: Rc::new(alloc, Cell::new(0))?,
-            dropped: Rc::new(alloc, Cell::new(0))?,
-        })
+    pub(crate) fn new(rt: &impl Abort, alloc: Global) -> Watched {
+        Watched {
+            heard: Rc::new(alloc, Cell::new(0)).expect(rt, "memory"),
+            asked: Rc::new(alloc, Cell::new(0)).expect(rt, "memory"),
+            closed: Rc::new(alloc, Cell::new(0)).expect(rt, "memory"),
+            dropped: Rc::new(alloc, Cell::new(0)).expect(rt, "memory"),
+        }
     }
 
     // A helper that has as many answers of an honest one. Behind them memory is refused to it where
     // it fails, and else it has ended.
-    fn counting(&self, honest: Honest, answers: u32, fails: bool) -> Result<Counting, Fail> {
+    fn counting(&self, rt: &impl Abort, honest: Honest, answers: u32, fails: bool) -> Counting {
         let watched = Watched {
-            heard: Rc::clone(&self.heard)?,
-            asked: Rc::clone(&self.asked)?,
-            closed: Rc::clone(&self.closed)?,
-            dropped: Rc::clone(&self.dropped)?,
+            heard: Rc::clone(&self.heard).expect(rt, "a count"),
+            asked: Rc::clone(&self.asked).expect(rt, "a count"),
+            closed: Rc::clone(&self.closed).expect(rt, "a count"),
+            dropped: Rc::clone(&self.dropped).expect(rt, "a count"),
         };
-        Ok(Counting {
+        Counting {
             watched,
             honest,
             answers,
             fails,
-        })
+        }
     }
 
     // A helper whose first answer is a refusal, where it gives one: that of an end before the
     // opening.
-    pub(crate) fn helper(&self, alloc: Global, gives: bool, fails: bool) -> Result<Counting, Fail> {
+    pub(crate) fn helper(
+        &self,
+        rt: &impl Abort,
+        alloc: Global,
+        gives: bool,
+        fails: bool,
+    ) -> Counting {
         let mut stray = Honest::new(alloc);
         stray.hear(&Message::EndStream);
-        self.counting(stray, u32::from(gives), fails)
+        self.counting(rt, stray, u32::from(gives), fails)
     }
 
-    pub(crate) fn honest(&self, alloc: Global) -> Result<Counting, Fail> {
-        self.counting(Honest::new(alloc), u32::MAX, false)
+    pub(crate) fn honest(&self, rt: &impl Abort, alloc: Global) -> Counting {
+        self.counting(rt, Honest::new(alloc), u32::MAX, false)
     }
 
     pub(crate) fn heard(&self) -> u32 {

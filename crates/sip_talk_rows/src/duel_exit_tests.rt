@@ -24,9 +24,9 @@ fn check(
     helper: Counting,
 ) -> Result<(), Fail> {
     let &(name, ports, (heard, asked), status, lines) = exit;
-    let helper: Box<dyn Helper> = Box::new(alloc, helper)?;
     let task = task(2, Form::Text, &[Query::Sub { lo: 1, hi: 2 }])?;
-    let (ended, report) = run(alloc, &task, helper, ports)?;
+    let helper: Box<dyn Helper> = Box::new(alloc, helper).expect(rt, "memory");
+    let (ended, report) = run(rt, alloc, &task, helper, ports);
     let facts = [
         ended == status,
         report.bytes() == lines.as_bytes(),
@@ -117,8 +117,8 @@ const EXITS: [Exit<'static>; 7] = [
 
 fn check_exits(rt: &impl Abort, alloc: Global, exits: &[Exit]) -> Result<(), Fail> {
     for exit in exits {
-        let watched = Watched::new(alloc)?;
-        check(rt, alloc, exit, &watched, watched.honest(alloc)?)?;
+        let watched = Watched::new(rt, alloc);
+        check(rt, alloc, exit, &watched, watched.honest(rt, alloc))?;
     }
     Ok(())
 }
@@ -162,8 +162,8 @@ const WITHOUT: [(bool, bool, Exit<'static>); 3] = [
 
 fn check_without(rt: &impl Abort, alloc: Global, rows: &[(bool, bool, Exit)]) -> Result<(), Fail> {
     for (gives, fails, exit) in rows {
-        let watched = Watched::new(alloc)?;
-        let helper = watched.helper(alloc, *gives, *fails)?;
+        let watched = Watched::new(rt, alloc);
+        let helper = watched.helper(rt, alloc, *gives, *fails);
         check(rt, alloc, exit, &watched, helper)?;
     }
     Ok(())

@@ -6,11 +6,11 @@ use sip_duel::{Helper, HelperLink};
 use sip_ports::{Link, PortStop, Sink, TalkEvent};
 use std::alloc::Global;
 use std::process::Abort;
-use std::test::Fail;
 
-fn boxed(alloc: Global, helper: Counting) -> Result<Box<dyn Helper>, Fail> {
-    let boxed: Box<dyn Helper> = Box::new(alloc, helper)?;
-    Ok(boxed)
+// A link to that helper.
+fn link_to(rt: &impl Abort, alloc: Global, helper: Counting) -> HelperLink {
+    let boxed: Box<dyn Helper> = Box::new(alloc, helper).expect(rt, "memory");
+    HelperLink::new(alloc, boxed).ok().expect(rt, "a link")
 }
 
 // The opening of version 1 at depth 2, in two pieces: it is heard once it is whole.
@@ -66,51 +66,44 @@ fn takes_steps(
     fails: bool,
     end: Result<usize, PortStop>,
     events: usize,
-) -> Result<(), Fail> {
-    let watched = Watched::new(alloc)?;
-    let helper = boxed(alloc, watched.helper(alloc, true, fails)?)?;
-    let mut link = HelperLink::new(alloc, helper).ok().ok_or("a link")?;
-    expect(
-        rt,
-        "an opening in two pieces",
-        &is_opened(&mut link, &watched),
-    );
+) {
+    let watched = Watched::new(rt, alloc);
+    let mut link = link_to(rt, alloc, watched.helper(rt, alloc, true, fails));
+    let opened = is_opened(&mut link, &watched);
+    expect(rt, "an opening in two pieces", &opened);
     expect(rt, "the first answer", &is_asked(&mut link, &watched));
     expect(rt, "the end", &has_ended(&mut link, &watched, end, events));
-    Ok(())
 }
 
 #[test]
-fn a_link_asks_when_all_is_given(rt: HostRuntime) -> Result<(), Fail> {
-    takes_steps(&rt, rt.alloc(), false, Ok(0), 15)?;
-    takes_steps(&rt, rt.alloc(), true, Err(PortStop::OutOfMemory), 12)
+fn a_link_asks_when_all_is_given(rt: HostRuntime) {
+    takes_steps(&rt, rt.alloc(), false, Ok(0), 15);
+    takes_steps(&rt, rt.alloc(), true, Err(PortStop::OutOfMemory), 12);
 }
 
 // A reply is no message to a helper.
 #[test]
-fn bytes_that_are_no_frame_end_a_link(rt: HostRuntime) -> Result<(), Fail> {
+fn bytes_that_are_no_frame_end_a_link(rt: HostRuntime) {
     let alloc = rt.alloc();
-    let watched = Watched::new(alloc)?;
-    let helper = boxed(alloc, watched.helper(alloc, false, false)?)?;
-    let mut link = HelperLink::new(alloc, helper).ok().ok_or("a link")?;
+    let watched = Watched::new(&rt, alloc);
+    let mut link = link_to(&rt, alloc, watched.helper(&rt, alloc, false, false));
     let sent = link.write(&[0x18, 0, 1]) == Ok(3);
     let ended = link.recv(&mut [0; 4]) == Ok(0);
     let told = link.talk().last() == Some(&TalkEvent::Ended);
     link.close_and_drop();
     expect(&rt, "a reply", &[sent, ended, told, watched.is_gone(0, 0)]);
-    Ok(())
 }
 
 // Where memory is refused to a new link its helper is let go; `rt try --test --fail-alloc` refuses
 // it.
 #[test]
-fn a_link_that_is_refused_lets_its_helper_go(rt: HostRuntime) -> Result<(), Fail> {
+fn a_link_that_is_refused_lets_its_helper_go(rt: HostRuntime) {
     let alloc = rt.alloc();
-    let watched = Watched::new(alloc)?;
-    let helper = boxed(alloc, watched.helper(alloc, false, false)?)?;
+    let watched = Watched::new(&rt, alloc);
+    let helper = watched.helper(&rt, alloc, false, false);
+    let helper: Box<dyn Helper> = Box::new(alloc, helper).expect(&rt, "memory");
     if let Ok(mut link) = HelperLink::new(alloc, helper) {
         link.close_and_drop();
     }
     expect(&rt, "a new link", &[watched.is_gone(0, 0)]);
-    Ok(())
 }

@@ -9,6 +9,7 @@ use sip_stream::Form;
 use sip_vector::{Depth, Query};
 use sip_verifier::{Status, Task};
 use std::alloc::Global;
+use std::process::Abort;
 use std::test::Fail;
 
 // What a run is given besides its helper: the stream, the number of the seed's bytes, and the calls
@@ -56,18 +57,21 @@ pub(crate) fn task(depth: u8, form: Form, queries: &[Query]) -> Result<Task, Fai
 // Runs a task against this helper, over this stream and a seed of zeros: how it ends, and what it
 // reports.
 pub(crate) fn run_over<A: Source>(
+    rt: &impl Abort,
     alloc: Global,
     task: &Task,
     helper: Box<dyn Helper>,
     first: &mut A,
     ports: Ports,
-) -> Result<(Status, MemorySink), Fail>
+) -> (Status, MemorySink)
     requires { CanBeDone task.now }
 {
-    let zeros = vec![in alloc; 0; ports.seed]?;
-    let mut second = MemorySource::new(zeros, 5, ports.second_fails.to_vec(alloc)?);
-    let mut report = MemorySink::new(alloc, 10_000, ports.report_fails.to_vec(alloc)?);
-    let mut link = HelperLink::new(alloc, helper).ok().ok_or("a link")?;
+    let mut link = HelperLink::new(alloc, helper).ok().expect(rt, "a link");
+    let zeros = vec![in alloc; 0; ports.seed].expect(rt, "memory");
+    let fails = ports.second_fails.to_vec(alloc).expect(rt, "memory");
+    let mut second = MemorySource::new(zeros, 5, fails);
+    let fails = ports.report_fails.to_vec(alloc).expect(rt, "memory");
+    let mut report = MemorySink::new(alloc, 10_000, fails);
     let status = play(
         alloc,
         task,
@@ -77,19 +81,21 @@ pub(crate) fn run_over<A: Source>(
         &mut report,
         &mut NullSink::new(),
     );
-    Ok((status, report))
+    (status, report)
 }
 
 // Runs a task against this helper, over these ports.
 pub(crate) fn run(
+    rt: &impl Abort,
     alloc: Global,
     task: &Task,
     helper: Box<dyn Helper>,
     ports: Ports,
-) -> Result<(Status, MemorySink), Fail>
+) -> (Status, MemorySink)
     requires { CanBeDone task.now }
 {
-    let fails = ports.first_fails.to_vec(alloc)?;
-    let mut first = MemorySource::new(ports.stream.to_vec(alloc)?, 5, fails);
-    run_over(alloc, task, helper, &mut first, ports)
+    let stream = ports.stream.to_vec(alloc).expect(rt, "memory");
+    let fails = ports.first_fails.to_vec(alloc).expect(rt, "memory");
+    let mut first = MemorySource::new(stream, 5, fails);
+    run_over(rt, alloc, task, helper, &mut first, ports)
 }

@@ -58,17 +58,22 @@ fn a_seed_gives_each_query_its_own_challenges(rt: HostRuntime) -> Result<(), Fai
     let alloc = rt.alloc();
     let depth = Depth::new(3).ok_or("a depth")?;
     let queries = [Query::Sub { lo: 0, hi: 7 }, Query::Sub { lo: 5, hi: 5 }];
+    let drawn = draw_challenges::<6>([0; 32], 6)?;
     let seats = Seats::draw(&[0; 32], depth, &queries)?;
     let mut sink = MemorySink::new(alloc, 1000, Vec::new(alloc));
-    seats.put_transcript_head(&mut sink)?;
-    let mut want = b"SIPT".to_vec(alloc)?;
-    want.extend_from_slice(&[1, 3, 2, 4, 0, 9, 1, 0, 0, 0, 0, 0, 0, 0, 7])?;
-    for (index, challenge) in draw_challenges::<6>([0; 32], 6)?.iter().enumerate() {
+    let put = seats.put_transcript_head(&mut sink);
+    let mut want = b"SIPT".to_vec(alloc).expect(&rt, "memory");
+    let first = [1, 3, 2, 4, 0, 9, 1, 0, 0, 0, 0, 0, 0, 0, 7];
+    want.extend_from_slice(&first).expect(&rt, "memory");
+    for (index, challenge) in drawn.iter().enumerate() {
         if index == 3 {
-            want.extend_from_slice(&[4, 0, 9, 1, 0, 0, 0, 5, 0, 0, 0, 5])?;
+            let second = [4, 0, 9, 1, 0, 0, 0, 5, 0, 0, 0, 5];
+            want.extend_from_slice(&second).expect(&rt, "memory");
         }
-        want.extend_from_slice(&challenge.number().to_be_bytes())?;
+        let number = challenge.number().to_be_bytes();
+        want.extend_from_slice(&number).expect(&rt, "memory");
     }
-    expect(&rt, "a seed of zeros", &[sink.bytes() == want.as_slice()]);
+    let facts = [put == Ok(()), sink.bytes() == want.as_slice()];
+    expect(&rt, "a seed of zeros", &facts);
     Ok(())
 }

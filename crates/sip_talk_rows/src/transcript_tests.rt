@@ -10,7 +10,6 @@ use sip_verifier::{Port, Status};
 use sip_wire::Version;
 use std::alloc::Global;
 use std::process::Abort;
-use std::test::Fail;
 
 // One query at depth 2, for the items 1 to 2, at the challenges 2 and 10; an entry, two siblings,
 // and no sibling.
@@ -89,18 +88,22 @@ const CHANGES: &[(&[u8], usize, u8, u64)] = &[
     (&TWO_ASKS, 27, 0xff, 20),
 ];
 
-fn copied(alloc: Global, bytes: &[u8], kept: usize) -> Result<Vec<u8>, Fail> {
-    let mut copy = Vec::new(alloc);
-    copy.extend_from_slice(bytes)?;
+// A source of the first of these bytes, so many at most.
+fn source(rt: &impl Abort, alloc: Global, bytes: &[u8], kept: usize, chunk: usize) -> MemorySource
+    requires { 1 ≤ chunk }
+{
+    let mut copy = bytes.to_vec(alloc).expect(rt, "memory");
     copy.truncate(kept);
-    Ok(copy)
+    MemorySource::new(copy, chunk, Vec::new(alloc))
 }
 
-// A list of one call that fails; none fails where it is 0.
-fn failing(alloc: Global, call: u64) -> Result<Vec<u64>, Fail> {
-    let mut calls = Vec::new(alloc);
-    calls.push(call)?;
-    Ok(calls)
+// The first transcript as a source whose call of this number fails.
+fn failing(rt: &impl Abort, alloc: Global, chunk: usize, call: u64) -> MemorySource
+    requires { 1 ≤ chunk }
+{
+    let copy = TALK.to_vec(alloc).expect(rt, "memory");
+    let calls = vec![in alloc; call].expect(rt, "memory");
+    MemorySource::new(copy, chunk, calls)
 }
 
 // Whether `show` stops at a field of the head that begins at this place, and has written nothing.
@@ -113,108 +116,118 @@ fn is_bad(alloc: Global, bytes: Vec<u8>, chunk: usize, offset: u64) -> bool
     status == Status::BadTranscript { offset } && report.bytes().is_empty()
 }
 
-fn expect_cuts(rt: &impl Abort, alloc: Global, chunk: usize) -> Result<(), Fail>
+fn expect_cuts(rt: &impl Abort, alloc: Global, chunk: usize)
     requires { 1 ≤ chunk }
 {
     for (row, (kept, bad)) in CUTS.iter().enumerate() {
-        let copy = copied(alloc, &TALK, *kept)?;
+        let mut copy = TALK.to_vec(alloc).expect(rt, "memory");
+        copy.truncate(*kept);
         expect(rt, row, &[is_bad(alloc, copy, chunk, *bad)]);
     }
-    Ok(())
 }
 
-fn expect_changes(rt: &impl Abort, alloc: Global, chunk: usize) -> Result<(), Fail>
+fn expect_changes(rt: &impl Abort, alloc: Global, chunk: usize)
     requires { 1 ≤ chunk }
 {
     for (row, (bytes, place, byte, bad)) in CHANGES.iter().enumerate() {
-        let mut copy = copied(alloc, bytes, bytes.len())?;
+        let mut copy = bytes.to_vec(alloc).expect(rt, "memory");
         if let Some(slot) = copy.get_mut(*place) {
             *slot = *byte;
         }
         expect(rt, row, &[is_bad(alloc, copy, chunk, *bad)]);
     }
-    Ok(())
 }
 
 #[test]
-fn heads_that_are_cut(rt: HostRuntime) -> Result<(), Fail> {
-    expect_cuts(&rt, rt.alloc(), 1)?;
-    expect_cuts(&rt, rt.alloc(), 10_000)
+fn heads_that_are_cut(rt: HostRuntime) {
+    expect_cuts(&rt, rt.alloc(), 1);
+    expect_cuts(&rt, rt.alloc(), 10_000);
 }
 
 #[test]
-fn fields_with_none_of_their_values(rt: HostRuntime) -> Result<(), Fail> {
-    expect_changes(&rt, rt.alloc(), 1)?;
-    expect_changes(&rt, rt.alloc(), 10_000)
+fn fields_with_none_of_their_values(rt: HostRuntime) {
+    expect_changes(&rt, rt.alloc(), 1);
+    expect_changes(&rt, rt.alloc(), 10_000);
 }
 
 // Of a head: that it is in this version, at this depth, has this length, and leaves so many bytes.
 fn is_head(
+    rt: &impl Abort,
     alloc: Global,
     bytes: &[u8],
     version: Version,
     depth: u8,
     length: u64,
     left: usize,
-) -> Result<bool, Fail> {
-    let mut source = MemorySource::new(copied(alloc, bytes, 88)?, 10_000, Vec::new(alloc));
-    let head = TranscriptReader::head(&mut source)?;
+) -> bool {
+    let mut source = source(rt, alloc, bytes, 88, 10_000);
+    let head = TranscriptReader::head(&mut source).expect(rt, "a head");
     let mut rest = [0; 100];
-    Ok(
-        head.version == version
-            && head.depth.get() == depth
-            && head.length == length
-            && source.read(&mut rest)? == left,
-    )
+    head.version == version
+        && head.depth.get() == depth
+        && head.length == length
+        && source.read(&mut rest) == Ok(left)
 }
 
 #[test]
-fn heads_by_hand(rt: HostRuntime) -> Result<(), Fail> {
+fn heads_by_hand(rt: HostRuntime) {
     let alloc = rt.alloc();
-    let mut source = MemorySource::new(copied(alloc, &TWO_ASKS, 40)?, 1, Vec::new(alloc));
-    let head = TranscriptReader::head(&mut source)?;
+    let facts = [
+        is_head(&rt, alloc, &TALK, Version::One, 2, 35, 41),
+        is_head(&rt, alloc, &WIDE, Version::Two, 2, 43, 45),
+        is_head(&rt, alloc, &TWO_ASKS, Version::Two, 1, 40, 0),
+    ];
+    expect(&rt, 0, &facts);
+}
+
+#[test]
+fn a_head_has_queries_and_challenges(rt: HostRuntime) {
+    let mut source = source(&rt, rt.alloc(), &TWO_ASKS, 40, 1);
+    let head = TranscriptReader::head(&mut source).expect(&rt, "a head");
     let share = Query::Share {
         side: Side::Second,
         num: 1,
         den: 2,
     };
-    expect(
-        &rt,
-        0,
-        &[
-            is_head(alloc, &TALK, Version::One, 2, 35, 41)?,
-            is_head(alloc, &WIDE, Version::Two, 2, 43, 45)?,
-            is_head(alloc, &TWO_ASKS, Version::Two, 1, 40, 0)?,
-            head.queries.as_slice() == [share, Query::Inner].as_slice(),
-            head.challenges.as_slice() == [(1 << 61) - 2, 0].as_slice(),
-        ],
-    );
-    Ok(())
+    let facts = [
+        head.queries.as_slice() == [share, Query::Inner].as_slice(),
+        head.challenges.as_slice() == [(1 << 61) - 2, 0].as_slice(),
+    ];
+    expect(&rt, 0, &facts);
 }
 
-// With one byte a call the transcript takes 76 calls and the end one; its lines are five writes.
+// With one byte a call the transcript takes 76 calls and the end one.
 #[test]
-fn ports_that_fail(rt: HostRuntime) -> Result<(), Fail> {
+fn a_read_that_fails(rt: HostRuntime) {
     let alloc = rt.alloc();
     for call in 1..=77 {
-        let calls = failing(alloc, call)?;
-        let mut second = MemorySource::new(copied(alloc, &TALK, 76)?, 1, calls);
+        let mut second = failing(&rt, alloc, 1, call);
         let mut report = MemorySink::new(alloc, 10_000, Vec::new(alloc));
         let status = show(alloc, &mut second, &mut report);
         let wanted = Status::ReadFault { port: Port::Second };
         expect(&rt, call as usize, &[status == wanted]);
     }
+}
+
+// The lines are five writes.
+#[test]
+fn a_write_that_fails(rt: HostRuntime) {
+    let alloc = rt.alloc();
     for call in 1..=5 {
-        let mut second = MemorySource::new(copied(alloc, &TALK, 76)?, 10_000, Vec::new(alloc));
-        let mut report = MemorySink::new(alloc, 10_000, failing(alloc, call)?);
+        let mut second = source(&rt, alloc, &TALK, 76, 10_000);
+        let calls = vec![in alloc; call].expect(&rt, "memory");
+        let mut report = MemorySink::new(alloc, 10_000, calls);
         let status = show(alloc, &mut second, &mut report);
         let wanted = Status::WriteFault { port: Port::Report };
         expect(&rt, call as usize, &[status == wanted]);
     }
+}
+
+#[test]
+fn a_head_that_is_not_read(rt: HostRuntime) {
     for call in [1, 20, 35] {
-        let mut source = MemorySource::new(copied(alloc, &TALK, 76)?, 1, failing(alloc, call)?);
+        let mut source = failing(&rt, rt.alloc(), 1, call);
         let stopped = TranscriptReader::head(&mut source).err();
         expect(&rt, call as usize, &[stopped == Some(HeadFault::ReadFault)]);
     }
-    Ok(())
 }
