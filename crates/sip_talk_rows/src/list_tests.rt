@@ -14,7 +14,6 @@ use sip_vector::{CAP, Entry, Query, Side};
 use sip_wire::{Frame, Message, Place, Reason, Version};
 use std::alloc::{AllocError, Global};
 use std::process::Abort;
-use std::test::Fail;
 
 // The check of a list: how many values came, and the challenges that were revealed.
 #[derive(Drop)]
@@ -243,20 +242,19 @@ struct Talked {
 // Asks for a list of as many values as there are places at most, at the challenges 2 and 5, over a
 // link that gives these frames, with a keeper whose calls of these numbers fail.
 fn asked_of(
+    rt: &impl Abort,
     alloc: Global,
     frames: &[&[u8]],
     places: &mut [Entry],
     fails: &[u64],
-) -> Result<Talked, Fail> {
+) -> Talked {
     let seat = Seat::of(&[M61::of(2), M61::of(5)]).unwrap();
-    let mut check = ListCheck::start(alloc, &seat, places.len())?;
-    let mut incoming = Vec::new(alloc);
-    for bytes in frames {
-        incoming.extend_from_slice(bytes)?;
-    }
+    let mut check = ListCheck::start(alloc, &seat, places.len()).expect(rt, "memory");
+    let incoming = frames.concat(alloc).expect(rt, "memory");
+    let fails = fails.to_vec(alloc).expect(rt, "memory");
     let mut link = MemoryLink::new(alloc, incoming, 100, Vec::new(alloc));
-    let mut keep = MemorySink::new(alloc, 100, fails.to_vec(alloc)?);
-    let mut frame = Frame::new(alloc)?;
+    let mut keep = MemorySink::new(alloc, 100, fails);
+    let mut frame = Frame::new(alloc).expect(rt, "memory");
     let said = ask(
         &mut check,
         Version::One,
@@ -266,17 +264,17 @@ fn asked_of(
         &mut link,
         &mut keep,
     );
-    Ok(Talked {
+    Talked {
         said,
         learnt: check.learnt,
         link,
         keep,
-    })
+    }
 }
 
-fn check_row(rt: &impl Abort, alloc: Global, number: usize, row: &ListRow) -> Result<(), Fail> {
+fn check_row(rt: &impl Abort, alloc: Global, number: usize, row: &ListRow) {
     let mut places = vec![in alloc; FREE; row.places.len()].expect(rt, "memory");
-    let talked = asked_of(alloc, row.frames, &mut places, row.fails)?;
+    let talked = asked_of(rt, alloc, row.frames, &mut places, row.fails);
     let facts = [
         talked.said == row.said,
         places.as_slice() == row.places,
@@ -285,13 +283,11 @@ fn check_row(rt: &impl Abort, alloc: Global, number: usize, row: &ListRow) -> Re
         talked.keep.bytes() == row.kept.concat(alloc).expect(rt, "memory").as_slice(),
     ];
     expect(rt, number, &facts);
-    Ok(())
 }
 
 #[test]
-fn lists_are_asked_for(rt: HostRuntime) -> Result<(), Fail> {
+fn lists_are_asked_for(rt: HostRuntime) {
     for (number, row) in ROWS.iter().enumerate() {
-        check_row(&rt, rt.alloc(), number, row)?;
+        check_row(&rt, rt.alloc(), number, row);
     }
-    Ok(())
 }
