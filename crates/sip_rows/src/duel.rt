@@ -6,7 +6,8 @@ use crate::row::{Given, Shown, words_of};
 use sip_cli::{Command, read_words};
 use sip_field::{Field, M61, draw_challenges};
 use sip_ports::TalkEvent;
-use sip_verifier::{Status, Task};
+use sip_vector::Depth;
+use sip_verifier::Status;
 use std::alloc::Global;
 use std::process::Abort;
 use std::test::Fail;
@@ -36,12 +37,23 @@ pub fn heard(alloc: Global, talk: &[TalkEvent]) -> Result<Vec<u8>, Fail> {
 // What is drawn for 16 queries at depth 48.
 pub const MOST_CHALLENGES: usize = 768;
 
-// The task that these words of `verify` ask for.
-fn task_of(alloc: Global, words: &str) -> Result<Task, Fail> {
+// The depth of the run that these words of `verify` ask for, and how many queries it has.
+fn queries_of(alloc: Global, words: &str) -> Result<(Depth, usize), Fail> {
     match read_words(&words_of(alloc, words)?) {
-        Ok(Command::Verify(task)) => Ok(task),
+        Ok(Command::Verify(task)) => Ok((task.depth, task.queries.len())),
         _ => Err("words of verify")?,
     }
+}
+
+// A run of `verify` over these replies.
+fn ask(alloc: Global, words: &str, stream: &[u8], replies: &[u8]) -> Result<Shown, Fail> {
+    let asking = Given {
+        words,
+        stream,
+        seed: &ZERO_SEED,
+        replies: &[replies],
+    };
+    asking.run(alloc, 10_000, None)
 }
 
 // A run of `help` that hears this.
@@ -64,39 +76,43 @@ pub fn push_reveals(said: &mut Vec<u8>, challenges: &[M61]) -> Result<(), Fail> 
     Ok(())
 }
 
+// What the helper replies to what a run over these replies sends, and to the challenges of a block.
+fn answered(
+    alloc: Global,
+    words: &str,
+    stream: &[u8],
+    replies: &[u8],
+    block: &[M61],
+) -> Result<Vec<u8>, Fail> {
+    let mut said = sent(alloc, ask(alloc, words, stream, replies)?.peer.talk())?;
+    push_reveals(&mut said, block)?;
+    sent(alloc, help(alloc, &said)?.peer.talk())
+}
+
 // The verifier's run once the helper has answered all that it sends. A run that lacks replies ends behind the first query that
 // has none. The helper hears what was sent by then, and the challenges that are to be revealed, which the seed of zeros gives;
 // the next run has its replies to that.
 pub fn duel(alloc: Global, words: &str, stream: &[u8]) -> Result<Shown, Fail> {
-    let task = task_of(alloc, words)?;
-    let asking = Given {
-        words,
-        stream,
-        seed: &ZERO_SEED,
-        replies: &[],
-    };
-    let mut shown = asking.run(alloc, 10_000, None)?;
+    let (depth, count) = queries_of(alloc, words)?;
     let Ok(challenges) = draw_challenges::<MOST_CHALLENGES>(ZERO_SEED, MOST_CHALLENGES) else {
         return Err("challenges")?;
     };
-    let depth = task.depth.get() as usize;
-    for block in challenges.chunks(depth).take(task.queries.len()) {
-        let mut said = sent(alloc, shown.peer.talk())?;
-        push_reveals(&mut said, block)?;
-        let replies = sent(alloc, help(alloc, &said)?.peer.talk())?;
-        let answered = Given {
-            words,
-            stream,
-            seed: &ZERO_SEED,
-            replies: &[&replies],
-        };
-        shown = answered.run(alloc, 10_000, None)?;
+    let mut replies = Vec::new(alloc);
+    for block in challenges.chunks(depth.get() as usize).take(count) {
+        replies = answered(alloc, words, stream, &replies, block)?;
     }
-    Ok(shown)
+    ask(alloc, words, stream, &replies)
 }
 
 // The words of a run, its stream, and its lines.
 pub type Talk<'a> = (&'a str, &'a [u8], &'a str);
+
+// How the helper ends over what was sent in this talk, and whether it replies what was heard.
+fn serve(alloc: Global, events: &[TalkEvent]) -> Result<(Status, bool), Fail> {
+    let helped = help(alloc, &sent(alloc, events)?)?;
+    let replies = sent(alloc, helped.peer.talk())?;
+    Ok((helped.status, replies == heard(alloc, events)?))
+}
 
 // Runs it against our own helper: it is accepted, these are its lines, and the helper serves the very talk that was held.
 pub fn check_duel(rt: &impl Abort, alloc: Global, talk: Talk) -> Result<Shown, Fail> {
@@ -108,14 +124,9 @@ pub fn check_duel(rt: &impl Abort, alloc: Global, talk: Talk) -> Result<Shown, F
     };
     case.ends(rt, shown.status, Status::Accepted);
     case.writes(rt, shown.report.bytes(), lines.as_bytes());
-    let events = shown.peer.talk();
-    let helped = help(alloc, &sent(alloc, events)?)?;
-    case.ends(rt, helped.status, Status::Served);
-    case.writes(
-        rt,
-        &sent(alloc, helped.peer.talk())?,
-        &heard(alloc, events)?,
-    );
+    let (status, replies) = serve(alloc, shown.peer.talk())?;
+    case.ends(rt, status, Status::Served);
+    case.holds(rt, replies);
     Ok(shown)
 }
 

@@ -3,7 +3,7 @@
 use crate::case::Case;
 use crate::frames::*;
 use crate::ones::{pairs_of_ones, rows_of_ones};
-use crate::row::{Given, Row, Said};
+use crate::row::{Given, Row, Said, Shown};
 use sip_verifier::Status;
 use sip_wire::Reason;
 use std::alloc::Global;
@@ -45,11 +45,8 @@ fn ones_and(alloc: Global, header: &[u8], front: &[u8], more: &[u8]) -> Result<V
 // What a verifier says up to its query, with one more update in a frame of its own or with none.
 fn said(alloc: Global, one_more: &[u8]) -> Result<Vec<u8>, Fail> {
     let updates = ones_and(alloc, &UPDATES_OF_512, &[0], one_more)?;
-    let mut bytes = OPEN_17.to_vec(alloc)?;
-    bytes.extend_from_slice(&updates)?;
-    bytes.extend_from_slice(&END_STREAM)?;
-    bytes.extend_from_slice(&SUB_0_131071)?;
-    Ok(bytes)
+    let parts: [&[u8]; 4] = [&OPEN_17, &updates, &END_STREAM, &SUB_0_131071];
+    Ok(parts.concat(alloc)?)
 }
 
 // Helps with the updates that are given, behind which one more may stand, and shows this answer. The verifier leaves then.
@@ -93,31 +90,33 @@ fn replies_of_most(alloc: Global) -> Result<Vec<u8>, Fail> {
 // Its line.
 fn line_of_most(alloc: Global) -> Result<String, Fail> {
     let pairs = pairs_of_ones(alloc, MOST_ENTRIES)?;
-    let mut line = String::from_str(alloc, "sub:0:131071")?;
-    line.push_str(&pairs)?;
-    line.push('\n')?;
-    Ok(line)
+    Ok(format!(in alloc; "sub:0:131071{pairs}\n")?)
 }
 
-// Each entry is a pair of the line.
-#[test]
-fn verify_writes_the_most_entries(rt: HostRuntime) -> Result<(), Fail> {
-    let alloc = rt.alloc();
+// A run over them.
+fn verified_most(alloc: Global) -> Result<Shown, Fail> {
     let stream = rows_of_ones(alloc, MOST_ENTRIES, &[], &[0])?;
     let replies = replies_of_most(alloc)?;
-    let line = line_of_most(alloc)?;
     let given = Given {
         words: "verify s seed a b - 17 sub:0:131071",
         stream: &stream,
         seed: &ZERO_SEED,
         replies: &[&replies],
     };
-    let shown = given.run(alloc, 10_000, None)?;
+    given.run(alloc, 10_000, None)
+}
+
+// Each entry is a pair of the line.
+#[test]
+fn verify_writes_the_most_entries(rt: HostRuntime) -> Result<(), Fail> {
+    let alloc = rt.alloc();
+    let shown = verified_most(alloc)?;
     let case = Case {
         name: "the most entries",
         number: 10_000,
     };
     case.ends(&rt, shown.status, Status::Accepted);
+    let line = line_of_most(alloc)?;
     case.writes(&rt, shown.report.bytes(), line.as_bytes());
     Ok(())
 }

@@ -128,9 +128,9 @@ fn taker(alloc: Global, fails: Vec<u64>) -> Option<MemorySink> {
 fn check_moved(rt: &impl Abort, alloc: Global, rows: &[Moved], skips: bool) -> Result<(), Fail> {
     for &(name, byte, mebibytes, want) in rows {
         let words = words_of(alloc, name)?;
-        let mut buffer = vec![in alloc; byte; MEBIBYTE]?;
+        let mut buffer = vec![in alloc; byte; MEBIBYTE].expect(rt, "memory");
         let endless = Endless {
-            bytes: buffer.clone()?,
+            bytes: buffer.clone().expect(rt, "memory"),
         };
         let mut told = ToldSource::new(&words, endless, taker(alloc, Vec::new(alloc)));
         let case = Case {
@@ -163,6 +163,7 @@ struct Told {
 // Runs it over ports that move at most a chunk in a call, and tell. One call of a port fails, and
 // the calls of these numbers for the lines.
 fn run_told(
+    rt: &impl Abort,
     given: &Given,
     alloc: Global,
     chunk: usize,
@@ -173,10 +174,12 @@ fn run_told(
 {
     let words = words_of(alloc, given.words)?;
     let first = source(alloc, given.stream, chunk, failing, At::First)?;
-    let peer = link(alloc, given.replies, chunk, failing)?;
-    let mut first = ToldSource::new(&words, first, taker(alloc, fails.to_vec(alloc)?));
-    let mut peer = ToldLink::new(&words, peer, taker(alloc, fails.to_vec(alloc)?));
     let mut second = source(alloc, given.seed, chunk, None, At::Second)?;
+    let peer = link(alloc, given.replies, chunk, failing)?;
+    let of_stream = fails.to_vec(alloc).expect(rt, "memory");
+    let of_talk = fails.to_vec(alloc).expect(rt, "memory");
+    let mut first = ToldSource::new(&words, first, taker(alloc, of_stream));
+    let mut peer = ToldLink::new(&words, peer, taker(alloc, of_talk));
     let mut report = MemorySink::new(alloc, chunk, Vec::new(alloc));
     let mut keep = MemorySink::new(alloc, chunk, Vec::new(alloc));
     let status = run(
@@ -225,7 +228,7 @@ fn check_lines(
     requires { 1 ≤ chunk }
 {
     let plain = given.run(alloc, chunk, None)?;
-    let told = run_told(given, alloc, chunk, None, fails)?;
+    let told = run_told(rt, given, alloc, chunk, None, fails)?;
     let case = Case {
         name: given.words,
         number: chunk as u64,
@@ -316,19 +319,19 @@ const HEARING: Lines<'static> = Lines {
     talk: HEARD_NOTHING,
 };
 
-// Both sides of a talk that they held: that of the verifier, whose first line about it is lost too,
-// and that of the helper.
-fn check_talk(rt: &impl Abort, alloc: Global, words: &str, talk: &str) -> Result<(), Fail> {
-    let whole = duel(alloc, words, &THREE_LINES)?;
-    let (replies, asked) = (
-        heard(alloc, whole.peer.talk())?,
-        sent(alloc, whole.peer.talk())?,
-    );
+// The side of the verifier, whose first line about the talk is lost too.
+fn check_asking(
+    rt: &impl Abort,
+    alloc: Global,
+    words: &str,
+    talk: &str,
+    replies: &[u8],
+) -> Result<(), Fail> {
     let asking = Given {
         words,
         stream: &THREE_LINES,
         seed: &ZERO_SEED,
-        replies: &[&replies],
+        replies: &[replies],
     };
     let lines = Lines {
         stream: FIRST,
@@ -339,14 +342,25 @@ fn check_talk(rt: &impl Abort, alloc: Global, words: &str, talk: &str) -> Result
         stream: "",
         talk: talk.split_once('\n').unwrap_or(("", "")).1,
     };
-    check_lines(rt, alloc, &asking, 10_000, &[1], lost)?;
+    check_lines(rt, alloc, &asking, 10_000, &[1], lost)
+}
+
+// The side of the helper.
+fn check_helping(rt: &impl Abort, alloc: Global, asked: &[u8]) -> Result<(), Fail> {
     let helping = Given {
         words: "help from to",
         stream: &[],
         seed: &[],
-        replies: &[&asked],
+        replies: &[asked],
     };
     check_cuts(rt, alloc, &helping, HEARING)
+}
+
+// Both sides of a talk that they held.
+fn check_talk(rt: &impl Abort, alloc: Global, words: &str, talk: &str) -> Result<(), Fail> {
+    let whole = duel(alloc, words, &THREE_LINES)?;
+    check_asking(rt, alloc, words, talk, &heard(alloc, whole.peer.talk())?)?;
+    check_helping(rt, alloc, &sent(alloc, whole.peer.talk())?)
 }
 
 #[test]
@@ -366,7 +380,7 @@ fn check_failing(rt: &impl Abort, alloc: Global, given: &Given, at: At) -> Resul
     for number in 1..60 {
         let failing = Some(Failing { at, number });
         let plain = given.run(alloc, 1, failing)?;
-        let told = run_told(given, alloc, 1, failing, &[])?;
+        let told = run_told(rt, given, alloc, 1, failing, &[])?;
         let case = Case {
             name: given.words,
             number,
