@@ -57,7 +57,7 @@ further asked gone asked' gone' h some sum less fewer = elim (cases_eq asked' as
 -- ---- which seat
 
 -- a seat's query and block
-abbrev ask_of : Seated → Query × List ℕ
+abbrev pub ask_of : Seated → Query × List ℕ
 ask_of s = (s.query, s.block)
 
 -- the first of the seats that are left stands at its place among all

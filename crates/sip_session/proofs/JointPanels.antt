@@ -1,35 +1,21 @@
 -- The joint count of a panel's seats: where the line of an attempt has a wrong answer, the
 -- challenges of all seats are among the vectors that are counted.
-use Rattle.std.proofs.Common.{◌≡◌, ◌≢◌, ◌⊎◌, ℕ, zero, suc, ◌+◌, ◌-◌, ◌*◌, ◌^◌, ◌<◌, ◌≤◌, ◌==◌, Bool, true, false, pos, Option, List, [], ◌∷◌, ◌++◌, length, map, take, drop, All, Some, None, inl, inr, if◌then◌else◌, refl, sym, ap, subst, ◌∙◌, arith}
-use Rattle.std.specs.Prelude.{⊤, nat_le, slice_get, slice_index_or, ◌≤ℤ◌}
+use Rattle.std.proofs.Common.{◌≡◌, ◌≢◌, ◌⊎◌, ℕ, zero, suc, ◌+◌, ◌-◌, ◌*◌, ◌^◌, ◌<◌, ◌≤◌, ◌==◌, Bool, true, false, Option, List, [], ◌∷◌, ◌++◌, length, map, take, drop, All, Some, None, inl, inr, if◌then◌else◌, refl, sym, ap, subst, ◌∙◌, arith}
+use Rattle.std.specs.Prelude.{⊤, slice_get, slice_index_or}
 use Rattle.std.specs.List.{enumerate_from, zip}
-use Rattle.std.proofs.Math.Seq.{take-length}
-use Rattle.std.proofs.lemmas.Bool.{cases_Bool, eqb-true, leb-false, or_left, or_right}
+use Rattle.std.proofs.lemmas.Bool.{eqb-true, or_left, or_right}
 use Rattle.std.proofs.lemmas.Option.{same_Some}
-use Rattle.std.proofs.lemmas.List.Elements.{All-cons, All-nil, All-head, All-tail, All-weaker, recursion_from_All}
+use Rattle.std.proofs.lemmas.List.Elements.{All-cons, All-nil, All-head, All-tail, All-weaker}
 use Rattle.sip_field.specs.Moduli.{m61_modulus}
 use Rattle.sip_stream.proofs.LegalRecords.{records_legal}
 use Rattle.sip_vector.specs.declared.query.Query.{Query}
-use Rattle.sip_vector.specs.declared.query.Query.TheVariants.{Sub, Range, F2, Inner, Heavy, Share}
-use Rattle.sip_vector.specs.declared.update.Side.{Side}
 use Rattle.sip_vector.specs.declared.update.Update.{Update}
-use Rattle.sip_vector.specs.Answers.{Answer, Fits, answer, number, pairs}
+use Rattle.sip_vector.specs.Answers.{Fits, answer}
 use Rattle.sip_vector.specs.Pieces.{cut, pieces}
-use Rattle.sip_vector.specs.Streams.{int_sum, vector, IsLegal, IsStrict}
-use Rattle.sip_vector.specs.Thresholds.{share_of}
-use Rattle.sip_vector.specs.Trees.{augroot}
+use Rattle.sip_vector.specs.Streams.{IsLegal}
 use Rattle.sip_counts.specs.Joint.{Asked, after, is_misled, misled, bounds}
-use Rattle.sip_counts.specs.Strategies.{Strategy, IsOfBytes, replies, takes_wrong}
-use Rattle.sip_counts.proofs.Talks.{replies-length}
-use Rattle.sip_replies.specs.Protocols.{Protocol}
-use Rattle.sip_replies.specs.Replies as general
-use Rattle.sip_replies.proofs.Unasked.{accepted_asked, accepted_unasked}
+use Rattle.sip_counts.specs.Strategies.{Strategy, IsOfBytes, takes_wrong}
 use Rattle.sip_wire.specs.declared.version.Version.{Version}
-use Rattle.sip_heavy.specs.Counting.{heavy_over}
-use Rattle.sip_heavy.proofs.FewFooledByBytes as heavies
-use Rattle.sip_heavy.specs.Protocol.{HeavyState, count_of, heavy_asked}
-use Rattle.sip_heavy.proofs.FewFooledByBytes.{positive_is}
-use Rattle.sip_heavy.proofs.TrueLevels.{sum_positive}
 use Rattle.sip_verifier.specs.CountClause.{accepts_in, Written, questions_written}
 use Rattle.sip_verifier.specs.Draws.{drawn}
 use Rattle.sip_verifier.specs.Exchanges.{Exchange}
@@ -41,9 +27,7 @@ use Rattle.sip_verifier.specs.Questions.{Accepts}
 use Rattle.sip_verifier.specs.Tasks.{CanBeDone, version_of}
 use Rattle.sip_verifier.specs.declared.status.Status.TheVariants as statuses
 use Rattle.sip_verifier.specs.declared.task.Task.{Task}
-use Rattle.sip_verifier.proofs.CountedQuestions.{never_sum, question_counts}
-use Rattle.sip_verifier.proofs.JointReports.{none_heavy, task_counted}
-use Rattle.sip_verifier.proofs.ShareAnswers.{share_answer, share_reached}
+use Rattle.sip_verifier.proofs.JointReports.{task_counted, taken_wrongly}
 use Rattle.sip_session.specs.inside.Beginning.{task_of_seats}
 use Rattle.sip_session.specs.PanelCounts.{JointCountOnPanel, seats_written, unwritten, written_at, written_or}
 use Rattle.sip_session.specs.PanelExchanges.{PanelExchange}
@@ -52,7 +36,7 @@ use Rattle.sip_session.specs.Panels.{Attempt, AreAttempts, IsJudged, Outcome, in
 use Rattle.sip_session.proofs.Begun.{wide_done}
 use Rattle.sip_session.proofs.Seats.{All-seats, get_seat, needed-seats}
 
--- ---- one query
+-- ---- lines in turn
 
 module _ (version : Version) (depth : ℕ) (stream : List Update) (legal : IsLegal depth stream) where
   -- what the count asks of the stream for a query
@@ -62,101 +46,6 @@ module _ (version : Version) (depth : ℕ) (stream : List Update) (legal : IsLeg
   -- the query as one of several
   abbrev Row : Query → Asked
   Row query = asked_by accepts_in depth (kind_row version depth stream query)
-
-  -- no entry is heavy where the total is below the threshold
-  below_none : (side : Side) (t : ℕ) (block : List ℕ) → IsStrict depth stream side
-      → nat_le t (count_of (int_sum (vector depth stream side))) ≡ false
-      → answer depth stream (Heavy side t) ≡ pairs []
-  below_none side t block strict below =
-      let n = positive_is (int_sum (vector depth stream side))
-      (sum_positive (vector depth stream side)
-      (recursion_from_All (λ a. pos 0 ≤ℤ a) (vector depth stream side) strict)) in
-      none_heavy version m61_modulus depth n.0 t stream side block strict n.1
-      (let less = leb-false t (count_of (int_sum (vector depth stream side))) below in
-      omega (arith, less, ap count_of n.1))
-
-  -- by what a strategy replies at a block, and what was taken there and accepted
-  module _ (strategy : Strategy) (block : List ℕ) (taken : List (List ℕ)) (written : Answer)
-      (says : take (length taken) (replies strategy block) ≡ map Some taken) where
-    -- as many replies as there are challenges are all
-    all_said : length taken ≡ length block → replies strategy block ≡ map Some taken
-    all_said size =
-        sym (ap (λ n. take n (replies strategy block)) (size ∙ sym (replies-length strategy block))
-        ∙ take-length (replies strategy block)) ∙ says
-
-    -- pairs that are not the heavy entries are taken
-    heavy_said : (side : Side) (t : ℕ) (answer_is : Answer)
-        → general.IsAccepted (heavy_over version m61_modulus depth t (vector depth stream side)
-        block) block taken answer_is
-        → replies strategy block ≡ map Some taken → answer_is ≢ answer depth stream (Heavy side t)
-        → takes_wrong (Row (Heavy side t)).accepts (Row (Heavy side t)).is_right strategy
-        block ≡ true
-    heavy_said side t (number z) accepted all wrong = absurd
-        (never_sum (heavy_asked version m61_modulus
-        (augroot m61_modulus (vector depth stream side) block).hash
-        (int_sum (vector depth stream side)) depth t) block taken z accepted)
-    heavy_said side t (pairs entries) accepted all wrong =
-        heavies.written_counts version m61_modulus depth t (vector depth stream side) strategy
-        block taken entries accepted all (λ right. wrong (ap pairs right))
-
-    -- so is another answer than this one, which is that of the entries where they were asked for,
-    -- and empty where not
-    heavy_taken : (side : Side) (t : ℕ) (right : Answer)
-        → (nat_le t (count_of (int_sum (vector depth stream side))) ≡ true
-        → right ≡ answer depth stream (Heavy side t))
-        → (nat_le t (count_of (int_sum (vector depth stream side))) ≡ false → taken ≡ []
-        → right ≡ pairs [])
-        → general.IsAccepted (heavy_over version m61_modulus depth t (vector depth stream side)
-        block) block taken written → written ≢ right
-        → takes_wrong (Row (Heavy side t)).accepts (Row (Heavy side t)).is_right strategy
-        block ≡ true
-    heavy_taken side t right heavy none accepted wrong =
-        let P : Protocol HeavyState =
-        heavy_over version m61_modulus depth t (vector depth stream side) block in
-        elim (cases_Bool (nat_le t (count_of (int_sum (vector depth stream side))))) [
-          | inl reached ↦
-              let all =
-              all_said (accepted_asked P block taken written
-              (ap (λ (b : Bool). if b then None else Some (pairs [])) reached)
-              accepted).all in
-              heavy_said side t written accepted all (λ e. wrong (e ∙ sym (heavy reached)))
-          | inr below ↦
-              let known =
-              accepted_unasked P block taken written (pairs [])
-              (ap (λ (b : Bool). if b then None else Some (pairs [])) below) accepted in
-              absurd (wrong (known.1 ∙ sym (none below known.0)))
-        ]
-
-    -- a wrong answer to any query is taken
-    taken_wrongly : (query : Query) → Fits depth query
-        → Accepts version depth stream (record { query = query; block = block; replies = taken })
-        written
-        → (taken ≡ [] → Can query) → written ≢ answer depth stream query
-        → takes_wrong (Row query).accepts (Row query).is_right strategy block ≡ true
-    taken_wrongly (Sub lo hi) fits accepted can wrong =
-        (question_counts version depth stream (Sub lo hi) block taken written fits legal accepted
-        tt).counts strategy written (all_said accepted.all) refl wrong
-    taken_wrongly (Range side lo hi) fits accepted can wrong =
-        (question_counts version depth stream (Range side lo hi) block taken written fits legal
-        accepted tt).counts strategy written (all_said accepted.all) refl wrong
-    taken_wrongly (F2 side) fits accepted can wrong =
-        (question_counts version depth stream (F2 side) block taken written fits legal accepted
-        tt).counts strategy written (all_said accepted.all) refl wrong
-    taken_wrongly Inner fits accepted can wrong =
-        (question_counts version depth stream Inner block taken written fits legal accepted
-        tt).counts strategy written (all_said accepted.all) refl wrong
-    taken_wrongly (Heavy side t) fits accepted can wrong =
-        heavy_taken side t (answer depth stream (Heavy side t)) (λ reached. refl)
-        (λ below nothing. below_none side t block (can nothing) below) accepted wrong
-    taken_wrongly (Share side num den) fits accepted can wrong =
-        let t : ℕ = share_of num den (int_sum (vector depth stream side)) in
-        let some : 1 ≤ den = omega (arith, fits.0, fits.1) in
-        heavy_taken side t (answer depth stream (Share side num den))
-        (share_reached depth stream side num den some legal)
-        (λ below nothing. share_answer depth stream side num den some legal (can nothing)
-        ∙ below_none side t block (can nothing) below) accepted wrong
-
-  -- ---- lines in turn
 
   -- a line is that of replies that are accepted, or its answer is right
   abbrev Right : Written → Type 0
@@ -207,8 +96,9 @@ module _ (version : Version) (depth : ℕ) (stream : List Update) (legal : IsLeg
         (λ can wrong. or_left (first (take depth v) q) others (elim fine.2 [
           | inl came ↦ subst (λ (u : Query). first (take depth v) u ≡ true) query
               (subst (λ (b : List ℕ). first b w.question.query ≡ true) block
-              (taken_wrongly (after earlier strategy) w.question.block w.question.replies
-              w.answer talk.0 w.question.query fit came can wrong))
+              (taken_wrongly version depth stream legal (after earlier strategy)
+              w.question.block w.question.replies w.answer talk.0 w.question.query fit came can
+              wrong))
           | inr right ↦ absurd (wrong right)
         ]))
         (All-weaker (Misled queries (earlier ++ take depth v) (drop depth v))

@@ -45,6 +45,7 @@ use Rattle.sip_session.specs.PanelClause.{PanelClause}
 use Rattle.sip_session.specs.PanelEnds.{Ends, MayHear, NoneAsked, OfEach, Went, all_sent, due, said_to}
 use Rattle.sip_session.specs.PanelExchanges.{PanelExchange, without_links}
 use Rattle.sip_session.specs.Panels.{Attempt, AreAttempts, IsJudged, IsOfTurn, Turn, are_answered, first_turn, inquiry_of_panel, is_left, seat_at, seat_queries, turn_behind}
+use Rattle.sip_session.proofs.Asked.{ask_of}
 use Rattle.sip_session.proofs.HonestAnswers.{answers_are_own}
 use Rattle.sip_session.proofs.HonestAttempts.{none_or_said}
 use Rattle.sip_session.proofs.HonestCarried.{carried}
@@ -69,10 +70,6 @@ no_events = []
 none_either : (b : Bool) → (if b then no_events else no_events) ≡ no_events
 none_either true = refl
 none_either false = refl
-
--- a seat's query and block
-abbrev ask_of : Seated → Query × List ℕ
-ask_of s = (s.query, s.block)
 
 module _ (helpers : ℕ) (task : Task) (x : PanelExchange) (some : 0 < helpers)
     (can : CanBeDone task) (deep : 1 ≤ task.depth) (most : task.depth ≤ most_depth)

@@ -52,7 +52,7 @@ use Rattle.sip_stream.proofs.LegalRecords.{records_legal}
 -- ---- one query
 
 -- where the entries add up to less than is asked for, none is asked for
-pub none_heavy : (version : Version) (p depth n t : ℕ) (stream : List Update) (side : Side) (block : List ℕ) → IsStrict depth stream side
+none_heavy : (version : Version) (p depth n t : ℕ) (stream : List Update) (side : Side) (block : List ℕ) → IsStrict depth stream side
     → int_sum (vector depth stream side) ≡ pos n → n < t → answer depth stream (Heavy side t) ≡ pairs []
 none_heavy version p depth n t stream side block strict sum less =
     let P : Protocol HeavyState = heavy_over version p depth t (vector depth stream side) block in
@@ -118,7 +118,7 @@ module _ (version : Version) (depth : ℕ) (stream : List Update) (legal : IsLeg
         ]
 
     -- a wrong answer to any query is taken
-    taken_wrongly : (query : Query) → Fits depth query → Accepts version depth stream (record { query = query; block = block; replies = taken }) written
+    pub taken_wrongly : (query : Query) → Fits depth query → Accepts version depth stream (record { query = query; block = block; replies = taken }) written
         → (taken ≡ [] → Can query) → written ≢ answer depth stream query → takes_wrong (Row query).accepts (Row query).is_right strategy block ≡ true
     taken_wrongly (Sub lo hi) fits accepted can wrong =
         (question_counts version depth stream (Sub lo hi) block taken written fits legal accepted tt).counts strategy written (all_said accepted.all) refl wrong
