@@ -52,7 +52,7 @@ use Rattle.sip_stream.proofs.LegalRecords.{records_legal}
 -- ---- one query
 
 -- where the entries add up to less than is asked for, none is asked for
-none_heavy : (version : Version) (p depth n t : ℕ) (stream : List Update) (side : Side) (block : List ℕ) → IsStrict depth stream side
+pub none_heavy : (version : Version) (p depth n t : ℕ) (stream : List Update) (side : Side) (block : List ℕ) → IsStrict depth stream side
     → int_sum (vector depth stream side) ≡ pos n → n < t → answer depth stream (Heavy side t) ≡ pairs []
 none_heavy version p depth n t stream side block strict sum less =
     let P : Protocol HeavyState = heavy_over version p depth t (vector depth stream side) block in
