@@ -14,20 +14,21 @@ use sip_field::{
 };
 use sip_vector::{CAP, Entry, Vector};
 use std::alloc::Global;
+use std::rc::Rc;
 
-// A copy of a vector's entries that are not 0. O(m), and slower where additions are pending.
-pub(crate) fn entries_of(alloc: Global, vector: &Vector) -> Result<Vec<Entry>, OutOfMemory>
-    ensures { IfOk result (λ list. list.items ≡ nonzero vector.now.numbers) }
+// A vector's entries that are not 0, as a list that the vector has no way to change: its own list,
+// which is shared and not copied, in O(1); where additions are pending a new one, by a walk.
+pub(crate) fn entries_of(alloc: Global, vector: &Vector) -> Result<Rc<Vec<Entry>>, OutOfMemory>
+    ensures { IfOk result (λ list. list.value.items ≡ nonzero vector.now.numbers) }
 {
-    let Some(entries) = vector.entries() else {
-        return walked(alloc, vector);
-    };
-    let mut list = Vec::with_capacity(alloc, entries.len())?;
-    list.extend_from_slice(entries)?;
-    Ok(list)
+    if let Some(list) = vector.shared_entries()? {
+        return Ok(list);
+    }
+    let list = walked(alloc, vector)?;
+    Ok(Rc::new(alloc, list)?)
 }
 
-// The same by a walk over them, which is right for every vector.
+// A new list of them, which is right for every vector.
 fn walked(alloc: Global, vector: &Vector) -> Result<Vec<Entry>, OutOfMemory>
     ensures { IfOk result (λ list. list.items ≡ nonzero vector.now.numbers) }
 {

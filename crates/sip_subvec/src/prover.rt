@@ -10,6 +10,7 @@ use sip_field::{Field, OutOfMemory};
 use sip_vector::{Entry, Vector};
 use std::alloc::Global;
 use std::marker::Model;
+use std::rc::Rc;
 
 /// The nodes beside an interval of a level, where they are present.
 #[derive(Clone, Copy, Debug, PartialEq, Eq)]
@@ -23,14 +24,17 @@ pub struct SiblingPair<F> {
 /// What an honest helper keeps to prove the entries from `lo` to `hi` of a vector.
 ///
 /// A contract sees the level of the tree that the challenges so far lead to, as the list of all its
-/// residues, and the interval of its nodes above the entries. What takes memory is a copy of the m
-/// entries that are not 0 and the challenges. No level is made: a node is the sum of the entries
+/// residues, and the interval of its nodes above the entries. The list of the m entries that are
+/// not 0 is the vector's own, and what takes memory is the challenges; where additions are pending
+/// in the vector the prover has a list to itself. No level is made: a node is the sum of the entries
 /// below it, each times the product of the challenges at the bits of its index that are 1 (Cormode,
 /// Thaler, Yi, PVLDB 5(1), section 4). The siblings of different levels lie above different
 /// entries, so each entry counts for one sibling at most.
 #[derive(Drop)]
 pub struct SubProver<F: Field> {
-    entries: Vec<Entry>,
+    // The vector's own list where it was settled. A vector writes to no list that it shares but
+    // makes a new one, so what becomes of it later does not reach the prover.
+    entries: Rc<Vec<Entry>>,
     challenges: Vec<F>,
     levels_left: u8,
     lo: u64,
@@ -45,20 +49,21 @@ impl<F: Field> Model for SubProver<F> {
     ghost Value = { Proving };
 
     ghost view = { λ s. record {
-      level = level_over F.MODULUS (s.levels_left + length s.challenges.items) s.entries.items
+      level = level_over F.MODULUS (s.levels_left + length s.challenges.items) s.entries.value.items
           (map F.number s.challenges.items);
       lo = s.lo;
       hi = s.hi;
     } };
 
-    ghost invariant = { λ s. IsSumming s.entries.items (length s.challenges.items)
+    ghost invariant = { λ s. IsSumming s.entries.value.items (length s.challenges.items)
         (vec_capacity s.challenges) s.levels_left s.lo s.hi };
 }
 
 impl<F: Field> SubProver<F> {
-    /// Begins at the vector's numbers. It takes memory for the entries that are not 0 and the
-    /// challenges; no later call takes any. O(m), and slower where additions are pending in the
-    /// vector.
+    /// Begins at the vector's numbers as they are now, and stays at them whatever becomes of the
+    /// vector. O(1), and memory for the challenges. Where additions are pending in the vector, a
+    /// walk over its entries by `Vector::next_entry`, and memory for these too. No later call takes
+    /// any; the vector's list keeps its memory as long as the prover has it.
     pub fn start(
         alloc: Global,
         vector: &Vector,

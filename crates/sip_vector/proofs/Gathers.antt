@@ -1,5 +1,5 @@
 -- What a list and pending entries show, number by number.
-use Rattle.std.proofs.Common.{◌≡◌, ℕ, suc, ◌+◌, ◌^◌, ◌<◌, ◌≤◌, ◌↔◌, ◌≤ℤ◌, List, [], ◌∷◌, ◌++◌, length, get_or, set, map, filter, not, sum_by, All, Result, Ok, Err, IfOk, Some, None, ℤ, pos, ◌+ℤ◌, nat_abs, refl, sym, ap, subst, ◌∙◌, inl, inr, arith}
+use Rattle.std.proofs.Common.{◌≡◌, ◌==◌, true, ℕ, suc, ◌+◌, ◌^◌, ◌<◌, ◌≤◌, ◌↔◌, ◌≤ℤ◌, List, [], ◌∷◌, ◌++◌, length, get_or, set, map, filter, not, sum_by, All, Result, Ok, Err, IfOk, Some, None, ℤ, pos, ◌+ℤ◌, nat_abs, refl, sym, ap, subst, ◌∙◌, inl, inr, arith}
 use Rattle.std.proofs.lemmas.Bool.Decides.{eqb_tells}
 use Rattle.std.proofs.lemmas.Int.{ints}
 use Rattle.std.proofs.lemmas.List.{length-set, get_or-set_same, get_or-set_other, set-set, ext_get_or}
@@ -210,6 +210,16 @@ module _ (depth : ℕ) (list pending : List Entry) (total : ℤ) (weight : ℕ) 
       numbers = sym gathered-merged;
       light = omega (arith, light, is.light, is.most);
     }
+
+-- where nothing is pending the list shows what both do
+pub IsListOf-settled : (depth : ℕ) (list pending : List Entry) (total : ℤ) (weight : ℕ) → IsGathered depth list pending total weight → (length pending == 0) ≡ true
+    → IsListOf (record { depth = depth; numbers = gathered depth list pending; weight = weight }) list
+IsListOf-settled depth list [] total weight is none = record {
+  sparse = is.sparse;
+  numbers = refl;
+  light = omega (arith, is.light, is.most);
+}
+IsListOf-settled depth list (e ∷ es) total weight is none = absurd (elim (eqb_tells (length (e ∷ es)) 0) [ inl t ↦ omega (arith, t.1) | inr t ↦ (let no = t.0 in cc) ])
 
 -- ---- the entries that are not 0 are those of a list that shows the same
 

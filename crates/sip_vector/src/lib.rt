@@ -38,6 +38,7 @@
 //! | `Vector::settle` | O(m + p log p) | as many entries as m + p |
 //! | `Vector::get` | O(log m + p) | none |
 //! | `Vector::entries_with_pending` | O(m + p log p) | as many entries as m + p |
+//! | `Vector::new`, `Vector::shared_entries` | O(1) | one small block; none |
 //! | `Vector::next_entry`, `Vector::count_in` | O(log m); with p above 0 O(log m + p) for each index tried | none |
 //! | `Vector::is_strict` | O(m); with p above 0 O(log m + p) for each index tried | none |
 //! | `Level::of` | O(m), and O(p log p) | one spot for each entry; with p above 0 the list of entries too |

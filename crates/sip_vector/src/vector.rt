@@ -15,6 +15,7 @@ use crate::{Depth, Entry};
 use sip_field::OutOfMemory;
 use std::alloc::Global;
 use std::marker::Model;
+use std::rc::Rc;
 
 // As many additions may wait in any vector, which take 4 MiB. In one with a longer list as many may
 // wait as the list has entries, so that a merge is paid by the additions before it.
@@ -35,7 +36,9 @@ const MOST_PENDING: usize = 1 << 19;
 #[derive(Drop)]
 pub struct Vector {
     depth: Depth,
-    list: Vec<Entry>,
+    // Whoever shares this list has it as it is for good: a merge makes a new one, and none is ever
+    // written to.
+    list: Rc<Vec<Entry>>,
     pending: Vec<Waiting>,
     total: i64,
     weight: u64,
@@ -50,23 +53,24 @@ impl Model for Vector {
 
     ghost view = { λ v. record {
       depth = v.depth;
-      numbers = gathered v.depth v.list.items v.pending.items;
+      numbers = gathered v.depth v.list.value.items v.pending.items;
       weight = v.weight;
       is_settled = length v.pending.items == 0;
     } };
 
-    ghost invariant = { λ v. IsGathered v.depth v.list.items v.pending.items v.total v.weight };
+    ghost invariant = { λ v. IsGathered v.depth v.list.value.items v.pending.items v.total v.weight };
 }
 
 impl Vector {
-    /// Nothing but zeros. It takes no memory before the first `add`.
+    /// Nothing but zeros. It takes one small block of memory, and none for entries before the
+    /// first `add`.
     pub fn new(alloc: Global, depth: Depth) -> Result<Vector, OutOfMemory>
         ensures zeros { IfOk result (λ vector. contents vector ≡ zero_vector depth) }
         ensures settled { IfOk result (λ vector. vector.is_settled ≡ true) }
     {
         Ok(Vector {
             depth,
-            list: Vec::new(alloc),
+            list: Rc::new(alloc, Vec::new(alloc))?,
             pending: Vec::new(alloc),
             total: 0,
             weight: 0,
@@ -120,14 +124,15 @@ impl Vector {
         Ok(())
     }
 
-    // Merges what is pending into the list, and keeps the room that it had. It is seldom called, and `add` is short without it.
+    // Makes a new list with what is pending, and keeps the room that it had. It is seldom called, and `add` is short without it.
     #[inline(never)]
     fn merge(&mut self) -> Result<(), OutOfMemory>
         ensures ok { OnOk result (self.new ≡ record self.old { is_settled = true }) }
         ensures err { OnErr result (self.new ≡ self.old) }
     {
         let alloc = *self.list.allocator();
-        self.list = settled(alloc, &self.list, &mut self.pending)?;
+        let list = settled(alloc, &self.list, &mut self.pending)?;
+        self.list = Rc::new(alloc, list)?;
         self.pending.clear();
         Ok(())
     }
@@ -147,6 +152,22 @@ impl Vector {
         ensures settled { IsSome result ↔ (self.now.is_settled ≡ true) }
     {
         self.settled_list()
+    }
+
+    /// The same as a list to keep: it stays as it is whatever becomes of the vector, and has its
+    /// memory until its last owner lets it go. O(1), without memory. `OutOfMemory` only where it
+    /// has 2^64 - 1 owners already.
+    pub fn shared_entries(&self) -> Result<Option<Rc<Vec<Entry>>>, OutOfMemory>
+        ensures exact { IfOk result (λ shared. IfSome shared (λ list. list.value.items
+            ≡ nonzero self.now.numbers)) }
+        ensures settled { IfOk result (λ shared. IsSome shared
+            ↔ (self.now.is_settled ≡ true)) }
+    {
+        if self.is_settled() {
+            Ok(Some(self.list.clone()?))
+        } else {
+            Ok(None)
+        }
     }
 
     /// A copy of the entries that are not 0, in the order of their indices, also where additions

@@ -9,14 +9,14 @@ use Rattle.sip_subvec.proofs.prover.SubProver.learn.Goals as goal
 pub unwrap-requires : goal.unwrap-requires
 unwrap-requires g c =
     let size : length c.args.self.now.level ≡ 2 ^ c.self.inside.levels_left =
-    ap (λ (s : Proving). length s.level) (sym c.self.view_is) ∙ level_size g.F.Field.MODULUS g.F.Field.number c.self.inside.entries.items c.self.inside.challenges.items c.self.inside.levels_left in
+    ap (λ (s : Proving). length s.level) (sym c.self.view_is) ∙ level_size g.F.Field.MODULUS g.F.Field.number c.self.inside.entries.value.items c.self.inside.challenges.items c.self.inside.levels_left in
     let some = has_level c.self.inside.levels_left (length c.args.self.now.level) size c.requires in
     c.push.ensures.succeeds (omega (arith, some, c.self.invariant.room, c.self.inside.challenges.ok.0))
 
 pub overflow_sub-self : goal.overflow_sub-self
 overflow_sub-self g c =
     let size : length c.args.self.now.level ≡ 2 ^ c.self.inside.levels_left =
-    ap (λ (s : Proving). length s.level) (sym c.self.view_is) ∙ level_size g.F.Field.MODULUS g.F.Field.number c.self.inside.entries.items c.self.inside.challenges.items c.self.inside.levels_left in
+    ap (λ (s : Proving). length s.level) (sym c.self.view_is) ∙ level_size g.F.Field.MODULUS g.F.Field.number c.self.inside.entries.value.items c.self.inside.challenges.items c.self.inside.levels_left in
     has_level c.self.inside.levels_left (length c.args.self.now.level) size c.requires
 
 pub invariant_of-self : goal.invariant_of-self
@@ -24,9 +24,9 @@ invariant_of-self g c =
     let items = c.self.inside.challenges.items in
     let pushed : c.push.new.self.items ≡ items ++ c.args.r ∷ [] = c.push.ensures.items ∙ ap (λ x. if is_ok x then items ++ c.args.r ∷ [] else items) c.unwrap.ensures in
     let size : length c.args.self.now.level ≡ 2 ^ c.self.inside.levels_left =
-    ap (λ (s : Proving). length s.level) (sym c.self.view_is) ∙ level_size g.F.Field.MODULUS g.F.Field.number c.self.inside.entries.items items c.self.inside.levels_left in
+    ap (λ (s : Proving). length s.level) (sym c.self.view_is) ∙ level_size g.F.Field.MODULUS g.F.Field.number c.self.inside.entries.value.items items c.self.inside.levels_left in
     let some = has_level c.self.inside.levels_left (length c.args.self.now.level) size c.requires in
-    is_learnt c.self.inside.entries.items (length items) _ c.self.inside.levels_left c.self.inside.lo c.self.inside.hi (length c.push.new.self.items) _ c.self.invariant some
+    is_learnt c.self.inside.entries.value.items (length items) _ c.self.inside.levels_left c.self.inside.lo c.self.inside.hi (length c.push.new.self.items) _ c.self.invariant some
     (ap length pushed ∙ length-append items (c.args.r ∷ [])) c.push.ensures.capacity
 
 pub returns-clause-learnt : goal.returns-clause-learnt
@@ -35,9 +35,9 @@ returns-clause-learnt g c =
     let items = c.self.inside.challenges.items in
     let pushed : c.push.new.self.items ≡ items ++ c.args.r ∷ [] = c.push.ensures.items ∙ ap (λ x. if is_ok x then items ++ c.args.r ∷ [] else items) c.unwrap.ensures in
     let size : length c.args.self.now.level ≡ 2 ^ c.self.inside.levels_left =
-    ap (λ (s : Proving). length s.level) (sym c.self.view_is) ∙ level_size p g.F.Field.number c.self.inside.entries.items items c.self.inside.levels_left in
+    ap (λ (s : Proving). length s.level) (sym c.self.view_is) ∙ level_size p g.F.Field.number c.self.inside.entries.value.items items c.self.inside.levels_left in
     let some = has_level c.self.inside.levels_left (length c.args.self.now.level) size c.requires in
-    let above = level_learnt p g.F.Field.number c.self.inside.entries.items items c.self.inside.levels_left c.args.r c.push.new.self.items some pushed in
+    let above = level_learnt p g.F.Field.number c.self.inside.entries.value.items items c.self.inside.levels_left c.args.r c.push.new.self.items some pushed in
     ap (λ level. record { level = level; lo = c.self.inside.lo / 2; hi = c.self.inside.hi / 2 }) above
     ∙ ap (λ (s : Proving). learnt p s (g.F.Field.number c.args.r)) c.self.view_is
 
@@ -46,7 +46,7 @@ returns-clause-half g c =
     let p : ℕ = g.F.Field.MODULUS in
     let items = c.self.inside.challenges.items in
     let size : length c.args.self.now.level ≡ 2 ^ c.self.inside.levels_left =
-    ap (λ (s : Proving). length s.level) (sym c.self.view_is) ∙ level_size p g.F.Field.number c.self.inside.entries.items items c.self.inside.levels_left in
+    ap (λ (s : Proving). length s.level) (sym c.self.view_is) ∙ level_size p g.F.Field.number c.self.inside.entries.value.items items c.self.inside.levels_left in
     let some = has_level c.self.inside.levels_left (length c.args.self.now.level) size c.requires in
-    let above = level_size p g.F.Field.number c.self.inside.entries.items c.push.new.self.items (c.self.inside.levels_left - 1) in
+    let above = level_size p g.F.Field.number c.self.inside.entries.value.items c.push.new.self.items (c.self.inside.levels_left - 1) in
     half_of c.self.inside.levels_left _ _ some above size

@@ -7,7 +7,7 @@ use Rattle.sip_subvec.proofs.prover.SubProver.levels_left.Goals as goal
 pub returns-clause-exact : goal.returns-clause-exact
 returns-clause-exact g c =
     ap (λ (s : Proving). length s.level) (sym c.self.view_is)
-    ∙ level_size g.F.Field.MODULUS g.F.Field.number c.self.inside.entries.items c.self.inside.challenges.items c.self.inside.levels_left
+    ∙ level_size g.F.Field.MODULUS g.F.Field.number c.self.inside.entries.value.items c.self.inside.challenges.items c.self.inside.levels_left
 
 pub returns-clause-some : goal.returns-clause-some
 returns-clause-some g c = (

@@ -1,5 +1,5 @@
 -- A sibling that is asked for is the node that the sum gives.
-use Rattle.std.proofs.Common.{◌≡◌, ℕ, ◌+◌, ◌-◌, ◌*◌, ◌%◌, ◌^◌, ◌<◌, ◌≤◌, ◌==◌, if◌then◌else◌, List, Some, None, length, get_or, map, take, sym, ap, subst, ◌∙◌, arith}
+use Rattle.std.proofs.Common.{◌≡◌, ℕ, ◌+◌, ◌-◌, ◌*◌, ◌%◌, ◌^◌, ◌<◌, ◌≤◌, ◌==◌, if◌then◌else◌, List, Vec, Global, Some, None, length, get_or, map, take, sym, ap, subst, ◌∙◌, arith}
 use Rattle.std.specs.Option.{option_map}
 use Rattle.std.proofs.lemmas.List.{length-map, length-take-le}
 use Rattle.sip_field.specs.Products.{zero_factor, AreTables}
@@ -16,7 +16,7 @@ use Rattle.sip_subvec.proofs.prover.SubProver.siblings.Goals.{then-self-eq1, els
 
 pub node-requires-clause-within : goal.node-requires-clause-within
 node-requires-clause-within g c =
-    let es = c.self.inside.entries.items in
+    let es = c.self.inside.entries.value.items in
     let taken : ℕ = length c.self.inside.challenges.items in
     let height : c.len-height.result ≡ taken = c.len-height.ensures ∙ c.self.inside.challenges.ok.0 in
     let fit = levels_fit es taken _ c.self.inside.levels_left c.self.inside.lo c.self.inside.hi c.self.invariant in
@@ -25,7 +25,7 @@ node-requires-clause-within g c =
 
 pub node-requires-then-self-eq0-clause-within : goal.node-requires-then-self-eq0-clause-within
 node-requires-then-self-eq0-clause-within g c =
-    let es = c.self.inside.entries.items in
+    let es = c.self.inside.entries.value.items in
     let items = c.self.inside.challenges.items in
     let left : ℕ = c.self.inside.levels_left in
     let height : c.len-height.result ≡ length items = c.len-height.ensures ∙ c.self.inside.challenges.ok.0 in
@@ -35,16 +35,20 @@ node-requires-then-self-eq0-clause-within g c =
     let inside = right_within es (length items) _ left c.self.inside.lo c.self.inside.hi c.self.invariant some c.if-self-eq0.true in
     rw height (omega (arith, fit, inside))
 
+-- what is lent of a shared list is its items
+same_items : {entries : List Entry} {lent list : Vec Entry Global} → entries ≡ lent.items → lent ≡ list → entries ≡ list.items
+same_items items same = items ∙ ap (λ (v : Vec Entry Global). v.items) same
+
 -- what a call for a node gives is the node
-its_node : (g : given.Over) (c : goal.Joined-self-eq0 g) (entries : List Entry) (k x : ℕ) → entries ≡ c.self.inside.entries.items → k < 2 ^ c.self.inside.levels_left
+its_node : (g : given.Over) (c : goal.Joined-self-eq0 g) (entries : List Entry) (k x : ℕ) → entries ≡ c.self.inside.entries.value.items → k < 2 ^ c.self.inside.levels_left
     → ((challenges : List ℕ) → length challenges ≡ c.len-height.result
     → AreTables g.F.Field.MODULUS (zero_factor g.F.Field.MODULUS Tree) challenges (take c.tables_of-count.result c.tables_of-count.new.tables)
     → length challenges ≤ 7 * length (take c.tables_of-count.result c.tables_of-count.new.tables) → Rises 0 entries
     → x ≡ entries_sum g.F.Field.MODULUS challenges (entries_below c.len-height.result k entries) % g.F.Field.MODULUS)
-    → x ≡ get_or (level_over g.F.Field.MODULUS (c.self.inside.levels_left + length c.self.inside.challenges.items) c.self.inside.entries.items (map g.F.Field.number c.self.inside.challenges.items)) k 0
+    → x ≡ get_or (level_over g.F.Field.MODULUS (c.self.inside.levels_left + length c.self.inside.challenges.items) c.self.inside.entries.value.items (map g.F.Field.number c.self.inside.challenges.items)) k 0
 its_node g c entries k x same inside ensures =
     let p : ℕ = g.F.Field.MODULUS in
-    let es = c.self.inside.entries.items in
+    let es = c.self.inside.entries.value.items in
     let items = c.self.inside.challenges.items in
     let n : ℕ = c.tables_of-count.result in
     let height : length items ≡ c.len-height.result = sym c.self.inside.challenges.ok.0 ∙ sym c.len-height.ensures in
@@ -60,7 +64,7 @@ its_node g c entries k x same inside ensures =
 pub returns-clause-left : goal.returns-clause-left
 returns-clause-left g c =
     let p : ℕ = g.F.Field.MODULUS in
-    let es = c.self.inside.entries.items in
+    let es = c.self.inside.entries.value.items in
     let items = c.self.inside.challenges.items in
     let left : ℕ = c.self.inside.levels_left in
     let lo : ℕ = c.self.inside.lo in
@@ -69,7 +73,7 @@ returns-clause-left g c =
       | then-self-eq1 w ↦
           let inside = left_within es (length items) _ left lo c.self.inside.hi c.self.invariant in
           ap (option_map g.F.Field.number) w.left-is
-          ∙ ap (λ y. Some y) (its_node g c w.deref-then-self-eq1.result.now (lo - 1) (g.F.Field.number w.node.result) w.deref-then-self-eq1.ensures.value inside w.node.ensures)
+          ∙ ap (λ y. Some y) (its_node g c w.deref-then-self-eq1-2.result.now (lo - 1) (g.F.Field.number w.node.result) (same_items w.deref-then-self-eq1-2.ensures.value w.deref-then-self-eq1.ensures) inside w.node.ensures)
           ∙ is_there (lo % 2) 1 x w.if-self-eq1.true
       | else-self-eq1 w ↦ ap (option_map g.F.Field.number) w.left-is ∙ not_there (lo % 2) 1 x w.if-self-eq1.false
     ] in
@@ -78,7 +82,7 @@ returns-clause-left g c =
 pub returns-clause-right : goal.returns-clause-right
 returns-clause-right g c =
     let p : ℕ = g.F.Field.MODULUS in
-    let es = c.self.inside.entries.items in
+    let es = c.self.inside.entries.value.items in
     let items = c.self.inside.challenges.items in
     let left : ℕ = c.self.inside.levels_left in
     let hi : ℕ = c.self.inside.hi in
@@ -89,7 +93,7 @@ returns-clause-right g c =
       | then-self-eq0 w ↦
           let inside = right_within es (length items) _ left c.self.inside.lo hi c.self.invariant some w.if-self-eq0.true in
           ap (option_map g.F.Field.number) w.right-is
-          ∙ ap (λ y. Some y) (its_node g c w.deref-then-self-eq0.result.now (hi + 1) (g.F.Field.number w.node-then-self-eq0.result) w.deref-then-self-eq0.ensures.value inside w.node-then-self-eq0.ensures)
+          ∙ ap (λ y. Some y) (its_node g c w.deref-then-self-eq0-2.result.now (hi + 1) (g.F.Field.number w.node-then-self-eq0.result) (same_items w.deref-then-self-eq0-2.ensures.value w.deref-then-self-eq0.ensures) inside w.node-then-self-eq0.ensures)
           ∙ is_there (hi % 2) 0 x w.if-self-eq0.true
       | else-self-eq0 w ↦ ap (option_map g.F.Field.number) w.right-is ∙ not_there (hi % 2) 0 x w.if-self-eq0.false
     ] in

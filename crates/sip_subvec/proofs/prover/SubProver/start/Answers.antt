@@ -25,14 +25,14 @@ returns-clause-begun g c =
     let items = c.in_ok-challenges.challenges.items in
     let none = c.in_ok-challenges.ensures.items in
     let size : length numbers ≡ 2 ^ left = c.depth.ensures.numbers ∙ ap (λ d. 2 ^ d) (sym c.get-levels_left.ensures.same) in
-    let level : level_over p (left + length items) c.in_ok-entries.entries.items (map g.F.Field.number items) ≡ map (residue p) numbers =
-    ap (λ xs. level_over p (left + length xs) c.in_ok-entries.entries.items (map g.F.Field.number xs)) none
-    ∙ ap (λ d. level_over p d c.in_ok-entries.entries.items []) (let same : left + 0 ≡ left = omega arith in same)
+    let level : level_over p (left + length items) c.in_ok-entries.entries.value.items (map g.F.Field.number items) ≡ map (residue p) numbers =
+    ap (λ xs. level_over p (left + length xs) c.in_ok-entries.entries.value.items (map g.F.Field.number xs)) none
+    ∙ ap (λ d. level_over p d c.in_ok-entries.entries.value.items []) (let same : left + 0 ≡ left = omega arith in same)
     ∙ ap (λ es. level_over p left es []) c.in_ok-entries.ensures
     ∙ level_begun p left numbers size in
     ap (λ l. record { level = l; lo = c.args.lo; hi = c.args.hi }) level
 
 pub returns-clause-length : goal.returns-clause-length
 returns-clause-length g c =
-    level_size g.F.Field.MODULUS g.F.Field.number c.in_ok-entries.entries.items c.in_ok-challenges.challenges.items c.get-levels_left.result
+    level_size g.F.Field.MODULUS g.F.Field.number c.in_ok-entries.entries.value.items c.in_ok-challenges.challenges.items c.get-levels_left.result
     ∙ ap (λ d. 2 ^ d) (c.get-levels_left.ensures.same ∙ c.depth.ensures.same)
