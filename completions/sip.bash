@@ -12,10 +12,11 @@ _sip_kinds() {
         gen) echo number number depth ;;
         lines | widen) echo stream depth ;;
         play) echo stream file helper record depth query ;;
+        panel) echo stream file helpers depth query ;;
     esac
 }
 
-_sip_commands='verify play help lookup helplook moments helpmom audit show convert gen lines widen
+_sip_commands='verify play panel help lookup helplook moments helpmom audit show convert gen lines widen
     --help -h --progress --version -V'
 _sip_queries='sub: range:0: range:1: f2:0 f2:1 inner heavy:0: heavy:1: share:0: share:1:'
 _sip_lookups='index: pred: succ:'
@@ -36,6 +37,7 @@ _sip_candidates() {
             compgen -f -- "$word"
             ;;
         helper) compgen -W 'honest skewed mute' -- "$word" ;;
+        helpers) compgen -P "${word%"${word##*,}"}" -W 'honest skewed mute' -- "${word##*,}" ;;
         depth) depths=$(seq 48) && compgen -W "$depths" -- "$word" ;;
         file) compgen -f -- "$word" ;;
         stream | stored)

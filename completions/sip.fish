@@ -26,6 +26,8 @@ function __sip_kinds
             printf '%s\n' stream depth
         case play
             printf '%s\n' stream file helper record depth query
+        case panel
+            printf '%s\n' stream file helpers depth query
     end
 end
 
@@ -60,6 +62,9 @@ function __sip_candidates
             __fish_complete_path $word
         case helper
             printf '%s\n' honest skewed mute
+        case helpers
+            set -l front (string replace -r '[^,]*$' '' -- "$word")
+            printf '%s\n' "$front"{honest,skewed,mute}
         case depth
             seq 48
         case query
@@ -101,6 +106,7 @@ complete -c sip -n __sip_is_first -a gen -d 'write a made stream'
 complete -c sip -n __sip_is_first -a lines -d 'print a stream as lines of text'
 complete -c sip -n __sip_is_first -a widen -d 'write a stream as wide records'
 complete -c sip -n __sip_is_first -a play -d 'ask a helper in the same program'
+complete -c sip -n __sip_is_first -a panel -d 'ask several of them in turn'
 complete -c sip -n __sip_is_first -s h -l help -d 'print the page of all commands'
 complete -c sip -n __sip_is_first -l progress -d 'say how far the command is'
 complete -c sip -n __sip_is_first -s V -l version -d 'print the version'

@@ -3,7 +3,8 @@
 
 use sip_cli::{
     FileId, LinkOrder, OPENING_FROM, OPENING_TO, Opening, PlanFiles, PortPlan, ToldLink,
-    ToldSource, Words, finish, page_of, play_words, ports, run, status_without_words, write_page,
+    ToldSource, Words, finish, page_of, panel_words, play_words, ports, run, status_without_words,
+    write_page,
 };
 use sip_ports::{
     FileLink, FileSink, FileSource, NullSink, Sink, Source, StderrSink, StdoutSink, write_whole,
@@ -160,7 +161,8 @@ struct RunPorts {
     peer: Box<Peer>,
 }
 
-/// Does what the words say over these ports. Words of `play` have no use for the link.
+/// Does what the words say over these ports. Words of `play` and `panel` have no use for the link, and
+/// those of `panel` none for what keeps a transcript.
 fn obey_keeping<S: Source, C: Sink>(
     rt: &HostRuntime,
     words: &Words,
@@ -170,24 +172,26 @@ fn obey_keeping<S: Source, C: Sink>(
 ) -> Status {
     let mut report = StdoutSink::new(io::writer(rt));
     let second = &mut *held.second;
-    let played = play_words(rt.alloc(), words, first, second, &mut report, keep);
-    match played {
-        Some(status) => status,
-        None => run(
-            rt.alloc(),
-            words,
-            first,
-            second,
-            &mut *held.peer,
-            &mut report,
-            keep,
-        ),
+    if let Some(status) = play_words(rt.alloc(), words, first, second, &mut report, keep) {
+        return status;
     }
+    if let Some(status) = panel_words(rt.alloc(), words, first, second, &mut report) {
+        return status;
+    }
+    run(
+        rt.alloc(),
+        words,
+        first,
+        second,
+        &mut *held.peer,
+        &mut report,
+        keep,
+    )
 }
 
 /// Opens the files that the words name, but for the first source, and does what the words say. A
-/// file that does not open is a port whose calls fail. Words of `play` name none for a link, since
-/// its helper is in the program. `None` where memory is refused to a port.
+/// file that does not open is a port whose calls fail. Words of `play` and `panel` name none for a
+/// link, since their helpers are in the program. `None` where memory is refused to a port.
 #[inline(never)]
 fn obey_over<S: Source>(
     rt: &HostRuntime,

@@ -15,10 +15,11 @@ use Rattle.sip_cli.specs.declared.helper_name.HelperName.TheVariants.{Mute}
 use Rattle.sip_cli.specs.declared.shape.Shape.TheVariants.{Name}
 use Rattle.sip_cli.specs.declared.stream.Stream.TheVariants as stream
 use Rattle.sip_cli.specs.declared.verb.Verb.{Verb}
-use Rattle.sip_cli.specs.declared.verb.Verb.TheVariants.{Verify, Help, Audit, Show, Convert, Gen, Lines, Widen, Play, Lookup, HelpLook, Moments, HelpMoments}
+use Rattle.sip_cli.specs.declared.verb.Verb.TheVariants.{Verify, Help, Audit, Show, Convert, Gen, Lines, Widen, Play, Lookup, HelpLook, Moments, HelpMoments, Panel}
 use Rattle.sip_cli.specs.Shapes.{IsOf, IsDepth, moment_word}
 use Rattle.sip_cli.specs.Verbs.{verb_word, shapes, depth_at, least_asked, most_asked}
-use Rattle.sip_cli.specs.Words.{word, AsksOf, IsCommandOf, BeginCommand, IsRefusedAt}
+use Rattle.sip_cli.proofs.HelperWords.{count_named}
+use Rattle.sip_cli.specs.Words.{word, AsksOf, HasSeats, IsCommandOf, BeginCommand, IsRefusedAt}
 
 -- a moment to end with
 abbrev pub example_moment : Moment
@@ -39,6 +40,7 @@ examples Lookup = codes "lookup" ∷ codes "s" ∷ codes "s" ∷ codes "f" ∷ c
 examples HelpLook = codes "helplook" ∷ codes "f" ∷ codes "t" ∷ []
 examples Moments = codes "moments" ∷ codes "s" ∷ codes "s" ∷ codes "f" ∷ codes "t" ∷ decimal 1 ∷ moment_word example_moment ∷ []
 examples HelpMoments = codes "helpmom" ∷ codes "f" ∷ codes "t" ∷ []
+examples Panel = codes "panel" ∷ codes "s" ∷ codes "s" ∷ codes "mute" ∷ decimal 1 ∷ query_word (Sub 0 0) ∷ []
 
 -- they are as many as there have to be
 pub examples_long : (verb : Verb) → length (examples verb) ≡ 1 + length (shapes verb) + least_asked verb
@@ -55,6 +57,7 @@ examples_long Lookup = refl
 examples_long HelpLook = refl
 examples_long Moments = refl
 examples_long HelpMoments = refl
+examples_long Panel = refl
 
 -- each has its shape
 pub examples_fit : (verb : Verb) (n : ℕ) → n < length (shapes verb) → IsOf (get_or (shapes verb) n Name) (word (examples verb) (n + 1))
@@ -109,6 +112,11 @@ examples_fit Moments (suc (suc (suc (suc (suc n))))) h = absurd (omega arith)
 examples_fit HelpMoments zero h = λ e. cc
 examples_fit HelpMoments (suc zero) h = λ e. cc
 examples_fit HelpMoments (suc (suc n)) h = absurd (omega arith)
+examples_fit Panel zero h = (stream.File, (λ e. cc, refl, refl, refl))
+examples_fit Panel (suc zero) h = λ e. cc
+examples_fit Panel (suc (suc zero)) h = (Mute ∷ [], (omega arith, refl))
+examples_fit Panel (suc (suc (suc zero))) h = (1, (omega arith, omega arith, refl))
+examples_fit Panel (suc (suc (suc (suc n)))) h = absurd (omega arith)
 
 -- the example asks something at each depth
 pub example_asks : (verb : Verb) (n d : ℕ) → length (shapes verb) < n → n < length (examples verb) → AsksOf verb d (word (examples verb) n)
@@ -125,6 +133,7 @@ example_asks Lookup n d low high = let one : n ≡ 6 = omega arith in let item =
 example_asks HelpLook n d low high = absurd (omega arith)
 example_asks Moments n d low high = let one : n ≡ 6 = omega arith in rw one (example_moment, (record { least = omega arith; most = omega arith }, refl))
 example_asks HelpMoments n d low high = absurd (omega arith)
+example_asks Panel n d low high = let one : n ≡ 5 = omega arith in let item = pow_pos d in rw one (Sub 0 0, (refl, (omega arith, omega arith), refl))
 
 -- a verb that asks something has a depth before it
 pub depth_shape : (verb : Verb) (n : ℕ) → length (shapes verb) < n → n < 1 + length (shapes verb) + most_asked verb → (words : List (List ℕ)) → IsOf (get_or (shapes verb) (length (shapes verb) - 1) Name) (word words (depth_at verb)) → (d : ℕ) × IsDepth d (word words (depth_at verb))
@@ -141,6 +150,7 @@ depth_shape Lookup n low high words is = is
 depth_shape HelpLook n low high words is = absurd (omega arith)
 depth_shape Moments n low high words is = is
 depth_shape HelpMoments n low high words is = absurd (omega arith)
+depth_shape Panel n low high words is = is
 
 -- each verb has words behind it
 pub has_shapes : (verb : Verb) → 1 ≤ length (shapes verb)
@@ -157,6 +167,7 @@ has_shapes Lookup = omega arith
 has_shapes HelpLook = omega arith
 has_shapes Moments = omega arith
 has_shapes HelpMoments = omega arith
+has_shapes Panel = omega arith
 
 pub least_below_most : (verb : Verb) → least_asked verb ≤ most_asked verb
 least_below_most Verify = omega arith
@@ -172,6 +183,7 @@ least_below_most Lookup = omega arith
 least_below_most HelpLook = omega arith
 least_below_most Moments = omega arith
 least_below_most HelpMoments = omega arith
+least_below_most Panel = omega arith
 
 -- the first n words are those of a command of this verb, which is not yet too long
 pub record Begun (verb : Verb) (words : List (List ℕ)) (n : ℕ) : Type 0 where
@@ -181,6 +193,7 @@ pub record Begun (verb : Verb) (words : List (List ℕ)) (n : ℕ) : Type 0 wher
   pub most : n ≤ 1 + length (shapes verb) + most_asked verb
   pub shaped : (i : ℕ) → i < length (shapes verb) → i + 1 < n → IsOf (get_or (shapes verb) i Name) (word words (i + 1))
   pub asked : (i : ℕ) → length (shapes verb) < i → i < n → (d : ℕ) × IsDepth d (word words (depth_at verb)) × AsksOf verb d (word words i)
+  pub seats : (i : ℕ) → length (shapes verb) < i → i < n → HasSeats verb (word words 3) (i - length (shapes verb))
 
 -- the words up to n, and the example's from there on
 abbrev pub ended : Verb → List (List ℕ) → ℕ → List (List ℕ)
@@ -230,6 +243,25 @@ ended_asked verb words n b i low high =
           (deep.0, deep.1, subst (AsksOf verb deep.0) (sym (ended_after verb words n i b.within after)) (example_asks verb i deep.0 low (omega arith))))
     ]
 
+-- helpers that a word names have a seat each for one query
+one_seat_each : (w : List ℕ) → IsOf (get_or (shapes Panel) 2 Name) w → HasSeats Panel w 1
+one_seat_each w (names, are) =
+    let count = count_named w names are in
+    let few = are.0 in
+    omega arith
+
+-- and each query of it has its seats
+pub ended_seats : (verb : Verb) (words : List (List ℕ)) (n : ℕ) → Begun verb words n → (i : ℕ) → length (shapes verb) < i → i < length (ended verb words n) → HasSeats verb (word (ended verb words n) 3) (i - length (shapes verb))
+ended_seats Panel words n b i low high =
+    elim (cases_lt i n) [
+      | inl before ↦ subst (λ w. HasSeats Panel w (i - 4)) (sym (ended_before Panel words n 3 b.within (omega arith))) (b.seats i low before)
+      | inr after ↦ (
+          let long = ended_long Panel words n b.within in
+          let one : i ≡ 5 = omega arith in
+          subst (λ k. HasSeats Panel (word (ended Panel words n) 3) (k - 4)) (sym one) (one_seat_each (word (ended Panel words n) 3) (ended_shaped Panel words n b 2 (omega arith))))
+    ]
+ended_seats _ words n b i low high = tt
+
 -- words that are begun begin a command
 pub begins : (verb : Verb) (words : List (List ℕ)) (n : ℕ) → Begun verb words n → BeginCommand (take n words)
 begins verb words n b =
@@ -242,6 +274,7 @@ begins verb words n b =
         first = ended_before verb words n 0 b.within b.some_words ∙ b.first;
         shaped = ended_shaped verb words n b;
         asked = ended_asked verb words n b;
+        seats = ended_seats verb words n b;
         least = omega arith;
         most = omega (arith, b.most);
       },
@@ -256,6 +289,7 @@ begins_none words = (
     first = refl;
     shaped = examples_fit Verify;
     asked = λ n low high. (1, (omega arith, omega arith, refl), example_asks Verify n 1 low high);
+    seats = λ n low high. tt;
     least = omega arith;
     most = omega arith;
   },
@@ -270,7 +304,7 @@ lettered w =
     if first == 103 then Gen else (
     if first == 108 then (if get_or w 1 0 == 111 then Lookup else Lines) else (
     if first == 109 then Moments else (
-    if first == 112 then Play else (
+    if first == 112 then (if get_or w 1 0 == 97 then Panel else Play) else (
     if first == 115 then Show else (
     if first == 97 then Audit else (
     if first == 99 then Convert else Widen))))))))
@@ -289,6 +323,7 @@ lettered_word Lookup = refl
 lettered_word HelpLook = refl
 lettered_word Moments = refl
 lettered_word HelpMoments = refl
+lettered_word Panel = refl
 
 -- one word has one verb
 pub verb_once : (verb other : Verb) → verb_word verb ≡ verb_word other → verb ≡ other

@@ -1,6 +1,7 @@
 -- What each command keeps, and that the command keeps no more: the one call that does it carries
 -- the clause of the command.
 use Rattle.std.proofs.Common.{◌≡◌, ℕ, List, [], Option, Some, refl, sym, subst}
+use Rattle.arrayvec.specs.ArrayVec.{ArrayVec}
 use Rattle.sip_ports.specs.declared.port.TalkEvent.{TalkEvent}
 use Rattle.sip_ports.specs.Ports.{GoesOn, outs}
 use Rattle.sip_ports.proofs.TalkLemmas.{GoesOn-refl}
@@ -34,7 +35,7 @@ use Rattle.sip_transcript.specs.Listings.{listing}
 use Rattle.sip_transcript.specs.Tales.{Tale}
 use Rattle.sip_transcript.specs.Writing.{Writes}
 use Rattle.sip_cli.specs.declared.command.Command.{Command}
-use Rattle.sip_cli.specs.declared.command.Command.TheVariants.{Verify, Help, Audit, Show, Convert, Gen, Lines, Widen, Play, Lookup, HelpLook, Moments, HelpMoments}
+use Rattle.sip_cli.specs.declared.command.Command.TheVariants.{Verify, Help, Audit, Show, Convert, Gen, Lines, Widen, Play, Lookup, HelpLook, Moments, HelpMoments, Panel}
 use Rattle.sip_cli.specs.declared.helper_name.HelperName.{HelperName}
 use Rattle.sip_cli.specs.CommandClause.{CommandClause, MomentPromises, unkept}
 use Rattle.sip_cli.specs.CopyClause.{CopyClause}
@@ -77,6 +78,7 @@ module _ (before now : Moment) (status : Status) where
   Keeps (Moments task) = (x : Exchange) → Tells before now x
       → MomentPromises task (unkept x) before.faults now.faults status
   Keeps HelpMoments = HelpClause ServesMoments before.talk now.talk status
+  Keeps (Panel task names) = Verified task
 
 module _ {before now : Moment} {status : Status} where
   -- where the command is known, what it keeps is all that is to be kept
@@ -88,6 +90,7 @@ module _ {before now : Moment} {status : Status} where
       (λ (c : Command). CommandClause (λ is. c ≡ is) before now status) (sym e) (record {
         verify = λ task is. subst (Keeps before now status) is kept;
         play = λ task name is. subst (Keeps before now status) is kept;
+        panel = λ task names is. subst (Keeps before now status) is kept;
         made = λ depth is. subst (Keeps before now status) is kept;
         lines = λ form depth is. subst (Keeps before now status) is kept;
         wide = λ form depth is. subst (Keeps before now status) is kept;
@@ -113,6 +116,10 @@ module _ {before now : Moment} {status : Status} where
   pub play_keeps : {c : Command} (task : Task) (name : HelperName) → c ≡ Play task name
       → RunClause task before now status → CommandClause (λ is. c ≡ is) before now status
   play_keeps task name e k = obeys (Play task name) e k.promises k.moves k.fault k.listed
+
+  pub panel_keeps : {c : Command} (task : Task) (names : ArrayVec HelperName) → c ≡ Panel task names
+      → RunClause task before now status → CommandClause (λ is. c ≡ is) before now status
+  panel_keeps task names e k = obeys (Panel task names) e k.promises k.moves k.fault k.listed
 
   pub audit_keeps : {c : Command} (form : Form) → c ≡ Audit form
       → AuditClause form before now status
@@ -173,6 +180,7 @@ module _ {before now : Moment} {status : Status} where
   known_by tells k = record {
     verify = λ task is. k.verify task (tells (Verify task) is);
     play = λ task name is. k.play task name (tells (Play task name) is);
+    panel = λ task names is. k.panel task names (tells (Panel task names) is);
     made = λ depth is. k.made depth (tells (Gen depth) is);
     lines = λ form depth is. k.lines form depth (tells (Lines form depth) is);
     wide = λ form depth is. k.wide form depth (tells (Widen form depth) is);
@@ -195,6 +203,7 @@ pub none_keeps : {Is : Command → Type 0} {m : Moment} (word : ℕ)
 none_keeps {m = m} word none = record {
   verify = λ task is. absurd (none (Verify task) is);
   play = λ task name is. absurd (none (Play task name) is);
+  panel = λ task names is. absurd (none (Panel task names) is);
   made = λ depth is. absurd (none (Gen depth) is);
   lines = λ form depth is. absurd (none (Lines form depth) is);
   wide = λ form depth is. absurd (none (Widen form depth) is);

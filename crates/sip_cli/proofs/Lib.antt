@@ -1,5 +1,6 @@
 pub mod Decimals
 pub mod QueryWords
+pub mod HelperWords
 pub mod LookWords
 pub mod MomentWords
 pub mod Beginning
@@ -12,6 +13,7 @@ pub mod RunLemmas
 pub mod UnkeptRuns
 pub mod CommandKeeps
 pub mod PlayLemmas
+pub mod PanelLemmas
 pub mod Alone
 pub mod Behind
 pub mod NamedPorts

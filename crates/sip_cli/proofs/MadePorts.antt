@@ -78,6 +78,10 @@ first_counted words (command.Lookup task) plan opens = unkept_counted words task
 first_counted words command.HelpLook plan is = help_counted plan is
 first_counted words (command.Moments task) plan opens = unkept_counted words task.depth plan opens
 first_counted words command.HelpMoments plan is = help_counted plan is
+first_counted words (command.Panel task names) plan (s, named, is) =
+    let same : count_of plan.first ≡ count_of (opening_of s task.depth) = ap (λ (p : PortPlan). count_of p.first) is in
+    let few = stream_counted s (word words 1) task.depth named in
+    omega arith
 
 pub opens_counted : (words : List (List ℕ)) (c : Command) (plan : PortPlan) → Opens words c plan → (number count depth : ℕ) → plan.first ≡ Made number count depth → count ≤ most_made
 opens_counted words c plan opens number count depth is =

@@ -128,6 +128,15 @@ opens_named words (command.Moments task) plan spells opens =
     let least = spells.0.least in unkept_named words task.depth plan (omega arith) opens
 opens_named words command.HelpMoments plan spells is =
     let least = spells.least in help_named words plan (omega arith) is
+opens_named words (command.Panel task names) plan spells (s, named, is) =
+    let least = spells.0.least in
+    subst (HaveNames words) (sym is) (record {
+      first = stream_named words s task.depth (omega arith) named;
+      second = file_named words 2 (omega arith);
+      from = tt;
+      to = tt;
+      keep = tt;
+    })
 
 -- a text with a colon behind four bytes can be cut there
 cut_behind_colon : (text : List ℕ) → IsUtf8 text → 5 ≤ length text → get_or text 4 0 ≡ 58 → IsCharBoundary text 5

@@ -1,6 +1,5 @@
 -- Words are refused at one number at most, and words of a command at none; the words tell the task.
-use Rattle.std.proofs.Common.{◌≡◌, ℕ, suc, ◌+◌, ◌<◌, ◌≤◌, List, [], ◌∷◌, ◌++◌, Some, length, get_or, take, drop, sym, refl, ap, subst, ◌∙◌, inl, inr, arith}
-use Rattle.std.specs.Prelude.{◌==◌, if◌then◌else◌}
+use Rattle.std.proofs.Common.{◌≡◌, ℕ, suc, ◌+◌, ◌<◌, ◌≤◌, List, [], ◌∷◌, ◌++◌, Some, length, take, drop, sym, refl, ap, subst, ◌∙◌, inl, inr, arith}
 use Rattle.std.specs.List.{slice_get}
 use Rattle.std.proofs.lemmas.Bool.{cases_lt}
 use Rattle.std.proofs.lemmas.List.{take-append-drop, take-take, append_assoc}
@@ -14,11 +13,9 @@ use Rattle.sip_moments.specs.declared.moment.Moment.{Moment}
 use Rattle.sip_moments.specs.declared.task.MomentTask.{MomentTask}
 use Rattle.sip_cli.specs.declared.command.Command.{Command}
 use Rattle.sip_cli.specs.declared.command.Command.TheVariants as command
-use Rattle.sip_cli.specs.declared.helper_name.HelperName.{HelperName}
-use Rattle.sip_cli.specs.declared.helper_name.HelperName.TheVariants.{Honest, Skewed, Mute}
 use Rattle.sip_cli.specs.declared.verb.Verb.{Verb}
 use Rattle.sip_cli.specs.declared.verb.Verb.TheVariants as verb
-use Rattle.sip_cli.specs.Shapes.{Asks, AsksLook, AsksMoment, HasForm, IsDepth, helper_word}
+use Rattle.sip_cli.specs.Shapes.{Asks, AsksLook, AsksMoment, HasForm, IsDepth}
 use Rattle.sip_cli.specs.Verbs.{depth_at}
 use Rattle.sip_cli.specs.Words.{word, IsCommandOf, SaysAll, SaysLooks, SaysMoments, SaysTask, Spells, BeginCommand, IsRefusedAt}
 use Rattle.sip_cli.proofs.QueryWords.{query_once}
@@ -26,6 +23,7 @@ use Rattle.sip_cli.proofs.LookWords.{lookup_once}
 use Rattle.sip_cli.proofs.MomentWords.{moment_once}
 use Rattle.sip_cli.proofs.StreamWords.{form_once, stored_once}
 use Rattle.sip_cli.proofs.Beginning.{verb_once}
+use Rattle.sip_cli.proofs.HelperWords.{helper_once, helpers_once}
 use Rattle.sip_cli.proofs.Stopping.{depth_once}
 
 -- fewer words begin a command too
@@ -70,6 +68,7 @@ verb_of (command.Lookup task) = verb.Lookup
 verb_of command.HelpLook = verb.HelpLook
 verb_of (command.Moments task) = verb.Moments
 verb_of command.HelpMoments = verb.HelpMoments
+verb_of (command.Panel task names) = verb.Panel
 
 -- the words of a command are whole
 pub whole_of : (words : List (List ℕ)) (c : Command) → Spells words c → IsCommandOf (verb_of c) words
@@ -86,6 +85,7 @@ whole_of words (command.Lookup task) s = s.0
 whole_of words command.HelpLook s = s
 whole_of words (command.Moments task) s = s.0
 whole_of words command.HelpMoments s = s
+whole_of words (command.Panel task names) s = s.0
 
 -- and are refused at no number
 pub spelled_not_refused : (words : List (List ℕ)) (c : Command) (n : ℕ) → Spells words c → IsRefusedAt words n → ⊥
@@ -152,19 +152,6 @@ copy_once words f g d e has is has' also =
     let depth = depth_once (word words 2) d e is also in
     (form_once d f g (word words 1) has (subst (λ k. HasForm k g (word words 1)) (sym depth) has'), depth)
 
--- the helper whose word begins with this letter
-abbrev named : ℕ → HelperName
-named letter = if letter == 104 then Honest else (if letter == 115 then Skewed else Mute)
-
-named_word : (name : HelperName) → named (get_or (helper_word name) 0 0) ≡ name
-named_word Honest = refl
-named_word Skewed = refl
-named_word Mute = refl
-
--- one word names one helper
-helper_once : (word : List ℕ) (name other : HelperName) → word ≡ helper_word name → word ≡ helper_word other → name ≡ other
-helper_once word name other is also = sym (named_word name) ∙ (ap (λ w. named (get_or w 0 0)) (sym is ∙ also) ∙ named_word other)
-
 -- words spell one command at most
 pub command_once : (words : List (List ℕ)) (c d : Command) → Spells words c → Spells words d → c ≡ d
 command_once words (command.Verify task) (command.Verify other) s t = ap command.Verify (task_once verb.Verify words task other s.1 t.1)
@@ -185,4 +172,9 @@ command_once words (command.Lookup task) (command.Lookup other) s t = ap command
 command_once words command.HelpLook command.HelpLook s t = refl
 command_once words (command.Moments task) (command.Moments other) s t = ap command.Moments (moments_once words task other s.1 t.1)
 command_once words command.HelpMoments command.HelpMoments s t = refl
+command_once words (command.Panel task names) (command.Panel other called) s t =
+    let one = task_once verb.Panel words task other s.1 t.1 in
+    let same = helpers_once (word words 3) names.items called.items s.2 t.2 in
+    let all : names ≡ called = ap (λ items. record { items = items }) same in
+    rw (one, all) refl
 command_once words c d s t = absurd (let same = verbs_agree words c d s t in cc)

@@ -1,7 +1,9 @@
 -- The tasks that words say can be done; and which words and commands end with Usage.
-use Rattle.std.proofs.Common.{◌≡◌, ℕ, ◌<◌, ◌≤◌, List, All, length, get_or, true≢false, refl, sym, ap, subst, arith}
+use Rattle.std.proofs.Common.{◌≡◌, ℕ, ◌+◌, ◌-◌, ◌*◌, ◌<◌, ◌≤◌, List, All, length, get_or, true≢false, refl, sym, ap, subst, arith}
+use Rattle.std.proofs.Math.Nat.{mul_comm}
 use Rattle.std.proofs.lemmas.Option.{slice_get-get_or}
 use Rattle.std.specs.Prelude.{◌↔◌}
+use Rattle.arrayvec.specs.ArrayVec.{ArrayVec}
 use Rattle.sip_stream.specs.declared.form.Form.{Form}
 use Rattle.sip_stream.specs.declared.form.Form.TheVariants.{Binary, Text, Wide}
 use Rattle.sip_stream.specs.Layouts.{deepest_in}
@@ -17,13 +19,15 @@ use Rattle.sip_verifier.specs.declared.status.Status.TheVariants as statuses
 use Rattle.sip_verifier.specs.declared.task.Task.{Task}
 use Rattle.sip_verifier.specs.Tasks.{CanBeAsked, CanBeDone}
 use Rattle.sip_cli.specs.declared.command.Command.{Command}
-use Rattle.sip_cli.specs.declared.command.Command.TheVariants.{Verify, Help, Audit, Show, Convert, Gen, Lines, Widen, Play, Lookup, HelpLook, Moments, HelpMoments}
+use Rattle.sip_cli.specs.declared.command.Command.TheVariants.{Verify, Help, Audit, Show, Convert, Gen, Lines, Widen, Play, Lookup, HelpLook, Moments, HelpMoments, Panel}
 use Rattle.sip_cli.specs.declared.helper_name.HelperName.{HelperName}
 use Rattle.sip_cli.specs.declared.verb.Verb.{Verb}
 use Rattle.sip_cli.specs.declared.verb.Verb.TheVariants as verbs
 use Rattle.sip_cli.specs.Statuses.{Ends}
-use Rattle.sip_cli.specs.Verbs.{least_asked}
-use Rattle.sip_cli.specs.Words.{IsCommandOf, SaysAll, SaysTask, Spells, IsRefusedAt}
+use Rattle.sip_cli.specs.Verbs.{least_asked, shapes}
+use Rattle.sip_cli.specs.Words.{IsCommandOf, SaysAll, SaysTask, Spells, IsRefusedAt, word}
+use Rattle.sip_wire.specs.Table.{most_queries}
+use Rattle.sip_cli.proofs.HelperWords.{count_named}
 use Rattle.sip_cli.proofs.Refusals.{refused_once, spelled_not_refused}
 
 -- ---- tasks
@@ -61,6 +65,10 @@ pub played : (words : List (List ℕ)) (task : Task) (name : HelperName)
     → Spells words (Play task name) → CanBeDone task
 played words task name (whole, says, named) = served_by verbs.Play words task refl whole says
 
+pub seated : (words : List (List ℕ)) (task : Task) (names : ArrayVec HelperName)
+    → Spells words (Panel task names) → CanBeDone task
+seated words task names (whole, says, named) = served_by verbs.Panel words task refl whole says
+
 looked : (words : List (List ℕ)) (task : LookTask) → Spells words (Lookup task) → CanLookUp task
 looked words task (whole, says) = record {
   some = some_asked says refl whole;
@@ -91,6 +99,26 @@ pub summed_task : (words : List (List ℕ)) (c : Command) → Spells words c
     → (task : MomentTask) → c ≡ Moments task → moments.CanBeDone task
 summed_task words c s task e = summed words task (subst (Spells words) e s)
 
+pub seated_task : (words : List (List ℕ)) (c : Command) → Spells words c
+    → (task : Task) (names : ArrayVec HelperName) → c ≡ Panel task names → CanBeDone task
+seated_task words c s task names e = seated words task names (subst (Spells words) e s)
+
+-- ---- panels
+
+-- each helper that words of `panel` name has a seat for each query
+pub seats_for_all : (words : List (List ℕ)) (task : Task) (names : ArrayVec HelperName)
+    → Spells words (Panel task names)
+    → length names.items * length task.queries.items ≤ most_queries
+seats_for_all words task names (whole, says, named) =
+    let count = count_named (word words 3) names.items named in
+    let some = some_asked says refl whole in
+    let long = says.count in
+    let queries = length task.queries.items in
+    let seats = whole.seats (4 + queries) (omega arith) (omega arith) in
+    let number : 4 + queries - length (shapes verbs.Panel) ≡ queries = omega arith in
+    let all : queries * length names.items ≤ most_queries = rw (number, count) at seats in
+    rw (mul_comm (length names.items) queries) all
+
 -- ---- Usage
 
 -- no command ends with it
@@ -108,6 +136,7 @@ ends_otherwise (Lookup task) word listed = absurd (true≢false (sym listed))
 ends_otherwise HelpLook word listed = listed
 ends_otherwise (Moments task) word listed = absurd (true≢false (sym listed))
 ends_otherwise HelpMoments word listed = listed
+ends_otherwise (Panel task names) word listed = absurd (true≢false (sym listed))
 
 pub never_usage : (c : Command) (status : Status) (word : ℕ)
     → Ends c status → status ≡ statuses.Usage word → ⊥

@@ -12,11 +12,11 @@ use Rattle.sip_cli.specs.declared.shape.Shape.TheVariants.{Name, Depth}
 use Rattle.sip_cli.specs.declared.stream.Stream.{Stream}
 use Rattle.sip_cli.specs.declared.words.Usage.{Usage}
 use Rattle.sip_cli.specs.declared.verb.Verb.{Verb}
-use Rattle.sip_cli.specs.declared.verb.Verb.TheVariants.{Verify, Play, Lookup, Moments}
+use Rattle.sip_cli.specs.declared.verb.Verb.TheVariants.{Verify, Play, Lookup, Moments, Panel}
 use Rattle.sip_cli.specs.Shapes.{IsOf, IsDepth, HasForm, IsStreamWord, Asks, AsksLook, AsksMoment}
 use Rattle.sip_cli.specs.Verbs.{verb_word, shapes, depth_at, least_asked, most_asked}
-use Rattle.sip_cli.specs.Words.{word, AsksOf, IsCommandOf, SaysAll, IsRefusedAt}
-use Rattle.sip_cli.specs.inside.Progress.{HaveShapes, StopsInShapes, Fitted, TakesStream, TakesAll, AreAsked, StopsInAsked}
+use Rattle.sip_cli.specs.Words.{word, AsksOf, HasSeats, IsCommandOf, SaysAll, IsRefusedAt}
+use Rattle.sip_cli.specs.inside.Progress.{HaveShapes, StopsInShapes, Fitted, SeatsUpTo, TakesStream, TakesAll, AreAsked, StopsInAsked}
 use Rattle.sip_cli.proofs.Beginning.{Begun, refused}
 
 -- a word has one depth
@@ -32,6 +32,7 @@ begun_shapes verb words n first few have = record {
   most = omega arith;
   shaped = λ i less before. have.1 i (omega arith);
   asked = λ i low high. absurd (omega arith);
+  seats = λ i low high. absurd (omega arith);
 }
 
 -- a word that has not its shape is refused
@@ -60,6 +61,16 @@ takes_lookup = record { last_is = refl; some = omega arith; stream = refl; depth
 
 pub takes_moments : TakesAll AsksMoment Moments 5
 takes_moments = record { last_is = refl; some = omega arith; stream = refl; depth = refl; least = refl; most = refl; asks = λ d q w is. (q, is); asked = λ d w is. is }
+
+pub takes_panel : TakesAll Asks Panel 4
+takes_panel = record { last_is = refl; some = omega arith; stream = refl; depth = refl; least = refl; most = refl; asks = λ d q w is. (q, is); asked = λ d w is. is }
+
+-- all queries that a run may have have seats, where no number is without
+pub all_seated : (verb : Verb) (words : List (List ℕ)) → ((word : List ℕ) (number : ℕ) → HasSeats verb word number) → SeatsUpTo verb words most_queries
+all_seated verb words has = record {
+  enough = λ number few. has (word words 3) number;
+  few = λ number more most. absurd (omega arith);
+}
 
 -- at each place of a list stands one
 pub one_at : {X : Type 0} (xs : List X) (i : ℕ) → i < length xs → (x : X) × (slice_get xs i ≡ Some x)
@@ -93,10 +104,10 @@ module _ {Q : Type 0} (IsWord : ℕ → Q → List ℕ → Type 0) where
       )
 
   -- the words of the verb as far as they were read are begun
-  pub begun_asked : (verb : Verb) (words : List (List ℕ)) (last d n : ℕ) (asked : List Q) → TakesAll IsWord verb last → Fitted verb words → IsDepth d (word words last) → n ≤ last + 1 + most_queries → AreAsked IsWord words d (last + 1) asked n → Begun verb words n
-  begun_asked verb words last d n asked takes fitted deep most are =
+  pub begun_asked : (verb : Verb) (words : List (List ℕ)) (last most d n : ℕ) (asked : List Q) → TakesAll IsWord verb last → SeatsUpTo verb words most → most ≤ most_queries → Fitted verb words → IsDepth d (word words last) → n ≤ last + 1 + most → AreAsked IsWord words d (last + 1) asked n → Begun verb words n
+  begun_asked verb words last most d n asked takes seated room fitted deep within are =
       let long = takes.last_is in
-      let room = takes.most in
+      let all = takes.most in
       let count = are.count in
       record {
         first = fitted.0;
@@ -111,37 +122,49 @@ module _ {Q : Type 0} (IsWord : ℕ → Q → List ℕ → Type 0) where
               subst (λ k. IsDepth d (word words k)) (sym long) deep,
               takes.asks d one.0 (word words i) (subst (λ k. IsWord d one.0 (word words k)) sum (are.each (i - (last + 1)) one.0 one.1)),
             );
+        seats = λ i low high. seated.enough (i - length (shapes verb)) (omega arith);
       }
 
   -- a word that asks nothing is refused, and so is one too many
-  pub refused_asked : (verb : Verb) (words : List (List ℕ)) (last d n : ℕ) → TakesAll IsWord verb last → Fitted verb words → IsDepth d (word words last) → StopsInAsked IsWord words d (last + 1) n → IsRefusedAt words n
-  refused_asked verb words last d n takes fitted deep stops =
-      let begun = begun_asked verb words last d n stops.asked takes fitted deep stops.most stops.before in
+  pub refused_asked : (verb : Verb) (words : List (List ℕ)) (last most d n : ℕ) → TakesAll IsWord verb last → SeatsUpTo verb words most → 0 < most → most ≤ most_queries → Fitted verb words → IsDepth d (word words last) → StopsInAsked IsWord words d (last + 1) most n → IsRefusedAt words n
+  refused_asked verb words last most d n takes seated any room fitted deep stops =
+      let begun = begun_asked verb words last most d n stops.asked takes seated room fitted deep stops.within stops.before in
+      let within = stops.within in
       let count = stops.before.count in
       let long = takes.last_is in
-      let room = takes.most in
+      let some = takes.some in
+      let all = takes.most in
       let needs = takes.least in
       refused verb words n begun
       (λ more whole is longer reads.
-      let fewer : n < last + 1 + most_queries = let most = is.most in omega arith in
-      let a = is.asked n (omega arith) longer in
-      let there : IsDepth a.0 (word whole last) = subst (λ k. IsDepth a.0 (word whole k)) long a.1 in
-      let same : a.0 ≡ d = depth_once (word words last) a.0 d (subst (IsDepth a.0) (reads last (omega arith)) there) deep in
-      let asks : AsksOf verb d (word words n) = subst (λ e. AsksOf verb e (word words n)) same (subst (AsksOf verb a.0) (reads n (omega arith)) a.2) in
-      let one = takes.asked d (word words n) asks in
-      stops.here fewer more one.0 one.1)
+      elim (cases_lt n (last + 1 + most)) [
+        | inl fewer ↦ (
+            let a = is.asked n (omega arith) longer in
+            let there : IsDepth a.0 (word whole last) = subst (λ k. IsDepth a.0 (word whole k)) long a.1 in
+            let same : a.0 ≡ d = depth_once (word words last) a.0 d (subst (IsDepth a.0) (reads last (omega arith)) there) deep in
+            let asks : AsksOf verb d (word words n) = subst (λ e. AsksOf verb e (word words n)) same (subst (AsksOf verb a.0) (reads n (omega arith)) a.2) in
+            let one = takes.asked d (word words n) asks in
+            stops.here fewer more one.0 one.1)
+        | inr beyond ↦ (
+            let few = is.most in
+            let number = n - length (shapes verb) in
+            let seats = subst (λ w. HasSeats verb w number) (reads 3 (omega arith)) (is.seats n (omega arith) longer) in
+            seated.few number (omega arith) (omega arith) seats)
+      ])
       (λ least is. let enough = is.least in let missing = stops.missing least in omega arith)
 
   -- words of such a verb with all that they ask are whole
-  pub whole_asked : (verb : Verb) (words : List (List ℕ)) (last d : ℕ) (asked : List Q) → TakesAll IsWord verb last → Fitted verb words → IsDepth d (word words last) → AreAsked IsWord words d (last + 1) asked (length words) → last + 1 < length words → length words ≤ last + 1 + most_queries → IsCommandOf verb words
-  whole_asked verb words last d asked takes fitted deep are enough few =
+  pub whole_asked : (verb : Verb) (words : List (List ℕ)) (last most d : ℕ) (asked : List Q) → TakesAll IsWord verb last → SeatsUpTo verb words most → most ≤ most_queries → Fitted verb words → IsDepth d (word words last) → AreAsked IsWord words d (last + 1) asked (length words) → last + 1 < length words → length words ≤ last + 1 + most → IsCommandOf verb words
+  whole_asked verb words last most d asked takes seated room fitted deep are enough few =
       let long = takes.last_is in
-      let room = takes.most in
+      let all = takes.most in
       let needs = takes.least in
+      let begun = begun_asked verb words last most d (length words) asked takes seated room fitted deep few are in
       record {
         first = fitted.0;
         shaped = fitted.1.1;
-        asked = (begun_asked verb words last d (length words) asked takes fitted deep few are).asked;
+        asked = begun.asked;
+        seats = begun.seats;
         least = omega arith;
         most = omega arith;
       }
@@ -182,8 +205,8 @@ module _ {Q : Type 0} (IsWord : ℕ → Q → List ℕ → Type 0) where
       }
 
   -- the word asks nothing
-  pub stops_asking : (words : List (List ℕ)) (d first n : ℕ) (asked : List Q) → AreAsked IsWord words d first asked n → n ≤ first + most_queries → (n < length words → (q : Q) → IsWord d q (word words n) → ⊥) → (length words ≤ n → n ≡ first) → StopsInAsked IsWord words d first n
-  stops_asking words d first n asked are most none missing = record { asked = asked; before = are; most = most; here = λ _ more. none more; missing = missing }
+  pub stops_asking : (words : List (List ℕ)) (d first most n : ℕ) (asked : List Q) → AreAsked IsWord words d first asked n → n ≤ first + most → (n < first + most → n < length words → (q : Q) → IsWord d q (word words n) → ⊥) → (length words ≤ n → n ≡ first) → StopsInAsked IsWord words d first most n
+  stops_asking words d first most n asked are within none missing = record { asked = asked; before = are; within = within; here = none; missing = missing }
 
   -- the words have all that they ask
   pub asked_all : (words : List (List ℕ)) (d first n : ℕ) (asked : List Q) → AreAsked IsWord words d first asked n → length words ≤ n → AreAsked IsWord words d first asked (length words)
@@ -195,6 +218,7 @@ whole_end verb words fitted none few = record {
   first = fitted.0;
   shaped = fitted.1.1;
   asked = λ n low high. absurd (omega arith);
+  seats = λ n low high. absurd (omega arith);
   least = let more = fitted.1.0 in omega arith;
   most = omega arith;
 }

@@ -2,7 +2,6 @@
 use Rattle.std.proofs.Common.{◌≡◌, ℕ, ◌≤◌, List, length, Option, Some, inl, inr, refl, subst, arith}
 use Rattle.sip_ports.specs.declared.port.TalkEvent.{TalkEvent}
 use Rattle.sip_stream.specs.declared.form.Form.{Form}
-use Rattle.sip_vector.specs.Limits.{most_depth}
 use Rattle.sip_wire.specs.Table.{most_queries}
 use Rattle.sip_verifier.specs.declared.status.Status.{Status}
 use Rattle.sip_verifier.specs.declared.status.Status.TheVariants.{Wrote}
@@ -21,7 +20,7 @@ use Rattle.sip_transcript.proofs.Converted.{what_is_written}
 use Rattle.sip_cli.specs.declared.verb.Verb.{Verb}
 use Rattle.sip_cli.specs.declared.verb.Verb.TheVariants as verbs
 use Rattle.sip_cli.specs.Stored.{DidAudit, DidConvert, DidKeep}
-use Rattle.sip_cli.specs.Verbs.{depth_at, most_asked}
+use Rattle.sip_cli.specs.Verbs.{most_asked}
 use Rattle.sip_cli.specs.Words.{IsCommandOf, SaysTask}
 use Rattle.sip_cli.proofs.RunLemmas.{played, served}
 

@@ -1,9 +1,10 @@
 -- All that a command keeps, from the moment before it to the moment after, with the status that it
 -- answers.
 use Rattle.std.specs.Prelude.{◌≡◌, ℕ, List, Some, None}
+use Rattle.arrayvec.specs.ArrayVec.{ArrayVec}
 use Rattle.sip_cli.specs.CopyClause.{CopyClause}
 use Rattle.sip_cli.specs.declared.command.Command.{Command}
-use Rattle.sip_cli.specs.declared.command.Command.TheVariants.{Verify, Help, Audit, Show, Convert, Gen, Lines, Widen, Play, Lookup, HelpLook, Moments, HelpMoments}
+use Rattle.sip_cli.specs.declared.command.Command.TheVariants.{Verify, Help, Audit, Show, Convert, Gen, Lines, Widen, Play, Lookup, HelpLook, Moments, HelpMoments, Panel}
 use Rattle.sip_cli.specs.declared.helper_name.HelperName.{HelperName}
 use Rattle.sip_cli.specs.HelpClause.{HelpClause}
 use Rattle.sip_cli.specs.Statuses.{Ends}
@@ -47,6 +48,10 @@ pub record CommandClause (Is : Command → Type 0) (before now : Moment) (status
       → Promises task x before.faults now.faults status
   -- `play`: the same, whatever helper it names
   pub play : (task : Task) (name : HelperName) → Is (Play task name)
+      → (x : Exchange) → Tells before now x
+      → Promises task x before.faults now.faults status
+  -- `panel`: the same, over the one link that there is, whatever helpers it names
+  pub panel : (task : Task) (names : ArrayVec HelperName) → Is (Panel task names)
       → (x : Exchange) → Tells before now x
       → Promises task x before.faults now.faults status
   -- `gen`: the stream's records are copied to the report in the form in which they are made

@@ -7,7 +7,7 @@ use Rattle.sip_cli.specs.declared.place.Place.{Place}
 use Rattle.sip_cli.specs.declared.place.Place.TheVariants as place
 use Rattle.sip_cli.specs.declared.stream.Stream.TheVariants.{File}
 use Rattle.sip_cli.specs.declared.verb.Verb.{Verb}
-use Rattle.sip_cli.specs.declared.verb.Verb.TheVariants.{Verify, Help, Audit, Show, Convert, Gen, Lines, Widen, Play, Lookup, HelpLook, Moments, HelpMoments}
+use Rattle.sip_cli.specs.declared.verb.Verb.TheVariants.{Verify, Help, Audit, Show, Convert, Gen, Lines, Widen, Play, Lookup, HelpLook, Moments, HelpMoments, Panel}
 use Rattle.sip_cli.specs.Shapes.{IsStreamWord}
 use Rattle.sip_cli.specs.Verbs.{verb_word, most_asked}
 use Rattle.sip_cli.specs.Words.{word}
@@ -34,11 +34,13 @@ places Lookup = place.Verb ∷ place.Stream ∷ place.Seed ∷ place.From ∷ pl
 places HelpLook = place.Verb ∷ place.From ∷ place.To ∷ []
 places Moments = place.Verb ∷ place.Stream ∷ place.Seed ∷ place.From ∷ place.To ∷ place.Depth ∷ []
 places HelpMoments = place.Verb ∷ place.From ∷ place.To ∷ []
+places Panel = place.Verb ∷ place.Stream ∷ place.Seed ∷ place.Helpers ∷ place.Depth ∷ []
 
 -- what stands behind these words, where the verb asks something
 abbrev pub asked_by : Verb → Place
 asked_by Lookup = place.Lookup
 asked_by Moments = place.Moment
+asked_by Panel = place.Shared
 asked_by _ = place.Query
 
 -- the number of the word behind the last query that a verb may have, or lookup, or moment
@@ -76,6 +78,8 @@ place_hint place.Depth = hints.DEPTH.now
 place_hint place.Query = hints.QUERY.now
 place_hint place.Lookup = hints.LOOKUP.now
 place_hint place.Moment = hints.MOMENT.now
+place_hint place.Helpers = hints.HELPERS.now
+place_hint place.Shared = hints.SHARED.now
 place_hint place.End = hints.END.now
 
 -- word 1 names a file of records of 13 bytes

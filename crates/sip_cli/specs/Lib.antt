@@ -14,6 +14,7 @@ pub mod StatusLine
 pub mod CopyClause
 pub mod HelpClause
 pub mod PlayClause
+pub mod PanelWordsClause
 pub mod Statuses
 pub mod CommandClause
 pub mod Stored

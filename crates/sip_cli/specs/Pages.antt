@@ -1,8 +1,8 @@
 -- The texts that words ask for in place of a command, and what writing one promises.
 use Rattle.std.specs.Prelude.{◌≡◌, ◌⊎◌, ℕ, ◌<◌, List, [], ◌∷◌, length, take, codes, Option}
-use Rattle.sip_cli.specs.declared.page_text.TheConstants.{AUDIT_PART, CONVERT_PART, GEN_PART, HELP_PART, HELPLOOK_PART, HELPMOM_PART, LINES_PART, LOOKUP_PART, MOMENTS_PART, PLAY_PART, SHOW_PART, VERIFY_PART, WIDEN_PART}
+use Rattle.sip_cli.specs.declared.page_text.TheConstants.{AUDIT_PART, CONVERT_PART, GEN_PART, HELP_PART, HELPLOOK_PART, HELPMOM_PART, LINES_PART, LOOKUP_PART, MOMENTS_PART, PANEL_PART, PLAY_PART, SHOW_PART, VERIFY_PART, WIDEN_PART}
 use Rattle.sip_cli.specs.declared.verb.Verb.{Verb}
-use Rattle.sip_cli.specs.declared.verb.Verb.TheVariants.{Verify, Help, Audit, Show, Convert, Gen, Lines, Widen, Play, Lookup, HelpLook, Moments, HelpMoments}
+use Rattle.sip_cli.specs.declared.verb.Verb.TheVariants.{Verify, Help, Audit, Show, Convert, Gen, Lines, Widen, Play, Lookup, HelpLook, Moments, HelpMoments, Panel}
 use Rattle.sip_cli.specs.Verbs.{verb_word}
 use Rattle.sip_ports.specs.declared.port.TalkEvent.{TalkEvent}
 use Rattle.sip_ports.specs.Ports.{GoesOn, outs}
@@ -33,6 +33,7 @@ part_of Lookup = LOOKUP_PART.now
 part_of HelpLook = HELPLOOK_PART.now
 part_of Moments = MOMENTS_PART.now
 part_of HelpMoments = HELPMOM_PART.now
+part_of Panel = PANEL_PART.now
 
 -- the words are a verb and one that asks for help, and this is the verb's part of the page
 abbrev pub AsksPart : List (List ℕ) → List ℕ → Type 0

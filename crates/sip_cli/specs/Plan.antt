@@ -49,7 +49,8 @@ abbrev pub IsRecord : List ℕ → ℕ → Opening → Type 0
 IsRecord word n keep =
     ((word ≡ codes "-") × (keep ≡ Nothing)) ⊎ ((word ≢ codes "-") × (keep ≡ Path n 0))
 
--- play STREAM SEED HELPER RECORD DEPTH QUERY.., whose link is to a helper in the program
+-- play STREAM SEED HELPER RECORD DEPTH QUERY.., whose link is to a helper in the program, and
+-- panel STREAM SEED HELPERS DEPTH QUERY.., which keeps nothing
 abbrev pub play_ports : Opening → Opening → PortPlan
 play_ports first keep = record no_ports { first = first; second = Path 2 0; keep = keep }
 
@@ -97,6 +98,9 @@ Opens words (command.Lookup task) plan = OpensUnkept words task.depth plan
 Opens words command.HelpLook plan = plan ≡ help_ports
 Opens words (command.Moments task) plan = OpensUnkept words task.depth plan
 Opens words command.HelpMoments plan = plan ≡ help_ports
+Opens words (command.Panel task names) plan =
+    (s : Stream) × IsStreamWord s (word words 1)
+    × (plan ≡ play_ports (opening_of s task.depth) Nothing)
 
 -- the name of the file that an opening is on: a word without its first bytes, if there is such a
 -- word

@@ -1,6 +1,6 @@
 -- What one word of a command may be.
-use Rattle.std.specs.Prelude.{◌≡◌, ◌≢◌, ℕ, ◌^◌, ◌<◌, ◌≤◌, false, IsTrue, nat_eq, List, [], ◌∷◌, ◌++◌, codes, decimal}
-use Rattle.std.specs.List.{starts_with}
+use Rattle.std.specs.Prelude.{◌≡◌, ◌≢◌, ◌==◌, ℕ, ◌^◌, ◌<◌, ◌≤◌, false, IsTrue, nat_eq, List, [], ◌∷◌, ◌++◌, codes, decimal, length, map}
+use Rattle.std.specs.List.{slice_split, starts_with}
 use Rattle.sip_stream.specs.declared.form.Form.{Form}
 use Rattle.sip_stream.specs.declared.form.Form.TheVariants as forms
 use Rattle.sip_stream.specs.Layouts.{made_form}
@@ -15,6 +15,7 @@ use Rattle.sip_vector.specs.Answers.{Fits}
 use Rattle.sip_vector.specs.Built.{is_built}
 use Rattle.sip_vector.specs.Limits.{most_depth}
 use Rattle.sip_verifier.specs.Reports.{parameter, query_word, side_parameter}
+use Rattle.sip_wire.specs.Table.{most_queries}
 use Rattle.sip_cli.specs.declared.helper_name.HelperName.{HelperName}
 use Rattle.sip_cli.specs.declared.helper_name.HelperName.TheVariants.{Honest, Skewed, Mute}
 use Rattle.sip_cli.specs.declared.shape.Shape.{Shape}
@@ -68,12 +69,21 @@ helper_word Honest = codes "honest"
 helper_word Skewed = codes "skewed"
 helper_word Mute = codes "mute"
 
+-- the parts of a word that stand between its commas
+abbrev pub parts : List ℕ → List (List ℕ)
+parts word = slice_split (λ b. b == 44) word
+
+-- the word names these helpers in their order, with a comma between two of them; 16 at most
+abbrev pub AreHelpers : List HelperName → List ℕ → Type 0
+AreHelpers names word = (length names ≤ most_queries) × (parts word ≡ map helper_word names)
+
 -- the word has this shape
 abbrev pub IsOf : Shape → List ℕ → Type 0
 IsOf shape.Name word = word ≢ []
 IsOf shape.Stream word = (s : Stream) × IsStreamWord s word
 IsOf shape.Stored word = (form : Form) × IsStoredWord form word
 IsOf shape.Helper word = (name : HelperName) × (word ≡ helper_word name)
+IsOf shape.Helpers word = (names : List HelperName) × AreHelpers names word
 IsOf (shape.Number most) word = (n : ℕ) × (n ≤ most) × (n < 2 ^ 64) × (word ≡ decimal n)
 IsOf shape.Depth word = (d : ℕ) × IsDepth d word
 

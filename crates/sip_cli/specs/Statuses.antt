@@ -42,6 +42,7 @@ Ends (command.Lookup task) status = lookups.IsListed status
 Ends command.HelpLook status = EndsHelp status
 Ends (command.Moments task) status = moments.IsListed status
 Ends command.HelpMoments status = EndsHelp status
+Ends (command.Panel task names) status = IsListed status
 
 -- the command copies a stream
 abbrev pub IsCopy : Command → Type 0
@@ -58,6 +59,7 @@ IsCopy (command.Lookup task) = ⊥
 IsCopy command.HelpLook = ⊥
 IsCopy (command.Moments task) = ⊥
 IsCopy command.HelpMoments = ⊥
+IsCopy (command.Panel task names) = ⊥
 
 -- the command reads a transcript
 abbrev pub ReadsTranscript : Command → Type 0
@@ -74,6 +76,7 @@ ReadsTranscript (command.Lookup task) = ⊥
 ReadsTranscript command.HelpLook = ⊥
 ReadsTranscript (command.Moments task) = ⊥
 ReadsTranscript command.HelpMoments = ⊥
+ReadsTranscript (command.Panel task names) = ⊥
 
 -- the command writes what a transcript tells
 abbrev pub IsRendering : Command → Type 0
@@ -90,6 +93,7 @@ IsRendering (command.Lookup task) = ⊥
 IsRendering command.HelpLook = ⊥
 IsRendering (command.Moments task) = ⊥
 IsRendering command.HelpMoments = ⊥
+IsRendering (command.Panel task names) = ⊥
 
 -- the command serves a talk
 abbrev pub IsHelp : Command → Type 0
@@ -106,6 +110,7 @@ IsHelp (command.Lookup task) = ⊥
 IsHelp command.HelpLook = Unit {0}
 IsHelp (command.Moments task) = ⊥
 IsHelp command.HelpMoments = Unit {0}
+IsHelp (command.Panel task names) = ⊥
 
 -- the command asks a helper, and keeps no record of the talk
 abbrev pub IsUnkept : Command → Type 0
@@ -122,3 +127,4 @@ IsUnkept (command.Lookup task) = Unit {0}
 IsUnkept command.HelpLook = ⊥
 IsUnkept (command.Moments task) = Unit {0}
 IsUnkept command.HelpMoments = ⊥
+IsUnkept (command.Panel task names) = ⊥

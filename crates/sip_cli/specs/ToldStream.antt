@@ -28,6 +28,7 @@ stream_form (command.Lookup task) = task.form
 stream_form command.HelpLook = Binary
 stream_form (command.Moments task) = task.form
 stream_form command.HelpMoments = Binary
+stream_form (command.Panel task names) = task.form
 
 -- nothing was read, and a line is due
 abbrev pub unread : Form → Reading

@@ -1,9 +1,9 @@
 -- The commands: each is a verb, words of its shapes, and queries where it asks some.
 use Rattle.std.specs.Prelude.{ℕ, List, [], ◌∷◌, codes, length}
 use Rattle.sip_cli.specs.declared.shape.Shape.{Shape}
-use Rattle.sip_cli.specs.declared.shape.Shape.TheVariants.{Name, Stream, Stored, Helper, Number, Depth}
+use Rattle.sip_cli.specs.declared.shape.Shape.TheVariants.{Name, Stream, Stored, Helper, Helpers, Number, Depth}
 use Rattle.sip_cli.specs.declared.verb.Verb.{Verb}
-use Rattle.sip_cli.specs.declared.verb.Verb.TheVariants.{Verify, Help, Audit, Show, Convert, Gen, Lines, Widen, Play, Lookup, HelpLook, Moments, HelpMoments}
+use Rattle.sip_cli.specs.declared.verb.Verb.TheVariants.{Verify, Help, Audit, Show, Convert, Gen, Lines, Widen, Play, Lookup, HelpLook, Moments, HelpMoments, Panel}
 use Rattle.sip_stream.specs.Made.{most_made}
 use Rattle.sip_wire.specs.Table.{most_queries}
 
@@ -22,6 +22,7 @@ verb_word Lookup = codes "lookup"
 verb_word HelpLook = codes "helplook"
 verb_word Moments = codes "moments"
 verb_word HelpMoments = codes "helpmom"
+verb_word Panel = codes "panel"
 
 -- The words behind the verb, and before the queries.
 --   verify STREAM SEED FROM TO RECORD DEPTH
@@ -37,6 +38,7 @@ verb_word HelpMoments = codes "helpmom"
 --   helplook FROM TO
 --   moments STREAM SEED FROM TO DEPTH
 --   helpmom FROM TO
+--   panel STREAM SEED HELPERS DEPTH
 abbrev pub shapes : Verb → List Shape
 shapes Verify = Stream ∷ Name ∷ Name ∷ Name ∷ Name ∷ Depth ∷ []
 shapes Help = Name ∷ Name ∷ []
@@ -51,6 +53,7 @@ shapes Lookup = Stream ∷ Name ∷ Name ∷ Name ∷ Depth ∷ []
 shapes HelpLook = Name ∷ Name ∷ []
 shapes Moments = Stream ∷ Name ∷ Name ∷ Name ∷ Depth ∷ []
 shapes HelpMoments = Name ∷ Name ∷ []
+shapes Panel = Stream ∷ Name ∷ Helpers ∷ Depth ∷ []
 
 -- The number of the last of these words. Where queries stand behind it, it is their depth.
 abbrev pub depth_at : Verb → ℕ
@@ -71,8 +74,9 @@ least_asked Lookup = 1
 least_asked HelpLook = 0
 least_asked Moments = 1
 least_asked HelpMoments = 0
+least_asked Panel = 1
 
--- and at most so many
+-- and at most so many; behind `panel` as many as have a seat for each helper
 abbrev pub most_asked : Verb → ℕ
 most_asked Verify = most_queries
 most_asked Help = 0
@@ -87,3 +91,4 @@ most_asked Lookup = most_queries
 most_asked HelpLook = 0
 most_asked Moments = most_queries
 most_asked HelpMoments = 0
+most_asked Panel = most_queries

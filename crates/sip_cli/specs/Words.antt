@@ -1,5 +1,5 @@
 -- The words of a command.
-use Rattle.std.specs.Prelude.{◌≡◌, ℕ, ◌+◌, ◌<◌, ◌≤◌, List, [], ◌++◌, length, take, slice_index_or, Some}
+use Rattle.std.specs.Prelude.{◌≡◌, ℕ, ◌+◌, ◌-◌, ◌*◌, ◌<◌, ◌≤◌, ⊤, List, [], ◌++◌, length, take, slice_index_or, Some}
 use Rattle.std.specs.List.{slice_get}
 use Rattle.sip_stream.specs.declared.form.Form.{Form}
 use Rattle.sip_vector.specs.declared.query.Query.{Query}
@@ -13,7 +13,8 @@ use Rattle.sip_cli.specs.declared.command.Command.TheVariants as command
 use Rattle.sip_cli.specs.declared.shape.Shape.TheVariants.{Name}
 use Rattle.sip_cli.specs.declared.verb.Verb.{Verb}
 use Rattle.sip_cli.specs.declared.verb.Verb.TheVariants as verb
-use Rattle.sip_cli.specs.Shapes.{IsOf, HasForm, IsStoredWord, IsDepth, Asks, AsksLook, AsksMoment, helper_word}
+use Rattle.sip_wire.specs.Table.{most_queries}
+use Rattle.sip_cli.specs.Shapes.{IsOf, HasForm, IsStoredWord, IsDepth, AreHelpers, Asks, AsksLook, AsksMoment, helper_word, parts}
 use Rattle.sip_cli.specs.Verbs.{verb_word, shapes, depth_at, least_asked, most_asked}
 
 -- word n, from 0
@@ -26,6 +27,12 @@ AsksOf verb.Lookup depth word = (lookup : Lookup) × AsksLook depth lookup word
 AsksOf verb.Moments depth word = (moment : Moment) × AsksMoment depth moment word
 AsksOf _ depth word = (query : Query) × Asks depth query word
 
+-- The query of this number, counted from 1, and those before it have a seat for each helper that the
+-- word names, 16 in all. Behind other verbs there are no seats to be had.
+abbrev pub HasSeats : Verb → List ℕ → ℕ → Type 0
+HasSeats verb.Panel word number = number * length (parts word) ≤ most_queries
+HasSeats _ word number = ⊤
+
 -- The words are a command of this verb. What it asks fits the depth that stands before them.
 pub record IsCommandOf (verb : Verb) (words : List (List ℕ)) : Type 0 where
   pub first : word words 0 ≡ verb_word verb
@@ -33,6 +40,8 @@ pub record IsCommandOf (verb : Verb) (words : List (List ℕ)) : Type 0 where
       → IsOf (slice_index_or (shapes verb) n Name) (word words (n + 1))
   pub asked : (n : ℕ) → length (shapes verb) < n → n < length words
       → (d : ℕ) × IsDepth d (word words (depth_at verb)) × AsksOf verb d (word words n)
+  pub seats : (n : ℕ) → length (shapes verb) < n → n < length words
+      → HasSeats verb (word words 3) (n - length (shapes verb))
   pub least : 1 + length (shapes verb) + least_asked verb ≤ length words
   pub most : length words ≤ 1 + length (shapes verb) + most_asked verb
 
@@ -81,6 +90,9 @@ Spells words (command.Lookup task) = IsCommandOf verb.Lookup words × SaysLooks 
 Spells words command.HelpLook = IsCommandOf verb.HelpLook words
 Spells words (command.Moments task) = IsCommandOf verb.Moments words × SaysMoments words task
 Spells words command.HelpMoments = IsCommandOf verb.HelpMoments words
+Spells words (command.Panel task names) =
+    IsCommandOf verb.Panel words × SaysTask verb.Panel words task
+    × AreHelpers names.items (word words 3)
 
 -- some command begins with these words
 abbrev pub BeginCommand : List (List ℕ) → Type 0

@@ -61,7 +61,7 @@ impl Asked for Moment {
     }
 }
 
-/// What the words ask from the word of this number on.
+/// What the words ask from the word of this number on, of which there is so much at most.
 ///
 /// # Errors
 ///
@@ -70,18 +70,21 @@ pub(crate) fn read_asked<Q: Asked>(
     words: &Words,
     depth: Depth,
     first: usize,
+    most: usize,
 ) -> Result<ArrayVec<Q, MOST_QUERIES>, Usage>
     requires shaped { first ≤ length words.now }
     requires few { first ≤ 7 }
+    requires some { 0 < most }
+    requires room { most ≤ most_queries }
     ensures asked { IfOk result (λ asked. AreAsked Q.is_word words.now depth first asked.items
         (length words.now)) }
     ensures count { OnOk result ((first < length words.now)
-        × (length words.now ≤ first + most_queries)) }
-    ensures refused { IfErr result (λ usage. StopsInAsked Q.is_word words.now depth first
+        × (length words.now ≤ first + most)) }
+    ensures refused { IfErr result (λ usage. StopsInAsked Q.is_word words.now depth first most
         usage.word) }
 {
     let mut asked = ArrayVec::new();
-    for number in first..first + MOST_QUERIES {
+    for number in first..first + most {
         let Some(word) = words.get(number) else {
             return if number == first {
                 Err(Usage {
@@ -98,9 +101,9 @@ pub(crate) fn read_asked<Q: Asked>(
         };
         asked.push(read);
     }
-    if words.get(first + MOST_QUERIES).is_some() {
+    if words.get(first + most).is_some() {
         return Err(Usage {
-            word: (first + MOST_QUERIES) as u32,
+            word: (first + most) as u32,
         });
     }
     Ok(asked)

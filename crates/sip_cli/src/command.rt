@@ -1,17 +1,20 @@
 //! What a command asks for.
 
-ghost use Rattle.std.specs.Prelude.{◌≡◌, ◌≢◌, ℕ, ◌+◌, ◌<◌, ◌≤◌, IsTrue, ◌↔◌, MatchOption, OnOk, IfOk, IfErr, length};
+ghost use Rattle.std.specs.Prelude.{◌≡◌, ◌≢◌, ℕ, ◌+◌, ◌<◌, ◌≤◌, IsTrue, ◌↔◌, List, MatchOption, OnOk, IfOk, IfErr, length};
+ghost use Rattle.arrayvec.specs.ArrayVec.{ArrayVec as AnyNames};
 ghost use Rattle.sip_verifier.specs.declared.task.Task.{Task as AnyTask};
 ghost use Rattle.sip_cli.specs.declared.stream.Stream.{Stream as AnyStream};
 ghost use Rattle.sip_cli.specs.declared.helper_name.HelperName.{HelperName as AnyName};
-ghost use Rattle.sip_cli.specs.Shapes.{Asks, IsDepth, HasForm, IsStreamWord, helper_word};
+ghost use Rattle.sip_cli.specs.Shapes.{AreHelpers, Asks, IsDepth, HasForm, IsStreamWord, helper_word};
 ghost use Rattle.sip_cli.specs.Words.{IsCommandOf, SaysAll, SaysTask, Spells, IsRefusedAt, word};
 ghost use Rattle.sip_cli.specs.Verbs.{verb_word};
-ghost use Rattle.sip_cli.specs.inside.Progress.{Fitted, HaveShapes, TakesAll, TakesLink, TakesName, TakesStream, StopsInShapes};
+ghost use Rattle.sip_wire.specs.Table.{most_queries};
+ghost use Rattle.sip_cli.specs.inside.Progress.{Fitted, HaveShapes, SeatsUpTo, TakesAll, TakesLink, TakesName, TakesStream, StopsInShapes};
 ghost use Rattle.sip_cli.specs.declared.verb.Verb.{Verb as AnyVerb};
 
 use crate::asked::{Asked, read_asked};
 use crate::decimal::read_decimal;
+use crate::helper_name::read_helpers;
 use crate::shape::Shape;
 use crate::stream::{stored_of, stream_of};
 use crate::verb::Verb;
@@ -53,6 +56,8 @@ pub enum Command {
     Moments(MomentTask),
     /// To help another side to verify moments: `helpmom FROM TO`.
     HelpMoments,
+    /// To verify answers of several helpers in the program: `panel STREAM SEED HELPERS DEPTH QUERY..`.
+    Panel(Task, ArrayVec<HelperName, MOST_QUERIES>),
 }
 
 impl Command {
@@ -75,7 +80,20 @@ impl Command {
             | Command::Lookup(_)
             | Command::HelpLook
             | Command::Moments(_)
-            | Command::HelpMoments => None,
+            | Command::HelpMoments
+            | Command::Panel(..) => None,
+        }
+    }
+
+    /// The task and the helpers of `panel`.
+    pub(crate) fn into_panel(self) -> Option<(Task, ArrayVec<HelperName, MOST_QUERIES>)>
+        ensures { MatchOption result
+            ((task : AnyTask) (names : AnyNames AnyName) → self ≢ Command.Panel task names)
+            (λ x. self ≡ Command.Panel x.0 x.1) }
+    {
+        match self {
+            Command::Panel(task, names) => Some((task, names)),
+            _ => None,
         }
     }
 }
@@ -89,8 +107,11 @@ const PLAY_DEPTH: usize = 5;
 /// The number of the depth of `lookup` and of `moments`, whose talk is not kept.
 const UNKEPT_DEPTH: usize = 5;
 
-/// The number of the helper of `play`.
-const PLAY_HELPER: usize = 3;
+/// The number of the depth of `panel`.
+const PANEL_DEPTH: usize = 4;
+
+/// The number of the helper of `play`, and of the helpers of `panel`.
+const HELPERS: usize = 3;
 
 /// The verb that word 0 is.
 pub(crate) fn verb_of(words: &Words) -> Option<Verb>
@@ -149,16 +170,21 @@ fn depth_at(words: &Words, number: usize) -> Option<Depth>
 }
 
 // What the words say behind a verb whose stream is word 1 and whose depth is the word of this
-// number: the depth, the form of the stream, and what is asked.
+// number: the depth, the form of the stream, and what is asked, of which there is so much at most.
 fn read_all<Q: Asked>(
     words: &Words,
     last: usize,
+    most: usize,
 ) -> Result<(Depth, Form, ArrayVec<Q, MOST_QUERIES>), Usage>
     requires few { last ≤ 6 }
+    requires some { 0 < most }
+    requires room { most ≤ most_queries }
     ensures said { IfOk result (λ said. (verb : AnyVerb) → TakesAll Q.is_word verb last
+        → SeatsUpTo verb words.now most
         → Fitted verb words.now → IsCommandOf verb words.now
         × SaysAll Q.is_word verb words.now said.0 said.1 said.2.items) }
     ensures refused { IfErr result (λ usage. (verb : AnyVerb) → TakesAll Q.is_word verb last
+        → SeatsUpTo verb words.now most
         → Fitted verb words.now → IsRefusedAt words.now usage.word) }
 {
     let Some(depth) = depth_at(words, last) else {
@@ -167,19 +193,24 @@ fn read_all<Q: Asked>(
     let Some(form) = form_of(words, depth) else {
         return Err(Usage { word: 1 });
     };
-    let asked = read_asked::<Q>(words, depth, last + 1)?;
+    let asked = read_asked::<Q>(words, depth, last + 1, most)?;
     Ok((depth, form, asked))
 }
 
-// The task of `verify` or of `play`, whose depth is the word of this number.
-fn read_task(words: &Words, last: usize) -> Result<Task, Usage>
+// The task of `verify`, of `play` or of `panel`, whose depth is the word of this number and whose
+// queries are so many at most.
+fn read_task(words: &Words, last: usize, most: usize) -> Result<Task, Usage>
     requires few { last ≤ 6 }
+    requires some { 0 < most }
+    requires room { most ≤ most_queries }
     ensures task { IfOk result (λ task. (verb : AnyVerb) → TakesAll Asks verb last
+        → SeatsUpTo verb words.now most
         → Fitted verb words.now → IsCommandOf verb words.now × SaysTask verb words.now task) }
     ensures refused { IfErr result (λ usage. (verb : AnyVerb) → TakesAll Asks verb last
+        → SeatsUpTo verb words.now most
         → Fitted verb words.now → IsRefusedAt words.now usage.word) }
 {
-    let (depth, form, queries) = read_all::<Query>(words, last)?;
+    let (depth, form, queries) = read_all::<Query>(words, last, most)?;
     Ok(Task {
         depth,
         form,
@@ -194,7 +225,7 @@ fn read_verify(words: &Words) -> Result<Command, Usage>
     ensures refused { IfErr result (λ usage. Fitted Verb.Verify words.now
         → IsRefusedAt words.now usage.word) }
 {
-    let task = read_task(words, VERIFY_DEPTH)?;
+    let task = read_task(words, VERIFY_DEPTH, MOST_QUERIES)?;
     Ok(Command::Verify(task))
 }
 
@@ -214,13 +245,39 @@ fn read_play(words: &Words) -> Result<Command, Usage>
     ensures refused { IfErr result (λ usage. Fitted Verb.Play words.now
         → IsRefusedAt words.now usage.word) }
 {
-    let Some(helper) = helper_at(words, PLAY_HELPER) else {
+    let Some(helper) = helper_at(words, HELPERS) else {
         return Err(Usage {
-            word: PLAY_HELPER as u32,
+            word: HELPERS as u32,
         });
     };
-    let task = read_task(words, PLAY_DEPTH)?;
+    let task = read_task(words, PLAY_DEPTH, MOST_QUERIES)?;
     Ok(Command::Play(task, helper))
+}
+
+// The helpers that the word of this number names.
+fn helpers_at(words: &Words, number: usize) -> Option<ArrayVec<HelperName, MOST_QUERIES>>
+    ensures { MatchOption result
+        (number < length words.now → (names : List AnyName)
+        → AreHelpers names (word words.now number) → ⊥)
+        (λ names. AreHelpers names.items (word words.now number)) }
+{
+    read_helpers(words.get(number)?)
+}
+
+// The rest of `panel`, where each query has a seat for each helper.
+fn read_panel(words: &Words) -> Result<Command, Usage>
+    ensures command { IfOk result (λ command. Fitted Verb.Panel words.now
+        → Spells words.now command) }
+    ensures refused { IfErr result (λ usage. Fitted Verb.Panel words.now
+        → IsRefusedAt words.now usage.word) }
+{
+    let Some(helpers) = helpers_at(words, HELPERS) else {
+        return Err(Usage {
+            word: HELPERS as u32,
+        });
+    };
+    let task = read_task(words, PANEL_DEPTH, MOST_QUERIES / helpers.len())?;
+    Ok(Command::Panel(task, helpers))
 }
 
 // The rest of `lookup`.
@@ -230,7 +287,7 @@ fn read_looks(words: &Words) -> Result<Command, Usage>
     ensures refused { IfErr result (λ usage. Fitted Verb.Lookup words.now
         → IsRefusedAt words.now usage.word) }
 {
-    let (depth, form, lookups) = read_all::<Lookup>(words, UNKEPT_DEPTH)?;
+    let (depth, form, lookups) = read_all::<Lookup>(words, UNKEPT_DEPTH, MOST_QUERIES)?;
     Ok(Command::Lookup(LookTask {
         depth,
         form,
@@ -245,7 +302,7 @@ fn read_moments(words: &Words) -> Result<Command, Usage>
     ensures refused { IfErr result (λ usage. Fitted Verb.Moments words.now
         → IsRefusedAt words.now usage.word) }
 {
-    let (depth, form, moments) = read_all::<Moment>(words, UNKEPT_DEPTH)?;
+    let (depth, form, moments) = read_all::<Moment>(words, UNKEPT_DEPTH, MOST_QUERIES)?;
     Ok(Command::Moments(MomentTask {
         depth,
         form,
@@ -380,5 +437,6 @@ pub fn read_words(words: &Words) -> Result<Command, Usage>
             read_link(words)?;
             Ok(Command::HelpMoments)
         }
+        Verb::Panel => read_panel(words),
     }
 }

@@ -1,8 +1,11 @@
-//! The helpers that `play` knows by name.
+//! The helpers that `play` and `panel` know by name.
 
-ghost use Rattle.std.specs.Prelude.{◌≡◌, ◌≢◌, MatchOption};
+ghost use Rattle.std.specs.Prelude.{◌≡◌, ◌≢◌, List, MatchOption};
 ghost use Rattle.sip_cli.specs.declared.helper_name.HelperName.{HelperName as AnyName};
-ghost use Rattle.sip_cli.specs.Shapes.{helper_word};
+ghost use Rattle.sip_cli.specs.Shapes.{AreHelpers, helper_word};
+
+use arrayvec::ArrayVec;
+use sip_wire::MOST_QUERIES;
 
 /// A helper in the program itself.
 #[derive(Clone, Copy, Debug, PartialEq, Eq)]
@@ -13,6 +16,13 @@ pub enum HelperName {
     Skewed,
     /// One that says nothing.
     Mute,
+}
+
+/// The honest one.
+impl Default for HelperName {
+    fn default() -> HelperName {
+        HelperName::Honest
+    }
 }
 
 impl HelperName {
@@ -29,4 +39,21 @@ impl HelperName {
             _ => None,
         }
     }
+}
+
+/// The helpers that a word names, in their order, with a comma between two of them. There are 1 to 16.
+pub(crate) fn read_helpers(word: &str) -> Option<ArrayVec<HelperName, MOST_QUERIES>>
+    ensures { MatchOption result
+        ((names : List AnyName) → AreHelpers names word.now → ⊥)
+        (λ names. AreHelpers names.items word.now) }
+{
+    let mut names = ArrayVec::new();
+    for name in word.split(',') {
+        let name = HelperName::of(name)?;
+        if names.is_full() {
+            return None;
+        }
+        names.push(name);
+    }
+    Some(names)
 }

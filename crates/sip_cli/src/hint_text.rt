@@ -4,8 +4,8 @@
 
 /// A verb, the first word.
 pub(crate) const VERB: &str = "\
-sip: hint: the first word is verify, play, help, lookup, helplook, moments, helpmom, audit, show, \
-convert, gen, lines or widen; sip --help tells of each\n";
+sip: hint: the first word is verify, play, panel, help, lookup, helplook, moments, helpmom, audit, \
+show, convert, gen, lines or widen; sip --help tells of each\n";
 
 /// A stream.
 pub(crate) const STREAM: &str = "\
@@ -62,6 +62,15 @@ sip: hint: LOOKUP is here: index:I, pred:I or succ:I, with I below 2^DEPTH\n";
 /// A moment.
 pub(crate) const MOMENT: &str = "\
 sip: hint: MOMENT is here: moment:SIDE:K, with SIDE 0 or 1 and K from 3 to 8\n";
+
+/// The names of several helpers in the program.
+pub(crate) const HELPERS: &str = "\
+sip: hint: HELPERS is here: 1 to 16 of honest, skewed and mute, with a comma between two of them\n";
+
+/// A query that is asked of several helpers.
+pub(crate) const SHARED: &str = "\
+sip: hint: QUERY is here: sub:LO:HI, range:SIDE:LO:HI, f2:SIDE, inner, heavy:SIDE:T or \
+share:SIDE:NUM:DEN, and helpers times queries come to 16 at most\n";
 
 /// No word.
 pub(crate) const END: &str = "\

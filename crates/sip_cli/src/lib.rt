@@ -15,6 +15,7 @@ mod lookup;
 mod moment;
 mod page;
 mod page_text;
+mod panelling;
 mod place;
 mod plan;
 mod playing;
@@ -37,8 +38,9 @@ pub use helper_name::HelperName;
 pub use page::{page_of, write_page};
 pub use page_text::{
     AUDIT_PART, GEN_PART, HELP, HELP_PART, HELPLOOK_PART, HELPMOM_PART, LINES_PART, LOOKUP_PART,
-    MOMENTS_PART, PLAY_PART, VERIFY_PART, VERSION, WIDEN_PART,
+    MOMENTS_PART, PANEL_PART, PLAY_PART, VERIFY_PART, VERSION, WIDEN_PART,
 };
+pub use panelling::panel_words;
 pub use plan::{LinkOrder, Opening, PortPlan, ports};
 pub use playing::play_words;
 pub use progress::{OPENING_FROM, OPENING_TO};

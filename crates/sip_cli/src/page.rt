@@ -8,7 +8,7 @@ ghost use Rattle.sip_cli.specs.Words.{IsRefusedAt};
 
 use crate::page_text::{
     AUDIT_PART, CONVERT_PART, GEN_PART, HELP, HELP_PART, HELPLOOK_PART, HELPMOM_PART, LINES_PART,
-    LOOKUP_PART, MOMENTS_PART, PLAY_PART, SHOW_PART, VERIFY_PART, VERSION, WIDEN_PART,
+    LOOKUP_PART, MOMENTS_PART, PANEL_PART, PLAY_PART, SHOW_PART, VERIFY_PART, VERSION, WIDEN_PART,
 };
 use crate::verb::Verb;
 use crate::{Words, read_words};
@@ -53,6 +53,7 @@ fn part(verb: Verb) -> &'static str
         Verb::HelpLook => HELPLOOK_PART,
         Verb::Moments => MOMENTS_PART,
         Verb::HelpMoments => HELPMOM_PART,
+        Verb::Panel => PANEL_PART,
     }
 }
 

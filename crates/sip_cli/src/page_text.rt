@@ -1,7 +1,7 @@
 //! The text of the page, of which some parts are printed alone too. Each is written once.
 
-// The parts about verify, play, help, lookup, helplook, moments, helpmom, audit, show, convert, gen,
-// lines and widen, for a part's name or for `page`.
+// The parts about verify, play, panel, help, lookup, helplook, moments, helpmom, audit, show,
+// convert, gen, lines and widen, for a part's name or for `page`.
 macro_rules! text_of {
     ($which:ident) => {
         chosen!(
@@ -38,6 +38,21 @@ macro_rules! text_of {
               The other words are those of sip verify.
 
       sip play made:7:100000 today.seed honest - 20 sub:0:99 range:0:0:1048575 f2:0 inner
+"
+            "  sip panel STREAM SEED HELPERS DEPTH QUERY..
+
+      Does what sip verify does with several helpers of its own, which hear the same stream: asks each query of one after
+      another until the replies of one are accepted, and prints the line of that answer.
+
+      HELPERS  1 to 16 of honest, skewed and mute, which are those of sip play, with a comma between two of them: the
+               first is asked first
+               The other words are those of sip verify. The number of helpers times that of queries is 16 at most.
+
+      A helper whose reply is rejected is asked no more: dropped helper I query K round J REASON is its line among the
+      answers, with I counted from 1 as K is. A run is rejected where none is left. Each helper keeps the stream, and no
+      transcript is kept.
+
+      sip panel made:7:100000 today.seed mute,skewed,honest 20 sub:0:99 f2:0
 "
             "  sip help FROM TO
 
@@ -168,8 +183,11 @@ macro_rules! chosen {
     (play $part:literal $($rest:literal)*) => {
         chosen!(verify $($rest)*)
     };
-    (help $part:literal $($rest:literal)*) => {
+    (panel $part:literal $($rest:literal)*) => {
         chosen!(play $($rest)*)
+    };
+    (help $part:literal $($rest:literal)*) => {
+        chosen!(panel $($rest)*)
     };
     (lookup $part:literal $($rest:literal)*) => {
         chosen!(help $($rest)*)
@@ -318,7 +336,7 @@ STATUS
 
   0  every answer was accepted and printed, a talk was served to its end, or a stream or a transcript was
      written to its end
-  1  a reply of the helper was rejected
+  1  a reply of the helper was rejected, or in a panel one of each helper
   2  the words are no command
   3  the stream, the seed, the transcript or a frame of the verifier is not as it has to be, or more than 65536 entries
      could be T or more, or a moment could be above what a claim has room for
@@ -337,6 +355,9 @@ pub const VERIFY_PART: &str = text_of!(verify);
 
 /// What `sip play --help` prints: the part of the page that is about `play`.
 pub const PLAY_PART: &str = text_of!(play);
+
+/// What `sip panel --help` prints: the part of the page that is about `panel`.
+pub const PANEL_PART: &str = text_of!(panel);
 
 /// What `sip help --help` prints: the part of the page that is about `help`.
 pub const HELP_PART: &str = text_of!(help);

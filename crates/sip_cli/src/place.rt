@@ -26,6 +26,10 @@ pub(crate) enum Place {
     Query,
     Lookup,
     Moment,
+    /// The names of several helpers.
+    Helpers,
+    /// A query that is asked of several helpers.
+    Shared,
     /// No word, since the command is whole before it.
     End,
 }
@@ -70,6 +74,14 @@ const PLAY: [Place; 6] = [
     Place::Depth,
 ];
 
+const PANEL: [Place; 5] = [
+    Place::Verb,
+    Place::Stream,
+    Place::Seed,
+    Place::Helpers,
+    Place::Depth,
+];
+
 // Of `moments` too.
 const LOOKUP: [Place; 6] = [
     Place::Verb,
@@ -96,6 +108,7 @@ fn places_of(verb: Verb) -> &'static [Place]
         Verb::Play => &PLAY,
         Verb::Lookup | Verb::Moments => &LOOKUP,
         Verb::HelpLook | Verb::HelpMoments => &HELP,
+        Verb::Panel => &PANEL,
     }
 }
 
@@ -106,6 +119,7 @@ fn asked_by(verb: Verb) -> Place
     match verb {
         Verb::Lookup => Place::Lookup,
         Verb::Moments => Place::Moment,
+        Verb::Panel => Place::Shared,
         _ => Place::Query,
     }
 }
@@ -115,7 +129,7 @@ fn behind_asked(verb: Verb) -> usize
     ensures { result ≡ behind_asked verb }
 {
     let asked = match verb {
-        Verb::Verify | Verb::Play | Verb::Lookup | Verb::Moments => MOST_QUERIES,
+        Verb::Verify | Verb::Play | Verb::Lookup | Verb::Moments | Verb::Panel => MOST_QUERIES,
         Verb::Help
         | Verb::Audit
         | Verb::Show
@@ -161,6 +175,8 @@ impl Place {
             Place::Query => text::QUERY,
             Place::Lookup => text::LOOKUP,
             Place::Moment => text::MOMENT,
+            Place::Helpers => text::HELPERS,
+            Place::Shared => text::SHARED,
             Place::End => text::END,
         }
     }

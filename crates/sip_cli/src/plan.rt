@@ -220,7 +220,7 @@ impl PortPlan {
         }
     }
 
-    // The ports of `play`, whose stream and whose transcript are opened like this.
+    // The ports of `play`, and of `panel`, whose stream and whose transcript are opened like this.
     fn play(first: Opening, keep: Opening) -> PortPlan
         ensures { result ≡ play_ports first keep }
     {
@@ -301,15 +301,20 @@ impl PortPlan {
                     PortPlan::verify(stream, Opening::Nothing)
                 }
             Command::HelpLook | Command::HelpMoments => PortPlan::help(),
+            Command::Panel(task, _) => {
+                let stream = Opening::stream(words, task.depth);
+                PortPlan::play(stream, Opening::Nothing)
+            }
         }
     }
 }
 
 /// The files and made streams that a command opens: for `verify` its stream, its seed, the two ends
 /// of its link and the file of its transcript, if it is to keep one, for `lookup` and `moments` the
-/// same without a transcript, for `play` without a link, for `help`, `helplook` and `helpmom` the two
-/// ends of their link, for `audit` its stream and the transcript, for `show` and `convert` the
-/// transcript, for `gen`, `lines` and `widen` their stream. Words that are no command open nothing.
+/// same without a transcript, for `play` without a link, for `panel` without either, for `help`,
+/// `helplook` and `helpmom` the two ends of their link, for `audit` its stream and the transcript, for
+/// `show` and `convert` the transcript, for `gen`, `lines` and `widen` their stream. Words that are no
+/// command open nothing.
 pub fn ports(words: &Words) -> PortPlan
     ensures spelled { (command : AnyCommand) → Spells words.now command
         → Opens words.now command result }

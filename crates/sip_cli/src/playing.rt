@@ -23,7 +23,7 @@ use std::alloc::Global;
 // The honest helper, on the heap. It is made in a call of its own, so that the stack has it no
 // longer than that.
 #[inline(never)]
-fn honest(alloc: Global) -> Result<Box<Honest>, OutOfMemory>
+pub(crate) fn honest(alloc: Global) -> Result<Box<Honest>, OutOfMemory>
     ensures { IfOk result (λ helper. told helper.value ≡ Some fresh) }
 {
     Ok(Box::new(alloc, Honest::new(alloc))?)
@@ -31,7 +31,7 @@ fn honest(alloc: Global) -> Result<Box<Honest>, OutOfMemory>
 
 // The skewed helper, on the heap.
 #[inline(never)]
-fn skewed(alloc: Global) -> Result<Box<Skewed>, OutOfMemory> {
+pub(crate) fn skewed(alloc: Global) -> Result<Box<Skewed>, OutOfMemory> {
     Ok(Box::new(alloc, Skewed::new(alloc))?)
 }
 

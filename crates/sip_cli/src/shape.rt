@@ -4,7 +4,7 @@ ghost use Rattle.std.specs.Prelude.{◌≡◌, ◌↔◌, ℕ, ◌≤◌, ◌<�
 ghost use Rattle.sip_cli.specs.Shapes.{IsOf};
 
 use crate::decimal::read_decimal;
-use crate::helper_name::HelperName;
+use crate::helper_name::{HelperName, read_helpers};
 use crate::stream::{read_stored, read_stream};
 use sip_vector::Depth;
 
@@ -19,6 +19,8 @@ pub(crate) enum Shape {
     Stored,
     /// The name of a helper in the program.
     Helper,
+    /// The names of several, with commas between them.
+    Helpers,
     /// A number up to `most`.
     Number { most: u64 },
     /// A depth.
@@ -60,6 +62,7 @@ impl Shape {
             Shape::Stream => read_stream(word).is_some(),
             Shape::Stored => read_stored(word).is_some(),
             Shape::Helper => HelperName::of(word).is_some(),
+            Shape::Helpers => read_helpers(word).is_some(),
             Shape::Number { most } => is_within(word, 0, most),
             Shape::Depth => is_within(word, 1, Depth::MOST as u64),
         }

@@ -20,7 +20,7 @@ fn form_of(command: &Command) -> Form
     ensures { result ≡ stream_form command.now }
 {
     match command {
-        Command::Verify(task) | Command::Play(task, _) => task.form,
+        Command::Verify(task) | Command::Play(task, _) | Command::Panel(task, _) => task.form,
         Command::Gen { depth } => Form::made(*depth),
         Command::Audit { form } | Command::Lines { form, .. } | Command::Widen { form, .. } =>
             *form,

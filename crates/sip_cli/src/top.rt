@@ -1,6 +1,7 @@
 //! The top call.
 
 ghost use Rattle.std.specs.Prelude.{◌≡◌, ◌↔◌, ◌⊎◌, ℕ};
+ghost use Rattle.arrayvec.specs.ArrayVec.{ArrayVec};
 ghost use Rattle.sip_ports.specs.Ports.{Lasts, Rose};
 ghost use Rattle.sip_stream.specs.declared.form.Form.{Form as AnyForm};
 ghost use Rattle.sip_lookup.specs.declared.task.LookTask.{LookTask as AnyLookTask};
@@ -41,6 +42,8 @@ fn obey<A: Source, B: Source, L: Link, K: Sink, C: Sink>(
     requires served { (task : AnyTask) → command.now ≡ Command.Verify task → CanBeDone task }
     requires played { (task : AnyTask) (name : AnyName) → command.now ≡ Command.Play task name
         → CanBeDone task }
+    requires seated { (task : AnyTask) (names : ArrayVec AnyName)
+        → command.now ≡ Command.Panel task names → CanBeDone task }
     requires looked { (task : AnyLookTask) → command.now ≡ Command.Lookup task → CanLookUp task }
     requires summed { (task : AnyMomentTask) → command.now ≡ Command.Moments task
         → CanBeSummed task }
@@ -89,6 +92,7 @@ fn obey<A: Source, B: Source, L: Link, K: Sink, C: Sink>(
         Command::HelpLook => help_look(alloc, peer),
         Command::Moments(task) => moment_stream(alloc, task, first, second, peer, report),
         Command::HelpMoments => help_moments(alloc, peer),
+        Command::Panel(task, _) => check_stream(alloc, task, first, second, peer, report, keep),
     }
 }
 
@@ -119,6 +123,10 @@ fn obey<A: Source, B: Source, L: Link, K: Sink, C: Sink>(
 /// whatever helper is named. [`play_words`](crate::play_words) does such words over a link to that
 /// helper.
 ///
+/// `panel STREAM SEED HELPERS DEPTH QUERY..`: as `verify`, over the one link that it is given,
+/// whatever helpers are named. [`panel_words`](crate::panel_words) does such words over links to
+/// those helpers.
+///
 /// `lookup STREAM SEED FROM TO DEPTH LOOKUP..`: as `verify`, for the number at an item or the entry
 /// nearest to it that is not 0. The helper names the place of each answer, and its replies about
 /// the interval up to there prove it. `keep` gets nothing. The memory is that of a frame and of
@@ -140,7 +148,7 @@ pub fn run<A: Source, B: Source, L: Link, K: Sink, C: Sink>(
     report: &mut K,
     keep: &mut C,
 ) -> Status
-    // Of `verify` and `play` the seven promises, of `lookup` and `moments` their five, of `gen`,
+    // Of `verify`, `play` and `panel` the seven promises, of `lookup` and `moments` their five, of `gen`,
     // `lines` and `widen` the copy that the report gets, of `help`, `helplook` and `helpmom` the
     // talk that it serves, of `audit` what a stored run is judged to be, and of `show` and
     // `convert` what the report gets of the transcript; and whatever the command, its faults have

@@ -36,6 +36,8 @@ pub(crate) enum Verb {
     Moments,
     /// To help another side to verify moments.
     HelpMoments,
+    /// To verify answers of several helpers in the program.
+    Panel,
 }
 
 const VERIFY: [Shape; 6] = [
@@ -95,6 +97,8 @@ const MOMENTS: [Shape; 5] = [
 
 const HELP_MOMENTS: [Shape; 2] = [Shape::Name, Shape::Name];
 
+const PANEL: [Shape; 4] = [Shape::Stream, Shape::Name, Shape::Helpers, Shape::Depth];
+
 impl Verb {
     /// The verb that a word is.
     pub(crate) fn of(word: &str) -> Option<Verb>
@@ -116,6 +120,7 @@ impl Verb {
             "helplook" => Some(Verb::HelpLook),
             "moments" => Some(Verb::Moments),
             "helpmom" => Some(Verb::HelpMoments),
+            "panel" => Some(Verb::Panel),
             _ => None,
         }
     }
@@ -138,6 +143,7 @@ impl Verb {
             Verb::HelpLook => &HELP_LOOK,
             Verb::Moments => &MOMENTS,
             Verb::HelpMoments => &HELP_MOMENTS,
+            Verb::Panel => &PANEL,
         }
     }
 }

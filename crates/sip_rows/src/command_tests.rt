@@ -138,6 +138,7 @@ fn form_and_depth(command: &Command) -> (Option<Form>, u8) {
         Command::Verify(task) => (Some(task.form), task.depth.get()),
         Command::Lookup(task) => (Some(task.form), task.depth.get()),
         Command::Moments(task) => (Some(task.form), task.depth.get()),
+        Command::Panel(task, _) => (Some(task.form), task.depth.get()),
         Command::Gen { depth } => (None, depth.get()),
         Command::Lines { form, depth } | Command::Widen { form, depth } => {
             (Some(*form), depth.get())
@@ -175,6 +176,9 @@ const READ: &[Read<'static>] = &[
         Some(Form::Binary),
         32,
     ),
+    ("panel|s|k|honest|48|inner", Some(Form::Binary), 48),
+    ("panel|text:s|k|mute,mute|1|f2:0", Some(Form::Text), 1),
+    ("panel|made:7:20|k|skewed|33|inner", Some(Form::Wide), 33),
     ("audit|s|t", Some(Form::Binary), 0),
     ("audit|text:s|t", Some(Form::Text), 0),
     ("audit|wide:s|t", Some(Form::Wide), 0),
@@ -265,6 +269,15 @@ const FILES: &[Files<'static>] = &[
     ),
     ("moments|s|k|f|t|3|moment:0:9", NO_FILES),
     ("helpmom|-|t", &[None, None, Some("-"), Some("t"), None]),
+    (
+        "panel|text:s|k|mute,honest|3|inner",
+        &[Some("s"), Some("k"), None, None, None],
+    ),
+    (
+        "panel|made:7:20|-|honest|3|inner|f2:1",
+        &[None, Some("-"), None, None, None],
+    ),
+    ("panel|s|k|honest,|3|inner", NO_FILES),
     ("audit|s|t", &[Some("s"), Some("t"), None, None, None]),
     (
         "audit|text:s|made:7:1",
@@ -315,6 +328,7 @@ const MADE: &[Made<'static>] = &[
     ("gen|7|100|20", (7, 100, 20)),
     ("lookup|made:7:20|k|f|t|48|index:5", (7, 20, 48)),
     ("moments|made:0:1|k|f|t|1|moment:0:3", (0, 1, 1)),
+    ("panel|made:7:20|k|mute,honest|48|sub:5:5", (7, 20, 48)),
     (
         "gen|18446744073709551615|10000000|32",
         (u64::MAX, 10_000_000, 32),

@@ -68,6 +68,8 @@ mod page_tests;
 #[cfg(test)]
 mod page_words_tests;
 #[cfg(test)]
+mod panel_tests;
+#[cfg(test)]
 mod play;
 #[cfg(test)]
 mod play_tests;

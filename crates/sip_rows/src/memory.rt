@@ -1,6 +1,7 @@
 //! A run over ports in memory.
 
 ghost use Rattle.std.specs.Prelude.{◌≡◌, ◌≢◌, ◌↔◌, ◌++◌, ℕ, List, Some};
+ghost use Rattle.arrayvec.specs.ArrayVec.{ArrayVec};
 ghost use Rattle.sip_ports.specs.Memory.{source_is_sure, sink_is_sure, link_is_sure, source_left, sink_bytes, link_talk};
 ghost use Rattle.sip_ports.specs.Ports.{outs};
 ghost use Rattle.sip_stream.specs.declared.form.Form.{Form};
@@ -11,7 +12,7 @@ ghost use Rattle.sip_verifier.specs.declared.status.Port.TheVariants as ports;
 ghost use Rattle.sip_verifier.specs.Exchanges.{Exchange};
 ghost use Rattle.sip_verifier.specs.Promises.{Promises};
 ghost use Rattle.sip_cli.specs.declared.command.Command.{Command};
-ghost use Rattle.sip_cli.specs.declared.command.Command.TheVariants.{Verify, Gen, Lines, Widen, Help, Audit, Play, Show, Convert, Lookup, HelpLook, Moments, HelpMoments};
+ghost use Rattle.sip_cli.specs.declared.command.Command.TheVariants.{Verify, Gen, Lines, Widen, Help, Audit, Play, Show, Convert, Lookup, HelpLook, Moments, HelpMoments, Panel};
 ghost use Rattle.sip_cli.specs.declared.helper_name.HelperName.{HelperName};
 ghost use Rattle.sip_cli.specs.CommandClause.{MomentPromises, unkept};
 ghost use Rattle.sip_cli.specs.CopyClause.{CopyClause};
@@ -58,6 +59,14 @@ pub fn run_in_memory(
     // It keeps those of `play` too.
     ensures played { (task : Task) (name : HelperName) → Spells words.now (Play task name)
         → (x : Exchange)
+        × Moves (held_by first.old second.old peer.old report.old keep.old)
+        (held_by first.new second.new peer.new report.new keep.new) x
+        × Promises task x (faults_of first.old second.old peer.old report.old keep.old)
+        (faults_of first.new second.new peer.new report.new keep.new) result }
+
+    // And those of `panel`, over the one link.
+    ensures seated { (task : Task) (names : ArrayVec HelperName)
+        → Spells words.now (Panel task names) → (x : Exchange)
         × Moves (held_by first.old second.old peer.old report.old keep.old)
         (held_by first.new second.new peer.new report.new keep.new) x
         × Promises task x (faults_of first.old second.old peer.old report.old keep.old)

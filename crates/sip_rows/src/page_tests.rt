@@ -47,6 +47,7 @@ fn check_asked(rt: &impl Abort, alloc: Global, rows: &[Asked]) -> Result<(), Fai
 const EXAMPLES: &[&str] = &[
     "verify log.stream today.seed from.fifo to.fifo - 20 sub:100:199 range:0:0:1048575 f2:0 inner",
     "play made:7:100000 today.seed honest - 20 sub:0:99 range:0:0:1048575 f2:0 inner",
+    "panel made:7:100000 today.seed mute,skewed,honest 20 sub:0:99 f2:0",
     "help to.fifo from.fifo",
     "lookup log.stream today.seed from.fifo to.fifo 20 index:1 pred:99 succ:100",
     "helplook to.fifo from.fifo",

@@ -4,7 +4,7 @@ use crate::case::Case;
 use crate::page_tests::words_between;
 use sip_cli::{
     AUDIT_PART, GEN_PART, HELP, HELP_PART, HELPLOOK_PART, HELPMOM_PART, LINES_PART, LOOKUP_PART,
-    MOMENTS_PART, PLAY_PART, VERIFY_PART, VERSION, WIDEN_PART, page_of,
+    MOMENTS_PART, PANEL_PART, PLAY_PART, VERIFY_PART, VERSION, WIDEN_PART, page_of,
 };
 use std::alloc::Global;
 use std::process::Abort;
@@ -46,6 +46,8 @@ const PARTS: &[Asked<'static>] = &[
     ("verify|-h", Some(VERIFY_PART)),
     ("play|--help", Some(PLAY_PART)),
     ("play|-h", Some(PLAY_PART)),
+    ("panel|--help", Some(PANEL_PART)),
+    ("panel|-h", Some(PANEL_PART)),
     ("help|--help", Some(HELP_PART)),
     ("help|-h", Some(HELP_PART)),
     ("lookup|--help", Some(LOOKUP_PART)),
@@ -78,6 +80,7 @@ fn check_asked(rt: &impl Abort, alloc: Global, rows: &[Asked]) -> Result<(), Fai
 const SAID: &[&str] = &[
     VERIFY_PART,
     PLAY_PART,
+    PANEL_PART,
     HELP_PART,
     LOOKUP_PART,
     HELPLOOK_PART,
@@ -88,6 +91,7 @@ const SAID: &[&str] = &[
     LINES_PART,
     WIDEN_PART,
     "\n  sip verify STREAM SEED FROM TO RECORD DEPTH QUERY..\n",
+    "\n  sip panel STREAM SEED HELPERS DEPTH QUERY..\n",
     "\n  sip lookup STREAM SEED FROM TO DEPTH LOOKUP..\n",
     "\n  sip moments STREAM SEED FROM TO DEPTH MOMENT..\n",
     "\n  sip show TRANSCRIPT\n",

@@ -7,7 +7,7 @@ use Rattle.sip_cli.specs.declared.shape.Shape.TheVariants.{Name, Stream, Depth}
 use Rattle.sip_cli.specs.declared.verb.Verb.{Verb}
 use Rattle.sip_cli.specs.Shapes.{IsOf}
 use Rattle.sip_cli.specs.Verbs.{verb_word, shapes, depth_at, least_asked, most_asked}
-use Rattle.sip_cli.specs.Words.{AsksOf, word}
+use Rattle.sip_cli.specs.Words.{AsksOf, HasSeats, word}
 
 -- there are n words behind the verb, and they have the first n shapes
 abbrev pub HaveShapes : List Shape → List (List ℕ) → ℕ → Type 0
@@ -58,6 +58,13 @@ pub record TakesAll {Q : Type 0} (IsWord : ℕ → Q → List ℕ → Type 0) (v
   pub asks : (d : ℕ) (q : Q) (w : List ℕ) → IsWord d q w → AsksOf verb d w
   pub asked : (d : ℕ) (w : List ℕ) → AsksOf verb d w → (q : Q) × IsWord d q w
 
+-- As many queries as this have a seat for each helper that the words of a verb name, and no more of
+-- those that a run may have.
+pub record SeatsUpTo (verb : Verb) (words : List (List ℕ)) (most : ℕ) : Type 0 where
+  pub enough : (number : ℕ) → number ≤ most → HasSeats verb (word words 3) number
+  pub few : (number : ℕ) → most < number → number ≤ most_queries
+      → HasSeats verb (word words 3) number → ⊥
+
 -- the words from `first` up to n ask these
 pub record AreAsked {Q : Type 0} (IsWord : ℕ → Q → List ℕ → Type 0) (words : List (List ℕ))
     (depth first : ℕ) (asked : List Q) (n : ℕ) : Type 0 where
@@ -67,10 +74,10 @@ pub record AreAsked {Q : Type 0} (IsWord : ℕ → Q → List ℕ → Type 0) (w
 
 -- the word of this number is the first from `first` on that asks nothing, or one too many
 pub record StopsInAsked {Q : Type 0} (IsWord : ℕ → Q → List ℕ → Type 0) (words : List (List ℕ))
-    (depth first number : ℕ) : Type 0 where
+    (depth first most number : ℕ) : Type 0 where
   pub asked : List Q
   pub before : AreAsked IsWord words depth first asked number
-  pub most : number ≤ first + most_queries
-  pub here : number < first + most_queries → number < length words
+  pub within : number ≤ first + most
+  pub here : number < first + most → number < length words
       → (q : Q) → IsWord depth q (word words number) → ⊥
   pub missing : length words ≤ number → number ≡ first

@@ -1,6 +1,6 @@
 use Rattle.std.proofs.Common.{subst}
 use Rattle.std.proofs.lemmas.Result.{err_from_is_err_and}
-use Rattle.sip_cli.specs.declared.verb.Verb.TheVariants.{Verify, Audit, Gen, Play, Lookup, Moments}
+use Rattle.sip_cli.specs.declared.verb.Verb.TheVariants.{Verify, Audit, Gen, Play, Lookup, Moments, Panel}
 use Rattle.sip_cli.specs.inside.Progress.{StopsInShapes}
 use Rattle.sip_cli.proofs.Beginning.{refused_verb}
 use Rattle.sip_cli.proofs.Stopping.{refused_shape, fitted_by, refused_by}
@@ -45,3 +45,8 @@ pub returns-in-Moments-clause-refused : goal.returns-in-Moments-clause-refused
 returns-in-Moments-clause-refused c =
     let fitted = fitted_by c.in-Some.verb c.args.words.now c.shapes.result.now c.in-Some.ensures c.shapes.ensures c.in_ok-check_shapes.ensures.fitting in
     refused_by Moments c.args.words.now c.read_moments.result c.read_moments.ensures.refused (rw c.in-Moments.is at fitted)
+
+pub returns-in-Panel-clause-refused : goal.returns-in-Panel-clause-refused
+returns-in-Panel-clause-refused c =
+    let fitted = fitted_by c.in-Some.verb c.args.words.now c.shapes.result.now c.in-Some.ensures c.shapes.ensures c.in_ok-check_shapes.ensures.fitting in
+    refused_by Panel c.args.words.now c.read_panel.result c.read_panel.ensures.refused (rw c.in-Panel.is at fitted)

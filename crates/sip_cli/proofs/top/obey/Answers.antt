@@ -2,7 +2,7 @@
 use Rattle.std.proofs.Common.{[], refl}
 use Rattle.sip_ports.proofs.TalkLemmas.{GoesOn-refl}
 use Rattle.sip_verifier.proofs.RunTalks.{tells}
-use Rattle.sip_cli.proofs.CommandKeeps.{audit_keeps, audit_moves, look_keeps, moments_keeps, obeys, play_keeps, verify_keeps}
+use Rattle.sip_cli.proofs.CommandKeeps.{audit_keeps, audit_moves, look_keeps, moments_keeps, obeys, panel_keeps, play_keeps, verify_keeps}
 use Rattle.sip_cli.proofs.top.obey.Goals as goal
 
 pub returns-in-Verify-clause-keeps : goal.returns-in-Verify-clause-keeps
@@ -10,6 +10,9 @@ returns-in-Verify-clause-keeps g c = verify_keeps _ c.in-Verify.is c.check_strea
 
 pub returns-in-Play-clause-keeps : goal.returns-in-Play-clause-keeps
 returns-in-Play-clause-keeps g c = play_keeps _ _ c.in-Play.is c.check_stream-in-Play.ensures.keeps
+
+pub returns-in-Panel-clause-keeps : goal.returns-in-Panel-clause-keeps
+returns-in-Panel-clause-keeps g c = panel_keeps _ _ c.in-Panel.is c.check_stream-in-Panel.ensures.keeps
 
 pub returns-in-Help-clause-keeps : goal.returns-in-Help-clause-keeps
 returns-in-Help-clause-keeps g c =

@@ -1,7 +1,7 @@
 use Rattle.std.proofs.Common.{refl, sym, subst}
 use Rattle.sip_cli.proofs.CommandKeeps.{known_by, none_keeps}
 use Rattle.sip_cli.proofs.Refusals.{command_once, spelled_not_refused}
-use Rattle.sip_cli.proofs.RunLemmas.{looked_task, never_usage, played_task, served_task, summed_task, usage_at, usage_never}
+use Rattle.sip_cli.proofs.RunLemmas.{looked_task, never_usage, played_task, seated_task, served_task, summed_task, usage_at, usage_never}
 use Rattle.sip_cli.specs.Statuses.{IsCopy, IsHelp, IsUnkept}
 use Rattle.sip_cli.proofs.top.run.Goals as goal
 
@@ -9,6 +9,7 @@ pub obey-requires : goal.obey-requires
 obey-requires g c = record {
   served = served_task _ _ c.in-Ok.ensures.command;
   played = played_task _ _ c.in-Ok.ensures.command;
+  seated = seated_task _ _ c.in-Ok.ensures.command;
   looked = looked_task _ _ c.in-Ok.ensures.command;
   summed = summed_task _ _ c.in-Ok.ensures.command;
 }

@@ -18,6 +18,13 @@ returns-clause-played c = λ task name spells.
     let told = c.run.ensures.keeps.moves (all_told old _) in
     let x = told.0 in (x, Moves-told old new _ _ x told.1, c.run.ensures.keeps.play task name spells x told.1)
 
+pub returns-clause-seated : goal.returns-clause-seated
+returns-clause-seated c = λ task names spells.
+    let old = held_by c.args.first.now c.args.second.now c.args.peer.now c.args.report.now c.args.keep.now in
+    let new = held_by c.run.new.first c.run.new.second c.run.new.peer c.run.new.report c.run.new.keep in
+    let told = c.run.ensures.keeps.moves (all_told old _) in
+    let x = told.0 in (x, Moves-told old new _ _ x told.1, c.run.ensures.keeps.panel task names spells x told.1)
+
 pub returns-clause-looked : goal.returns-clause-looked
 returns-clause-looked c = λ task spells.
     let old = held_by c.args.first.now c.args.second.now c.args.peer.now c.args.report.now c.args.keep.now in

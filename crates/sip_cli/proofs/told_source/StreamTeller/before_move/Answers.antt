@@ -1,4 +1,4 @@
-use Rattle.std.proofs.Common.{false, sym, ◌∙◌, refl}
+use Rattle.std.proofs.Common.{sym, ◌∙◌, refl}
 use Rattle.sip_cli.specs.ToldStream.{line_before}
 use Rattle.sip_cli.proofs.Telling.{says_nothing}
 use Rattle.sip_cli.proofs.told_source.StreamTeller.before_move.Goals as goal
