@@ -112,20 +112,36 @@ impl Pair {
     // A settled vector lends the numbers that are not 0.
     fn lends(&self, rt: &impl Abort) -> Result<(), Fail> {
         let entries = self.vector.entries().ok_or(())?;
-        let mut count = 0usize;
-        for (index, number) in self.numbers.iter().enumerate() {
-            if *number != 0 {
-                let entry = Entry {
-                    index: index as u64,
-                    value: *number,
-                };
-                expect(rt, index, &[entries.get(count) == Some(&entry)]);
-                count = count.wrapping_add(1);
-            }
-        }
-        expect(rt, 8, &[entries.len() == count]);
+        are_entries(rt, entries, &self.numbers);
         Ok(())
     }
+
+    // It shares them too, and what it shared stays as it was once more is added.
+    fn shares(&mut self, rt: &impl Abort) -> Result<(), Fail> {
+        let shared = self.vector.shared_entries()?.ok_or(())?;
+        let numbers = self.numbers;
+        self.add_at(rt, 0, 5)?;
+        expect(rt, 0, &[self.vector.shared_entries()?.is_none()]);
+        self.settle(rt)?;
+        are_entries(rt, &shared, &numbers);
+        self.lends(rt)
+    }
+}
+
+// These entries are the numbers that are not 0, in their order.
+fn are_entries(rt: &impl Abort, entries: &[Entry], numbers: &[i64; 8]) {
+    let mut count = 0usize;
+    for (index, number) in numbers.iter().enumerate() {
+        if *number != 0 {
+            let entry = Entry {
+                index: index as u64,
+                value: *number,
+            };
+            expect(rt, index, &[entries.get(count) == Some(&entry)]);
+            count = count.wrapping_add(1);
+        }
+    }
+    expect(rt, 8, &[entries.len() == count]);
 }
 
 #[test]
@@ -138,7 +154,8 @@ fn want_of_memory_leaves_a_vector_as_it_was(rt: HostRuntime) -> Result<(), Fail>
     pair.shows(&rt);
     pair.settle(&rt)?;
     pair.shows(&rt);
-    pair.lends(&rt)
+    pair.lends(&rt)?;
+    pair.shares(&rt)
 }
 
 // Deltas about the greatest that waits in one word, and far from it.
@@ -162,5 +179,6 @@ fn a_large_delta_is_added_whole_or_not_at_all(rt: HostRuntime) -> Result<(), Fai
     }
     pair.settle(&rt)?;
     pair.shows(&rt);
-    pair.lends(&rt)
+    pair.lends(&rt)?;
+    pair.shares(&rt)
 }
