@@ -1,7 +1,7 @@
 // A vector of the greatest depth with many entries far from each other.
 
 use crate::facts::expect;
-use crate::vector_calls::{added, number_at};
+use crate::vector_calls::{added, number_at, zeros};
 use sip_vector::{Depth, Vector};
 use std::alloc::Global;
 use std::process::Abort;
@@ -35,7 +35,7 @@ impl Far {
     fn new(alloc: Global) -> Result<Far, Fail> {
         let depth = Depth::new(Depth::MOST).ok_or(())?;
         Ok(Far {
-            vector: Vector::new(alloc, depth)?,
+            vector: zeros(alloc, depth)?,
             count: 0,
             total: 0,
         })

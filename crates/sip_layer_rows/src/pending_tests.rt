@@ -1,7 +1,7 @@
 // What a vector shows while additions are pending, and after memory was refused to it.
 
 use crate::facts::expect;
-use crate::vector_calls::{added, count_between, first_entry, number_at};
+use crate::vector_calls::{added, count_between, first_entry, number_at, zeros};
 use sip_vector::{Depth, Entry, Vector};
 use std::alloc::Global;
 use std::process::Abort;
@@ -19,7 +19,7 @@ impl Pair {
     fn new(alloc: Global) -> Result<Pair, Fail> {
         let depth = Depth::new(3).ok_or(())?;
         Ok(Pair {
-            vector: Vector::new(alloc, depth)?,
+            vector: zeros(alloc, depth)?,
             numbers: [0; 8],
             state: 1,
         })

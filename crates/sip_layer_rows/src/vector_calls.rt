@@ -36,6 +36,14 @@ pub(crate) fn added(vector: &mut Vector, index: u64, delta: i64) -> Result<bool,
     Ok(vector.add(index, delta).is_ok())
 }
 
+// A vector of zeros, which is asked for again where memory was refused to it.
+pub(crate) fn zeros(alloc: Global, depth: Depth) -> Result<Vector, OutOfMemory> {
+    match Vector::new(alloc, depth) {
+        Ok(vector) => Ok(vector),
+        Err(_) => Vector::new(alloc, depth),
+    }
+}
+
 // The vector with these entries.
 pub(crate) fn vector_of(alloc: Global, depth: u8, entries: &[(u64, i64)]) -> Result<Vector, Fail> {
     let depth = Depth::new(depth).ok_or("a depth")?;
