@@ -1,14 +1,16 @@
 -- Tables of steps: what levels make of a hash is what the upper ones make of what the lower ones
 -- do.
-use Rattle.std.proofs.Common.{◌≡◌, ℕ, zero, suc, ◌+◌, ◌*◌, ◌/◌, ◌%◌, ◌^◌, ◌<◌, ◌==◌, if◌then◌else◌, List, [], ◌∷◌, length, get_or, take, drop, refl, sym, ◌∙◌, ap, arith}
+use Rattle.std.proofs.Common.{◌≡◌, ℕ, zero, suc, ◌+◌, ◌*◌, ◌/◌, ◌%◌, ◌^◌, ◌<◌, ◌≤◌, ◌==◌, if◌then◌else◌, List, [], ◌∷◌, length, get_or, take, drop, refl, sym, ◌∙◌, ap, arith}
 use Rattle.std.proofs.Math.Nat.{mod-eq_of_lt, pow-succ', div-div-eq-div-mul, div-eq_of_lt, mod-add-mod, add-mod-mod, mod-mod}
+use Rattle.std.specs.Prelude.{All}
 use Rattle.std.proofs.lemmas.List.{drop_more, drop-take}
+use Rattle.std.proofs.lemmas.List.Elements.{All-get_or}
 use Rattle.std.proofs.lemmas.Nat.{mul-mod_first, mul-mod_second, pow_pos, mod-mul-add, div-mul-add}
 use Rattle.sip_field.proofs.Doubling.{low_bit, low_half, take_shorter}
 use Rattle.sip_field.proofs.BitProducts.{low_part, seven_more}
 use Rattle.sip_vector.specs.Weights.{hash_weight, hash_weight_from}
 use Rattle.sip_vector.proofs.TreeResidues.{mod_plus}
-use Rattle.sip_tree.specs.Steps.{no_step, IsStep, AreStepTables}
+use Rattle.sip_tree.specs.Steps.{no_step, start_of, IsStep, IsBelow, AreStepTables}
 use Rattle.sip_tree.specs.declared.steps.Step.{Step}
 use Rattle.sip_tree.proofs.WeightSteps.{by_powers}
 
@@ -63,27 +65,54 @@ split_by p rs n whole left right r within is ls lt rs' rt =
           ∙ sym (mod_plus p (h * ((a * (q % p)) % p)) (h * a * q) (((b + r) % p * (q % p)) % p) ((b + r) * q) first second));
     }
 
-module _ (p e n : ℕ) (rs : List ℕ) (whole left right : Step) (low : e < 2 ^ n) (split : Split p rs n whole left right) (is : IsStep p (take n rs) e whole) where
-  pub left_step : IsStep p (take (n + 1) rs) e left
+module _ (p start e n : ℕ) (rs : List ℕ) (whole left right : Step) (low : e < 2 ^ n) (split : Split p rs n whole left right) (is : IsStep p start (take n rs) e whole) where
+  pub left_step : IsStep p start (take (n + 1) rs) e left
   left_step h small =
       let within : e % 2 ^ n ≡ e = mod-eq_of_lt low in
       let none : e / 2 ^ n ≡ 0 = div-eq_of_lt low in
-      split_hash p h e n (take (n + 1) rs) ∙ rw (within, none, take_shorter n rs, drop-take n 1 rs, is h small) (split.left_is h)
+      split_hash p ((start + h) % p) e n (take (n + 1) rs) ∙ rw (within, none, take_shorter n rs, drop-take n 1 rs, is h small) (split.left_is h)
 
-  pub right_step : IsStep p (take (n + 1) rs) (2 ^ n + e) right
+  pub right_step : IsStep p start (take (n + 1) rs) (2 ^ n + e) right
   right_step h small =
       let turned : 2 ^ n + e ≡ 1 * 2 ^ n + e = omega arith in
       let within : (2 ^ n + e) % 2 ^ n ≡ e = ap (λ x. x % 2 ^ n) turned ∙ mod-mul-add 1 (2 ^ n) e low in
       let one : (2 ^ n + e) / 2 ^ n ≡ 1 = ap (λ x. x / 2 ^ n) turned ∙ div-mul-add 1 (2 ^ n) e low in
-      split_hash p h (2 ^ n + e) n (take (n + 1) rs) ∙ rw (within, one, take_shorter n rs, drop-take n 1 rs, is h small) (split.right_is h)
+      split_hash p ((start + h) % p) (2 ^ n + e) n (take (n + 1) rs) ∙ rw (within, one, take_shorter n rs, drop-take n 1 rs, is h small) (split.right_is h)
+
+-- what a read of the tables gives is below the modulus
+pub below_step : (p : ℕ) (tables : List (List Step)) (k e : ℕ) → k < length tables → e < length (get_or tables k []) → All (All (IsBelow p)) tables →
+    IsBelow p (get_or (get_or tables k []) e no_step)
+below_step p tables k e here low all =
+    All-get_or (IsBelow p) (get_or tables k []) e no_step low (All-get_or (All (IsBelow p)) tables k [] here all)
+
+-- of the hash below another table than the first one nothing is known
+pub later_start : (k : ℕ) → 1 ≤ k → start_of k ≡ 0
+later_start zero later = absurd (let no : ⊥ = omega (arith, later) in no)
+later_start (suc k) later = refl
+
+-- the first table, where the hash below is 1
+pub first_step_table : (p index : ℕ) (seat : List ℕ) (tables : List (List Step)) (v : ℕ) → 1 < p → AreStepTables p seat tables → 0 < length tables → v < p →
+    index < 2 ^ length seat → v ≡ (get_or (get_or tables 0 []) (index % 128) no_step).shift →
+    hash_weight_from p v (index / 128) (drop (7 * 1) seat) ≡ hash_weight p index seat
+first_step_table p index seat tables v above are within small inside made =
+    let one : (1 + 0) % p ≡ 1 = mod-eq_of_lt above in
+    let shift : ℕ = (get_or (get_or tables 0 []) (index % 128) no_step).shift in
+    let entry : hash_weight_from p 1 (index % 128) (take 7 seat) ≡ v =
+    ap (λ h. hash_weight_from p h (index % 128) (take 7 seat)) (sym one)
+    ∙ are 0 within (index % 128) (low_part 7 index seat inside) 0 (omega (arith, above))
+    ∙ ap (λ x. x % p) (let same : 0 * (get_or (get_or tables 0 []) (index % 128) no_step).scale + shift ≡ shift = omega arith in same)
+    ∙ ap (λ x. x % p) (sym made) ∙ mod-eq_of_lt small in
+    ap (λ x. hash_weight_from p x (index / 128) (drop 7 seat)) (sym entry) ∙ sym (split_hash p 1 index 7 seat)
 
 -- one table more
-pub one_step_table : (p index : ℕ) (seat : List ℕ) (tables : List (List Step)) (k path u v : ℕ) → AreStepTables p seat tables → k < length tables → u < p →
+pub one_step_table : (p index : ℕ) (seat : List ℕ) (tables : List (List Step)) (k path u v : ℕ) → AreStepTables p seat tables → 1 ≤ k → k < length tables → u < p →
     path < 2 ^ length (drop (7 * k) seat) →
     v ≡ (u * (get_or (get_or tables k []) (path % 128) no_step).scale + (get_or (get_or tables k []) (path % 128) no_step).shift) % p →
     hash_weight_from p u path (drop (7 * k) seat) ≡ hash_weight p index seat →
     hash_weight_from p v (path / 128) (drop (7 * (k + 1)) seat) ≡ hash_weight p index seat
-one_step_table p index seat tables k path u v are within small inside made before =
+one_step_table p index seat tables k path u v are later within small inside made before =
     let rs : List ℕ = drop (7 * k) seat in
-    let entry : hash_weight_from p u (path % 128) (take 7 rs) ≡ v = are k within (path % 128) (low_part 7 path rs inside) u small ∙ sym made in
+    let start : (start_of k + u) % p ≡ u = ap (λ s. (s + u) % p) (later_start k later) ∙ ap (λ x. x % p) (let same : 0 + u ≡ u = omega arith in same) ∙ mod-eq_of_lt small in
+    let entry : hash_weight_from p u (path % 128) (take 7 rs) ≡ v =
+    ap (λ h. hash_weight_from p h (path % 128) (take 7 rs)) (sym start) ∙ are k within (path % 128) (low_part 7 path rs inside) u small ∙ sym made in
     rw (seven_more k seat) (ap (λ x. hash_weight_from p x (path / 128) (drop 7 rs)) (sym entry) ∙ sym (split_hash p u path 7 rs) ∙ before)

@@ -7,7 +7,8 @@ ghost use Rattle.sip_vector.specs.Streams.{most_weight};
 ghost use Rattle.sip_vector.specs.Limits.{most_depth};
 ghost use Rattle.sip_vector.specs.Weights.{raised_numbers, numbers_after, hash_weight};
 
-use crate::steps::{Step, by_steps, fill_steps};
+use crate::hashing::hashed;
+use crate::steps::{Step, fill_steps};
 use sip_field::{Field, Seat};
 use sip_vector::Update;
 
@@ -66,9 +67,8 @@ impl<F: Field, const CAP: usize> AugRoot<F, CAP> {
 
     /// The root after each of these updates, whatever their sides.
     ///
-    /// Two `times` for an update, and one more for seven challenges of it; and 261 for seven
-    /// challenges, whose table is on the stack for this call. A block of less than 32 updates is
-    /// `update` for each.
+    /// One `times` for an update and seven challenges, and 261 for seven challenges, whose table is
+    /// on the stack for this call. A block of less than 32 updates is `update` for each.
     #[inline(never)]
     pub fn update_all(&mut self, updates: &[Update])
         requires depth { length self.old.seat ≤ most_depth }
@@ -89,16 +89,14 @@ impl<F: Field, const CAP: usize> AugRoot<F, CAP> {
                 self.update(update.item, update.delta);
             }
         } else {
-            let mut tables = [[Step { scale: 1, shift: 0 }; 128]; 7];
+            let mut tables = [[Step { scale: 0, shift: 0 }; 128]; 7];
             let count = fill_steps(&mut tables, &self.seat);
-            let mut hash = F::of_number(self.hash);
+            let hash = F::of_number(self.hash);
+            self.hash = hashed(hash, &tables[..count], updates).number();
             let mut total = self.total;
             for update in updates {
-                let weight = by_steps(&tables[..count], update.item);
-                hash = hash.plus(F::of_signed(update.delta).times(weight));
                 total += update.delta;
             }
-            self.hash = hash.number();
             self.total = total;
         }
     }

@@ -37,13 +37,14 @@
 //! | `Root::update_all` of 32 and more | one for an update and 7 challenges, and 127 for 7 challenges | an `of_signed` and a `plus` for an update |
 //! | `Root::weight_above` | one for each bit that is 1, d - level at most | d - level steps along the bits |
 //! | `AugRoot::update` | two for each bit that is 1, and one: 2d + 1 at most | d steps along the bits, each with one `plus`; one `of_signed` |
-//! | `AugRoot::update_all` of 32 and more | two for an update and one for 7 challenges of it, and 261 for 7 challenges | an `of_signed` for an update, `plus` as many as `times` |
+//! | `AugRoot::update_all` of 32 and more | one for an update and 7 challenges, and 261 for 7 challenges | an `of_signed` for an update and a sum for each of its `times`, and 127 `plus` for 7 challenges |
 //! | `up` | n / 2 | n / 2 `plus` |
 #![tactic(auto)]
 
 mod adding;
 mod augmented;
 mod fold;
+mod hashing;
 pub mod laws;
 mod root;
 mod steps;

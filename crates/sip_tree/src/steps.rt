@@ -5,28 +5,35 @@ ghost use Rattle.sip_vector.specs.Weights.{hash_weight};
 
 use sip_field::{Field, Seat};
 
-/// What some levels make of a hash h: `scale * h + shift`.
+/// What some levels make of a hash `start + h`: `scale * h + shift`.
 #[derive(Clone, Copy)]
 pub(crate) struct Step {
     pub(crate) scale: u64,
     pub(crate) shift: u64,
 }
 
-/// The steps for at most seven levels, those above `from`. Entry e is the step of the levels along
-/// the bits of e, the lowest bit first, for each e below 2^n, where there are n levels. They are
-/// made where they are to lie, whatever lies there: a table is too large to be moved about.
+/// The steps for at most seven levels, those above `from`, of a hash that is `start + h`. Entry e is
+/// the step of the levels along the bits of e, the lowest bit first, for each e below 2^n, where
+/// there are n levels. They are made where they are to lie, whatever residues lie there: a table is
+/// too large to be moved about, or to be filled twice.
 ///
 /// Two `times` for each pair, and one for each level.
 pub(crate) fn steps<F: Field, const CAP: usize>(
     table: &mut [Step; 128],
     seat: &Seat<F, CAP>,
     from: usize,
+    start: u64,
 )
-    requires { from ≤ length seat.now }
-    ensures steps { HasSteps F.MODULUS (take 7 (drop from seat.now)) table.new }
+    requires from { from ≤ length seat.now }
+    requires start { start < F.MODULUS }
+    requires residues { All (IsBelow F.MODULUS) table.old }
+    ensures steps { HasSteps F.MODULUS start (take 7 (drop from seat.now)) table.new }
     ensures below { All (IsBelow F.MODULUS) table.new }
 {
-    *table = [Step { scale: 1, shift: 0 }; 128];
+    table[0] = Step {
+        scale: 1,
+        shift: start,
+    };
     let mut filled = 1;
     let left = seat.depth() - from;
     let levels = if left < 7 { left } else { 7 };
@@ -50,42 +57,56 @@ pub(crate) fn steps<F: Field, const CAP: usize>(
     }
 }
 
-/// Makes the tables of all levels of a seat, and says how many they are: table g is that of the
-/// seven levels above 7·g, or of those that are left. The tables behind them are left as they are.
+/// Makes the tables of all levels of a seat, and says how many they are, one at least: table g is
+/// that of the seven levels above 7·g, or of those that are left. The tables behind them are left
+/// as they are. The hash below the first one is 1, and so its shifts are what seven levels make of
+/// it.
 ///
 /// 261 `times` for a table of seven levels.
 pub(crate) fn fill_steps<F: Field, const CAP: usize>(
     tables: &mut [[Step; 128]; 7],
     seat: &Seat<F, CAP>,
 ) -> usize
-    requires { length seat.now ≤ 49 }
+    requires depth { length seat.now ≤ 49 }
+    requires residues { All (All (IsBelow F.MODULUS)) tables.old }
+    ensures some { 1 ≤ result }
     ensures count { result ≤ 7 }
     ensures all { length seat.now ≤ 7 * result }
     ensures below { All (All (IsBelow F.MODULUS)) (take result tables.new) }
     ensures tables { AreStepTables F.MODULUS seat.now (take result tables.new) }
 {
-    let count = (seat.depth() + 6) / 7;
-    for group in 0..count {
-        steps(&mut tables[group], seat, 7 * group);
+    // A seat without challenges has a table too, so that there is always a first one.
+    let count = 1 + seat.depth().saturating_sub(1) / 7;
+    steps(&mut tables[0], seat, 0, 1);
+    for group in 1..count {
+        steps(&mut tables[group], seat, 7 * group, 0);
     }
     count
 }
 
-/// The factor of an entry in the hash, by the tables of all levels.
+/// A number with the residue of the factor of an entry in the hash, by the tables of all levels. It
+/// is below 7 * 2^61.
 ///
-/// One `times` for each table.
-pub(crate) fn by_steps<F: Field>(tables: &[[Step; 128]], index: u64) -> F
-    requires { All (All (IsBelow F.MODULUS)) tables.now }
-    ensures { (challenges : List ℕ) → AreStepTables F.MODULUS challenges tables.now
+/// One `loose_times` for each table but the first.
+pub(crate) fn loosely_by_steps<F: Field>(tables: &[[Step; 128]], index: u64) -> u64
+    requires some { 1 ≤ length tables.now }
+    requires few { length tables.now ≤ 7 }
+    requires below { All (All (IsBelow F.MODULUS)) tables.now }
+    ensures most { result < 7 * 2 ^ 61 }
+    ensures weight { (challenges : List ℕ) → AreStepTables F.MODULUS challenges tables.now
         → length challenges ≤ 7 * length tables.now → index < 2 ^ length challenges
-        → F.number result ≡ hash_weight F.MODULUS index challenges }
+        → result % F.MODULUS ≡ hash_weight F.MODULUS index challenges }
 {
-    let mut weight = F::of(1);
-    let mut path = index;
-    for table in tables {
-        let step = table[(path % 128) as usize];
-        let scaled = weight.times(F::of_number(step.scale));
-        weight = scaled.plus(F::of_number(step.shift));
+    let mut weight = tables[0][(index % 128) as usize].shift;
+    let mut path = index / 128;
+    for group in 1..tables.len() {
+        // A step makes the number longer by less than 2^62, and 64 bits have room for three steps
+        // from a residue on.
+        if group == 4 {
+            weight = F::of(weight).number();
+        }
+        let step = tables[group][(path % 128) as usize];
+        weight = F::loose_times(weight, step.scale) + step.shift;
         path /= 128;
     }
     weight

@@ -1,49 +1,57 @@
-use Rattle.std.proofs.Common.{◌≡◌, ℕ, List, [], ◌+◌, ◌*◌, ◌/◌, ◌<◌, length, take, drop, sym, ◌∙◌, subst, arith}
+use Rattle.std.proofs.Common.{◌≡◌, ℕ, List, [], ◌+◌, ◌-◌, ◌*◌, ◌/◌, ◌<◌, ◌≤◌, length, take, drop, sym, ◌∙◌, subst, arith}
 use Rattle.std.specs.Prelude.{All}
-use Rattle.std.proofs.lemmas.List.{length-set, length-take-le, get_or-take, get_or_default}
-use Rattle.sip_tree.specs.Steps.{HasSteps, IsBelow}
+use Rattle.std.proofs.lemmas.List.{length-set, length-take-le, get_or-take}
+use Rattle.std.proofs.lemmas.List.Elements.{All-set, All-take}
+use Rattle.sip_tree.specs.Steps.{HasSteps, IsBelow, start_of}
 use Rattle.sip_tree.specs.declared.steps.Step.{Step}
 use Rattle.sip_field.proofs.Doubling.{each_set}
+use Rattle.sip_tree.proofs.StepTables.{later_start}
 use Rattle.sip_tree.proofs.steps.fill_steps.Goals as goal
 
+-- the tables of so many challenges are seven at the most
+few_tables : (depth left : ℕ) → depth ≤ 49 → left ≡ depth - 1 → 1 + left / 7 ≤ 7
+few_tables depth left few is = omega (arith, few, is)
+
 pub loop-group-init : goal.loop-group-init
-loop-group-init g c = record {
-  long = c.told-tables;
-  below = λ k none. absurd (let no : ⊥ = omega (arith, none) in no);
-  steps = λ k none. absurd (let no : ⊥ = omega (arith, none) in no);
-}
+loop-group-init g c =
+    let p : ℕ = g.F.Field.MODULUS in
+    let tables : List (List Step) = c.args.tables.now in
+    let table : List Step = c.steps.new.table in
+    record {
+      some = omega arith;
+      long = length-set tables 0 table ∙ c.told-tables;
+      below = All-set (All (IsBelow p)) tables 0 table c.steps.ensures.below c.requires.residues;
+      steps = each_set [] (λ j t. HasSteps p (start_of j) (take 7 (drop (7 * j) c.args.seat.now)) t) tables 0 table (omega (arith, c.told-tables))
+          c.steps.ensures.steps (λ k none. absurd (let no : ⊥ = omega (arith, none) in no));
+    }
 
 pub loop-group-preserved : goal.loop-group-preserved
 loop-group-preserved g c =
     let p : ℕ = g.F.Field.MODULUS in
     let tables : List (List Step) = c.loop-group.tables in
+    let table : List Step = c.steps-in-loop-group.new.table in
     let k : ℕ = c.loop-group.group in
     let within : k < length tables =
-    omega (arith, c.loop-group.invariant.long, c.loop-group-test.true, c.depth.ensures.exact, c.requires) in
+    omega (arith, c.loop-group.invariant.long, c.loop-group-test.true, few_tables _ _ (omega (arith, c.depth.ensures.exact, c.requires.depth)) c.saturating_sub.ensures) in
     record {
-      long = length-set tables k c.steps.new.table ∙ c.loop-group.invariant.long;
-      below = each_set [] (λ _ t. All (IsBelow p) t) tables k c.steps.new.table within c.steps.ensures.below c.loop-group.invariant.below;
-      steps = each_set [] (λ j t. HasSteps p (take 7 (drop (7 * j) c.args.seat.now)) t) tables k c.steps.new.table within
-          c.steps.ensures.steps c.loop-group.invariant.steps;
+      some = omega arith;
+      long = length-set tables k table ∙ c.loop-group.invariant.long;
+      below = All-set (All (IsBelow p)) tables k table c.steps-in-loop-group.ensures.below c.loop-group.invariant.below;
+      steps = each_set [] (λ j t. HasSteps p (start_of j) (take 7 (drop (7 * j) c.args.seat.now)) t) tables k table within
+          (subst (λ s. HasSteps p s (take 7 (drop (7 * k) c.args.seat.now)) table) (sym (later_start k c.loop-group.invariant.some)) c.steps-in-loop-group.ensures.steps)
+          c.loop-group.invariant.steps;
     }
 
 pub returns-clause-below : goal.returns-clause-below
-returns-clause-below g c k d low =
-    let p : ℕ = g.F.Field.MODULUS in
-    let n : ℕ = (c.depth.result + 6) / 7 in
-    let tables : List (List Step) = c.loop-group.tables in
-    let long : length (take n tables) ≡ n =
-    length-take-le n tables (omega (arith, c.loop-group.invariant.long, c.depth.ensures.exact, c.requires)) in
-    subst (All (IsBelow p)) (sym (get_or_default (take n tables) k d [] low ∙ get_or-take n tables k [] (omega (arith, long, low))))
-    (c.loop-group.invariant.below k (omega (arith, long, low, c.loop-group-test.false)))
+returns-clause-below g c = All-take (All (IsBelow g.F.Field.MODULUS)) (1 + c.saturating_sub.result / 7) c.loop-group.tables c.loop-group.invariant.below
 
 pub returns-clause-tables : goal.returns-clause-tables
 returns-clause-tables g c k low =
     let p : ℕ = g.F.Field.MODULUS in
-    let n : ℕ = (c.depth.result + 6) / 7 in
+    let n : ℕ = 1 + c.saturating_sub.result / 7 in
     let tables : List (List Step) = c.loop-group.tables in
     let long : length (take n tables) ≡ n =
-    length-take-le n tables (omega (arith, c.loop-group.invariant.long, c.depth.ensures.exact, c.requires)) in
-    subst (HasSteps p (take 7 (drop (7 * k) c.args.seat.now)))
+    length-take-le n tables (omega (arith, c.loop-group.invariant.long, few_tables _ _ (omega (arith, c.depth.ensures.exact, c.requires.depth)) c.saturating_sub.ensures)) in
+    subst (HasSteps p (start_of k) (take 7 (drop (7 * k) c.args.seat.now)))
     (sym (get_or-take n tables k [] (omega (arith, long, low))))
     (c.loop-group.invariant.steps k (omega (arith, long, low, c.loop-group-test.false)))

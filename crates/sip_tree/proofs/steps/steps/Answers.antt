@@ -1,7 +1,7 @@
-use Rattle.std.proofs.Common.{◌≡◌, ℕ, suc, List, replicate, set, inl, inr, ◌+◌, ◌-◌, ◌*◌, ◌%◌, ◌^◌, ◌<◌, ◌≤◌, length, take, drop, get_or, refl, sym, ◌∙◌, ap, subst, arith}
-use Rattle.std.proofs.Math.Nat.{pow-suc, mod-lt, mod-eq_of_lt}
-use Rattle.std.proofs.lemmas.List.{length-set, length-drop, get_or-drop, get_or-replicate}
-use Rattle.std.proofs.lemmas.List.Elements.{All-set, All-get_or, All-replicate}
+use Rattle.std.proofs.Common.{◌≡◌, ℕ, suc, List, set, inl, inr, ◌+◌, ◌-◌, ◌*◌, ◌%◌, ◌^◌, ◌<◌, ◌≤◌, length, take, drop, get_or, refl, sym, ◌∙◌, ap, subst, arith}
+use Rattle.std.proofs.Math.Nat.{pow-suc, mod-lt}
+use Rattle.std.proofs.lemmas.List.{length-set, length-drop, get_or-drop, get_or-set_same}
+use Rattle.std.proofs.lemmas.List.Elements.{All-set, All-get_or}
 use Rattle.sip_field.proofs.Doubling.{begins, ends, first_seven, one_pair, table_room}
 use Rattle.sip_tree.specs.Steps.{no_step, IsStep, IsBelow}
 use Rattle.sip_tree.specs.declared.steps.Step.{Step}
@@ -9,20 +9,20 @@ use Rattle.sip_tree.proofs.StepTables.{Split, split_by, left_step, right_step}
 use Rattle.sip_tree.proofs.steps.steps.Goals as goal
 use Rattle.sip_tree.proofs.steps.steps.Goals.{then-left-lt7, else-left-lt7}
 
--- the step of no level
-abbrev one : Step
-one = record { scale = 1; shift = 0 }
-
 pub loop-level-init : goal.loop-level-init
 loop-level-init g c =
     let p : ℕ = g.F.Field.MODULUS in
+    let table : List Step = c.args.table.now in
+    let first : Step = record { scale = 1; shift = c.args.start } in
+    let here : 0 < length table = omega (arith, c.told-table) in
     record {
       count = refl;
-      long = refl;
-      below = All-replicate (IsBelow p) 128 one (omega (arith, g.met.F.Field.at_least), omega (arith, g.met.F.Field.at_least));
+      long = length-set table 0 first ∙ c.told-table;
+      below = All-set (IsBelow p) table 0 first (omega (arith, g.met.F.Field.at_least), c.requires.start) c.requires.residues;
       steps = λ e low h small.
-          let read : get_or (replicate 128 one) e no_step ≡ one = get_or-replicate 128 e one no_step (omega (arith, low)) in
-          sym (ap (λ s. (h * s.scale + s.shift) % p) read ∙ ap (λ x. x % p) (let same : h * 1 + 0 ≡ h = omega arith in same) ∙ mod-eq_of_lt small);
+          let at : e ≡ 0 = omega (arith, low) in
+          let read : get_or (set table 0 first) e no_step ≡ first = ap (λ i. get_or (set table 0 first) i no_step) at ∙ get_or-set_same table 0 first no_step here in
+          sym (ap (λ s. (h * s.scale + s.shift) % p) read ∙ ap (λ x. x % p) (let same : h * 1 + c.args.start ≡ c.args.start + h = omega arith in same));
     }
 
 pub loop-entry-init : goal.loop-entry-init
@@ -51,6 +51,7 @@ loop-entry-preserved g c =
     let seat : List ℕ = c.args.seat.now in
     let level : ℕ = c.loop-level.level in
     let rs : List ℕ = drop c.args.from seat in
+    let start : ℕ = c.args.start in
     let some : 0 < p = omega (arith, g.met.F.Field.at_least) in
     let long : length rs ≡ c.depth.result - c.args.from = length-drop c.args.from seat ∙ ap (λ n. n - c.args.from) (sym c.depth.ensures.exact) in
     let inside : (level < 7) × (level < length rs) =
@@ -72,7 +73,7 @@ loop-entry-preserved g c =
     c.at-challenge.ensures
     ∙ ap (λ j. get_or seat j 0) (let back : c.args.from + level + 1 - 1 ≡ c.args.from + level = omega arith in back) ∙ sym (get_or-drop c.args.from seat level 0) in
     let whole : Step = get_or table i no_step in
-    let here : IsStep p (take level rs) i whole =
+    let here : IsStep p start (take level rs) i whole =
     c.loop-entry.invariant.between.rest i (let self : i ≤ i = omega arith in self) c.loop-entry-test.true in
     let whole_below : IsBelow p whole = All-get_or (IsBelow p) table i no_step (omega (arith, within)) c.loop-entry.invariant.below in
     let square : ℕ = number c.times-square.result in
@@ -94,8 +95,8 @@ loop-entry-preserved g c =
       long = length-set later i left ∙ length-set table (filled + i) right ∙ c.loop-entry.invariant.long;
       below = All-set (IsBelow p) later i left left_below (All-set (IsBelow p) table (filled + i) right right_below c.loop-entry.invariant.below);
       between = one_pair _ _ level filled table i left right c.loop-entry-test.true within
-          (left_step p i level rs whole left right low split here)
-          (subst (λ k. IsStep p (take (level + 1) rs) (k + i) right) (sym c.loop-level.invariant.count) (right_step p i level rs whole left right low split here))
+          (left_step p start i level rs whole left right low split here)
+          (subst (λ k. IsStep p start (take (level + 1) rs) (k + i) right) (sym c.loop-level.invariant.count) (right_step p start i level rs whole left right low split here))
           c.loop-entry.invariant.between;
     }
 
@@ -120,5 +121,5 @@ returns-clause-steps g c e inside =
       | else-left-lt7 w ↦ inr (omega (arith, long, w.if-left-lt7.false), omega (arith, w.levels-is, c.loop-level-test.false, c.loop-level.auto.level-end))
     ]) in
     let count : c.loop-level.filled ≡ 2 ^ length (take 7 rs) = c.loop-level.invariant.count ∙ ap (λ k. 2 ^ k) all.1 in
-    subst (λ taken. IsStep p taken e (get_or c.loop-level.table e no_step)) all.0
+    subst (λ taken. IsStep p c.args.start taken e (get_or c.loop-level.table e no_step)) all.0
     (c.loop-level.invariant.steps e (omega (arith, count, inside)))

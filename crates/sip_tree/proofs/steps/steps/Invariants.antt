@@ -12,7 +12,7 @@ invariant-loop-level g l =
       count : l.filled ≡ 2 ^ l.level;
       long : length l.table ≡ 128;
       below : All (IsBelow p) l.table;
-      steps : Filled no_step (λ level e s. IsStep p (take level (drop l.fn.from l.fn.seat)) e s) l.level l.filled l.table;
+      steps : Filled no_step (λ level e s. IsStep p l.fn.start (take level (drop l.fn.from l.fn.seat)) e s) l.level l.filled l.table;
     }
 
 -- the first of them are split, into themselves and those behind
@@ -22,5 +22,5 @@ invariant-loop-entry g l =
     record {
       long : length l.table ≡ 128;
       below : All (IsBelow p) l.table;
-      between : Between no_step (λ level e s. IsStep p (take level (drop l.fn.from l.fn.seat)) e s) l.level l.filled l.entry l.table;
+      between : Between no_step (λ level e s. IsStep p l.fn.start (take level (drop l.fn.from l.fn.seat)) e s) l.level l.filled l.entry l.table;
     }

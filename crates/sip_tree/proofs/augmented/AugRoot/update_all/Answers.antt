@@ -1,9 +1,9 @@
 -- The new hash and total by the clauses of the calls, and from them what the root stands for.
-use Rattle.std.proofs.Common.{rules, ◌≡◌, ℕ, ℤ, List, pos, ◌+ℤ◌, nat_abs, FitsSigned, w64, to_z, of_z, ◌+◌, ◌*◌, ◌%◌, ◌^◌, ◌<◌, ◌≤◌, take, length, get_or, refl, sym, ◌∙◌, ap, subst, arith}
-use Rattle.std.proofs.Math.Nat.{add-mod-mod}
+use Rattle.std.proofs.Common.{rules, ◌≡◌, ℕ, ℤ, List, pos, ◌+ℤ◌, nat_abs, FitsSigned, w64, to_z, of_z, ◌+◌, ◌*◌, ◌%◌, ◌^◌, ◌<◌, ◌≤◌, take, length, get_or, replicate, refl, sym, ◌∙◌, ap, subst, arith}
+use Rattle.std.specs.Prelude.{All}
 use Rattle.std.proofs.lemmas.Int.{to_z-of_z, fits_signed_from_abs}
 use Rattle.std.proofs.lemmas.List.{take_all, length-take-le}
-use Rattle.std.proofs.lemmas.List.Elements.{All-get_or}
+use Rattle.std.proofs.lemmas.List.Elements.{All-get_or, All-replicate}
 use Rattle.sip_field.specs.Residue.{residue}
 use Rattle.sip_vector.specs.Streams.{most_weight}
 use Rattle.sip_vector.specs.Weights.{hash_weight, numbers_after}
@@ -11,6 +11,7 @@ use Rattle.sip_vector.specs.declared.update.Side.TheVariants.{First}
 use Rattle.sip_vector.specs.declared.update.Update.{Update}
 use Rattle.sip_tree.specs.Blocks.{hash_after, total_after}
 use Rattle.sip_tree.specs.StandsFor.{AugRootStandsFor}
+use Rattle.sip_tree.specs.Steps.{no_step, IsBelow}
 use Rattle.sip_tree.proofs.Blocks.{one_hash, one_total, augroot_stands_after}
 use Rattle.sip_tree.proofs.augmented.AugRoot.update_all.Goals as goal
 
@@ -74,14 +75,22 @@ overflow_add-total g c =
     let light = small c.args.self.now.total t updates k c.loop-update-else-updates-lt-BLOCK-test.true c.loop-update-else-updates-lt-BLOCK.invariant.total c.requires.weight in
     subst (λ z. FitsSigned w64 (t +ℤ z)) (sym kept) (fits_signed_from_abs w64 (t +ℤ u.delta) (omega (arith, light)))
 
+pub fill_steps-count-requires : goal.fill_steps-count-requires
+fill_steps-count-requires g c =
+    let p : ℕ = g.F.Field.MODULUS in
+    let some : 0 < p = omega (arith, g.met.F.Field.at_least) in (
+      search rules,
+      (
+        omega (arith, c.requires.depth),
+        All-replicate (All (IsBelow p)) 7 (replicate 128 no_step) (All-replicate (IsBelow p) 128 no_step (some, some)),
+      ),
+    )
+
 pub loop-update-else-updates-lt-BLOCK-preserved : goal.loop-update-else-updates-lt-BLOCK-preserved
 loop-update-else-updates-lt-BLOCK-preserved g c =
-    let p : ℕ = g.F.Field.MODULUS in
-    let seat : List ℕ = c.args.self.now.seat in
     let updates : List Update = c.args.updates.now in
     let k : ℕ = c.loop-update-else-updates-lt-BLOCK.update-index in
     let u : Update = get_or updates k none in
-    let v : ℕ = g.F.Field.number c.loop-update-else-updates-lt-BLOCK.hash in
     let t : ℤ = to_z w64 c.loop-update-else-updates-lt-BLOCK.total-bits in
     let here : k < length updates = c.loop-update-else-updates-lt-BLOCK-test.true in
     let fits : FitsSigned w64 u.delta = search rules in
@@ -89,18 +98,7 @@ loop-update-else-updates-lt-BLOCK-preserved g c =
     let light = small c.args.self.now.total t updates k here c.loop-update-else-updates-lt-BLOCK.invariant.total c.requires.weight in
     let room : FitsSigned w64 (t +ℤ to_z w64 (of_z w64 u.delta)) =
     subst (λ z. FitsSigned w64 (t +ℤ z)) (sym kept) (fits_signed_from_abs w64 (t +ℤ u.delta) (omega (arith, light))) in
-    let n : ℕ = c.fill_steps-count.result in
-    let long : length (take n c.fill_steps-count.new.tables) ≡ n =
-    length-take-le n c.fill_steps-count.new.tables (omega (arith, c.fill_steps-count.array_long, c.fill_steps-count.ensures.count)) in
-    let within : u.item < 2 ^ length seat =
-    All-get_or (λ u. u.item < 2 ^ length seat) updates k none here c.requires.items in
-    let weighed : g.F.Field.number c.times.result ≡ (residue p u.delta * hash_weight p u.item seat) % p =
-    c.times.ensures ∙ ap (λ x. (x * g.F.Field.number c.by_steps-weight.result) % p) (c.of_signed.ensures ∙ ap (residue p) kept)
-    ∙ ap (λ x. (residue p u.delta * x) % p)
-    (c.by_steps-weight.ensures seat c.fill_steps-count.ensures.tables (omega (arith, long, c.fill_steps-count.ensures.all)) within) in
     record {
-      hash = one_hash p seat c.args.self.now.hash updates k none v _ here c.loop-update-else-updates-lt-BLOCK.invariant.hash
-          (c.plus-hash.ensures ∙ ap (λ x. (v + x) % p) weighed ∙ add-mod-mod v (residue p u.delta * hash_weight p u.item seat) p);
       total = to_z-of_z w64 (t +ℤ to_z w64 (of_z w64 u.delta)) room ∙ ap (λ z. t +ℤ z) kept
           ∙ one_total c.args.self.now.total updates k none t here c.loop-update-else-updates-lt-BLOCK.invariant.total;
     }
@@ -126,9 +124,13 @@ returns-after-loop-update-clause-stands g c numbers stands =
 pub returns-after-loop-update-else-updates-lt-BLOCK-clause-hash :
     goal.returns-after-loop-update-else-updates-lt-BLOCK-clause-hash
 returns-after-loop-update-else-updates-lt-BLOCK-clause-hash g c =
-    c.number-self.ensures ∙ c.loop-update-else-updates-lt-BLOCK.invariant.hash
-    ∙ ap (hash_after g.F.Field.MODULUS c.args.self.now.seat c.args.self.now.hash)
-    (take_all c.loop-update-else-updates-lt-BLOCK.update-index c.args.updates.now c.loop-update-else-updates-lt-BLOCK-test.false)
+    let seat : List ℕ = c.args.self.now.seat in
+    let n : ℕ = c.fill_steps-count.result in
+    let long : length (take n c.fill_steps-count.new.tables) ≡ n =
+    length-take-le n c.fill_steps-count.new.tables (omega (arith, c.fill_steps-count.array_long, c.fill_steps-count.ensures.count)) in
+    c.number-self.ensures
+    ∙ c.hashed.ensures seat c.fill_steps-count.ensures.tables (omega (arith, long, c.fill_steps-count.ensures.all)) c.requires.items
+    ∙ ap (λ h. hash_after g.F.Field.MODULUS seat h c.args.updates.now) c.of_number-hash.ensures
 
 pub returns-after-loop-update-else-updates-lt-BLOCK-clause-total :
     goal.returns-after-loop-update-else-updates-lt-BLOCK-clause-total

@@ -10,10 +10,9 @@ invariant-loop-update g l = record {
   total : l.self.total ≡ total_after l.fn.self.total (take l.update-index l.updates);
 }
 
--- and so are the hash and the total
+-- and so is the total, beside the hash by the tables
 abbrev pub invariant-loop-update-else-updates-lt-BLOCK :
     goal.invariant-loop-update-else-updates-lt-BLOCK
 invariant-loop-update-else-updates-lt-BLOCK g l = record {
-  hash : g.F.Field.number l.hash ≡ hash_after g.F.Field.MODULUS l.fn.self.seat l.fn.self.hash (take l.update-index l.updates);
   total : l.total ≡ total_after l.fn.self.total (take l.update-index l.updates);
 }

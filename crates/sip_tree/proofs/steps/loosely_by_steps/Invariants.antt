@@ -1,0 +1,17 @@
+use Rattle.std.proofs.Common.{◌≡◌, ℕ, List, ◌+◌, ◌*◌, ◌%◌, ◌^◌, ◌<◌, ◌≤◌, length, drop}
+use Rattle.sip_vector.specs.Weights.{hash_weight, hash_weight_from}
+use Rattle.sip_tree.specs.Steps.{AreStepTables}
+use Rattle.sip_tree.proofs.steps.loosely_by_steps.Given as goal
+
+-- how far the weight has grown, what it is so far, and the levels that are left
+abbrev pub invariant-loop-group : goal.invariant-loop-group
+invariant-loop-group g l =
+    let p = g.F.Field.MODULUS in
+    record {
+      some : 1 ≤ l.group;
+      early : l.group ≤ 4 → l.weight + 2 ^ 61 < l.group * 2 ^ 62;
+      late : 4 < l.group → l.weight + 7 * 2 ^ 61 < l.group * 2 ^ 62;
+      is : (challenges : List ℕ) → AreStepTables p challenges l.tables → l.fn.index < 2 ^ length challenges →
+          (l.path < 2 ^ length (drop (7 * l.group) challenges))
+          × (hash_weight_from p (l.weight % p) l.path (drop (7 * l.group) challenges) ≡ hash_weight p l.fn.index challenges);
+    }
