@@ -11,7 +11,7 @@ use Rattle.sip_vector.proofs.Sides.{weight-append, weight-one, weight-one_other_
 use Rattle.sip_stream.specs.declared.tally.Tally.{Tally}
 use Rattle.sip_stream.specs.Reading.{Reading, HasRoom, IsAfter, weight_of}
 use Rattle.sip_stream.specs.Spellings.{side_number}
-use Rattle.sip_stream.specs.Tallies.{IsClean, IsLight, TakesOne, reader_of}
+use Rattle.sip_stream.specs.Tallies.{IsClean, IsFew, IsLight, TakesOne, most_counted, reader_of}
 
 -- what holds of both sides holds of any
 by_side : (P : Side → Type 0) → P First → P Second → (s : Side) → P s
@@ -41,43 +41,55 @@ after_more old new u before room is depth spent count weights first second = rec
 }
 
 -- the bits of a tally with one more record
-abbrev pub bits_with : ℕ → ℕ → ℕ → ℕ
-bits_with sizes size total = bit_or sizes (bit_or ((size + 18446744073709551615) % 18446744073709551616) total)
+abbrev pub bits_with : ℕ → ℕ → ℕ
+bits_with sizes size = bit_or sizes ((size + 18446744073709551615) % 18446744073709551616)
 
-module _ (sizes size total : ℕ) (few : bits_with sizes size total ≤ most_weight) where
-  inner : bit_or ((size + 18446744073709551615) % 18446744073709551616) total ≤ most_weight
-  inner = omega (arith, few, le_or_r sizes (bit_or ((size + 18446744073709551615) % 18446744073709551616) total))
-
+module _ (sizes size : ℕ) (few : bits_with sizes size ≤ most_weight) where
   pub sizes_few : sizes ≤ most_weight
-  sizes_few = omega (arith, few, le_or_l sizes (bit_or ((size + 18446744073709551615) % 18446744073709551616) total))
-
-  pub total_few : total ≤ most_weight
-  total_few = omega (arith, inner, le_or_r ((size + 18446744073709551615) % 18446744073709551616) total)
+  sizes_few = omega (arith, few, le_or_l sizes ((size + 18446744073709551615) % 18446744073709551616))
 
   less : (size + 18446744073709551615) % 18446744073709551616 ≤ most_weight
-  less = omega (arith, inner, le_or_l ((size + 18446744073709551615) % 18446744073709551616) total)
+  less = omega (arith, few, le_or_r sizes ((size + 18446744073709551615) % 18446744073709551616))
 
   pub size_some : 1 ≤ size
   size_some = omega (arith, less)
 
+  pub size_few : size ≤ 18446744073709551615 → size ≤ most_weight + 1
+  size_few short = omega (arith, less, short)
+
 -- a tally, and the same with one more record
 module _ (old new : Tally) (size : ℕ) (u : Update) (is : size ≡ nat_abs u.delta) (short : size ≤ 9223372036854775808) (items : new.items ≡ bit_or old.items u.item)
-    (count : new.count ≡ (old.count + 1) % 18446744073709551616) (sum : new.total ≡ (old.total + size) % 18446744073709551616) (sizes : new.sizes ≡ bits_with old.sizes size new.total) where
-  clean_few : (depth : ℕ) → IsClean depth new → bits_with old.sizes size new.total ≤ most_weight
-  clean_few depth clean = omega (arith, clean.sizes, sizes)
+    (count : new.count ≡ (old.count + 1) % 18446744073709551616) (sum : new.total ≡ (old.total + size) % 18446744073709551616) (sizes : new.sizes ≡ bits_with old.sizes size) where
+  bits_few : new.sizes ≤ most_weight → bits_with old.sizes size ≤ most_weight
+  bits_few few = omega (arith, few, sizes)
 
-  pub was_clean : (depth : ℕ) → IsClean depth new → IsClean depth old
-  was_clean depth clean = record {
+  -- the sum did not wrap where no size is too much
+  exact : (n : ℕ) → n ≤ most_counted → IsFew n old → new.sizes ≤ most_weight → (new.total ≡ old.total + size) × (old.total ≤ (n + 1) * (most_weight + 1)) × (size ≤ most_weight + 1)
+  exact n most were few =
+      let bits = bits_few few in
+      let weight : old.total ≤ (n + 1) * (most_weight + 1) = were (sizes_few old.sizes size bits) in
+      let small : size ≤ most_weight + 1 = size_few old.sizes size bits (omega (arith, short)) in (
+        omega (arith, sum, weight, small, most),
+        weight,
+        small,
+      )
+
+  pub is_few : (n m : ℕ) → n < m → m ≤ most_counted → IsFew n old → IsFew m new
+  is_few n m more most were few = let so = exact n (omega (arith, more, most)) were few in omega (arith, so.0, so.1, so.2, more)
+
+  pub was_clean : (depth n : ℕ) → n ≤ most_counted → IsFew n old → IsClean depth new → IsClean depth old
+  was_clean depth n most were clean = record {
     items = omega (arith, clean.items, items, le_or_l old.items u.item);
-    sizes = sizes_few old.sizes size new.total (clean_few depth clean);
+    sizes = sizes_few old.sizes size (bits_few clean.sizes);
+    total = omega (arith, clean.total, (exact n most were clean.sizes).0);
   }
 
   module _ (r : Reading) (clean : IsClean r.depth new) (light : IsLight old) where
     few : new.total ≤ most_weight
-    few = total_few old.sizes size new.total (clean_few r.depth clean)
+    few = clean.total
 
     some : 1 ≤ size
-    some = size_some old.sizes size new.total (clean_few r.depth clean)
+    some = size_some old.sizes size (bits_few clean.sizes)
 
     whole : new.total ≡ old.total + size
     whole = omega (arith, sum, light.total, short)

@@ -1,14 +1,24 @@
 -- Records that are tested together, and what shows of them then.
-use Rattle.std.specs.Prelude.{ℕ, ◌-◌, ◌*◌, ◌^◌, ◌<◌, ◌≤◌, List, [], ◌∷◌, ◌++◌}
+use Rattle.std.specs.Prelude.{ℕ, ◌+◌, ◌-◌, ◌*◌, ◌^◌, ◌<◌, ◌≤◌, List, [], ◌∷◌, ◌++◌, take}
 use Rattle.sip_vector.specs.declared.update.Update.{Update}
 use Rattle.sip_vector.specs.Streams.{most_weight}
 use Rattle.sip_stream.specs.declared.tally.Tally.{Tally}
-use Rattle.sip_stream.specs.Reading.{Reading, HasRoom, IsAfter}
+use Rattle.sip_stream.specs.Layouts.{record_size}
+use Rattle.sip_stream.specs.Reading.{Reading, HasRead, HasRoom, IsAfter}
 
--- no bit is one that no legal record has
+-- no bit is one that no legal record has, and both sides together are light as one
 pub record IsClean (depth : ℕ) (t : Tally) : Type 0 where
   pub items : t.items < 2 ^ depth
   pub sizes : t.sizes ≤ most_weight
+  pub total : t.total ≤ most_weight
+
+-- the most records of a tally
+abbrev pub most_counted : ℕ
+most_counted = 4294967296
+
+-- no more than so many records were counted, so that the weight of both sides is a sum that did not wrap where no size is too much
+abbrev pub IsFew : ℕ → Tally → Type 0
+IsFew n t = t.sizes ≤ most_weight → t.total ≤ (n + 1) * (most_weight + 1)
 
 -- the weights and the count are those of legal records
 pub record IsLight (t : Tally) : Type 0 where
@@ -29,3 +39,9 @@ pub record TakesOne (r : Reading) (old new : Tally) (u : Update) : Type 0 where
   pub heavier : old.total < new.total
   pub after : (before : List Update) → IsAfter (reader_of r old) before
       → IsAfter (reader_of r new) (before ++ u ∷ [])
+
+-- So many records lie in front of some bytes, whose items have so many bytes, and their updates stand in front in a block: they are
+-- legal where their tally is clean.
+pub record HaveCome (r : Reading) (width : ℕ) (bytes : List ℕ) (t : Tally) (count : ℕ) (block : List Update) : Type 0 where
+  pub few : IsFew count t
+  pub took : IsClean r.depth t → IsLight t × HasRead r (reader_of r t) (take (count * record_size width) bytes) (take count block)

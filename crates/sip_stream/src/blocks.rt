@@ -1,15 +1,17 @@
 //! Records of a stream by the block: those that lie whole at the front of what a source holds.
 
-ghost use Rattle.std.specs.Prelude.{◌≡◌, ◌≤◌, ℕ, List, IsSome, IfSome, IfNone, length, take};
+ghost use Rattle.std.specs.Prelude.{◌≡◌, ◌<◌, ◌≤◌, ◌+◌, ◌*◌, ℕ, List, IsSome, IfSome, IfNone, length, take};
 ghost use Rattle.std.specs.Io.KnownBytes.{Consumes};
 ghost use Rattle.sip_ports.specs.Ports.{Lasts};
-ghost use Rattle.sip_stream.specs.Layouts.{layout_of, of_bytes, of_line};
+ghost use Rattle.sip_stream.specs.Layouts.{layout_of, of_bytes, of_line, record_size};
 ghost use Rattle.sip_stream.specs.Reading.{HasRead};
+ghost use Rattle.sip_stream.specs.Tallies.{HaveCome, most_counted};
 
 use crate::line_reader::line_in_front;
 use crate::reader::MOST_WEIGHT;
 use crate::record_bytes::{NARROW, WIDE, size_of};
 use crate::record_reader::said_by;
+use crate::tally::{MOST_COUNTED, Tally};
 use crate::{Form, Reader};
 use sip_ports::Source;
 use sip_vector::Update;
@@ -66,11 +68,42 @@ impl Reader {
         }
     }
 
+    // Takes the record behind so many that were taken, which is tested together with them later. Only its side is tested here, so that
+    // it is written as it was read.
+    #[inline(always)]
+    fn take_next<const WIDTH: usize>(
+        &self,
+        tally: &mut Tally,
+        bytes: &[u8],
+        block: &mut [Update],
+        count: usize,
+    ) -> Option<()>
+        requires some { 1 ≤ WIDTH }
+        requires most { WIDTH ≤ 8 }
+        requires layout { layout_of self.now.form ≡ of_bytes WIDTH }
+        requires few { count < most_counted }
+        requires held { count * record_size WIDTH + record_size WIDTH ≤ length bytes.now }
+        requires room { count < length block.old }
+        requires came { HaveCome self.now WIDTH bytes.now tally.old count block.old }
+        ensures came { IfSome result (λ _. HaveCome self.now WIDTH bytes.now tally.new (count + 1) block.new) }
+        ensures len { length block.new ≡ length block.old }
+    {
+        let size = size_of(WIDTH);
+        let at = count * size;
+        let Ok(update) = said_by::<WIDTH>(&bytes[at..at + size]) else {
+            return None;
+        };
+        tally.note(&update);
+        write_over(&mut block[count], &update);
+        Some(())
+    }
+
     // Takes all records of an item of so many bytes that lie whole at the front of the bytes, as
     // far as there is room for them; `None` where one of them is not legal. They are tested at
-    // once: a test of each costs more than the rest. Only the side is tested in each, so that it is
-    // written as it was read. Where both sides together are heavier than one may be, the test would
-    // fail and is not tried.
+    // once: a test of each costs more than the rest. Where both sides together are heavier than one
+    // may be, the test would fail and is not tried. The loop stands in a function that is not
+    // inlined: it wants so many registers that it would share them with what its caller keeps.
+    #[inline(never)]
     fn take_all<const WIDTH: usize>(&mut self, bytes: &[u8], block: &mut [Update]) -> Option<Taken>
         requires some { 1 ≤ WIDTH }
         requires most { WIDTH ≤ 8 }
@@ -85,17 +118,12 @@ impl Reader {
         let size = size_of(WIDTH);
         let most = block.len().min(bytes.len() / size);
         let mut tally = self.tally();
-        if tally.total > MOST_WEIGHT {
+        if most > MOST_COUNTED || tally.total > MOST_WEIGHT {
             return None;
         }
         let mut count = 0;
         while count < most {
-            let at = count * size;
-            let Ok(update) = said_by::<WIDTH>(&bytes[at..at + size]) else {
-                return None;
-            };
-            tally.note(&update);
-            write_over(&mut block[count], &update);
+            self.take_next::<WIDTH>(&mut tally, bytes, block, count)?;
             count += 1;
         }
         if !tally.is_clean(self.depth()) {

@@ -16,7 +16,7 @@ use crate::line_reader::{line_in_front, next_line};
 use crate::record_bytes::{NARROW, WIDE, size_of};
 use crate::record_reader::{next_record, said_by};
 use crate::spelling::{SPELLING_ROOM, put_update};
-use crate::tally::Tally;
+use crate::tally::{MOST_COUNTED, Tally};
 use crate::{Form, StreamFault, Why};
 use arrayvec::ArrayVec;
 use sip_ports::{PortStop, Source};
@@ -347,7 +347,7 @@ impl Reader {
     {
         let size = size_of(WIDTH);
         let mut tally = self.tally();
-        if tally.total > MOST_WEIGHT {
+        if bytes.len() > MOST_COUNTED || tally.total > MOST_WEIGHT {
             return None;
         }
         let mut used = 0;

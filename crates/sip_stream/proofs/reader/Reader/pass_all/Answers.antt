@@ -1,5 +1,5 @@
 -- One more record was counted.
-use Rattle.std.proofs.Common.{◌≡◌, ◌<◌, ◌∷◌, [], ◌+◌, ◌-◌, ◌++◌, ◌∙◌, arith, length, refl, rules, sym, subst, take, drop}
+use Rattle.std.proofs.Common.{◌≡◌, ◌≤◌, ◌<◌, ◌∷◌, [], ◌+◌, ◌-◌, ◌++◌, ◌∙◌, arith, length, refl, rules, sym, subst, take, drop}
 use Rattle.std.specs.Prelude.{Ok}
 use Rattle.std.proofs.Math.Seq.{take-add}
 use Rattle.sip_stream.specs.Layouts.{record_size}
@@ -14,6 +14,7 @@ use Rattle.sip_stream.proofs.reader.Reader.pass_all.Goals as goal
 pub loop-used-init : goal.loop-used-init
 loop-used-init g c = record {
   within = omega arith;
+  few = search rules;
   passed = λ clean. (
     c.tally-tally.ensures.light,
     [],
@@ -35,11 +36,15 @@ loop-used-preserved g c =
     let span : used + size - used ≡ size = omega arith in
     let len : length piece ≡ record_size g.row.WIDTH = search rules in
     let said = subst (λ n. Ok u ≡ record_said g.row.WIDTH (take n (drop used bytes))) span (sym c.in-Ok.is ∙ c.said_by.ensures) in
+    let within : used + size ≤ length bytes = omega (arith, c.loop-used-test.true, c.loop-used.invariant.within) in
+    let some : 0 < size = omega (arith, c.size_of-size.ensures.size) in
+    let short : length bytes ≤ 4294967296 = search rules in
     let are : AreBytes bytes = λ k. omega (arith, c.type_inv.bytes k) in
     record {
-      within = omega (arith, c.loop-used-test.true, c.loop-used.invariant.within);
+      within = within;
+      few = c.note.ensures.few used (used + size) (omega (arith, some)) (omega (arith, within, short)) c.loop-used.invariant.few;
       passed = λ clean.
-          let had = c.loop-used.invariant.passed (c.note.ensures.clean old.depth clean) in
+          let had = c.loop-used.invariant.passed (c.note.ensures.clean old.depth used (omega (arith, within, short)) c.loop-used.invariant.few clean) in
           let one = c.note.ensures.one old clean had.0 in
           let heavier : mid.first + mid.second < new.first + new.second = omega (arith, one.heavier, had.0.second, one.light.second) in (
             one.light,
