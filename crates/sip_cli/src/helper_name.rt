@@ -8,21 +8,15 @@ use arrayvec::ArrayVec;
 use sip_wire::MOST_QUERIES;
 
 /// A helper in the program itself.
-#[derive(Clone, Copy, Debug, PartialEq, Eq)]
+#[derive(Clone, Copy, Debug, PartialEq, Eq, Default)]
 pub enum HelperName {
     /// The honest one.
+    #[default]
     Honest,
     /// One that counts item 0 of side 0 once more, and is honest about that stream.
     Skewed,
     /// One that says nothing.
     Mute,
-}
-
-/// The honest one.
-impl Default for HelperName {
-    fn default() -> HelperName {
-        HelperName::Honest
-    }
 }
 
 impl HelperName {

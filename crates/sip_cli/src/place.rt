@@ -8,9 +8,10 @@ use crate::verb::Verb;
 use sip_wire::MOST_QUERIES;
 
 /// What stands at a word of a command.
-#[derive(Clone, Copy, Debug, PartialEq, Eq)]
+#[derive(Clone, Copy, Debug, PartialEq, Eq, Default)]
 pub(crate) enum Place {
     /// The verb.
+    #[default]
     Verb,
     Stream,
     Stored,
@@ -32,13 +33,6 @@ pub(crate) enum Place {
     Shared,
     /// No word, since the command is whole before it.
     End,
-}
-
-/// The verb.
-impl Default for Place {
-    fn default() -> Place {
-        Place::Verb
-    }
 }
 
 const VERIFY: [Place; 7] = [

@@ -9,9 +9,10 @@ use crate::stream::{read_stored, read_stream};
 use sip_vector::Depth;
 
 /// What one word of a command may be.
-#[derive(Clone, Copy, Debug, PartialEq, Eq)]
+#[derive(Clone, Copy, Debug, PartialEq, Eq, Default)]
 pub(crate) enum Shape {
     /// The name of a file: any word but the empty one.
+    #[default]
     Name,
     /// A stream.
     Stream,
@@ -25,13 +26,6 @@ pub(crate) enum Shape {
     Number { most: u64 },
     /// A depth.
     Depth,
-}
-
-/// A name.
-impl Default for Shape {
-    fn default() -> Shape {
-        Shape::Name
-    }
 }
 
 // Whether a word is a number from `least` to `most`.
