@@ -102,13 +102,13 @@ pub shallow_of : (v : Version) (depth : ℕ) (qs : List Query) → 0 < length qs
 shallow_of v depth [] some all = absurd (omega (arith, some))
 shallow_of v depth (q ∷ qs) some all = (All-head (Speaks v depth) q qs all).shallow
 
--- ---- the farewell
+-- ---- the farewell, which has one spelling, in each version
 
-bye_fits : (w : Version) → IsTrue (fits w messages.Bye)
+pub bye_fits : (w : Version) → IsTrue (fits w messages.Bye)
 unfolding fits has_room all_hold
 bye_fits w = refl
 
-bye_same : (a b : Version) → spelling a messages.Bye ≡ spelling b messages.Bye
+pub bye_same : (a b : Version) → spelling a messages.Bye ≡ spelling b messages.Bye
 unfolding spelling
 bye_same a b = refl
 

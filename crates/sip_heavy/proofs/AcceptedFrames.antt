@@ -22,7 +22,8 @@ use Rattle.sip_wire.proofs.ReadingLaws.{read_frame-rest}
 use Rattle.sip_wire.proofs.ReadsBack.{read_frame-message}
 use Rattle.sip_replies.specs.declared.check.More.TheVariants as mores
 use Rattle.sip_replies.specs.Protocols.{Rules}
-use Rattle.sip_replies.specs.Replies.{Fault, IsAccepted, IsStated, at_end, frame_says, in_round, read_from, read_reply, run_from, step_says, verdict}
+use Rattle.sip_replies.specs.Replies.{Fault, IsAccepted, IsStated, frame_says, in_round, read_from, read_reply, run_from, step_says, verdict}
+use Rattle.sip_replies.proofs.Passing.{at_end_parts}
 use Rattle.sip_heavy.specs.AcceptsHeavy.{Asked, end_test, merged, with_nodes}
 use Rattle.sip_heavy.specs.AcceptsHeavy as heavy
 use Rattle.sip_heavy.specs.Protocol.{HeavyAsked, HeavyState, ended, heavy_finish, heavy_protocol, heavy_rules, heavy_step, leaf_nodes, learns, reaches}
@@ -31,10 +32,6 @@ use Rattle.sip_heavy.proofs.StatedReplies.{are_judged}
 
 abbrev Next : Type 0
 Next = HeavyState → List ℕ → Result HeavyState Reason
-
-at_end_parts : (x y : HeavyState) (rest : List ℕ) → at_end x rest ≡ Ok y → (rest ≡ []) × (x ≡ y)
-at_end_parts x y [] e = (refl, cc)
-at_end_parts x y (b ∷ rest) e = absurd cc
 
 -- these bytes are frames of nodes and the end of the level
 pub record IsReply (version : Version) (s : HeavyState) (bytes : List ℕ) (t : HeavyState) : Type 0 where

@@ -15,7 +15,8 @@ use Rattle.sip_wire.specs.Reading.{read_frame}
 use Rattle.sip_replies.specs.declared.check.More.{More}
 use Rattle.sip_replies.specs.declared.check.More.TheVariants as mores
 use Rattle.sip_replies.specs.Protocols.{Rules}
-use Rattle.sip_replies.specs.Replies.{at_end, step_says, frame_says, read_from, read_reply}
+use Rattle.sip_replies.specs.Replies.{step_says, frame_says, read_from, read_reply}
+use Rattle.sip_replies.proofs.Passing.{at_end_is}
 use Rattle.sip_heavy.specs.AcceptsHeavy.{Asked, most_nodes, is_next, merged, with_nodes, end_test}
 use Rattle.sip_heavy.specs.Protocol.{HeavyState, leaf_nodes, nodes_step, ended, heavy_step, heavy_rules}
 
@@ -98,10 +99,6 @@ module _ (version : Version) (p : ℕ) (q : Asked) where
       → step_says next rest (needs test reason >>= λ _. r) ≡ Ok t → step_says next rest r ≡ Ok t
   gated true reason next rest r t e = e
   gated false reason next rest r t e = absurd cc
-
-  at_end_is : (x y : HeavyState) (rest : List ℕ) → at_end x rest ≡ Ok y → x ≡ y
-  at_end_is x y [] e = let same : x ≡ y = cc in same
-  at_end_is x y (b ∷ rest) e = absurd cc
 
   -- the end of the level
   end_read : (next : HeavyState → List ℕ → Result HeavyState Reason) (rest : List ℕ) (s t : HeavyState) (r : Result (Unit {0}) Reason) → end_test q s.level (merged s.known s.received) ≡ r

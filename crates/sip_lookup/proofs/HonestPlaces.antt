@@ -6,10 +6,11 @@ use Rattle.sip_vector.specs.declared.update.Entry.{Entry}
 use Rattle.sip_vector.specs.Answers.{is_zero}
 use Rattle.sip_vector.specs.Vectors.{last_of, nonzero_within, number_at}
 use Rattle.sip_vector.proofs.Walks.{next-is, nonzero_within-next, nonzero_within-last}
+use Rattle.sip_subvec.proofs.HonestEntries.{zero_is}
 use Rattle.sip_lookup.specs.declared.lookup.Lookup.{Lookup}
 use Rattle.sip_lookup.specs.declared.lookup.Lookup.TheVariants.{Index, Pred, Succ}
 use Rattle.sip_lookup.specs.Lookups.{are_alone, honest_found, is_possible, item_of, range_of}
-use Rattle.sip_lookup.proofs.NearEntries.{first_among, first_here, found_first, last_behind, some_is, the_entry, without_zero, zero_is}
+use Rattle.sip_lookup.proofs.NearEntries.{first_here, found_first, last_behind, some_is, the_entry, without_zero}
 
 -- a place may be found, and the entries of its interval stand alone and are one at most
 pub record IsProved (d : ℕ) (numbers : List ℤ) (l : Lookup) (found : Option ℕ) : Type 0 where

@@ -18,6 +18,7 @@ use Rattle.sip_replies.specs.Talks.{IsPrefix, asked, ending, sent}
 use Rattle.sip_replies.specs.Protocols.{Rules}
 use Rattle.sip_replies.specs.Replies as general
 use Rattle.sip_replies.specs.Replies.{Fault, read_from, run, run_from}
+use Rattle.sip_replies.proofs.Turns.{same_fault}
 use Rattle.sip_verifier.specs.Asking as subs
 use Rattle.sip_verifier.specs.runs.Asking.{IsAnswered, IsRejected, IsInterrupted, IsUnrecorded, question_of}
 use Rattle.sip_lookup.specs.AcceptsLook.{parts}
@@ -36,9 +37,6 @@ some_min round (suc n) some = omega (arith)
 none_read : {S : Type 0} (R : Rules S) (rs : List ℕ) → run R rs ([] ∷ []) ≡ Err (record { round = 0; reason = reasons.Closed })
 unfolding run_from read_from
 none_read R rs = refl
-
-same_fault : {X : Type 0} (a b : Fault) → ◌≡◌ {A = Result X Fault} (Err a) (Err b) → a ≡ b
-same_fault a b e = cc
 
 none_whole : {S : Type 0} (R : Rules S) (rs : List ℕ) → 1 ≤ length rs → general.IsUnfinished R rs ([] ∷ [])
 none_whole R rs some = record {

@@ -1,10 +1,11 @@
 -- All that a run of lookups keeps, from its first three promises; and how its lookups go on behind
 -- the stream.
-use Rattle.std.proofs.Common.{◌≡◌, ◌≤◌, ℕ, ◌*◌, Option, Some, Result, Ok, Err, Bool, true, false, true≢false, List, [], length, map, All, refl, sym, ap, subst, ◌∙◌}
-use Rattle.std.specs.Prelude.{IfErr, IsTrue, ◌||◌, replicate}
+use Rattle.std.proofs.Common.{◌≡◌, ◌≤◌, ℕ, ◌*◌, Option, Some, Result, Ok, Err, Bool, true, false, List, [], length, All, refl, sym, subst, ◌∙◌}
+use Rattle.std.specs.Prelude.{◌||◌, replicate}
 use Rattle.std.specs.List.{zip}
+use Rattle.std.proofs.lemmas.Bool.{or_left, or_right}
 use Rattle.sip_ports.specs.declared.port.TalkEvent.{TalkEvent}
-use Rattle.sip_ports.specs.Ports.{GoesOn, outs}
+use Rattle.sip_ports.specs.Ports.{outs}
 use Rattle.sip_ports.proofs.TalkLemmas.{GoesOn-trans}
 use Rattle.sip_stream.proofs.LegalRecords.{records_legal}
 use Rattle.sip_vector.specs.Limits.{most_depth}
@@ -41,14 +42,6 @@ use Rattle.sip_lookup.proofs.RootedTasks.{All-beside, any_speaks, blocks_beside,
 use Rattle.sip_lookup.proofs.WrittenLooks.{few_looks, look_counts}
 
 -- ---- lists of statuses
-
-or_left : (a b : Bool) → a ≡ true → (a || b) ≡ true
-or_left true b is = refl
-or_left false b is = absurd (true≢false (sym is))
-
-or_right : (a b : Bool) → b ≡ true → (a || b) ≡ true
-or_right true b is = refl
-or_right false b is = is
 
 pub gathering_listed : (status : Status) → stops_gathering status ≡ true → IsListed status
 gathering_listed status is = or_left (is_accepted status || stops_gathering status) (stops_asking status) (or_right (is_accepted status) (stops_gathering status) is)

@@ -12,7 +12,7 @@ use Rattle.sip_vector.specs.inside.Gathered.{IsFirstOf}
 use Rattle.sip_vector.proofs.Walks.{next-is, nonzero_within-next, nonzero_within-last}
 use Rattle.sip_replies.proofs.SameEntries.{same_entries}
 use Rattle.sip_subvec.specs.AcceptsSub.{stated_value}
-use Rattle.sip_subvec.proofs.HonestEntries.{value_stated}
+use Rattle.sip_subvec.proofs.HonestEntries.{value_stated, zero_is}
 use Rattle.sip_lookup.specs.declared.lookup.Lookup.{Lookup}
 use Rattle.sip_lookup.specs.declared.lookup.Lookup.TheVariants.{Index, Pred, Succ}
 use Rattle.sip_lookup.specs.Lookups.{Looked, value, nearest, item_of, near, is_same_answer, is_possible, range_of, are_alone, stated_answer}
@@ -31,9 +31,6 @@ range_fits d (Succ i) (Some j) item h =
     (le_from i j both.0, le_from (suc j) (2 ^ d) both.1)
 
 -- ---- first entries
-
-pub zero_is : (x : ℤ) → is_zero x ≡ true → x ≡ pos 0
-zero_is x h = grind arith
 
 pub some_is : (x : ℤ) → is_zero x ≡ false → x ≢ pos 0
 some_is x h e = let f : true ≡ false = rw e at h in absurd cc

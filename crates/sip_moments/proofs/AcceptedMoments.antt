@@ -1,5 +1,5 @@
 -- Accepted replies are those that state a claim and polynomials that add up.
-use Rattle.std.proofs.Common.{◌≡◌, ℕ, suc, ◌+◌, ◌-◌, ◌≤◌, Bool, true, false, ◌&&◌, ℤ, nat_abs, Option, Some, None, Result, Ok, Err, List, [], ◌∷◌, ◌++◌, length, map, drop, All, refl, sym, ap, subst, ◌∙◌, arith}
+use Rattle.std.proofs.Common.{◌≡◌, ℕ, ◌+◌, ◌-◌, ◌≤◌, Bool, true, false, ◌&&◌, ℤ, nat_abs, Option, Some, None, Result, Ok, Err, List, [], ◌∷◌, ◌++◌, length, map, drop, All, refl, sym, ap, subst, ◌∙◌, arith}
 use Rattle.std.specs.Prelude.{◌==◌}
 use Rattle.std.proofs.lemmas.Bool.{and_from, eqb-true}
 use Rattle.std.proofs.lemmas.List.{append-nil}
@@ -26,8 +26,8 @@ use Rattle.sip_counts.specs.Rounds.{adds_up, is_expected, sum_of_ends, value_at}
 use Rattle.sip_replies.specs.declared.check.More.{More}
 use Rattle.sip_replies.specs.declared.check.More.TheVariants as mores
 use Rattle.sip_replies.specs.Protocols.{Rules}
-use Rattle.sip_replies.specs.Replies.{Fault, IsAccepted, at_end, frame_says, in_round, learnt, read_reply, run_from, step_says}
-use Rattle.sip_replies.proofs.Passing.{same_ok}
+use Rattle.sip_replies.specs.Replies.{Fault, IsAccepted, frame_says, in_round, learnt, read_reply, run_from, step_says}
+use Rattle.sip_replies.proofs.Passing.{at_end_parts, same_ok}
 use Rattle.sip_replies.proofs.Reading.{read_reply-frame}
 use Rattle.sip_sums.specs.Stating.{with_claim}
 use Rattle.sip_moments.specs.AcceptsMoment.{Stated}
@@ -37,12 +37,6 @@ use Rattle.sip_moments.proofs.PowerFrames.{power_below}
 use Rattle.sip_moments.proofs.ReadMoments.{known}
 
 -- ---- one reply
-
--- nothing follows the end of a reply
-at_end_parts : {X : Type 0} (x y : X) (rest : List ℕ) → at_end x rest ≡ Ok y
-    → (rest ≡ []) × (x ≡ y)
-at_end_parts x y [] e = (refl, cc)
-at_end_parts x y (b ∷ rest) e = absurd cc
 
 -- the test behind the last reply was passed
 ended_with : (test : Bool) (d : ℕ) (claim : ℤ) (answer : Answer)

@@ -1,33 +1,15 @@
 -- The first of some tests that passes, test by test.
-use Rattle.std.proofs.Common.{◌≡◌, ℕ, suc, ◌+◌, ◌<◌, Bool, true, false, Option, Some, None, List, [], ◌∷◌, ◌++◌, length, map, take, drop, get_or, refl, sym, ap, ◌∙◌, arith, length-take-le}
-use Rattle.std.specs.Option.{option_map}
+use Rattle.std.proofs.Common.{◌≡◌, ℕ, suc, ◌+◌, ◌<◌, Bool, true, false, Some, None, List, [], ◌∷◌, ◌++◌, length, map, take, drop, get_or, sym, ap, ◌∙◌, arith, length-take-le}
 use Rattle.std.proofs.Math.Seq.{drop-cons}
 use Rattle.std.proofs.lemmas.List.{length-map, map-append, take-append-drop, take_more}
 use Rattle.sip_vector.specs.declared.update.Update.{Update}
 use Rattle.sip_verifier.specs.Weights.{AreWeights, weight_in}
 use Rattle.sip_verifier.specs.Widths.{first_true}
 use Rattle.sip_verifier.specs.declared.weights.Weights.{Weights}
+use Rattle.sip_verifier.proofs.WideSeats.{here_first, none_more}
 use Rattle.sip_moments.specs.declared.moment.Moment.{Moment}
 use Rattle.sip_moments.specs.Manner.{first_high, is_high}
 use Rattle.sip_moments.specs.Moments.{is_too_high}
-
-unmapped : (o : Option ℕ) → option_map suc o ≡ None → o ≡ None
-unmapped None e = refl
-unmapped (Some n) e = absurd cc
-
-none_more : (tests : List Bool) → first_true tests ≡ None → first_true (tests ++ false ∷ []) ≡ None
-none_more [] none = refl
-none_more (true ∷ tests) none = absurd cc
-none_more (false ∷ tests) none =
-    ap (option_map suc) (none_more tests (unmapped (first_true tests) none))
-
-here_first : (tests more : List Bool) → first_true tests ≡ None
-    → first_true (tests ++ true ∷ more) ≡ Some (length tests + 1)
-here_first [] more none = refl
-here_first (true ∷ tests) more none = absurd cc
-here_first (false ∷ tests) more none =
-    ap (option_map suc) (here_first tests more (unmapped (first_true tests) none))
-    ∙ ap Some (let e : suc (length tests + 1) ≡ suc (length tests) + 1 = omega arith in e)
 
 -- the moments of a stream of these weights, one after another
 module _ (weights : Weights) (stream : List Update) (are : AreWeights stream weights)

@@ -78,7 +78,7 @@ module _ {X : Type 0} (read : List ℕ → Result X Reason) (reads : IsReader re
 
 -- ---- one reply and the others
 
-run-cons : {S : Type 0} (R : Rules S) (j : ℕ) (rs : List ℕ) (s : S) (r : List ℕ) (more : List (List ℕ)) → run_from R j rs s (r ∷ more) ≡ (in_round j (read_reply R s r) >>= λ t. run_from R (j + 1) (drop 1 rs) (learnt R rs t) more)
+pub run-cons : {S : Type 0} (R : Rules S) (j : ℕ) (rs : List ℕ) (s : S) (r : List ℕ) (more : List (List ℕ)) → run_from R j rs s (r ∷ more) ≡ (in_round j (read_reply R s r) >>= λ t. run_from R (j + 1) (drop 1 rs) (learnt R rs t) more)
 unfolding run_from
 run-cons R j rs s r more = refl
 

@@ -27,10 +27,14 @@ test_passed false reason f y e = absurd (cc)
 pub same_ok : {A E : Type 0} (x y : A) → ◌≡◌ {A = Result A E} (Ok x) (Ok y) → x ≡ y
 same_ok x y e = cc
 
--- where a reply ends with its bytes, it states what was read
+-- where a reply ends with its bytes, nothing follows, and it states what was read
+pub at_end_parts : {X : Type 0} (x y : X) (rest : List ℕ) → at_end x rest ≡ Ok y
+    → (rest ≡ []) × (x ≡ y)
+at_end_parts x y [] e = (refl, same_ok {E = Reason} x y e)
+at_end_parts x y (b ∷ rest) e = absurd (cc)
+
 pub at_end_is : {X : Type 0} (x y : X) (rest : List ℕ) → at_end x rest ≡ Ok y → x ≡ y
-at_end_is x y [] e = same_ok {E = Reason} x y e
-at_end_is x y (b ∷ rest) e = absurd (cc)
+at_end_is x y rest e = (at_end_parts x y rest e).1
 
 -- a value that passed
 abbrev ok_of : {X : Type 0} → X → Result X Reason

@@ -12,7 +12,7 @@ use Rattle.sip_vector.specs.Streams.{IsLegal}
 use Rattle.sip_wire.specs.declared.message.Message.{Message}
 use Rattle.sip_wire.specs.declared.message.Message.TheVariants as messages
 use Rattle.sip_wire.specs.declared.version.Version.{Version}
-use Rattle.sip_wire.specs.Spelling.{all_hold, fits, has_room, spelling}
+use Rattle.sip_wire.specs.Spelling.{fits, spelling}
 use Rattle.sip_wire.specs.Table.{most_queries}
 use Rattle.sip_wire.specs.Versions.{Speaks}
 use Rattle.sip_wire.proofs.Asking.{query-fits}
@@ -29,6 +29,7 @@ use Rattle.sip_verifier.specs.Kinds.{Holds, Kind, KindRow, built, kind_row, miss
 use Rattle.sip_verifier.specs.Questions.{Accepted, Accepts, IsFaulty, Question, said_by_kind, said_for}
 use Rattle.sip_verifier.specs.Widths.{is_too_wide}
 use Rattle.sip_verifier.proofs.Blocks.{IsBlock}
+use Rattle.sip_duel.proofs.AcceptLemmas.{bye_fits, bye_same}
 use Rattle.sip_duel.proofs.WalkLemmas.{Comes, Round, Walk, exchange}
 use Rattle.sip_duel.proofs.RevealLemmas.{reveals, walk_then}
 use Rattle.sip_duel.proofs.QueryLemmas.{IsAtRest, walk_accepted}
@@ -69,15 +70,6 @@ without_last C v s r (next ∷ rest) m walk = (
       let on = walk.1 refused u w agree in
       (on.0, without_last C v (after_answer (step s refused r.message)) next rest m on.1),
 )
-
--- the farewell has one spelling, in each version
-bye_fits : (w : Version) → IsTrue (fits w messages.Bye)
-unfolding fits has_room all_hold
-bye_fits w = refl
-
-bye_same : (a b : Version) → spelling a messages.Bye ≡ spelling b messages.Bye
-unfolding spelling
-bye_same a b = refl
 
 -- nothing is replied to the farewell
 silent_bye : (C : Type 0) (v : Version) (s : HelperState) → C → Walk (λ _ _. C) v s (silent messages.Bye ∷ [])

@@ -119,7 +119,7 @@ none_stated lo hi k i (x ∷ xs) less = elim (cases_Bool (is_nonzero_within lo h
   | inr t ↦ ap (λ es. stated_value es i) (found-cons lo hi k x xs false t) ∙ none_stated lo hi (k + 1) i xs (omega arith)
 ]
 
-zero_is : (x : ℤ) → is_zero x ≡ true → x ≡ pos 0
+pub zero_is : (x : ℤ) → is_zero x ≡ true → x ≡ pos 0
 zero_is x h = grind arith
 
 -- a value that isn't among them is 0

@@ -1,5 +1,5 @@
 -- The frames of a sum's replies: which have a spelling, and how a reply of them is read.
-use Rattle.std.proofs.Common.{◌≡◌, ℕ, ◌<◌, ◌≤◌, Bool, true, false, ℤ, nat_abs, Some, Result, Ok, Err, List, [], ◌∷◌, ◌++◌, refl, sym, ap, subst, ◌∙◌}
+use Rattle.std.proofs.Common.{◌≡◌, ℕ, ◌<◌, ◌≤◌, Bool, true, false, ℤ, nat_abs, Some, Result, Ok, Err, List, [], ◌++◌, refl, sym, ap, subst, ◌∙◌}
 use Rattle.std.specs.Prelude.{◌==◌, IsTrue}
 use Rattle.std.proofs.lemmas.Bool.{and_from, and_parts, lt-ltb, ltb-true}
 use Rattle.std.proofs.lemmas.List.{append-nil}
@@ -25,7 +25,8 @@ use Rattle.sip_wire.proofs.SmallNumbers.{element_room, in_range}
 use Rattle.sip_replies.specs.declared.check.More.{More}
 use Rattle.sip_replies.specs.declared.check.More.TheVariants as mores
 use Rattle.sip_replies.specs.Protocols.{Rules}
-use Rattle.sip_replies.specs.Replies.{at_end, frame_says, read_reply, step_says}
+use Rattle.sip_replies.specs.Replies.{frame_says, read_reply, step_says}
+use Rattle.sip_replies.proofs.Passing.{at_end_parts}
 use Rattle.sip_replies.proofs.Reading.{read_reply-frame, read_reply-step}
 use Rattle.sip_sums.specs.AcceptsSum.{Coefficients, sum_of_ends}
 use Rattle.sip_sums.specs.Checking.{zero_polynomial}
@@ -64,12 +65,6 @@ abbrev pub poly_reply : Version → Coefficients → List ℕ
 poly_reply version c = spelling version (poly_message c)
 
 -- ---- how they are read
-
--- nothing follows the end of a reply
-at_end_parts : {X : Type 0} (x y : X) (rest : List ℕ) → at_end x rest ≡ Ok y
-    → (rest ≡ []) × (x ≡ y)
-at_end_parts x y [] e = (refl, cc)
-at_end_parts x y (b ∷ rest) e = absurd cc
 
 -- this claim came
 abbrev pub state : ℤ → ℕ → Coefficients → SumState

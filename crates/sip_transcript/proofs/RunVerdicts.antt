@@ -15,7 +15,6 @@ use Rattle.sip_vector.specs.declared.query.Query.{Query}
 use Rattle.sip_vector.specs.declared.update.Update.{Update}
 use Rattle.sip_wire.specs.declared.message.Message.TheVariants as messages
 use Rattle.sip_wire.specs.declared.message.Reason.{Reason}
-use Rattle.sip_wire.specs.declared.message.Reason.TheVariants as reasons
 use Rattle.sip_wire.specs.declared.version.Version.{Version}
 use Rattle.sip_wire.specs.Spelling.{spelling}
 use Rattle.sip_verifier.specs.declared.status.Status.{Status}
@@ -28,6 +27,7 @@ use Rattle.sip_verifier.specs.Talks.{bye_sent, stream_sent}
 use Rattle.sip_verifier.specs.VerdictClause.{AllWritten, OneFaulty, VerdictClause}
 use Rattle.sip_verifier.proofs.HeardTalks.{IsHeard, heard-talk, replied}
 use Rattle.sip_verifier.proofs.HonestRuns.{done_heard, faulty_heard}
+use Rattle.sip_verifier.proofs.KeptReplies.{heard-ending}
 use Rattle.sip_transcript.specs.Auditing.{is_verdict}
 use Rattle.sip_transcript.specs.Replaying.{Follows}
 use Rattle.sip_transcript.proofs.SameVerdicts.{AllClose, AreOf, Closes, Judged, Outcome, replies_of, same_verdicts, verdicts}
@@ -147,10 +147,6 @@ pub record IsJudgedRun (i : Inquiry) (bytes : List ℕ) (talk : List TalkEvent) 
   pub closes : (first left : List ℕ) → Follows first talk left → AllClose i.version i.depth (records i.depth i.form bytes).legal judged left
   pub report : wrote ≡ told 0 (verdicts i.version i.depth (records i.depth i.form bytes).legal judged)
   pub ends : status ≡ came_to 0 (verdicts i.version i.depth (records i.depth i.form bytes).legal judged)
-
-heard-ending : (reason : Reason) → heard (ending reason) ≡ []
-heard-ending reasons.Closed = refl
-heard-ending _ = refl
 
 -- the end of the link was found only where nothing was left
 end_found : (first left : List ℕ) (before talk : List TalkEvent) → Follows first talk left → talk ≡ before ++ Ended ∷ [] → left ≡ []

@@ -8,14 +8,9 @@ use Rattle.sip_wire.specs.declared.message.Reason.TheVariants as reasons
 use Rattle.sip_replies.specs.LawProofs.Refusals.{same_err}
 use Rattle.sip_replies.specs.Protocols.{Rules}
 use Rattle.sip_replies.specs.Replies.{Fault, in_round, joined, learnt, read_reply, run_from}
-use Rattle.sip_replies.proofs.Agreeing.{IsShortest, alone, both_split, only_one, same_lists, two_fronts}
+use Rattle.sip_replies.proofs.Agreeing.{IsShortest, alone, both_split, only_one, run-cons, same_lists, two_fronts}
 use Rattle.sip_replies.proofs.Ends.{last_of}
 use Rattle.sip_replies.proofs.Fronts.{Grows, closed_or_not, grows, reply_front}
-
--- the replies are read one after another
-run-cons : {S : Type 0} (R : Rules S) (j : ℕ) (rs : List ℕ) (s : S) (r : List ℕ) (more : List (List ℕ)) → run_from R j rs s (r ∷ more) ≡ (in_round j (read_reply R s r) >>= λ t. run_from R (j + 1) (drop 1 rs) (learnt R rs t) more)
-unfolding run_from
-run-cons R j rs s r more = refl
 
 -- ---- what is not whole yet
 

@@ -2,6 +2,7 @@
 -- each update.
 use Rattle.std.proofs.Common.{◌≡◌, ℕ, ◌+◌, ◌*◌, ◌/◌, ◌%◌, ◌^◌, ◌<◌, ◌==◌, if◌then◌else◌, ℤ, ◌+ℤ◌, List, [], ◌∷◌, length, get_or, take, refl, sym, ◌∙◌, ap, subst}
 use Rattle.std.specs.Prelude.{All}
+use Rattle.std.proofs.Math.Nat.{add-mod-mod, mod-add-mod}
 use Rattle.std.proofs.lemmas.List.Elements.{All-head, All-tail}
 use Rattle.std.proofs.lemmas.List.Sums.{fold_more}
 use Rattle.sip_field.specs.Residue.{residue}
@@ -12,6 +13,13 @@ use Rattle.sip_vector.specs.declared.update.Update.{Update}
 use Rattle.sip_tree.specs.Blocks.{root_after, hash_after, total_after}
 use Rattle.sip_tree.specs.StandsFor.{RootStandsFor, AugRootStandsFor}
 use Rattle.sip_tree.proofs.StandsLemmas.{root_stands, augroot_stands}
+
+-- a sum whose residue is taken at its end, and one product more
+pub sum_more : (p sum x d weight : ℕ) → x % p ≡ (d * weight) % p
+    → (sum + x) % p ≡ (sum % p + d * weight) % p
+sum_more p sum x d weight is =
+    sym (add-mod-mod sum x p) ∙ ap (λ y. (sum + y) % p) is
+    ∙ sym (mod-add-mod sum p ((d * weight) % p)) ∙ add-mod-mod (sum % p) (d * weight) p
 
 -- a node's weight is a product over the bits of its index
 pub weight_is_product : (p i : ℕ) (challenges : List ℕ) → bits_product p (zero_factor p Tree) i challenges ≡ node_weight p i challenges

@@ -1,6 +1,7 @@
 -- All that a run keeps, from its first three promises and what is kept of its talk.
-use Rattle.std.proofs.Common.{◌≡◌, ◌≤◌, ℕ, Result, Ok, Err, Bool, true, false, true≢false, refl, sym}
+use Rattle.std.proofs.Common.{◌≡◌, ◌≤◌, ℕ, Result, Ok, Err, true, refl}
 use Rattle.std.specs.Prelude.{All, IfErr, IsTrue, ◌||◌}
+use Rattle.std.proofs.lemmas.Bool.{or_left, or_right}
 use Rattle.sip_vector.specs.Answers.{Fits}
 use Rattle.sip_verifier.specs.declared.session.SessionStart.{SessionStart}
 use Rattle.sip_verifier.specs.declared.session.SessionStart.TheVariants as starts
@@ -60,14 +61,6 @@ module _ (task : Task) (can : CanBeDone task) (some : 1 ≤ task.depth) (most : 
   }
 
 -- ---- the list of a part is in the list of a run
-
-or_left : (a b : Bool) → a ≡ true → (a || b) ≡ true
-or_left true b is = refl
-or_left false b is = absurd (true≢false (sym is))
-
-or_right : (a b : Bool) → b ≡ true → (a || b) ≡ true
-or_right true b is = refl
-or_right false b is = is
 
 pub gathering_listed : (status : Status) → stops_gathering status ≡ true → IsListed status
 gathering_listed status is =

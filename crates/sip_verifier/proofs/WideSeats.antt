@@ -21,24 +21,24 @@ use Rattle.sip_verifier.proofs.SeatTotals.{root_total}
 
 -- ---- the first test that passes
 
-none_more : (tests : List Bool) → first_true tests ≡ None → first_true (tests ++ false ∷ []) ≡ None
+unmapped : (o : Option ℕ) → option_map suc o ≡ None → o ≡ None
+unmapped None e = refl
+unmapped (Some n) e = absurd cc
+
+pub none_more : (tests : List Bool) → first_true tests ≡ None
+    → first_true (tests ++ false ∷ []) ≡ None
 none_more [] none = refl
 none_more (true ∷ tests) none = absurd cc
-none_more (false ∷ tests) none = ap (option_map suc) (none_more tests (unmapped (first_true tests) none))
-  where
-    unmapped : (o : Option ℕ) → option_map suc o ≡ None → o ≡ None
-    unmapped None e = refl
-    unmapped (Some n) e = absurd cc
+none_more (false ∷ tests) none =
+    ap (option_map suc) (none_more tests (unmapped (first_true tests) none))
 
-here_first : (tests more : List Bool) → first_true tests ≡ None → first_true (tests ++ true ∷ more) ≡ Some (length tests + 1)
+pub here_first : (tests more : List Bool) → first_true tests ≡ None
+    → first_true (tests ++ true ∷ more) ≡ Some (length tests + 1)
 here_first [] more none = refl
 here_first (true ∷ tests) more none = absurd cc
 here_first (false ∷ tests) more none =
-    ap (option_map suc) (here_first tests more (unmapped (first_true tests) none)) ∙ ap Some (let e : suc (length tests + 1) ≡ suc (length tests) + 1 = omega arith in e)
-  where
-    unmapped : (o : Option ℕ) → option_map suc o ≡ None → o ≡ None
-    unmapped None e = refl
-    unmapped (Some n) e = absurd cc
+    ap (option_map suc) (here_first tests more (unmapped (first_true tests) none))
+    ∙ ap Some (let e : suc (length tests + 1) ≡ suc (length tests) + 1 = omega arith in e)
 
 -- ---- seats one after another
 

@@ -1,5 +1,5 @@
-use Rattle.std.proofs.Common.{rules, ◌≡◌, ℕ, List, pos, FitsSigned, w64, to_z, of_z, ◌+◌, ◌*◌, ◌%◌, ◌^◌, ◌<◌, length, get_or, sym, ◌∙◌, ap, arith}
-use Rattle.std.proofs.Math.Nat.{mod-add-mod, add-mod-mod, mod-eq_of_lt}
+use Rattle.std.proofs.Common.{rules, ◌≡◌, ℕ, List, pos, FitsSigned, w64, to_z, of_z, ◌*◌, ◌%◌, ◌^◌, ◌<◌, length, get_or, ◌∙◌, ap, arith}
+use Rattle.std.proofs.Math.Nat.{mod-eq_of_lt}
 use Rattle.std.proofs.lemmas.Int.{to_z-of_z}
 use Rattle.std.proofs.lemmas.List.{take_all}
 use Rattle.std.proofs.lemmas.List.Elements.{All-get_or}
@@ -10,7 +10,7 @@ use Rattle.sip_vector.specs.Weights.{node_weight}
 use Rattle.sip_vector.specs.declared.update.Side.TheVariants.{First}
 use Rattle.sip_vector.specs.declared.update.Update.{Update}
 use Rattle.sip_tree.specs.Blocks.{root_after}
-use Rattle.sip_tree.proofs.Blocks.{weight_is_product, one_root}
+use Rattle.sip_tree.proofs.Blocks.{weight_is_product, one_root, sum_more}
 use Rattle.sip_tree.proofs.adding.added.Goals as goal
 
 -- one past the end of a slice
@@ -53,8 +53,7 @@ loop-update-preserved g c =
           ∙ ap (λ y. (y * bits_product p (zero_factor p Tree) u.item challenges) % p) (c.of_signed-delta.ensures ∙ ap (residue p) kept)
           ∙ ap (λ w. (residue p u.delta * w) % p) (weight_is_product p u.item challenges) in
           one_root p challenges (g.F.Field.number c.args.root) updates k none (v % p) _ here (c.loop-update.invariant.is challenges are long within)
-          (sym (add-mod-mod v x p) ∙ ap (λ y. (v + y) % p) weighed ∙ sym (mod-add-mod v p ((residue p u.delta * node_weight p u.item challenges) % p))
-          ∙ add-mod-mod (v % p) (residue p u.delta * node_weight p u.item challenges) p);
+          (sum_more p v x (residue p u.delta) (node_weight p u.item challenges) weighed);
     }
 
 pub returns : goal.returns

@@ -1,5 +1,5 @@
-use Rattle.std.proofs.Common.{rules, ◌≡◌, ℕ, List, pos, FitsSigned, w64, to_z, of_z, ◌+◌, ◌*◌, ◌%◌, ◌^◌, ◌<◌, length, get_or, sym, ◌∙◌, ap, arith}
-use Rattle.std.proofs.Math.Nat.{mod-add-mod, add-mod-mod, mod-eq_of_lt}
+use Rattle.std.proofs.Common.{rules, ◌≡◌, ℕ, List, pos, FitsSigned, w64, to_z, of_z, ◌*◌, ◌%◌, ◌^◌, ◌<◌, length, get_or, sym, ◌∙◌, ap, arith}
+use Rattle.std.proofs.Math.Nat.{mod-eq_of_lt}
 use Rattle.std.proofs.lemmas.Int.{to_z-of_z}
 use Rattle.std.proofs.lemmas.List.{take_all}
 use Rattle.std.proofs.lemmas.List.Elements.{All-get_or}
@@ -9,7 +9,7 @@ use Rattle.sip_vector.specs.Weights.{hash_weight}
 use Rattle.sip_vector.specs.declared.update.Side.TheVariants.{First}
 use Rattle.sip_vector.specs.declared.update.Update.{Update}
 use Rattle.sip_tree.specs.Blocks.{hash_after}
-use Rattle.sip_tree.proofs.Blocks.{one_hash}
+use Rattle.sip_tree.proofs.Blocks.{one_hash, sum_more}
 use Rattle.sip_tree.proofs.hashing.hashed.Goals as goal
 
 -- one past the end of a slice
@@ -56,8 +56,7 @@ loop-update-preserved g c =
           ∙ ap (λ y. (weight * y) % p) delta
           ∙ ap (λ y. y % p) (let same : weight * residue p u.delta ≡ residue p u.delta * weight = omega arith in same) in
           one_hash p challenges (g.F.Field.number c.args.hash) updates k none (v % p) _ here (c.loop-update.invariant.is challenges are long within)
-          (sym (add-mod-mod v x p) ∙ ap (λ y. (v + y) % p) weighed ∙ sym (mod-add-mod v p ((residue p u.delta * weight) % p))
-          ∙ add-mod-mod (v % p) (residue p u.delta * weight) p);
+          (sum_more p v x (residue p u.delta) weight weighed);
     }
 
 pub returns : goal.returns
