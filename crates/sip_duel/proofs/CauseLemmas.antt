@@ -1,6 +1,6 @@
 -- Why a call of a link stops.
-use Rattle.std.proofs.Common.{◌≡◌, ℕ, ◌+◌, ◌-◌, ◌<◌, ◌≤◌, Result, Ok, Err, arith, subst}
-use Rattle.std.specs.Prelude.{◌^◌, min, IsErrOf}
+use Rattle.std.proofs.Common.{◌≡◌, ℕ, ◌-◌, ◌<◌, ◌≤◌, Result, Ok, Err, arith, subst}
+use Rattle.std.specs.Prelude.{◌^◌, IsErrOf}
 use Rattle.sip_ports.specs.declared.port.PortStop.{PortStop}
 use Rattle.sip_ports.specs.declared.port.PortStop.TheVariants.{Failed, OutOfMemory}
 use Rattle.sip_ports.specs.Ports.{Rose}

@@ -1,12 +1,11 @@
 -- The rounds of a query by its kind, and of queries one after another.
-use Rattle.std.proofs.Common.{◌≡◌, ◌≢◌, ◌⊎◌, ℕ, suc, ◌+◌, ◌^◌, ◌<◌, ◌≤◌, min, Bool, true, false, ◌&&◌, IsTrue, List, [], ◌∷◌, ◌++◌, length, map, Option, Some, None, inl, inr, refl, sym, ap, ◌∙◌, subst, append_assoc, append-nil, arith, length-append}
+use Rattle.std.proofs.Common.{◌≡◌, ℕ, ◌+◌, ◌^◌, ◌<◌, ◌≤◌, Bool, true, false, IsTrue, List, [], ◌∷◌, ◌++◌, length, map, Some, None, inl, inr, refl, sym, ap, ◌∙◌, subst, append_assoc, append-nil, arith}
 use Rattle.std.specs.Prelude.{All, nat_lt, is_none}
 use Rattle.std.specs.List.{flat_map}
 use Rattle.std.proofs.lemmas.Bool.{and_from, lt-ltb}
 use Rattle.std.proofs.lemmas.Bool.Decides.{nat_tests}
 use Rattle.std.proofs.lemmas.List.Elements.{All-cons, All-nil, All-head, All-tail}
 use Rattle.sip_field.specs.Moduli.{m61_modulus}
-use Rattle.sip_ports.specs.declared.port.TalkEvent.{TalkEvent}
 use Rattle.sip_ports.specs.Ports.{outs, ins}
 use Rattle.sip_vector.specs.Answers.{Answer, Fits, answer}
 use Rattle.sip_vector.specs.Built.{is_built}
@@ -24,11 +23,11 @@ use Rattle.sip_replies.specs.Replies as replied
 use Rattle.sip_replies.specs.Replies.{Fault, IsAccepted, IsStated, joined}
 use Rattle.sip_replies.specs.Talks.{asked, asked_unless, exchanged, sent}
 use Rattle.sip_helper.specs.declared.heard.Heard.TheVariants.{Whole}
-use Rattle.sip_helper.specs.Kinds.{help_row, is_below}
+use Rattle.sip_helper.specs.Kinds.{is_below}
 use Rattle.sip_helper.specs.Serving.{IsMessage}
 use Rattle.sip_helper.specs.Streams.{vectors_of}
-use Rattle.sip_helper.specs.Turns.{HelperState, is_allowed, may_ask}
-use Rattle.sip_verifier.specs.CompletenessClause.{HasFewEntries, honest_bytes, honest_in}
+use Rattle.sip_helper.specs.Turns.{HelperState, may_ask}
+use Rattle.sip_verifier.specs.CompletenessClause.{HasFewEntries, honest_in}
 use Rattle.sip_verifier.specs.Kinds.{KindRow, built, missing, kind_row, Holds}
 use Rattle.sip_verifier.specs.Questions.{Accepted, Question, said_by_kind, said_for, IsFaulty}
 use Rattle.sip_verifier.specs.Reports.{line, report_of}

@@ -1,18 +1,17 @@
 -- What the honest helper appends.
-use Rattle.std.proofs.Common.{◌≡◌, ◌≢◌, ◌⊎◌, ℕ, ◌+◌, ◌<◌, ◌≤◌, Bool, true, false, not, IsTrue, List, [], ◌∷◌, ◌++◌, length, take, Option, Some, None, Result, Ok, Err, refl, sym, ap, ◌∙◌, subst, append_assoc, append-nil, arith, length-append}
-use Rattle.std.specs.Prelude.{flat_map, if◌then◌else◌}
+use Rattle.std.proofs.Common.{◌≡◌, ◌≢◌, ℕ, ◌+◌, ◌<◌, ◌≤◌, List, [], ◌∷◌, ◌++◌, length, take, Option, Some, None, Result, refl, sym, ap, ◌∙◌, subst, arith, length-append}
 use Rattle.sip_ports.specs.Ports.{outs}
 use Rattle.sip_ports.proofs.TalkLemmas.{outs-injective, outs-append}
 use Rattle.sip_wire.specs.declared.message.Message.{Message}
 use Rattle.sip_wire.specs.declared.version.Version.{Version}
-use Rattle.sip_wire.specs.Spelling.{spelling, body_of}
+use Rattle.sip_wire.specs.Spelling.{spelling}
 use Rattle.sip_wire.proofs.ReadingLaws.{length-spelling}
-use Rattle.sip_helper.specs.Turns.{HelperState, OpenQuery, owes, owed, owed_messages, reply_to, after_answer}
+use Rattle.sip_helper.specs.Turns.{HelperState, owed, after_answer}
 use Rattle.sip_duel.specs.declared.helper.More.{More}
 use Rattle.sip_duel.specs.declared.helper.More.TheVariants.{Goes, Ended}
 use Rattle.sip_duel.specs.declared.honest.Honest.{Honest}
 use Rattle.sip_duel.specs.declared.honest.Standing.{Standing}
-use Rattle.sip_duel.specs.declared.honest.Standing.TheVariants.{InTurn, Stray, Over}
+use Rattle.sip_duel.specs.declared.honest.Standing.TheVariants.{InTurn, Stray}
 use Rattle.sip_duel.specs.Helping.{Appends, IsOwed, Replies}
 use Rattle.sip_duel.specs.Told.{told, told_by}
 

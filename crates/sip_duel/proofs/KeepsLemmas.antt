@@ -17,14 +17,14 @@ use Rattle.sip_wire.specs.declared.version.Version.TheVariants.{Two}
 use Rattle.sip_wire.specs.Spelling.{fits, spelling}
 use Rattle.sip_wire.proofs.Wider.{fits_two}
 use Rattle.sip_helper.specs.Serving.{IsMessage}
-use Rattle.sip_helper.specs.Turns.{HelperState, fresh, is_allowed, step, owed, after_answer}
+use Rattle.sip_helper.specs.Turns.{HelperState, fresh, is_allowed, step, owed}
 use Rattle.sip_duel.specs.declared.kept.Kept.{Kept}
 use Rattle.sip_duel.specs.declared.kept.Mood.{Mood}
 use Rattle.sip_duel.specs.declared.kept.Mood.TheVariants as moods
 use Rattle.sip_duel.specs.declared.helper.More.{More}
 use Rattle.sip_duel.specs.declared.helper.More.TheVariants as mores
 use Rattle.sip_duel.specs.Helping.{Hears, HearsBy, IsOwed, Appends}
-use Rattle.sip_duel.specs.Story.{Step, Heard, Answered, state_after, said, frames, AreSteps, Follows, left, IsLive, IsOutOfTurn, IsShort, IsStray, IsOver, WasRight, BeginsWithEnd, Keeps, KeepsEnded, KeepsBy, Asked, IsUnderWay, IsEnded, IsHonestTalk}
+use Rattle.sip_duel.specs.Story.{Step, Heard, Answered, state_after, said, frames, Follows, left, IsLive, IsShort, IsStray, IsOver, WasRight, BeginsWithEnd, Keeps, KeepsEnded, KeepsBy, Asked, IsHonestTalk}
 use Rattle.sip_duel.specs.Taking.{IsNoFrame, Takes, version_after}
 use Rattle.sip_duel.specs.declared.part.Taken.{Taken}
 use Rattle.sip_duel.specs.declared.part.Taken.TheVariants as taken

@@ -1,7 +1,7 @@
 -- What is asked for each kind of query, and what an honest helper replies to it.
-use Rattle.std.proofs.Common.{◌≡◌, ◌≢◌, ◌⊎◌, ℕ, suc, ◌+◌, ◌<◌, ◌≤◌, Bool, true, false, IsTrue, List, [], ◌∷◌, ◌++◌, length, take, map, Option, Some, None, Result, Ok, Err, inl, inr, refl, sym, ap, ◌∙◌, subst, append_assoc, append-nil, arith, length-append, if◌then◌else◌}
-use Rattle.std.specs.Prelude.{All, nat_lt, nat_le, pos, ◌≤ℤ◌, ℤ, int_le}
-use Rattle.std.specs.List.{flat_map, range_with_len, list_all}
+use Rattle.std.proofs.Common.{◌≡◌, ◌⊎◌, ℕ, ◌+◌, ◌≤◌, Bool, true, false, IsTrue, List, [], ◌∷◌, ◌++◌, length, take, map, Some, None, Err, inl, inr, refl, sym, ap, ◌∙◌, subst, append_assoc, arith, length-append, if◌then◌else◌}
+use Rattle.std.specs.Prelude.{All, nat_lt, nat_le, pos, ◌≤ℤ◌, ℤ}
+use Rattle.std.specs.List.{flat_map, range_with_len}
 use Rattle.std.proofs.lemmas.Bool.{cases_Bool}
 use Rattle.std.proofs.lemmas.Bool.Decides.{nat_tests}
 use Rattle.std.proofs.lemmas.List.{take_at}
@@ -13,7 +13,7 @@ use Rattle.sip_heavy.specs.Honest.{honest_replies}
 use Rattle.sip_heavy.specs.Protocol.{count_of}
 use Rattle.sip_helper.proofs.HitterReplies.{strict_is}
 use Rattle.sip_vector.specs.Extensions.{ones}
-use Rattle.sip_vector.specs.Streams.{int_sum, vector, total, IsLegal, IsStrict}
+use Rattle.sip_vector.specs.Streams.{int_sum, vector, IsLegal, IsStrict}
 use Rattle.sip_vector.specs.Thresholds.{is_wide, share_of}
 use Rattle.sip_vector.specs.declared.query.Query.{Query}
 use Rattle.sip_vector.specs.declared.query.Query.TheVariants.{Sub, Range, F2, Inner, Heavy, Share}
@@ -29,9 +29,9 @@ use Rattle.sip_wire.specs.Spelling.{spelling}
 use Rattle.sip_wire.specs.Table.{allows}
 use Rattle.sip_wire.specs.Versions.{Speaks, deepest}
 use Rattle.sip_replies.specs.Protocols.{Protocol}
-use Rattle.sip_replies.specs.Replies.{IsStated, joined}
+use Rattle.sip_replies.specs.Replies.{IsStated}
 use Rattle.sip_subvec.proofs.HonestStreams.{legal_shown}
-use Rattle.sip_sums.specs.Questions.{Lists, lists, lists_of}
+use Rattle.sip_sums.specs.Questions.{lists}
 use Rattle.sip_helper.specs.Hitters.{is_strict}
 use Rattle.sip_helper.specs.KindRows.{not_strict, too_many}
 use Rattle.sip_helper.specs.Kinds.{help_row}

@@ -1,6 +1,6 @@
 -- The rounds of one query, against a helper at rest behind the stream.
-use Rattle.std.proofs.Common.{◌≡◌, ◌≢◌, ◌⊎◌, ℕ, suc, ◌+◌, ◌<◌, ◌≤◌, min, Bool, true, false, not, IsTrue, List, [], ◌∷◌, ◌++◌, length, take, map, Option, Some, None, Result, Ok, Err, inl, inr, refl, sym, ap, ◌∙◌, subst, append_assoc, append-nil, arith, length-append, if◌then◌else◌}
-use Rattle.std.specs.Prelude.{All, nat_lt, nat_le, ◌||◌, is_some}
+use Rattle.std.proofs.Common.{◌≡◌, ◌≢◌, ◌⊎◌, ℕ, suc, ◌+◌, ◌<◌, ◌≤◌, Bool, true, false, List, [], ◌∷◌, ◌++◌, length, Option, Some, None, Result, Ok, Err, inl, inr, refl, sym, ap, ◌∙◌, subst, append_assoc, append-nil, arith, length-append, if◌then◌else◌}
+use Rattle.std.specs.Prelude.{All, nat_le, ◌||◌, is_some}
 use Rattle.std.specs.List.{flat_map}
 use Rattle.std.specs.Option.{option_and_then}
 use Rattle.std.proofs.lemmas.List.{append_cancel_left, nil_from_length}
@@ -15,19 +15,19 @@ use Rattle.sip_wire.specs.declared.message.Reason.TheVariants as reasons
 use Rattle.sip_wire.specs.declared.version.Version.{Version}
 use Rattle.sip_wire.specs.Spelling.{spelling}
 use Rattle.sip_replies.specs.Protocols.{Protocol}
-use Rattle.sip_replies.specs.Replies.{Fault, IsFaulty, IsStated, in_round, joined, read_reply, run, run_from, verdict}
-use Rattle.sip_replies.proofs.Agreeing.{run_fault, run_same}
+use Rattle.sip_replies.specs.Replies.{Fault, IsStated, in_round, joined, read_reply, run, verdict}
+use Rattle.sip_replies.proofs.Agreeing.{run_same}
 use Rattle.sip_helper.specs.declared.heard.Heard.TheVariants.{Whole}
 use Rattle.sip_helper.specs.KindRows.{want_of_memory}
 use Rattle.sip_helper.specs.Kinds.{help_row}
 use Rattle.sip_helper.specs.Serving.{IsMessage}
 use Rattle.sip_helper.specs.Streams.{vectors_of}
-use Rattle.sip_helper.specs.Turns.{HelperState, OpenQuery, step, owed, after_answer, after_reply, depth_of, reply_to}
+use Rattle.sip_helper.specs.Turns.{HelperState, step, owed, after_answer, after_reply, depth_of, reply_to}
 use Rattle.sip_helper.specs.Vectors.{Vectors}
 use Rattle.sip_helper.proofs.OwedReplies.{due}
 use Rattle.sip_duel.proofs.WalkLemmas.{Round, Comes, Walk}
-use Rattle.sip_duel.proofs.RevealLemmas.{AreWhole, AreWholeSoFar, Ends, IsDue, Then, fault_so_far, honest, replies_from, reveals, run_whole, same_whole, so_far, walk_reveals, walk_then}
-use Rattle.sip_duel.proofs.RefusalLemmas.{first_fault, front_run, reads_refusal, refusal_frame}
+use Rattle.sip_duel.proofs.RevealLemmas.{AreWhole, AreWholeSoFar, Ends, IsDue, Then, honest, replies_from, reveals, run_whole, so_far, walk_reveals, walk_then}
+use Rattle.sip_duel.proofs.RefusalLemmas.{reads_refusal, refusal_frame}
 use Rattle.sip_duel.proofs.KindLemmas.{IsAsked}
 
 -- ---- lists of replies

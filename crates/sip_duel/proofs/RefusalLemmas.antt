@@ -1,12 +1,10 @@
 -- What a refusal is to whoever reads replies, and which replies are fronts of others.
-use Rattle.std.proofs.Common.{◌≡◌, ◌≢◌, ◌⊎◌, ℕ, zero, suc, ◌+◌, ◌<◌, ◌≤◌, IsTrue, List, [], ◌∷◌, ◌++◌, length, drop, Result, Ok, Err, inl, inr, refl, sym, ap, ◌∙◌, subst, append_assoc, append-nil, arith, length-append, lit≤}
+use Rattle.std.proofs.Common.{◌≡◌, ◌≢◌, ◌⊎◌, ℕ, ◌+◌, ◌≤◌, IsTrue, List, [], ◌∷◌, ◌++◌, length, drop, Result, Ok, Err, inl, inr, refl, sym, ap, ◌∙◌, append-nil, arith, length-append, lit≤}
 use Rattle.sip_vector.specs.Steps.{◌>>=◌}
 use Rattle.sip_wire.specs.declared.kind.Kind.TheVariants as kinds
-use Rattle.sip_wire.specs.declared.message.Message.{Message}
 use Rattle.sip_wire.specs.declared.message.Message.TheVariants as messages
 use Rattle.sip_wire.specs.declared.message.Reason.{Reason}
 use Rattle.sip_wire.specs.declared.message.Reason.TheVariants as reasons
-use Rattle.sip_wire.specs.declared.message.WireFault.{WireFault}
 use Rattle.sip_wire.specs.declared.message.WireFault.TheVariants as faults
 use Rattle.sip_wire.specs.declared.version.Version.{Version}
 use Rattle.sip_wire.specs.Reading.{read_frame}
@@ -14,7 +12,7 @@ use Rattle.sip_wire.specs.Spelling.{fits, spelling}
 use Rattle.sip_wire.specs.Table.{allows}
 use Rattle.sip_wire.proofs.ReadingLaws.{asked-spelling, length-spelling, read_frame-short, read_frame-spelling}
 use Rattle.sip_replies.specs.Protocols.{Rules}
-use Rattle.sip_replies.specs.Replies.{Fault, in_round, frame_says, learnt, read_from, read_reply, run_from}
+use Rattle.sip_replies.specs.Replies.{in_round, frame_says, learnt, read_from, read_reply, run_from}
 use Rattle.sip_helper.specs.KindRows.{want_of_memory}
 use Rattle.sip_helper.proofs.Hearing.{refusal_fits}
 use Rattle.sip_duel.proofs.RevealLemmas.{run_cons}

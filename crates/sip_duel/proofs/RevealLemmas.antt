@@ -1,13 +1,12 @@
 -- The rounds of a query whose replies are read by a protocol, against a helper that owes honest ones.
-use Rattle.std.proofs.Common.{◌≡◌, ◌≢◌, ◌⊎◌, ℕ, suc, ◌+◌, ◌<◌, ◌≤◌, Bool, true, false, IsTrue, List, [], ◌∷◌, ◌++◌, length, drop, Option, Some, None, Result, Ok, Err, inl, inr, refl, sym, ap, ◌∙◌, subst, append_assoc, append-nil, arith, length-append}
+use Rattle.std.proofs.Common.{◌≡◌, ℕ, suc, ◌+◌, ◌<◌, ◌≤◌, Bool, true, false, IsTrue, List, [], ◌∷◌, ◌++◌, length, drop, Some, None, Result, Ok, Err, refl, sym, ap, ◌∙◌, subst, append-nil, arith, length-append}
 use Rattle.std.specs.Prelude.{⊤, All, nat_lt, nat_le, if◌then◌else◌, ◌||◌, is_some}
 use Rattle.std.specs.List.{flat_map}
-use Rattle.std.specs.Option.{option_map, option_and_then}
+use Rattle.std.specs.Option.{option_and_then}
 use Rattle.std.proofs.lemmas.Bool.{lt-ltb}
 use Rattle.std.proofs.lemmas.List.Elements.{All-head, All-tail}
 use Rattle.sip_vector.specs.declared.query.Query.{Query}
 use Rattle.sip_vector.specs.Steps.{◌>>=◌}
-use Rattle.sip_wire.specs.declared.message.Message.{Message}
 use Rattle.sip_wire.specs.declared.message.Message.TheVariants as messages
 use Rattle.sip_wire.specs.declared.message.Reason.{Reason}
 use Rattle.sip_wire.specs.declared.version.Version.{Version}
@@ -18,7 +17,7 @@ use Rattle.sip_replies.proofs.Agreeing.{run_same}
 use Rattle.sip_helper.specs.declared.heard.Heard.TheVariants.{Whole}
 use Rattle.sip_helper.specs.Kinds.{help_row}
 use Rattle.sip_helper.specs.Serving.{IsMessage}
-use Rattle.sip_helper.specs.Turns.{HelperState, OpenQuery, step, owed, after_answer, after_reply, depth_of}
+use Rattle.sip_helper.specs.Turns.{HelperState, step, owed, after_answer, after_reply, depth_of}
 use Rattle.sip_helper.specs.Vectors.{Vectors}
 use Rattle.sip_helper.proofs.OwedReplies.{due, left_above, next_due, owed_honest}
 use Rattle.sip_duel.proofs.WalkLemmas.{Round, Comes, Walk}

@@ -1,8 +1,8 @@
 -- A talk that goes round by round never strays from the turns of an honest helper.
-use Rattle.std.proofs.Common.{◌≡◌, ◌≢◌, ◌⊎◌, ℕ, Bool, true, false, IsTrue, List, [], ◌∷◌, ◌++◌, Result, Ok, Err, inl, inr, refl, sym, ap, ◌∙◌, subst, append_assoc, append-nil, arith}
+use Rattle.std.proofs.Common.{◌≡◌, ◌≢◌, ◌⊎◌, ℕ, true, false, List, [], ◌∷◌, ◌++◌, Result, Ok, Err, inl, inr, refl, sym, ap, ◌∙◌, subst, append_assoc, append-nil, arith}
 use Rattle.std.proofs.lemmas.List.{append_cancel_left}
 use Rattle.sip_ports.specs.declared.port.TalkEvent.{TalkEvent}
-use Rattle.sip_ports.specs.declared.port.TalkEvent.TheVariants.{Out, In, Ended}
+use Rattle.sip_ports.specs.declared.port.TalkEvent.TheVariants.{Out, In}
 use Rattle.sip_ports.specs.Ports.{heard, written, outs, ins}
 use Rattle.sip_ports.proofs.TalkLemmas.{heard-append, written-append, written-outs, heard-outs, written-ins, heard-ins}
 use Rattle.sip_wire.specs.declared.kind.Place.TheVariants.{ToHelper}
@@ -13,12 +13,12 @@ use Rattle.sip_wire.specs.declared.version.Version.{Version}
 use Rattle.sip_wire.specs.Reading.{read_frame}
 use Rattle.sip_wire.specs.Spelling.{spelling}
 use Rattle.sip_wire.proofs.ReadingLaws.{asked-least, read_frame-append_fault, read_frame-closed}
-use Rattle.sip_helper.specs.Serving.{IsMessage, Turn, heard_in, after_turn, state_after as state_behind}
+use Rattle.sip_helper.specs.Serving.{IsMessage, Turn, after_turn, state_after as state_behind}
 use Rattle.sip_helper.specs.Turns.{HelperState, is_allowed, step, owed, after_answer}
 use Rattle.sip_duel.specs.Story.{IsOutOfTurn}
 use Rattle.sip_duel.specs.Taking.{IsNoFrame}
 use Rattle.sip_duel.proofs.TurnLemmas.{AreMessages, frames_of, replies_of}
-use Rattle.sip_duel.proofs.WalkLemmas.{Round, exchange, Comes, Walk, walk_comes, written_exchange, spelled_some, read_message, one_message, nil_parts, turn_message}
+use Rattle.sip_duel.proofs.WalkLemmas.{Round, exchange, Comes, Walk, walk_comes, written_exchange, spelled_some, read_message, one_message, nil_parts}
 
 -- ---- the front of a talk
 

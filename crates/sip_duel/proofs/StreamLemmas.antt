@@ -1,11 +1,11 @@
 -- The rounds of a legal stream, against a helper that has heard nothing.
-use Rattle.std.proofs.Common.{◌≡◌, ◌≢◌, ◌⊎◌, ℕ, suc, ◌+◌, ◌^◌, ◌<◌, ◌≤◌, Bool, true, false, ◌&&◌, IsTrue, ℤ, pos, negsuc, nat_abs, List, [], ◌∷◌, ◌++◌, length, map, Option, Some, None, inl, inr, refl, sym, ap, ◌∙◌, subst, append_assoc, append-nil, arith, length-append, FitsSigned, w64, if◌then◌else◌}
-use Rattle.std.specs.Prelude.{All, nat_lt, nat_le}
+use Rattle.std.proofs.Common.{◌≡◌, ◌≢◌, ◌⊎◌, ℕ, ◌+◌, ◌^◌, ◌<◌, ◌≤◌, Bool, true, false, IsTrue, ℤ, pos, nat_abs, List, [], ◌∷◌, ◌++◌, length, Option, Some, None, inl, inr, refl, sym, ap, ◌∙◌, subst, append_assoc, append-nil, arith, FitsSigned, w64, if◌then◌else◌}
+use Rattle.std.specs.Prelude.{All, nat_lt}
 use Rattle.std.specs.List.{flat_map, list_all}
 use Rattle.std.specs.Option.{option_map}
-use Rattle.std.proofs.lemmas.Bool.{and_from, cases_Bool, lt-ltb, le-leb}
+use Rattle.std.proofs.lemmas.Bool.{and_from, lt-ltb, le-leb}
 use Rattle.std.proofs.lemmas.Int.{ints}
-use Rattle.std.proofs.lemmas.List.Elements.{All-append, All-cons, All-nil, All-head, All-tail}
+use Rattle.std.proofs.lemmas.List.Elements.{All-cons, All-nil, All-head, All-tail}
 use Rattle.sip_stream.specs.Reading.{IsFair}
 use Rattle.sip_vector.specs.Streams.{most_weight, same_side, weight, IsLegal}
 use Rattle.sip_vector.specs.declared.update.Side.{Side}
@@ -19,11 +19,10 @@ use Rattle.sip_wire.specs.declared.version.Version.TheVariants.{One, Two}
 use Rattle.sip_wire.specs.Spelling.{fits, has_room, all_hold, spelling}
 use Rattle.sip_wire.specs.Table.{most_rows}
 use Rattle.sip_wire.specs.Versions.{deepest, number_of}
-use Rattle.sip_helper.specs.declared.heard.Heard.TheVariants.{Nothing, Part, Whole}
+use Rattle.sip_helper.specs.declared.heard.Heard.TheVariants.{Part, Whole}
 use Rattle.sip_helper.specs.Serving.{IsMessage}
 use Rattle.sip_helper.specs.Streams.{vectors_of}
-use Rattle.sip_helper.specs.Turns.{HelperState, OpenQuery, fresh, is_allowed, is_light, no_weight, step, owed, after_answer, depth_of, stays_legal, version_opened, weights_after, with_updates, zero_vectors}
-use Rattle.sip_helper.specs.Vectors.{Vectors}
+use Rattle.sip_helper.specs.Turns.{HelperState, OpenQuery, fresh, no_weight, step, depth_of, stays_legal, version_opened, weights_after, with_updates, zero_vectors}
 use Rattle.sip_helper.specs.declared.vectors.Weights.{Weights}
 use Rattle.sip_helper.proofs.OwedReplies.{added_again, from_zero}
 use Rattle.sip_verifier.specs.Feeding.{has_spelling}

@@ -1,16 +1,16 @@
 -- What a talk with an honest helper comes to, where it goes round by round.
-use Rattle.std.proofs.Common.{◌≡◌, ◌≢◌, ◌⊎◌, ℕ, Bool, true, false, IsTrue, List, [], ◌∷◌, ◌++◌, inl, inr, refl, sym, ap, ◌∙◌, subst, append_assoc, append-nil}
+use Rattle.std.proofs.Common.{◌≡◌, ◌≢◌, ℕ, List, [], ◌∷◌, ◌++◌, inl, inr, refl, sym, ap, ◌∙◌, subst, append_assoc, append-nil}
 use Rattle.std.specs.Prelude.{All}
-use Rattle.std.proofs.lemmas.List.Elements.{All-append, All-cons, All-nil, All-head, All-tail}
+use Rattle.std.proofs.lemmas.List.Elements.{All-append, All-nil, All-head, All-tail}
 use Rattle.sip_ports.specs.declared.port.TalkEvent.{TalkEvent}
-use Rattle.sip_ports.specs.declared.port.TalkEvent.TheVariants.{Out, In, Ended}
+use Rattle.sip_ports.specs.declared.port.TalkEvent.TheVariants.{Ended}
 use Rattle.sip_ports.specs.Ports.{heard, written, outs, ins}
 use Rattle.sip_ports.proofs.TalkLemmas.{heard-append, written-append}
 use Rattle.sip_wire.specs.declared.version.Version.{Version}
 use Rattle.sip_wire.specs.Spelling.{spelling}
 use Rattle.sip_helper.specs.Serving.{Turn, state_after as state_behind}
-use Rattle.sip_helper.specs.Turns.{HelperState, OpenQuery, fresh, owed, owes, after_answer}
-use Rattle.sip_duel.specs.Story.{Step, state_after, said, frames, Follows, IsStray, IsUnderWay, IsEnded, IsHonestTalk, IsShort, BeginsWithEnd}
+use Rattle.sip_helper.specs.Turns.{fresh, owed}
+use Rattle.sip_duel.specs.Story.{Step, said, frames, Follows, IsStray, IsHonestTalk, IsShort}
 use Rattle.sip_duel.proofs.KeepsLemmas.{outs_are_no_end, ins_are_no_end}
 use Rattle.sip_duel.proofs.TurnLemmas.{AreMessages, are_messages, frames_of, replies_of, same_state, turned, turns_of, unowed_state}
 use Rattle.sip_duel.proofs.WalkLemmas.{Round, exchange, Walk, Holds, HoldsOfWhole, walk_on, walk_ended, nil_parts}

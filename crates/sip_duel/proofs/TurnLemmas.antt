@@ -1,7 +1,7 @@
 -- The steps of a helper as turns, the first one first: each message with the reply that is owed behind it.
 use Rattle.std.proofs.Common.{◌≡◌, ◌≢◌, ◌⊎◌, ℕ, ◌+◌, Bool, true, false, not, IsTrue, List, [], ◌∷◌, ◌++◌, length, Option, Some, None, inl, inr, refl, sym, ap, ◌∙◌, subst, append_assoc, append-nil}
 use Rattle.std.specs.Prelude.{⊤, nat_le, if◌then◌else◌, ◌||◌}
-use Rattle.std.specs.Option.{option_and_then, option_map}
+use Rattle.std.specs.Option.{option_and_then}
 use Rattle.std.proofs.lemmas.Bool.{and_parts}
 use Rattle.sip_wire.specs.declared.message.Message.{Message}
 use Rattle.sip_wire.specs.declared.message.Message.TheVariants as messages
@@ -12,7 +12,7 @@ use Rattle.sip_helper.specs.Serving.{IsMessage, Turn, heard_in, after_turn, stat
 use Rattle.sip_helper.specs.Turns.{HelperState, OpenQuery, fresh, is_allowed, step, owed, owes, reply_to, after_answer, after_reply, depth_of, is_refused}
 use Rattle.sip_helper.specs.Vectors.{Vectors}
 use Rattle.sip_helper.proofs.OwedReplies.{owed_has_bytes}
-use Rattle.sip_duel.specs.Story.{Step, Heard, Answered, state_after, said, frames, AreSteps}
+use Rattle.sip_duel.specs.Story.{Step, Heard, Answered, said, frames, AreSteps}
 
 -- ---- nothing is owed
 

@@ -1,9 +1,7 @@
 -- A talk that goes round by round, a message and the reply to it, against the steps of an honest helper.
-use Rattle.std.proofs.Common.{◌≡◌, ◌≢◌, ◌⊎◌, ℕ, ◌+◌, ◌<◌, ◌≤◌, Bool, true, false, IsTrue, List, [], ◌∷◌, ◌++◌, length, Result, Ok, Err, inl, inr, refl, sym, ap, ◌∙◌, subst, append_assoc, append-nil, arith, length-append}
-use Rattle.std.specs.Prelude.{⊤}
+use Rattle.std.proofs.Common.{◌≡◌, ◌≢◌, ℕ, ◌+◌, ◌<◌, Bool, false, IsTrue, List, [], ◌∷◌, ◌++◌, length, Result, Ok, refl, sym, ap, ◌∙◌, subst, append_assoc, append-nil, arith, length-append}
 use Rattle.std.proofs.lemmas.List.{append_cancel_left}
 use Rattle.sip_ports.specs.declared.port.TalkEvent.{TalkEvent}
-use Rattle.sip_ports.specs.declared.port.TalkEvent.TheVariants.{Out, In, Ended}
 use Rattle.sip_ports.specs.Ports.{heard, written, outs, ins}
 use Rattle.sip_ports.proofs.TalkLemmas.{heard-append, written-append, written-outs, heard-outs, written-ins, heard-ins}
 use Rattle.sip_wire.specs.declared.kind.Place.TheVariants.{ToHelper}
@@ -13,11 +11,9 @@ use Rattle.sip_wire.specs.declared.message.WireFault.TheVariants as faults
 use Rattle.sip_wire.specs.declared.version.Version.{Version}
 use Rattle.sip_wire.specs.Reading.{read_frame}
 use Rattle.sip_wire.specs.Spelling.{asked, spelling}
-use Rattle.sip_wire.proofs.ReadingLaws.{asked-spelling, length-spelling, read_frame-append_fault, read_frame-closed, read_frame-spelling}
+use Rattle.sip_wire.proofs.ReadingLaws.{asked-spelling, length-spelling, read_frame-spelling}
 use Rattle.sip_helper.specs.Serving.{IsMessage, Turn, heard_in, after_turn, state_after as state_behind}
 use Rattle.sip_helper.specs.Turns.{HelperState, is_allowed, step, owed, after_answer}
-use Rattle.sip_duel.specs.Story.{IsOutOfTurn}
-use Rattle.sip_duel.specs.Taking.{IsNoFrame}
 use Rattle.sip_duel.proofs.TurnLemmas.{AreMessages, frames_of, replies_of}
 
 -- ---- rounds

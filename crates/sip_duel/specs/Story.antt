@@ -1,8 +1,8 @@
 -- What happened on a link whose helper keeps to the turns.
 use Rattle.std.specs.Prelude.{drop, ◌≡◌, ◌≢◌, ◌⊎◌, ◌<◌, length, ℕ, Bool, false, IsTrue, List, [], ◌∷◌, ◌++◌, Option, Some, None, ⊤, Result, Ok, Err, All}
 use Rattle.sip_ports.specs.declared.port.TalkEvent.{TalkEvent}
-use Rattle.sip_ports.specs.declared.port.TalkEvent.TheVariants.{Out, In, Ended}
-use Rattle.sip_ports.specs.Ports.{heard, written, outs}
+use Rattle.sip_ports.specs.declared.port.TalkEvent.TheVariants.{Ended}
+use Rattle.sip_ports.specs.Ports.{heard, written}
 use Rattle.sip_ports.specs.Memory.{sink_bytes}
 use Rattle.sip_wire.specs.declared.message.Message.{Message}
 use Rattle.sip_wire.specs.declared.kind.Place.TheVariants.{ToHelper}

@@ -1,5 +1,5 @@
 -- What comes of bytes that are sent, by the frames that they make up.
-use Rattle.std.specs.Prelude.{◌≡◌, ◌≢◌, ℕ, List, [], ◌++◌, Result, Ok, Err}
+use Rattle.std.specs.Prelude.{◌≡◌, ◌≢◌, ℕ, List, [], ◌++◌, Err}
 use Rattle.sip_wire.specs.declared.kind.Place.TheVariants.{ToHelper}
 use Rattle.sip_wire.specs.declared.message.Message.{Message}
 use Rattle.sip_wire.specs.declared.message.Message.TheVariants as messages

@@ -1,5 +1,5 @@
 -- What is found has a spelling.
-use Rattle.std.proofs.Common.{◌≡◌, ℕ, ◌^◌, ◌<◌, true, nat_lt, arith, refl}
+use Rattle.std.proofs.Common.{ℕ, ◌^◌, ◌<◌, arith, refl}
 use Rattle.std.specs.Prelude.{IsTrue}
 use Rattle.std.proofs.lemmas.Bool.Decides.{nat_tests}
 use Rattle.sip_wire.specs.declared.message.Message.TheVariants as messages

@@ -1,5 +1,5 @@
 -- A Found that came whole: what its bytes are, and what they say with more behind them.
-use Rattle.std.proofs.Common.{◌≡◌, ℕ, zero, suc, true, ◌++◌, List, [], ◌∷◌, Option, Some, None, Result, Ok, Err, refl, sym, ap, ◌∙◌, arith}
+use Rattle.std.proofs.Common.{◌≡◌, ℕ, zero, suc, true, ◌++◌, List, [], ◌∷◌, Option, Result, Ok, Err, refl, sym, ap, ◌∙◌, arith}
 use Rattle.std.specs.Prelude.{IsTrue, nat_le}
 use Rattle.std.proofs.lemmas.Bool.{and_parts, eqb-true, leb-true}
 use Rattle.sip_vector.specs.Steps.{◌>>=◌}

@@ -1,5 +1,5 @@
 -- What receiving a Found did, from what receiving one frame did and what was kept of it.
-use Rattle.std.proofs.Common.{◌≡◌, ◌≢◌, ℕ, Bool, true, false, inl, inr, Option, Result, Ok, Err, List, [], ◌∷◌, ◌++◌, ◌<◌, length, take, drop, refl, sym, ap, subst, ◌∙◌, append-nil}
+use Rattle.std.proofs.Common.{◌≡◌, ◌≢◌, ℕ, false, inl, inr, Option, Result, Ok, Err, List, [], ◌∷◌, ◌++◌, ◌<◌, length, take, drop, refl, sym, ap, subst, ◌∙◌, append-nil}
 use Rattle.std.specs.Prelude.{IsErrAnd, IsTrue, MatchResult}
 use Rattle.std.proofs.lemmas.List.{take-append-drop}
 use Rattle.sip_ports.specs.declared.port.PortStop.{PortStop}
@@ -20,14 +20,14 @@ use Rattle.sip_wire.specs.Faults.{ended_by}
 use Rattle.sip_wire.specs.Reading.{read_frame}
 use Rattle.sip_wire.specs.Spelling.{spelling}
 use Rattle.sip_replies.specs.Replies.{MayEnd, reason_of, reasoned, read_one}
-use Rattle.sip_replies.specs.Asking.{Came, HasFault, IsPart, IsUnkept, KeepsPart}
+use Rattle.sip_replies.specs.Asking.{HasFault, IsPart, IsUnkept}
 use Rattle.sip_replies.specs.Talks.{ending}
 use Rattle.sip_replies.proofs.Entering.{ending_none}
 use Rattle.sip_replies.proofs.Framed.{AreFrames-one}
 use Rattle.sip_replies.proofs.Receiving.{IsPart-failed, IsPart-no_memory, IsUnkept-received}
 use Rattle.sip_verifier.specs.declared.asker.Unanswered.{Unanswered}
 use Rattle.sip_verifier.specs.declared.asker.Unanswered.TheVariants as unanswered
-use Rattle.sip_lookup.specs.Frames.{found_in, found_message, read_found}
+use Rattle.sip_lookup.specs.Frames.{found_in, read_found}
 use Rattle.sip_lookup.specs.Hearing.{HearsFound, IsFound, is_of_link, stop_of_found, stop_of_keeper}
 use Rattle.sip_lookup.proofs.FoundFrames.{found_is}
 

@@ -1,7 +1,7 @@
 -- A lookup that heard honest bytes: where it was accepted its answer is the stream's own, and it
 -- has no fault.
-use Rattle.std.proofs.Common.{◌≡◌, ◌≢◌, ℕ, ◌^◌, ◌<◌, ◌≤◌, Bool, true, false, ℤ, List, [], ◌∷◌, ◌++◌, length, Option, Some, None, Result, Ok, Err, if◌then◌else◌, inl, inr, refl, sym, ap, subst, ◌∙◌, arith, append_assoc, append-nil}
-use Rattle.std.specs.Prelude.{flat_map, IfSome, IsTrue}
+use Rattle.std.proofs.Common.{◌≡◌, ◌≢◌, ℕ, ◌^◌, ◌<◌, ◌≤◌, Bool, true, false, ℤ, List, [], ◌∷◌, ◌++◌, length, Option, Some, None, Result, Ok, Err, if◌then◌else◌, inl, inr, refl, sym, ap, subst, ◌∙◌, arith, append_assoc}
+use Rattle.std.specs.Prelude.{flat_map, IfSome}
 use Rattle.std.proofs.Math.Nat.{pow-le-pow_right}
 use Rattle.std.proofs.lemmas.Bool.{and_parts, both_ways, eqb-true, leb-true, ltb-true}
 use Rattle.sip_field.specs.Moduli.{m61_modulus}
@@ -12,7 +12,7 @@ use Rattle.sip_vector.specs.declared.query.Query.TheVariants.{Sub}
 use Rattle.sip_vector.specs.declared.update.Entry.{Entry}
 use Rattle.sip_vector.specs.declared.update.Side.TheVariants.{First}
 use Rattle.sip_vector.specs.declared.update.Update.{Update}
-use Rattle.sip_vector.specs.Answers.{Answer, pairs}
+use Rattle.sip_vector.specs.Answers.{pairs}
 use Rattle.sip_vector.specs.Limits.{most_depth}
 use Rattle.sip_vector.specs.Steps.{◌>>=◌}
 use Rattle.sip_vector.specs.Streams.{IsLegal, vector}
@@ -34,7 +34,7 @@ use Rattle.sip_wire.proofs.ReadingLaws.{read_frame-append, read_frame-append_fau
 use Rattle.sip_replies.specs.Protocols.{Protocol}
 use Rattle.sip_replies.specs.Replies as general
 use Rattle.sip_replies.specs.Replies.{Fault, IsStated, joined, reason_of, reasoned}
-use Rattle.sip_replies.specs.Talks.{asked, sent}
+use Rattle.sip_replies.specs.Talks.{asked}
 use Rattle.sip_replies.proofs.Hearing.{after_sent, heard-asked}
 use Rattle.sip_subvec.specs.AcceptsSub.{Stated}
 use Rattle.sip_subvec.specs.Honest.{CanBeShown, honest_replies}

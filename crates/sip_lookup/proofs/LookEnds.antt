@@ -1,6 +1,6 @@
 -- What asking a lookup came to, at each end of the call.
-use Rattle.std.proofs.Common.{◌≡◌, ◌≤◌, ℕ, ℤ, Bool, true, false, List, [], ◌∷◌, ◌++◌, length, take, drop, Option, Result, Ok, Err, refl, sym, ap, subst, ◌∙◌, inl, inr, append-nil}
-use Rattle.std.specs.Prelude.{IsErrAnd, flat_map}
+use Rattle.std.proofs.Common.{◌≡◌, ◌≤◌, ℕ, ℤ, Bool, true, false, List, [], ◌∷◌, ◌++◌, length, take, drop, Option, Result, Ok, Err, sym, ap, subst, ◌∙◌, inl, inr, append-nil}
+use Rattle.std.specs.Prelude.{IsErrAnd}
 use Rattle.std.proofs.lemmas.List.{take-append-drop}
 use Rattle.sip_ports.specs.declared.port.PortStop.{PortStop}
 use Rattle.sip_ports.specs.declared.port.PortStop.TheVariants as ports
@@ -34,7 +34,7 @@ use Rattle.sip_verifier.specs.Asking as subs
 use Rattle.sip_verifier.specs.runs.Askers.{Asks}
 use Rattle.sip_verifier.specs.runs.Asking.{IsAnswered, IsInterrupted, IsRejected, IsUnrecorded}
 use Rattle.sip_lookup.specs.declared.lookup.Lookup.{Lookup}
-use Rattle.sip_lookup.specs.Frames.{ask_message, found_message, read_found}
+use Rattle.sip_lookup.specs.Frames.{ask_message}
 use Rattle.sip_lookup.specs.Hearing.{HearsFound, IsFound, stop_of_link}
 use Rattle.sip_lookup.specs.Lookups.{Looked, are_alone, is_possible, range_of, stated_answer}
 use Rattle.sip_lookup.specs.Questions.{looking}

@@ -1,5 +1,5 @@
 -- What was heard for a lookup was kept: its Found, and then the replies about its interval.
-use Rattle.std.proofs.Common.{◌≡◌, ℕ, ℤ, Option, Result, Ok, Err, List, [], ◌++◌, inl, inr, refl, sym, ap, subst, ◌∙◌, append-nil}
+use Rattle.std.proofs.Common.{◌≡◌, ℕ, ℤ, Option, Result, Ok, Err, List, [], ◌++◌, inl, inr, sym, ap, subst, ◌∙◌, append-nil}
 use Rattle.std.specs.Prelude.{IsErrAnd}
 use Rattle.sip_ports.specs.declared.port.PortStop.{PortStop}
 use Rattle.sip_ports.specs.declared.port.PortStop.TheVariants as port_stops
@@ -10,7 +10,7 @@ use Rattle.sip_wire.specs.declared.kind.Place.TheVariants as places
 use Rattle.sip_wire.specs.declared.message.Reason.{Reason}
 use Rattle.sip_wire.specs.declared.message.Reason.TheVariants as reasons
 use Rattle.sip_wire.specs.declared.version.Version.{Version}
-use Rattle.sip_replies.specs.Asking.{AreFrames, Came, HasFault, IsPart, IsUnkept, KeepsFrames, KeepsPart}
+use Rattle.sip_replies.specs.Asking.{AreFrames, HasFault, IsPart, IsUnkept, KeepsFrames, KeepsPart}
 use Rattle.sip_replies.specs.Talks.{ending}
 use Rattle.sip_replies.proofs.Framed.{AreFrames-none}
 use Rattle.sip_replies.proofs.Reading.{no_frame}

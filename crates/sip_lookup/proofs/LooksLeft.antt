@@ -1,5 +1,5 @@
 -- The lookups that are left to be asked, each beside its seat.
-use Rattle.std.proofs.Common.{◌≡◌, ℕ, Bool, true, false, true≢false, zero, suc, ◌+◌, ◌<◌, ◌^◌, List, [], ◌∷◌, length, drop, get_or, map, Option, Some, None, Result, Ok, Err, refl, sym, ap, subst, ◌∙◌, arith, inl, inr, length-drop}
+use Rattle.std.proofs.Common.{◌≡◌, ℕ, Bool, true, false, true≢false, zero, suc, ◌+◌, ◌<◌, ◌^◌, List, [], ◌∷◌, length, drop, get_or, map, Option, Some, Result, Ok, Err, sym, ap, subst, ◌∙◌, arith, inl, inr, length-drop}
 use Rattle.std.specs.Prelude.{All, IsTrue, nat_lt, slice_get}
 use Rattle.std.specs.List.{list_all, zip}
 use Rattle.std.proofs.lemmas.Bool.{and_parts, ltb-true}

@@ -1,5 +1,5 @@
 -- What a helper of lookups says in the turns of a talk is what an honest helper replies.
-use Rattle.std.proofs.Common.{◌≡◌, ℕ, suc, ◌+◌, ◌-◌, ◌<◌, ◌≤◌, ◌^◌, ◌&&◌, Bool, true, false, ℤ, List, [], ◌∷◌, ◌++◌, length, map, take, drop, All, Option, Some, None, refl, sym, ap, subst, ◌∙◌, arith, append_assoc, append-nil, length-append, take_at, length-take-le}
+use Rattle.std.proofs.Common.{◌≡◌, ℕ, suc, ◌+◌, ◌-◌, ◌<◌, ◌≤◌, ◌^◌, Bool, true, false, ℤ, List, [], ◌∷◌, ◌++◌, length, map, take, drop, All, Option, Some, None, refl, sym, ap, subst, ◌∙◌, arith, append_assoc, append-nil, length-append, take_at, length-take-le}
 use Rattle.std.specs.Prelude.{flat_map, is_some, nat_le, nat_lt, if◌then◌else◌, IsTrue, ◌||◌}
 use Rattle.std.specs.List.{range_with_len}
 use Rattle.std.proofs.lemmas.Bool.{and_from, lt-ltb}
@@ -20,11 +20,9 @@ use Rattle.sip_vector.specs.declared.query.Query.{Query}
 use Rattle.sip_vector.specs.declared.query.Query.TheVariants.{Sub}
 use Rattle.sip_vector.specs.declared.update.Side.TheVariants.{First}
 use Rattle.sip_vector.specs.declared.update.Update.{Update}
-use Rattle.sip_vector.specs.Limits.{most_depth}
 use Rattle.sip_vector.specs.Streams.{vector}
 use Rattle.sip_vector.specs.Vectors.{nonzero_within}
 use Rattle.sip_vector.proofs.Sides.{length-vector}
-use Rattle.sip_wire.specs.declared.message.Message.{Message}
 use Rattle.sip_wire.specs.declared.message.Message.TheVariants as messages
 use Rattle.sip_wire.specs.declared.version.Version.{Version}
 use Rattle.sip_wire.specs.declared.version.Version.TheVariants.{One, Two}
@@ -36,7 +34,7 @@ use Rattle.sip_helper.specs.declared.vectors.Weights.{Weights}
 use Rattle.sip_helper.specs.KindRows.{too_many}
 use Rattle.sip_helper.specs.Kinds.{help_row}
 use Rattle.sip_helper.specs.Rules.{AreTurnsBy, IsTurnBy, Turn, heard_by, state_after_by, turn_talk_by, turns_talk_by}
-use Rattle.sip_helper.specs.Streams.{stream_heard, updates_heard, vectors_of}
+use Rattle.sip_helper.specs.Streams.{updates_heard, vectors_of}
 use Rattle.sip_helper.specs.Turns as turns
 use Rattle.sip_helper.specs.Turns.{HelperState, OpenQuery, version_opened, weights_after, with_updates, zero_vectors}
 use Rattle.sip_helper.specs.Vectors.{Vectors}
@@ -46,8 +44,8 @@ use Rattle.sip_lookup.specs.declared.lookup.Lookup.TheVariants.{Index, Pred, Suc
 use Rattle.sip_lookup.specs.declared.serving.Stage.{Stage}
 use Rattle.sip_lookup.specs.declared.serving.Stage.TheVariants.{Asked, Due, Found}
 use Rattle.sip_lookup.specs.Frames.{ask_message, code_of, found_message}
-use Rattle.sip_lookup.specs.Honest.{honest_looks, honesty}
-use Rattle.sip_lookup.specs.Lookups.{CanLook, honest_found, item_of, range_of}
+use Rattle.sip_lookup.specs.Honest.{honesty}
+use Rattle.sip_lookup.specs.Lookups.{honest_found, item_of, range_of}
 use Rattle.sip_lookup.specs.Owing.{CanFollow, all_turns, behind_pieces, plain, turns_for}
 use Rattle.sip_lookup.specs.Serving.{LookHelper, after_answer, look_rules, lookup_of, most_lookups, owed, step}
 use Rattle.sip_lookup.proofs.HonestLooks.{front_joined}

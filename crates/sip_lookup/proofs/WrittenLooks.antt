@@ -1,6 +1,6 @@
 -- An answer that accepted replies to a lookup state is counted.
-use Rattle.std.proofs.Common.{◌≡◌, ◌≢◌, ℕ, true, false, ◌&&◌, Bool, ℤ, List, map, Option, Some, Result, Ok, Err, ap, sym, refl, ◌∙◌}
-use Rattle.std.proofs.lemmas.Bool.{and_from, eq-eqb, false_from_ne_true}
+use Rattle.std.proofs.Common.{◌≡◌, ◌≢◌, ℕ, true, ℤ, List, map, Option, Some, Ok, ap, sym, ◌∙◌}
+use Rattle.std.proofs.lemmas.Bool.{and_from, false_from_ne_true}
 use Rattle.sip_field.specs.Moduli.{m61_modulus}
 use Rattle.sip_vector.specs.declared.update.Entry.{Entry}
 use Rattle.sip_vector.specs.declared.update.Side.TheVariants.{First}
@@ -11,12 +11,12 @@ use Rattle.sip_vector.specs.Trees.{root}
 use Rattle.sip_vector.proofs.Sides.{length-vector}
 use Rattle.sip_counts.specs.Strategies.{Strategy, replies, takes_wrong}
 use Rattle.sip_counts.proofs.Talks.{takes_wrong-at}
-use Rattle.sip_replies.specs.Replies.{IsAccepted, accepts}
+use Rattle.sip_replies.specs.Replies.{IsAccepted}
 use Rattle.sip_subvec.specs.Counting.{accepts_sub, said}
 use Rattle.sip_subvec.specs.Protocol.{sub_asked, sub_protocol}
 use Rattle.sip_subvec.proofs.WrittenAnswers.{accepted_sub, vector-small, verdict_says}
 use Rattle.sip_wire.specs.declared.version.Version.{Version}
-use Rattle.sip_lookup.specs.AcceptsLook.{Parts, accepts_look, accepts_parts, is_right, of_parts, parts, said_within}
+use Rattle.sip_lookup.specs.AcceptsLook.{accepts_look, accepts_parts, is_right, of_parts, parts, said_within}
 use Rattle.sip_lookup.specs.Lookups.{CanLook, Looked, are_alone, is_possible, is_same_answer, near, range_of, stated_answer}
 use Rattle.sip_lookup.specs.Promises.{CountsFor, FewFor}
 use Rattle.sip_lookup.specs.Questions.{Accepts, Question}

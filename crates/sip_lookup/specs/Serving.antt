@@ -25,7 +25,7 @@ use Rattle.sip_lookup.specs.declared.lookup.Lookup.TheVariants.{Index, Pred, Suc
 use Rattle.sip_lookup.specs.declared.serving.Stage.{Stage}
 use Rattle.sip_lookup.specs.declared.serving.Stage.TheVariants.{Due, Asked, Found}
 use Rattle.sip_lookup.specs.Frames.{found_message}
-use Rattle.sip_lookup.specs.Lookups.{honest_found, item_of}
+use Rattle.sip_lookup.specs.Lookups.{honest_found}
 
 -- ---- the state
 

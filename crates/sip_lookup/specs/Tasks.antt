@@ -1,5 +1,5 @@
 -- Which lookups a run can do, and what it asks of a stream.
-use Rattle.std.specs.Prelude.{ℕ, ◌*◌, ◌<◌, All, List, [], length}
+use Rattle.std.specs.Prelude.{◌*◌, ◌<◌, All, [], length}
 use Rattle.sip_wire.specs.declared.version.Version.{Version}
 use Rattle.sip_wire.specs.Versions.{needed}
 use Rattle.sip_verifier.specs.Draws.{challenges_of}

@@ -1,5 +1,5 @@
 -- Each moment can be asked in each version.
-use Rattle.std.proofs.Common.{◌≡◌, ℕ, ◌<◌, ◌^◌, Bool, true, refl, arith}
+use Rattle.std.proofs.Common.{ℕ, ◌<◌, ◌^◌, refl, arith}
 use Rattle.std.specs.Prelude.{IsTrue}
 use Rattle.std.proofs.lemmas.Bool.{lt-ltb}
 use Rattle.sip_vector.specs.declared.update.Side.{Side}

@@ -1,7 +1,6 @@
 -- A run of moments that heard honest replies is accepted, with the moments of the stream.
-use Rattle.std.proofs.Common.{◌≡◌, ◌≢◌, ℕ, ◌*◌, ◌<◌, ◌≤◌, false, ℤ, List, [], ◌∷◌, ◌++◌, length, map, All, None, Some, refl, sym, ap, subst, ◌∙◌, arith}
+use Rattle.std.proofs.Common.{◌≡◌, ◌≢◌, ℕ, ◌*◌, ◌≤◌, ℤ, List, [], ◌∷◌, ◌++◌, length, All, None, Some, refl, ap, ◌∙◌, arith}
 use Rattle.std.specs.List.{zip}
-use Rattle.std.specs.Option.{option_map}
 use Rattle.std.proofs.lemmas.List.{length-map}
 use Rattle.std.proofs.lemmas.List.Elements.{All-cons, All-head, All-nil, All-tail}
 use Rattle.sip_field.specs.Moduli.{m61_modulus}
@@ -24,7 +23,7 @@ use Rattle.sip_verifier.specs.Draws.{challenges_of}
 use Rattle.sip_verifier.specs.Exchanges.{Exchange}
 use Rattle.sip_verifier.specs.Moments.{Counts}
 use Rattle.sip_verifier.specs.runs.CauseClause.{CauseClause}
-use Rattle.sip_verifier.specs.runs.CompletenessClause.{CompletenessClause, IsHonest}
+use Rattle.sip_verifier.specs.runs.CompletenessClause.{CompletenessClause}
 use Rattle.sip_verifier.specs.runs.Manners.{Question}
 use Rattle.sip_verifier.specs.runs.VerdictClause.{VerdictClause}
 use Rattle.sip_verifier.proofs.Blocks.{IsBlock, are_blocks, none_drawn}
@@ -37,7 +36,7 @@ use Rattle.sip_moments.specs.Protocol.{MomentState}
 use Rattle.sip_moments.specs.Questions.{ask_of}
 use Rattle.sip_moments.specs.Sittings.{square_of}
 use Rattle.sip_moments.specs.Tasks.{run_of, squares_of}
-use Rattle.sip_moments.proofs.HonestMoments.{CanBeShown, shown_accepted}
+use Rattle.sip_moments.proofs.HonestMoments.{shown_accepted}
 use Rattle.sip_moments.proofs.HonestTalks.{Judges, completes}
 use Rattle.sip_moments.proofs.LightVectors.{moment_fits}
 

@@ -1,8 +1,8 @@
 -- The numbers of a legal stream weigh no more than its updates, so where a claim has room for a
 -- power of the weight it has room for the moment.
-use Rattle.std.proofs.Common.{◌≡◌, ℕ, ◌+◌, ◌^◌, ◌<◌, ◌≤◌, Bool, true, false, ℤ, pos, nat_abs, ◌+ℤ◌, List, [], ◌∷◌, ◌++◌, length, set, get_or, sum_by, All, inl, inr, refl, sym, ap, subst, ◌∙◌, arith, append_assoc, append-nil}
+use Rattle.std.proofs.Common.{◌≡◌, ℕ, ◌+◌, ◌^◌, ◌<◌, ◌≤◌, false, ℤ, pos, nat_abs, ◌+ℤ◌, List, [], ◌∷◌, ◌++◌, length, set, get_or, sum_by, All, inl, inr, sym, subst, arith, append_assoc, append-nil}
 use Rattle.std.specs.Prelude.{nat_lt}
-use Rattle.std.proofs.lemmas.Bool.{cases_Bool, leb-false}
+use Rattle.std.proofs.lemmas.Bool.{cases_Bool}
 use Rattle.std.proofs.lemmas.Bool.Decides.{nat_tests}
 use Rattle.std.proofs.lemmas.List.Elements.{All-head, All-tail}
 use Rattle.std.proofs.lemmas.List.Sums.{sum_by-set}
@@ -15,7 +15,6 @@ use Rattle.sip_vector.proofs.Sums.{nat_abs-add-le, sum_by-zeros}
 use Rattle.sip_wire.specs.Table.{most_claim}
 use Rattle.sip_moments.specs.declared.moment.Moment.{Moment}
 use Rattle.sip_moments.specs.Manner.{CanBeCounted, answer, numbers_of}
-use Rattle.sip_moments.specs.Moments.{IsDegree}
 use Rattle.sip_moments.proofs.PowerSums.{moment-light}
 
 module _ (depth : ℕ) (side : Side) where

@@ -1,7 +1,7 @@
 -- What the general talk did for a moment is what the manner of asking moments says.
 use Rattle.std.proofs.Common.{◌≡◌, ◌≢◌, ◌⊎◌, ℕ, Bool, true, false, Option, Some, None, Result, Ok, Err, List, ℤ, refl, inl, inr}
 use Rattle.sip_ports.specs.declared.port.TalkEvent.{TalkEvent}
-use Rattle.sip_vector.specs.Answers.{Answer, number, pairs}
+use Rattle.sip_vector.specs.Answers.{number, pairs}
 use Rattle.sip_vector.specs.Steps.{◌>>=◌, needs}
 use Rattle.sip_vector.specs.declared.update.Entry.{Entry}
 use Rattle.sip_vector.specs.declared.update.Update.{Update}
@@ -18,7 +18,7 @@ use Rattle.sip_replies.specs.Replies.{Fault, in_round, run}
 use Rattle.sip_verifier.specs.declared.asker.Unanswered.TheVariants as unanswered
 use Rattle.sip_verifier.specs.declared.session.SessionFault.TheVariants as faults
 use Rattle.sip_verifier.specs.runs.Askers.{Asks, KeepsAsked}
-use Rattle.sip_verifier.specs.runs.Asking.{IsAnswered, IsRejected, IsInterrupted, IsUnrecorded, question_of}
+use Rattle.sip_verifier.specs.runs.Asking.{IsAnswered, IsRejected, IsInterrupted, IsUnrecorded}
 use Rattle.sip_moments.specs.declared.moment.Moment.{Moment}
 use Rattle.sip_moments.specs.AcceptsMoment.{power_at}
 use Rattle.sip_moments.specs.Manner.{asking, numbers_of}

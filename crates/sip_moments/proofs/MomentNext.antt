@@ -1,5 +1,5 @@
 -- What came of the next moment came of the first that is left.
-use Rattle.std.proofs.Common.{◌≡◌, ℕ, ◌+◌, ◌<◌, ◌%◌, ◌^◌, Bool, true, false, true≢false, is_some, ℤ, Option, Some, Ok, Err, List, ◌∷◌, length, map, drop, get_or, refl, sym, ap, subst, ◌∙◌, inl, inr, arith}
+use Rattle.std.proofs.Common.{◌≡◌, ℕ, ◌+◌, ◌<◌, ◌%◌, ◌^◌, Bool, true, false, true≢false, is_some, ℤ, Option, Some, Ok, Err, List, length, map, drop, get_or, sym, ap, subst, ◌∙◌, inl, inr, arith}
 use Rattle.std.specs.List.{slice_get, zip}
 use Rattle.std.proofs.lemmas.List.{drop-drop}
 use Rattle.std.proofs.lemmas.Option.{slice_get-get_or}
@@ -13,7 +13,7 @@ use Rattle.sip_vector.specs.declared.query.Query.{Query}
 use Rattle.sip_vector.specs.declared.update.Side.TheVariants.{First}
 use Rattle.sip_verifier.specs.SeatNumbers.{IsPointAt, point_side_at, queries_of}
 use Rattle.sip_verifier.specs.Seats.{Seating}
-use Rattle.sip_verifier.specs.runs.Askers.{Asks, IsFirst, Remaining, behind}
+use Rattle.sip_verifier.specs.runs.Askers.{Asks, IsFirst, behind}
 use Rattle.sip_verifier.specs.runs.Asking.{IsInterrupted, IsRejected, IsUnrecorded, IsAnswered}
 use Rattle.sip_verifier.specs.runs.Manners.{Manner}
 use Rattle.sip_moments.specs.declared.asker.Given.{Given}

@@ -1,8 +1,6 @@
 -- The seats of a run of moments show the extension of each one's side.
-use Rattle.std.proofs.Common.{◌≡◌, ℕ, zero, suc, ◌%◌, ◌^◌, ◌<◌, Option, Some, None, List, [], ◌∷◌, length, map, refl, sym, ap, ◌∙◌, arith}
+use Rattle.std.proofs.Common.{◌≡◌, ℕ, zero, suc, ◌%◌, ◌^◌, Some, List, [], ◌∷◌, map, ap}
 use Rattle.std.specs.List.{slice_get}
-use Rattle.sip_vector.specs.declared.query.Query.{Query}
-use Rattle.sip_vector.specs.declared.update.Side.{Side}
 use Rattle.sip_vector.specs.declared.update.Update.{Update}
 use Rattle.sip_field.specs.Moduli.{m61_modulus}
 use Rattle.sip_verifier.specs.SeatNumbers.{IsPointAt, point_side_at}

@@ -1,9 +1,8 @@
 -- The moments that are left of a run, each with its block.
-use Rattle.std.proofs.Common.{◌≡◌, ℕ, zero, suc, ◌+◌, ◌-◌, ◌<◌, Some, List, [], ◌∷◌, length, map, drop, refl, sym, ap, ◌∙◌, arith, length-drop}
+use Rattle.std.proofs.Common.{◌≡◌, ℕ, zero, suc, ◌-◌, Some, List, [], ◌∷◌, length, map, drop, sym, ap, ◌∙◌, arith, length-drop}
 use Rattle.std.specs.List.{slice_get, zip}
 use Rattle.std.proofs.lemmas.List.{length-map}
 use Rattle.std.proofs.lemmas.Slice.Zip.{length-zip}
-use Rattle.sip_vector.specs.declared.query.Query.{Query}
 use Rattle.sip_verifier.specs.QuerySeats.{Seated}
 use Rattle.sip_verifier.specs.Seats.{Seating}
 use Rattle.sip_moments.specs.declared.moment.Moment.{Moment}

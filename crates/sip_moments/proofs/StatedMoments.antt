@@ -1,13 +1,13 @@
 -- What whole replies state is accepted exactly where it adds up: the protocol, state by state, is the
 -- check over whole lists.
-use Rattle.std.proofs.Common.{◌≡◌, ℕ, ◌+◌, ◌<◌, ◌≤◌, Bool, true, false, ◌&&◌, is_ok, ℤ, nat_abs, Option, Some, Result, Ok, Err, List, [], ◌∷◌, ◌++◌, length, map, drop, All, refl, sym, ap, ◌∙◌, arith}
+use Rattle.std.proofs.Common.{◌≡◌, ℕ, ◌+◌, ◌<◌, ◌≤◌, Bool, true, false, ◌&&◌, is_ok, ℤ, nat_abs, Result, Ok, List, [], ◌∷◌, ◌++◌, length, map, drop, All, refl, sym, ap, ◌∙◌, arith}
 use Rattle.std.specs.Prelude.{◌==◌}
-use Rattle.std.proofs.lemmas.Bool.{and_from, eq-eqb, le-leb, lt-ltb}
+use Rattle.std.proofs.lemmas.Bool.{eq-eqb, le-leb}
 use Rattle.std.proofs.lemmas.List.{append-nil, length-map}
 use Rattle.std.proofs.lemmas.List.Elements.{All-head, All-tail}
 use Rattle.sip_field.specs.Moduli.{m61_modulus}
 use Rattle.sip_field.specs.Residue.{residue}
-use Rattle.sip_vector.specs.Answers.{Answer, number}
+use Rattle.sip_vector.specs.Answers.{number}
 use Rattle.sip_vector.specs.Steps.{◌>>=◌, needs}
 use Rattle.sip_wire.specs.declared.kind.Place.TheVariants as places
 use Rattle.sip_wire.specs.declared.message.Message.TheVariants as messages
@@ -19,7 +19,7 @@ use Rattle.sip_wire.specs.Table.{most_claim, most_degree}
 use Rattle.sip_wire.proofs.Longest.{claim_fits}
 use Rattle.sip_wire.proofs.ReadingLaws.{read_frame-spelling}
 use Rattle.sip_wire.proofs.SmallNumbers.{in_range}
-use Rattle.sip_counts.specs.Rounds.{adds_up, is_expected, sum_of_ends, value_at}
+use Rattle.sip_counts.specs.Rounds.{adds_up, sum_of_ends, value_at}
 use Rattle.sip_replies.specs.declared.check.More.{More}
 use Rattle.sip_replies.specs.declared.check.More.TheVariants as mores
 use Rattle.sip_replies.specs.Protocols.{Rules}

@@ -1,5 +1,5 @@
 -- A number that was written and is not the moment makes its challenges counted.
-use Rattle.std.proofs.Common.{◌≡◌, ◌≢◌, ℕ, ◌≤◌, true, eqb, is_ok, Option, Some, None, Ok, List, length, map, ℤ, ap, sym, ◌∙◌, refl, arith}
+use Rattle.std.proofs.Common.{◌≡◌, ◌≢◌, ℕ, true, eqb, is_ok, Option, Some, None, Ok, List, length, map, ℤ, ap, sym, ◌∙◌, refl}
 use Rattle.std.proofs.lemmas.Bool.{and_from, eq-eqb, false_from_ne_true}
 use Rattle.sip_field.specs.Moduli.{m61_modulus}
 use Rattle.sip_vector.specs.declared.update.Update.{Update}
@@ -18,7 +18,7 @@ use Rattle.sip_verifier.specs.runs.Manners.{Question}
 use Rattle.sip_moments.specs.declared.moment.Moment.{Moment}
 use Rattle.sip_moments.specs.AcceptsMoment.{power_at}
 use Rattle.sip_moments.specs.Counting.{said, is_right, accepts_moment}
-use Rattle.sip_moments.specs.Manner.{CanBeCounted, CountsFor, FewFor, answer, asking, numbers_of}
+use Rattle.sip_moments.specs.Manner.{CountsFor, FewFor, asking, numbers_of}
 use Rattle.sip_moments.specs.Moments.{moment}
 use Rattle.sip_moments.specs.Protocol.{MomentState, moment_asked, moment_protocol, moment_rules, claimed}
 use Rattle.sip_moments.proofs.FewFooled.{few_fooled_bytes}

@@ -1,5 +1,5 @@
 -- Which moments can be asked of a stream, and in which run.
-use Rattle.std.specs.Prelude.{ℕ, ◌*◌, ◌<◌, List, [], length, map, All}
+use Rattle.std.specs.Prelude.{◌*◌, ◌<◌, [], length, map, All}
 use Rattle.sip_wire.specs.declared.version.Version.{Version}
 use Rattle.sip_wire.specs.Versions.{needed}
 use Rattle.sip_verifier.specs.declared.task.Task.{Task}

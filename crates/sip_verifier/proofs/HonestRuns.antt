@@ -13,7 +13,7 @@ use Rattle.sip_wire.specs.declared.message.Message.TheVariants as messages
 use Rattle.sip_wire.specs.declared.message.Reason.TheVariants as reasons
 use Rattle.sip_replies.specs.Talks.{asked_unless}
 use Rattle.sip_replies.specs.Replies as replied
-use Rattle.sip_replies.specs.Replies.{Fault, IsAccepted, IsStated, joined}
+use Rattle.sip_replies.specs.Replies.{Fault, IsAccepted, joined}
 use Rattle.sip_verifier.specs.CompletenessClause.{honest_bytes, HasFewEntries}
 use Rattle.sip_verifier.specs.Kinds.{KindRow, built, missing, kind_row, Holds}
 use Rattle.sip_verifier.specs.Reports.{line, report_of}

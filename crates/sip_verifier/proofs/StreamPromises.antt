@@ -9,7 +9,6 @@ use Rattle.sip_verifier.specs.Seats.{AreSeats, Seating}
 use Rattle.sip_stream.proofs.LegalRecords.{records_legal}
 use Rattle.sip_verifier.specs.declared.session.SessionStart.{SessionStart}
 use Rattle.sip_verifier.specs.declared.session.SessionStart.TheVariants as starts
-use Rattle.sip_verifier.specs.declared.status.Status.{Status}
 use Rattle.sip_verifier.specs.declared.status.Status.TheVariants as statuses
 use Rattle.sip_verifier.specs.declared.task.Task.{Task}
 use Rattle.sip_verifier.specs.inside.Ending.{status_of_start}

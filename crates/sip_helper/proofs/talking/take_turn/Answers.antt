@@ -6,7 +6,7 @@ use Rattle.sip_ports.specs.Ports.{GoesOn, SendsWhole, outs}
 use Rattle.sip_ports.proofs.TalkLemmas.{GoesOn-refl}
 use Rattle.sip_wire.proofs.Wider.{fits_two}
 use Rattle.sip_helper.specs.Turns.{is_known}
-use Rattle.sip_helper.proofs.Turning.{farewell, in_version, refused, refusal_cut, reply_cut, given, not_allowed, is_allowed_by, on_ok_holds}
+use Rattle.sip_helper.proofs.Turning.{in_version, refused, refusal_cut, reply_cut, given, not_allowed, is_allowed_by, on_ok_holds}
 use Rattle.sip_helper.proofs.talking.take_turn.Goals as goal
 
 pub take-requires-clause-fits : goal.take-requires-clause-fits

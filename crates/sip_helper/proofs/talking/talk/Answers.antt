@@ -1,5 +1,5 @@
 -- Turn after turn.
-use Rattle.std.proofs.Common.{ap, arith, length}
+use Rattle.std.proofs.Common.{ap, length}
 use Rattle.sip_ports.proofs.FaultLemmas.{Lasts-trans}
 use Rattle.sip_wire.specs.Frames.{frame_bytes}
 use Rattle.sip_helper.proofs.Talks.{goes_on, serves_nothing}

@@ -1,5 +1,5 @@
 -- Each end of the call, by what receiving the frame did.
-use Rattle.std.proofs.Common.{◌≡◌, ◌<◌, ℕ, List, Result, Ok, Err, false, length, take, sym, ap, subst, ◌∙◌}
+use Rattle.std.proofs.Common.{◌≡◌, ◌<◌, ℕ, List, Result, Err, false, length, take, ap, subst}
 use Rattle.std.specs.Prelude.{IfErr}
 use Rattle.std.proofs.lemmas.Result.{err_from_is_err_and}
 use Rattle.sip_ports.specs.Ports.{GoesOn, outs}

@@ -1,5 +1,5 @@
 -- An Ask has a spelling in each version.
-use Rattle.std.proofs.Common.{◌≡◌, ◌<◌, ◌^◌, ℕ, sym, subst, arith}
+use Rattle.std.proofs.Common.{ℕ, sym, subst, arith}
 use Rattle.std.specs.Prelude.{IsTrue}
 use Rattle.sip_wire.specs.declared.message.Message.TheVariants.{AskLook}
 use Rattle.sip_wire.specs.Spelling.{fits}

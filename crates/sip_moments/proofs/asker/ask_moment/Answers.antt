@@ -1,7 +1,5 @@
 -- What the general talk did for a moment is what the manner of asking moments says.
-use Rattle.std.proofs.Common.{◌<◌, inl, inr, refl, sym, ap, subst, ◌∙◌, arith}
-use Rattle.sip_replies.specs.Asking.{Answers}
-use Rattle.sip_moments.specs.Protocol.{moment_asked, moment_protocol}
+use Rattle.std.proofs.Common.{inl, inr, refl, sym, ◌∙◌, arith}
 use Rattle.sip_moments.proofs.AskFrames.{ask_fits}
 use Rattle.sip_moments.proofs.MomentAsked.{asks_so, keep_only, keeps_so, memory_only, no_pairs, peer_only}
 use Rattle.sip_moments.proofs.asker.ask_moment.Goals as goal

@@ -1,4 +1,4 @@
-use Rattle.std.proofs.Common.{arith, length, refl}
+use Rattle.std.proofs.Common.{arith, refl}
 use Rattle.sip_ports.specs.Memory.{sink_bytes}
 use Rattle.sip_duel.proofs.GivingLemmas.{given_events, given_from, copied, copied_length}
 use Rattle.sip_duel.proofs.kept.Kept.give.Goals as goal

@@ -1,4 +1,4 @@
-use Rattle.std.proofs.Common.{sym, append-nil, ap, ◌∙◌, []}
+use Rattle.std.proofs.Common.{sym, append-nil, ◌∙◌, []}
 use Rattle.sip_duel.proofs.KeepsLemmas.{keeps_past}
 use Rattle.sip_duel.proofs.link.HelperLink.send_past.Goals as goal
 

@@ -1,4 +1,4 @@
-use Rattle.std.proofs.Common.{arith, ap, length, ◌∙◌}
+use Rattle.std.proofs.Common.{arith, ap, ◌∙◌}
 use Rattle.sip_wire.specs.Spelling.{asked}
 use Rattle.sip_wire.specs.declared.kind.Place.TheVariants.{ToHelper}
 use Rattle.sip_duel.proofs.PartLemmas.{room_in_body, room_in_head}

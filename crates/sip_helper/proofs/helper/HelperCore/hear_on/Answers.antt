@@ -1,5 +1,5 @@
 -- Any message but a farewell is heard as by `hear`.
-use Rattle.std.proofs.Common.{◌≡◌, ◌≤◌, ℕ, sym, subst, ◌∙◌}
+use Rattle.std.proofs.Common.{◌≤◌, ℕ, sym, subst, ◌∙◌}
 use Rattle.sip_vector.specs.Limits.{most_depth}
 use Rattle.sip_helper.proofs.Falling.{fewer_heard_on, hears_as}
 use Rattle.sip_helper.proofs.helper.HelperCore.hear_on.Goals as goal

@@ -1,5 +1,5 @@
 -- The lookups of a task that can be done, over seats that were gathered for it.
-use Rattle.std.proofs.Common.{◌≡◌, ◌≤◌, ℕ, List, length, All, refl, sym, ap, subst, ◌∙◌, arith, rules}
+use Rattle.std.proofs.Common.{◌≡◌, ◌≤◌, List, length, sym, ap, subst, ◌∙◌, arith, rules}
 use Rattle.std.specs.Prelude.{IsTrue, nat_lt, ◌^◌}
 use Rattle.std.specs.List.{list_all}
 use Rattle.sip_vector.specs.Limits.{most_depth}

@@ -1,5 +1,5 @@
 -- What came of the next lookup came of the first that is left.
-use Rattle.std.proofs.Common.{◌≡◌, ◌<◌, ◌≤◌, ◌+◌, ◌^◌, ℕ, List, Err, get_or, length, refl, sym, ap, subst, ◌∙◌, arith}
+use Rattle.std.proofs.Common.{◌<◌, ◌≤◌, ◌+◌, ◌^◌, List, Err, get_or, length, refl, sym, ap, subst, ◌∙◌, arith}
 use Rattle.sip_verifier.specs.runs.Askers.{Asks, IsFirst, has_failed}
 use Rattle.sip_lookup.specs.declared.asker.LookGiven.{LookGiven}
 use Rattle.sip_lookup.specs.declared.lookup.Lookup.{Lookup}

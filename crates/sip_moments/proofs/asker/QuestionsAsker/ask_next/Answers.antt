@@ -1,5 +1,5 @@
 -- What came of the next moment came of the first that is left.
-use Rattle.std.proofs.Common.{◌≡◌, ◌<◌, ◌+◌, ◌≤◌, ℕ, List, get_or, length, Some, Err, refl, sym, ap, subst, ◌∙◌, arith, rules, w64, to_z, of_z, FitsSigned}
+use Rattle.std.proofs.Common.{◌≡◌, ◌<◌, ◌+◌, ◌≤◌, ℕ, List, get_or, length, Err, refl, sym, ap, subst, ◌∙◌, arith, rules, w64, to_z, of_z, FitsSigned}
 use Rattle.std.proofs.lemmas.Int.{to_z-of_z}
 use Rattle.sip_field.specs.Elements.{m61_number}
 use Rattle.sip_vector.specs.declared.update.Side.TheVariants.{First}

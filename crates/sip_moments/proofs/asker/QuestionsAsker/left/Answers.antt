@@ -1,5 +1,5 @@
 -- As many are left as were not asked.
-use Rattle.std.proofs.Common.{◌≡◌, ◌-◌, ℕ, length, sym, subst, arith}
+use Rattle.std.proofs.Common.{◌≡◌, ◌-◌, ℕ, length, subst, arith}
 use Rattle.sip_moments.specs.Sittings.{Sitting, remaining_of}
 use Rattle.sip_moments.proofs.MomentSittings.{left_is}
 use Rattle.sip_moments.proofs.asker.QuestionsAsker.left.Goals as goal

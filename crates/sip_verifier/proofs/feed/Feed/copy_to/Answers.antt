@@ -1,5 +1,5 @@
 -- The updates that wait are a frame.
-use Rattle.std.proofs.Common.{◌≤◌, length, min, take, ap, arith}
+use Rattle.std.proofs.Common.{length, take, ap, arith}
 use Rattle.std.proofs.lemmas.List.{length-take}
 use Rattle.sip_verifier.specs.Feeding.{Waiting}
 use Rattle.sip_verifier.proofs.FramesFit.{frame_fits}
