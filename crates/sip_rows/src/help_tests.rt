@@ -1,28 +1,10 @@
 // Talks of `help`, by what the verifier says.
 
 use crate::frames::*;
-use crate::row::{Given, Row, Said, check_rows};
+use crate::row::{Given, HELPING, Row, SERVED, Said, check_rows};
 use crate::sum_frames::*;
 use sip_verifier::Status;
 use std::test::Fail;
-
-// The stream, the seed and the report are left alone.
-const HELPING: Given<'static> = Given {
-    words: "help from to",
-    stream: &THREE_RECORDS,
-    seed: &ZERO_SEED,
-    replies: &[],
-};
-
-const SERVED: Row<'static> = Row {
-    name: "",
-    given: HELPING,
-    status: Status::Served,
-    code: 0,
-    report: b"",
-    sent: &[],
-    then: &[],
-};
 
 // A talk that is served, and how talks end otherwise.
 const TALKS: &[Row<'static>] = &[

@@ -3,7 +3,7 @@
 
 use crate::frames::*;
 use crate::question_frames::*;
-use crate::row::{Given, Row, Said, check_rows};
+use crate::row::{self, Given, Row, Said, check_rows};
 use sip_verifier::Status;
 use sip_wire::Reason;
 use std::test::Fail;
@@ -233,22 +233,14 @@ const REJECTED: &[Row<'static>] = &[
     },
 ];
 
-// The stream, the seed and the report are left alone.
 const HELPING: Given<'static> = Given {
     words: "helplook from to",
-    stream: &THREE_RECORDS,
-    seed: &ZERO_SEED,
-    replies: &[],
+    ..row::HELPING
 };
 
 const SERVED: Row<'static> = Row {
-    name: "",
     given: HELPING,
-    status: Status::Served,
-    code: 0,
-    report: b"",
-    sent: &[],
-    then: &[],
+    ..row::SERVED
 };
 
 const TALKS: &[Row<'static>] = &[

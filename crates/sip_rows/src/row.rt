@@ -241,3 +241,21 @@ pub const FIRST_RUN: Row<'static> = Row {
         Said::Out(&BYE),
     ],
 };
+
+// A helper leaves the stream, the seed and the report alone.
+pub const HELPING: Given<'static> = Given {
+    words: "help from to",
+    stream: &THREE_RECORDS,
+    seed: &ZERO_SEED,
+    replies: &[],
+};
+
+pub const SERVED: Row<'static> = Row {
+    name: "",
+    given: HELPING,
+    status: Status::Served,
+    code: 0,
+    report: b"",
+    sent: &[],
+    then: &[],
+};
