@@ -8,7 +8,7 @@ use Rattle.sip_verifier.specs.Exchanges.{Appends, Exchange, Tells}
 use Rattle.sip_verifier.specs.Moments.{Moment}
 use Rattle.sip_transcript.specs.Auditing.{TellsAudit, is_verdict, Audit as Audited}
 use Rattle.sip_cli.specs.declared.command.Command.{Command}
-use Rattle.sip_cli.specs.declared.command.Command.TheVariants.{Verify, Convert, Play}
+use Rattle.sip_cli.specs.declared.command.Command.TheVariants.{Verify, Audit, Convert, Play}
 use Rattle.sip_cli.specs.declared.helper_name.HelperName.{HelperName}
 use Rattle.sip_cli.specs.CommandClause.{CommandClause}
 use Rattle.sip_cli.specs.Words.{Spells}

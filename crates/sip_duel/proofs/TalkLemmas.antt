@@ -10,7 +10,7 @@ use Rattle.sip_wire.specs.declared.version.Version.{Version}
 use Rattle.sip_wire.specs.Spelling.{spelling}
 use Rattle.sip_helper.specs.Serving.{Turn, state_after as state_behind}
 use Rattle.sip_helper.specs.Turns.{fresh, owed}
-use Rattle.sip_duel.specs.Story.{Step, said, frames, Follows, IsStray, IsHonestTalk, IsShort}
+use Rattle.sip_duel.specs.Story.{Step, state_after, said, frames, Follows, IsStray, IsHonestTalk, IsShort}
 use Rattle.sip_duel.proofs.KeepsLemmas.{outs_are_no_end, ins_are_no_end}
 use Rattle.sip_duel.proofs.TurnLemmas.{AreMessages, are_messages, frames_of, replies_of, same_state, turned, turns_of, unowed_state}
 use Rattle.sip_duel.proofs.WalkLemmas.{Round, exchange, Walk, Holds, HoldsOfWhole, walk_on, walk_ended, nil_parts}

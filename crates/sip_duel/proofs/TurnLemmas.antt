@@ -12,7 +12,7 @@ use Rattle.sip_helper.specs.Serving.{IsMessage, Turn, heard_in, after_turn, stat
 use Rattle.sip_helper.specs.Turns.{HelperState, OpenQuery, fresh, is_allowed, step, owed, owes, reply_to, after_answer, after_reply, depth_of, is_refused}
 use Rattle.sip_helper.specs.Vectors.{Vectors}
 use Rattle.sip_helper.proofs.OwedReplies.{owed_has_bytes}
-use Rattle.sip_duel.specs.Story.{Step, Heard, Answered, said, frames, AreSteps}
+use Rattle.sip_duel.specs.Story.{Step, Heard, Answered, state_after, said, frames, AreSteps}
 
 -- ---- nothing is owed
 

@@ -7,7 +7,6 @@ use Rattle.sip_ports.proofs.TalkLemmas.{heard-append, written-append, written-ou
 use Rattle.sip_wire.specs.declared.kind.Place.TheVariants.{ToHelper}
 use Rattle.sip_wire.specs.declared.message.Message.{Message}
 use Rattle.sip_wire.specs.declared.message.WireFault.{WireFault}
-use Rattle.sip_wire.specs.declared.message.WireFault.TheVariants as faults
 use Rattle.sip_wire.specs.declared.version.Version.{Version}
 use Rattle.sip_wire.specs.Reading.{read_frame}
 use Rattle.sip_wire.specs.Spelling.{asked, spelling}

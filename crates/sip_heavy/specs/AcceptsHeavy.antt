@@ -2,7 +2,7 @@
 -- what was received of it, and each pair of siblings becomes a known node of the level above.
 use Rattle.std.specs.Prelude.{ℕ, ◌+◌, ◌-◌, ◌*◌, ◌/◌, ◌%◌, ◌^◌, ◌==◌, Bool, true, false, not, ◌&&◌, ◌||◌, nat_lt, nat_le, pos, nat_abs, List, [], ◌∷◌, ◌++◌, length, Result, Ok, Err, is_ok, if◌then◌else◌}
 use Rattle.std.specs.List.{list_all, list_any}
-use Rattle.sip_vector.specs.Steps.{needs}
+use Rattle.sip_vector.specs.Steps.{◌>>=◌, needs}
 use Rattle.sip_vector.specs.Trees.{Counted, parent}
 use Rattle.sip_vector.specs.declared.update.Entry.{Entry}
 use Rattle.sip_wire.specs.declared.message.Node.{Node}

@@ -1,7 +1,7 @@
 -- What a check keeps, and what it has taken.
 use Rattle.std.specs.Prelude.{◌≡◌, ℕ, ◌+◌, ◌-◌, ◌^◌, ◌<◌, ◌≤◌, ◌==◌, ◌&&◌, ◌||◌, not, Bool, true, false, nat_lt, All, List, [], ◌∷◌, ◌++◌, length, drop, take, slice_index, Option, Some, None, Result, Ok, Err, if◌then◌else◌}
 use Rattle.std.specs.List.{list_all}
-use Rattle.sip_vector.specs.Steps.{needs}
+use Rattle.sip_vector.specs.Steps.{◌>>=◌, needs}
 use Rattle.sip_vector.specs.declared.update.Entry.{Entry}
 use Rattle.sip_wire.specs.declared.message.Node.{Node}
 use Rattle.sip_wire.specs.declared.message.Reason.{Reason}

@@ -10,7 +10,7 @@ use Rattle.sip_mle.proofs.Folding.{residues_below, fold_is_ext}
 use Rattle.sip_counts.specs.Rounds.{AreRounds, adds_up as rounds_add_up, sum_of_ends as ends_of_list}
 use Rattle.sip_counts.specs.Strategies.{replies}
 use Rattle.sip_counts.proofs.Talks.{replies-more}
-use Rattle.sip_sums.specs.AcceptsSum.{Coefficients, listed, product_at, value_at}
+use Rattle.sip_sums.specs.AcceptsSum.{Coefficients, adds_up, listed, product_at, sum_of_ends, value_at}
 use Rattle.sip_sums.proofs.CubeLemma.{fold_level}
 use Rattle.sip_sums.proofs.ResidueProducts.{dot}
 use Rattle.sip_sums.proofs.RoundSums.{polynomial_of, value_is, ends_are}

@@ -3,7 +3,6 @@ use Rattle.std.proofs.Common.{◌≡◌, ◌≤◌, ℕ, Ok, Err, true, false, l
 use Rattle.std.proofs.lemmas.Result.{err_from_is_err_and}
 use Rattle.sip_vector.specs.declared.query.Query.TheVariants.{Sub}
 use Rattle.sip_wire.specs.Spelling.{spelling}
-use Rattle.sip_verifier.specs.declared.session.Verdict.TheVariants as verdicts
 use Rattle.sip_verifier.specs.Asking as subs
 use Rattle.sip_verifier.proofs.KeptQueries.{all_of_whole}
 use Rattle.sip_lookup.specs.declared.answer.LookAnswer.{LookAnswer}
