@@ -47,7 +47,7 @@ module _ (task : Task) (can : CanBeDone task) (some : 1 ≤ task.depth) (most : 
         cause = e.cause;
         count = counted.0;
         joint = counted.1;
-        complete = completes task x some most (λ i other less. (can.asked i other less).1) m.faults m.faults statuses.OutOfMemory e.verdict e.cause refl;
+        complete = completes task x some most (λ i other less. (can.asked i other less).1) m.faults m.faults statuses.OutOfMemory e.verdict e.cause;
         kept = kept_is (Keeps task x statuses.OutOfMemory) m.keep m.keep [] x.kept (GoesOn-refl m.keep) t.kept (inl refl);
       }
 

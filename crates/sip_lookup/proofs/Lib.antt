@@ -11,7 +11,6 @@ pub mod LookEnds
 pub mod WrittenLooks
 pub mod HonestPlaces
 pub mod HonestLooks
-pub mod CompleteRuns
 pub mod RootedTasks
 pub mod LookRuns
 pub mod OwedLooks

@@ -25,7 +25,8 @@ use Rattle.sip_verifier.specs.runs.Runs.{updates}
 use Rattle.sip_verifier.specs.Seats.{Seating}
 use Rattle.sip_verifier.specs.Statuses as verify
 use Rattle.sip_verifier.specs.Statuses.{FaultClause, Stops, is_accepted, stops_gathering, stops_starting, stops_asking}
-use Rattle.sip_verifier.proofs.Blocks.{are_blocks, IsBlock}
+use Rattle.sip_verifier.proofs.Blocks.{are_blocks, IsBlock, none_drawn}
+use Rattle.sip_verifier.proofs.CompleteManners.{Judges, all_zipped, completes}
 use Rattle.sip_verifier.proofs.QueriesChecked.{since_before}
 use Rattle.sip_verifier.proofs.RunTalks.{Adds, said_is, written_is}
 use Rattle.sip_verifier.proofs.WrittenReports.{report_counts}
@@ -35,8 +36,8 @@ use Rattle.sip_lookup.specs.Promises.{IsListed, LookClause, LookPromises, counti
 use Rattle.sip_lookup.specs.Questions.{looking}
 use Rattle.sip_lookup.specs.Sittings.{LookSitting, StandsOn, remaining_of}
 use Rattle.sip_lookup.specs.Tasks.{CanLookUp, run_of, version_of}
+use Rattle.sip_lookup.specs.declared.lookup.Lookup.{Lookup}
 use Rattle.sip_lookup.specs.declared.task.LookTask.{LookTask}
-use Rattle.sip_lookup.proofs.CompleteRuns.{completes}
 use Rattle.sip_lookup.proofs.HonestLooks.{look_done, look_faulty}
 use Rattle.sip_lookup.proofs.RootedTasks.{All-beside, any_speaks, blocks_beside, queries_beside, rooted_query, run_same, seats_count}
 use Rattle.sip_lookup.proofs.WrittenLooks.{few_looks, look_counts}
@@ -76,6 +77,22 @@ module _ (task : LookTask) (rooted : Task) (same_depth : rooted.depth ≡ task.d
       subst (λ (d : ℕ). All (IsBlock d) (cut d challenges)) same_depth
       (are_blocks rooted x.seed challenges (subst (λ (d : ℕ). 1 ≤ d) (sym same_depth) some) (subst (λ r. r.challenges ≡ Some challenges) (sym same) drawn))
 
+  -- a lookup that may be asked, at a block of one challenge for each level
+  abbrev CanBeJudged : Lookup × List ℕ → Type 0
+  CanBeJudged ask = CanLook task.depth ask.0 × IsBlock task.depth ask.1
+
+  judges : (x : Exchange) → Judges looking honesty (run_of task x) x CanBeJudged
+  judges x =
+      let speaks = λ (lo hi : ℕ). any_speaks task.depth lo hi most in
+      record {
+        accepted = λ t written b a may accepts agree.
+            look_done (version_of task) task.depth (updates (run_of task x) x) some (legal x) speaks
+            t may.0 may.1 b a agree written accepts;
+        faulty = λ t fault b a may faulty other agree.
+            look_faulty (version_of task) task.depth (updates (run_of task x) x) some (legal x) speaks
+            t may.0 may.1 b a agree fault faulty other;
+      }
+
   promised : (x : Exchange) (before now : Counts) (status : Status) → IsListed status → Ended looking (run_of task x) x before now status → LookPromises task x before now status
   promised x before now status listed e = record {
     verdict = e.verdict;
@@ -85,10 +102,11 @@ module _ (task : LookTask) (rooted : Task) (same_depth : rooted.depth ≡ task.d
         (λ i other less. few_looks (version_of task) task.depth (updates (run_of task x) x) (legal x) _ (can.items i other less))
         (CanLook task.depth) can.items (look_counts (version_of task) task.depth (updates (run_of task x) x) (legal x)) status e.verdict
         (more_listed (is_accepted status || stops_gathering status) (stops_starting status) (stops_asking status) listed);
-    complete = completes looking honesty (run_of task x) x (CanLook task.depth) (IsBlock task.depth)
-        (λ q written b a may at accepts agree. look_done (version_of task) task.depth (updates (run_of task x) x) some (legal x) (λ lo hi. any_speaks task.depth lo hi most) q may at b a agree written accepts)
-        (λ q fault b a may at faulty other agree. look_faulty (version_of task) task.depth (updates (run_of task x) x) some (legal x) (λ lo hi. any_speaks task.depth lo hi most) q may at b a agree fault faulty other)
-        can.items (at_blocks x) (task.depth * length task.lookups.items) refl (λ refused is. is) before now status e.verdict e.cause;
+    complete = completes looking honesty (run_of task x) x CanBeJudged (judges x)
+        (λ h. all_zipped (CanLook task.depth) (IsBlock task.depth) task.lookups.items
+        (cut task.depth h.challenges) can.items (at_blocks x h.challenges h.drawn))
+        (λ h status refused. refused) (none_drawn (task.depth * length task.lookups.items) x.seed)
+        before now status e.verdict e.cause;
   }
 
   -- a run keeps all, where each exchange that is told has the first three promises

@@ -1,8 +1,7 @@
 -- A run of moments that heard honest replies is accepted, with the moments of the stream.
 use Rattle.std.proofs.Common.{◌≡◌, ◌≢◌, ℕ, ◌*◌, ◌≤◌, ℤ, List, [], ◌∷◌, ◌++◌, length, All, None, Some, refl, ap, ◌∙◌, arith}
-use Rattle.std.specs.List.{zip}
 use Rattle.std.proofs.lemmas.List.{length-map}
-use Rattle.std.proofs.lemmas.List.Elements.{All-cons, All-head, All-nil, All-tail}
+use Rattle.std.proofs.lemmas.List.Elements.{All-head, All-tail}
 use Rattle.sip_field.specs.Moduli.{m61_modulus}
 use Rattle.sip_stream.specs.Records.{records}
 use Rattle.sip_stream.proofs.LegalRecords.{records_legal}
@@ -27,6 +26,7 @@ use Rattle.sip_verifier.specs.runs.CompletenessClause.{CompletenessClause}
 use Rattle.sip_verifier.specs.runs.Manners.{Question}
 use Rattle.sip_verifier.specs.runs.VerdictClause.{VerdictClause}
 use Rattle.sip_verifier.proofs.Blocks.{IsBlock, are_blocks, none_drawn}
+use Rattle.sip_verifier.proofs.CompleteManners.{Judges, all_zipped, completes}
 use Rattle.sip_verifier.proofs.HonestReplies as replies
 use Rattle.sip_moments.specs.declared.moment.Moment.{Moment}
 use Rattle.sip_moments.specs.declared.task.MomentTask.{MomentTask}
@@ -37,7 +37,6 @@ use Rattle.sip_moments.specs.Questions.{ask_of}
 use Rattle.sip_moments.specs.Sittings.{square_of}
 use Rattle.sip_moments.specs.Tasks.{run_of, squares_of}
 use Rattle.sip_moments.proofs.HonestMoments.{shown_accepted}
-use Rattle.sip_moments.proofs.HonestTalks.{Judges, completes}
 use Rattle.sip_moments.proofs.LightVectors.{moment_fits}
 
 -- ---- one question
@@ -102,15 +101,6 @@ not_refused stream moments (statuses.TooHigh query) all is =
     let none = none_high stream moments all in absurd cc
 not_refused stream moments _ all is = is
 
-all_zipped : {X Y : Type 0} (P : X → Type 0) (R : Y → Type 0) (xs : List X) (ys : List Y)
-    → All P xs → All R ys → All (λ (a : X × Y). P a.0 × R a.1) (zip xs ys)
-all_zipped {X} {Y} P R [] ys ps rs = All-nil (λ (a : X × Y). P a.0 × R a.1)
-all_zipped {X} {Y} P R (x ∷ xs) [] ps rs = All-nil (λ (a : X × Y). P a.0 × R a.1)
-all_zipped {X} {Y} P R (x ∷ xs) (y ∷ ys) ps rs =
-    All-cons (λ (a : X × Y). P a.0 × R a.1) (x, y) (zip xs ys)
-    (All-head P x xs ps, All-head R y ys rs)
-    (all_zipped P R xs ys (All-tail P x xs ps) (All-tail R y ys rs))
-
 -- ---- a run
 
 module _ (task : MomentTask) (x : Exchange) (some : 1 ≤ task.depth) where
@@ -123,16 +113,14 @@ module _ (task : MomentTask) (x : Exchange) (some : 1 ≤ task.depth) where
   judges : Judges asking honesty (run_of task x) x
       (CanBeJudged (run_of task x).version task.depth stream some legal)
   judges = record {
-    accepted_heard = λ t written accepts.
-        heard-asked (run_of task x).version (ask_of t.query) t.block t.replies
-        (omega (arith, accepts.all));
-    faulty_heard = λ t fault is.
-        heard-asked (run_of task x).version (ask_of t.query) t.block t.replies
-        (omega (arith, is.taken));
     accepted = λ t written b a can accepts agree.
-        accepted (run_of task x).version task.depth stream some legal t written b a can accepts agree;
+        accepted (run_of task x).version task.depth stream some legal t written b a can accepts
+        (agree ∙ ap (λ l. l ++ a) (heard-asked (run_of task x).version (ask_of t.query) t.block
+        t.replies (omega (arith, accepts.all))));
     faulty = λ t fault b a can is other agree.
-        faulty (run_of task x).version task.depth stream some legal t fault b a can is other agree;
+        faulty (run_of task x).version task.depth stream some legal t fault b a can is other
+        (agree ∙ ap (λ l. l ++ a) (heard-asked (run_of task x).version (ask_of t.query) t.block
+        t.replies (omega (arith, is.taken))));
   }
 
   full_blocks : (challenges : List ℕ)

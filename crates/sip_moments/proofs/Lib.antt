@@ -23,7 +23,6 @@ pub mod MixedSums
 pub mod LightVectors
 pub mod WrittenMoments
 pub mod HonestMoments
-pub mod HonestTalks
 pub mod CompleteMoments
 pub mod MomentSittings
 pub mod MomentRuns

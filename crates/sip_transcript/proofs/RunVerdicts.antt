@@ -26,7 +26,7 @@ use Rattle.sip_verifier.specs.Reports.{line, rejection}
 use Rattle.sip_verifier.specs.Talks.{bye_sent, stream_sent}
 use Rattle.sip_verifier.specs.VerdictClause.{AllWritten, OneFaulty, VerdictClause}
 use Rattle.sip_verifier.proofs.HeardTalks.{IsHeard, heard-talk, replied}
-use Rattle.sip_verifier.proofs.HonestRuns.{done_heard, faulty_heard}
+use Rattle.sip_verifier.proofs.HeardQuestions.{done_heard, faulty_heard}
 use Rattle.sip_verifier.proofs.KeptReplies.{heard-ending}
 use Rattle.sip_transcript.specs.Auditing.{is_verdict}
 use Rattle.sip_transcript.specs.Replaying.{Follows}

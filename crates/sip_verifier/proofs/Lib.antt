@@ -41,7 +41,8 @@ pub mod KeptQueries
 pub mod KeptRuns
 pub mod HonestReplies
 pub mod HonestQuestions
-pub mod HonestRuns
+pub mod HeardQuestions
+pub mod CompleteManners
 pub mod CompleteRuns
 mod RoomForAnswers
 pub mod RunPromises

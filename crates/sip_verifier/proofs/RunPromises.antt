@@ -39,7 +39,7 @@ module _ (task : Task) (can : CanBeDone task) (some : 1 ≤ task.depth) (most : 
         cause = e.cause;
         count = counted.0;
         joint = counted.1;
-        complete = completes task x some most (all_fit task can) before now status e.verdict e.cause listed;
+        complete = completes task x some most (all_fit task can) before now status e.verdict e.cause;
         kept = keeps;
       }
 

@@ -4,7 +4,7 @@ use Rattle.std.proofs.Common.{◌≡◌, ◌≢◌, ℕ, ◌<◌, List, [], ◌�
 use Rattle.std.specs.Prelude.{flat_map}
 use Rattle.std.specs.List.{zip}
 use Rattle.std.proofs.lemmas.List.{length-map}
-use Rattle.std.proofs.lemmas.List.Elements.{All-append, All-cons, All-head, All-nil, All-tail}
+use Rattle.std.proofs.lemmas.List.Elements.{All-cons, All-head, All-nil, All-tail}
 use Rattle.sip_ports.specs.declared.port.TalkEvent.{TalkEvent}
 use Rattle.sip_ports.specs.declared.port.TalkEvent.TheVariants.{Ended}
 use Rattle.sip_ports.specs.Ports.{heard, outs}
@@ -12,7 +12,7 @@ use Rattle.sip_ports.proofs.TalkLemmas.{heard-append}
 use Rattle.sip_vector.specs.Pieces.{cut}
 use Rattle.sip_wire.specs.declared.message.Reason.{Reason}
 use Rattle.sip_wire.specs.declared.message.Reason.TheVariants as reasons
-use Rattle.sip_replies.specs.Replies.{Fault, joined}
+use Rattle.sip_replies.specs.Replies.{Fault}
 use Rattle.sip_replies.specs.Talks.{ending}
 use Rattle.sip_verifier.specs.declared.status.Port.TheVariants as ports
 use Rattle.sip_verifier.specs.declared.status.Status.{Status}
@@ -28,6 +28,16 @@ use Rattle.sip_verifier.specs.runs.VerdictClause.{AllWritten, OneFaulty, Verdict
 use Rattle.sip_verifier.specs.Talks.{stream_sent}
 use Rattle.sip_verifier.proofs.HeardTalks.{heard-stream, last_is}
 
+-- queries and blocks in pairs, each of which is such
+pub all_zipped : {X Y : Type 0} (P : X → Type 0) (R : Y → Type 0) (xs : List X) (ys : List Y)
+    → All P xs → All R ys → All (λ (a : X × Y). P a.0 × R a.1) (zip xs ys)
+all_zipped {X} {Y} P R [] ys ps rs = All-nil (λ (a : X × Y). P a.0 × R a.1)
+all_zipped {X} {Y} P R (x ∷ xs) [] ps rs = All-nil (λ (a : X × Y). P a.0 × R a.1)
+all_zipped {X} {Y} P R (x ∷ xs) (y ∷ ys) ps rs =
+    All-cons (λ (a : X × Y). P a.0 × R a.1) (x, y) (zip xs ys)
+    (All-head P x xs ps, All-head R y ys rs)
+    (all_zipped P R xs ys (All-tail P x xs ps) (All-tail R y ys rs))
+
 module _ {Q A : Type 0} (asking : Asking Q A) (honesty : Honesty Q A) (r : Run Q) (x : Exchange) where
   abbrev m : Manner Q A
   m = manner asking r x
@@ -38,49 +48,41 @@ module _ {Q A : Type 0} (asking : Asking Q A) (honesty : Honesty Q A) (r : Run Q
   abbrev true_answer : Q → A
   true_answer q = honesty.answer r.depth (updates r x) q
 
-  -- what was heard in a question are its replies
-  abbrev pub IsHeard : Question Q → Type 0
-  IsHeard t = heard (m.said_for t) ≡ joined t.replies
-
-  -- What is known of the manner, of queries at their blocks of which this holds: what is heard for
-  -- a question that was judged are its replies; and where these agree with honest ones, they are
-  -- taken whole where they are accepted, with the stream's own answer, and have no fault.
+  -- What is known of the manner, of queries at their blocks of which this holds: where what was heard
+  -- for a question that was judged agrees with honest replies, they were taken whole if it is
+  -- accepted, with the stream's own answer, and it has no fault.
   pub record Judges (Can : Q × List ℕ → Type 0) : Type 0 where
-    pub accepted_heard : (t : Question Q) (written : A) → m.Accepts t written → IsHeard t
-    pub faulty_heard : (t : Question Q) (fault : Fault) → m.IsFaulty t fault → IsHeard t
     pub accepted : (t : Question Q) (written : A) (b a : List ℕ) → Can (t.query, t.block)
-        → m.Accepts t written → honest (t.query, t.block) ++ b ≡ joined t.replies ++ a
+        → m.Accepts t written → honest (t.query, t.block) ++ b ≡ heard (m.said_for t) ++ a
         → (b ≡ a) × (written ≡ true_answer t.query)
     pub faulty : (t : Question Q) (fault : Fault) (b a : List ℕ) → Can (t.query, t.block)
         → m.IsFaulty t fault → fault.reason ≢ reasons.Closed
-        → honest (t.query, t.block) ++ b ≡ joined t.replies ++ a → ⊥
+        → honest (t.query, t.block) ++ b ≡ heard (m.said_for t) ++ a → ⊥
 
   -- ---- what is heard
 
-  -- the reply bytes of questions
+  -- what was heard for questions
   abbrev replied : List (Question Q) → List ℕ
-  replied questions = flat_map (λ t. joined t.replies) questions
+  replied questions = flat_map (λ t. heard (m.said_for t)) questions
 
-  heard-questions : (questions : List (Question Q)) → All IsHeard questions
+  heard-questions : (questions : List (Question Q))
       → heard (flat_map m.said_for questions) ≡ replied questions
-  heard-questions [] each = refl
-  heard-questions (t ∷ questions) each =
+  heard-questions [] = refl
+  heard-questions (t ∷ questions) =
       heard-append (m.said_for t) (flat_map m.said_for questions)
-      ∙ ap (λ l. l ++ heard (flat_map m.said_for questions)) (All-head IsHeard t questions each)
-      ∙ ap (λ l. joined t.replies ++ l)
-      (heard-questions questions (All-tail IsHeard t questions each))
+      ∙ ap (λ l. heard (m.said_for t) ++ l) (heard-questions questions)
 
-  heard-talk : (questions : List (Question Q)) (rest : List TalkEvent) → All IsHeard questions
+  heard-talk : (questions : List (Question Q)) (rest : List TalkEvent)
       → heard (stream_sent r.version r.depth (updates r x) ++ flat_map m.said_for questions ++ rest)
       ≡ replied questions ++ heard rest
-  heard-talk questions rest each =
+  heard-talk questions rest =
       let streamed : List TalkEvent = stream_sent r.version r.depth (updates r x) in
       let said : List TalkEvent = flat_map m.said_for questions in
       heard-append (streamed ++ said) rest
       ∙ ap (λ l. l ++ heard rest)
       (heard-append streamed said
       ∙ ap (λ l. l ++ heard said) (heard-stream r.version r.depth (updates r x))
-      ∙ heard-questions questions each)
+      ∙ heard-questions questions)
 
   -- ---- questions one after another
 
@@ -123,12 +125,6 @@ module _ {Q A : Type 0} (asking : Asking Q A) (honesty : Honesty Q A) (r : Run Q
     abbrev AllCan : List Q → List (List ℕ) → Type 0
     AllCan queries blocks = All Can (zip queries blocks)
 
-    done_heard : (done : List (Accepted m)) → All IsHeard (their_questions done)
-    done_heard [] = All-nil IsHeard
-    done_heard (a ∷ done) =
-        All-cons IsHeard a.question (their_questions done)
-        (judges.accepted_heard a.question a.answer a.accepts) (done_heard done)
-
     -- what holds of a question and of those behind it
     record First (t : Question Q) (questions : List (Question Q)) (queries : List Q)
         (blocks : List (List ℕ)) (heard_bytes : List ℕ) : Type 0 where
@@ -169,7 +165,7 @@ module _ {Q A : Type 0} (asking : Asking Q A) (honesty : Honesty Q A) (r : Run Q
         let f = first_of t (their_questions done) queries blocks _ can first is in
         let here = judges.accepted t a.answer (all_honest f.more f.others)
         (replied (their_questions done) ++ rest) f.can a.accepts
-        (f.bytes ∙ append_assoc (joined t.replies) (replied (their_questions done)) rest) in
+        (f.bytes ∙ append_assoc (heard (m.said_for t)) (replied (their_questions done)) rest) in
         let later = done_honest done f.more f.others rest f.can_rest f.rest here.0 in
         ap (λ (y : A). m.line t.query y ++ flat_map (λ (d : Accepted m). m.line d.question.query d.answer) done) here.1
         ∙ ap (λ (l : List ℕ). m.line t.query (true_answer t.query) ++ l) later
@@ -183,13 +179,13 @@ module _ {Q A : Type 0} (asking : Asking Q A) (honesty : Honesty Q A) (r : Run Q
     none_faulty [] last fault queries blocks rest can first faulty other is =
         let f = first_of last [] queries blocks _ can first is in
         judges.faulty last fault (all_honest f.more f.others) rest f.can faulty other
-        (f.bytes ∙ ap (λ (l : List ℕ). l ++ rest) (append-nil (joined last.replies)))
+        (f.bytes ∙ ap (λ (l : List ℕ). l ++ rest) (append-nil (heard (m.said_for last))))
     none_faulty (a ∷ done) last fault queries blocks rest can first faulty other is =
         let t = a.question in
         let others = their_questions done ++ last ∷ [] in
         let f = first_of t others queries blocks _ can first is in
         let here = judges.accepted t a.answer (all_honest f.more f.others) (replied others ++ rest)
-        f.can a.accepts (f.bytes ∙ append_assoc (joined t.replies) (replied others) rest) in
+        f.can a.accepts (f.bytes ∙ append_assoc (heard (m.said_for t)) (replied others) rest) in
         none_faulty done last fault f.more f.others rest f.can_rest f.rest faulty other here.0
 
     -- ---- a run
@@ -211,14 +207,14 @@ module _ {Q A : Type 0} (asking : Asking Q A) (honesty : Honesty Q A) (r : Run Q
         }
 
         -- the honest bytes begin with what was heard for questions
-        front : (questions : List (Question Q)) (rest : List TalkEvent) → All IsHeard questions
+        front : (questions : List (Question Q)) (rest : List TalkEvent)
             → Reached asking r x questions rest
             → all_honest r.queries (cut r.depth h.challenges)
             ≡ replied questions ++ (heard rest ++ h.heard.0)
-        front questions rest each reached =
+        front questions rest reached =
             h.heard.1
             ∙ ap (λ (l : List ℕ). l ++ h.heard.0)
-            (ap heard reached.talk ∙ heard-talk questions rest each)
+            (ap heard reached.talk ∙ heard-talk questions rest)
             ∙ append_assoc (replied questions) (heard rest) h.heard.0
 
         accepted_report : AllWritten asking r x → x.report ≡ honest_report asking honesty r x
@@ -232,7 +228,7 @@ module _ {Q A : Type 0} (asking : Asking Q A) (honesty : Honesty Q A) (r : Run Q
             v.report
             ∙ done_honest v.done r.queries (cut r.depth h.challenges)
             (heard (outs m.farewell) ++ h.heard.0) (can_all h) (are_first questions are)
-            (front questions (outs m.farewell) (done_heard v.done) v.reached)
+            (front questions (outs m.farewell) v.reached)
             ∙ ap (flat_map (λ q. m.line q (true_answer q))) (are.queries ∙ all)
 
         -- the link did not end
@@ -250,14 +246,11 @@ module _ {Q A : Type 0} (asking : Asking Q A) (honesty : Honesty Q A) (r : Run Q
         not_rejected query round reason v =
             let last = v.last in
             let fault : Fault = record { round = round; reason = reason } in
-            let before = questions_of asking r x v.done in
-            let questions = before ++ last ∷ [] in
-            let each = All-append IsHeard before (last ∷ []) (done_heard v.done)
-            (All-cons IsHeard last [] (judges.faulty_heard last fault v.faulty) (All-nil IsHeard)) in
+            let questions = questions_of asking r x v.done ++ last ∷ [] in
             none_faulty v.done last fault r.queries (cut r.depth h.challenges)
             (heard (ending reason) ++ h.heard.0) (can_all h)
             (are_first questions v.reached.are_questions) v.faulty
-            (not_ended questions reason v.reached) (front questions (ending reason) each v.reached)
+            (not_ended questions reason v.reached) (front questions (ending reason) v.reached)
 
         some_drawn : r.challenges ≡ None → ⊥
         some_drawn none = let is = h.drawn in cc
