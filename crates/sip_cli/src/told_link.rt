@@ -1,6 +1,6 @@
 //! A link that says on the way which reply it waits for.
 
-ghost use Rattle.std.specs.Prelude.{◌≡◌, ◌⊎◌, ℕ, ◌≤◌, ◌<◌, IfOk, IfSome, None, OnOk, MatchOption, length};
+ghost use Rattle.std.specs.Prelude.{◌≡◌, ◌⊎◌, ℕ, ◌≤◌, ◌<◌, IfOk, IfSome, Some, None, OnOk, MatchOption, length};
 ghost use Rattle.std.specs.Io.{ReadsAtMost, WritesAtMost};
 ghost use Rattle.std.specs.Option.{option_copied, option_map};
 ghost use Rattle.sip_ports.specs.Ports.{HasCause, Hears, Sends, StandsStill};
@@ -230,9 +230,8 @@ impl<L: Link + Drop, W: Sink + Drop> ToldLink<L, W> {
     /// A link over the one of the command of the words, and what takes the lines.
     pub fn new(words: &Words, link: L, lines: Option<W>) -> Self
         ensures link { told_link result ≡ link }
-        ensures silent { lines ≡ None → talk_teller result ≡ None }
-        ensures teller { IfSome lines (λ sink. IfSome (talk_teller result) (λ teller.
-            (teller.lines ≡ sink) × (teller.turn ≡ unsaid))) }
+        ensures teller { MatchOption (talk_teller result) (lines ≡ None)
+            (λ teller. (lines ≡ Some teller.lines) × (teller.turn ≡ unsaid)) }
         ensures script { IfSome (talk_teller result) (λ teller.
             ((command : AnyCommand) × Spells words.now command × IsScript command teller.script)
             ⊎ ((word : ℕ) × IsRefusedAt words.now word)) }

@@ -1,6 +1,6 @@
 //! A source that says on the way how much of the stream was read.
 
-ghost use Rattle.std.specs.Prelude.{◌≡◌, ◌⊎◌, ℕ, ◌≤◌, nat_le, IfSome, None, OnOk, OnErr, length, take};
+ghost use Rattle.std.specs.Prelude.{◌≡◌, ◌⊎◌, ℕ, ◌≤◌, nat_le, IfSome, MatchOption, Some, None, OnOk, OnErr, length, take};
 ghost use Rattle.std.specs.Io.{ReadsAtMost, StartsWith};
 ghost use Rattle.std.specs.Option.{option_copied, option_map};
 ghost use Rattle.std.specs.Io.KnownBytes.{Consumes, ReadConsumes};
@@ -140,9 +140,9 @@ impl<S: Source + Drop, W: Sink + Drop> ToldSource<S, W> {
     /// A source over the one that brings the stream of the words, and what takes the lines.
     pub fn new(words: &Words, source: S, lines: Option<W>) -> Self
         ensures source { told_source result ≡ source }
-        ensures silent { lines ≡ None → stream_teller result ≡ None }
-        ensures teller { IfSome lines (λ sink. IfSome (stream_teller result) (λ teller.
-            (teller.lines ≡ sink) × (teller.reading ≡ unread teller.reading.form))) }
+        ensures teller { MatchOption (stream_teller result) (lines ≡ None)
+            (λ teller. (lines ≡ Some teller.lines)
+            × (teller.reading ≡ unread teller.reading.form)) }
         ensures form { IfSome (stream_teller result) (λ teller.
             ((command : AnyCommand) × Spells words.now command
             × (teller.reading.form ≡ stream_form command))
