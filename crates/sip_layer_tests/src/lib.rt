@@ -31,3 +31,5 @@ mod tree_tests;
 mod vector_calls;
 #[cfg(test)]
 mod vector_tests;
+#[cfg(test)]
+mod written_tests;
