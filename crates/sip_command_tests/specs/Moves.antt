@@ -4,7 +4,8 @@ use Rattle.sip_ports.specs.declared.memory.MemorySource.{MemorySource}
 use Rattle.sip_ports.specs.declared.memory.MemorySink.{MemorySink}
 use Rattle.sip_ports.specs.declared.memory.MemoryLink.{MemoryLink}
 use Rattle.sip_ports.specs.declared.port.TalkEvent.{TalkEvent}
-use Rattle.sip_ports.specs.Memory.{source_left, source_faults, sink_bytes, sink_faults, link_talk, link_faults}
+use Rattle.sip_ports.specs.Memory.{source_left, source_faults, sink_bytes, sink_faults, link_talk}
+use Rattle.sip_ports.specs.Memory.{link_faults}
 use Rattle.sip_transcript.specs.Auditing.{Audit}
 use Rattle.sip_verifier.specs.Exchanges.{Exchange}
 use Rattle.sip_verifier.specs.Moments.{Counts, counts}

@@ -4,8 +4,9 @@ use sip_ports::TalkEvent;
 use sip_verifier::Status;
 use std::process::Abort;
 
-// A case, by its name and the chunk of its ports, or the call of a port that is to fail. Each message of an assertion is
-// proved where it stands, and takes as long as a small function, so all tests have theirs here.
+// A case, by its name and the chunk of its ports, or the call of a port that is to fail. Each
+// message of an assertion is proved where it stands, and takes as long as a small function, so all
+// tests have theirs here.
 #[derive(Clone, Copy)]
 pub struct Case<'a> {
     pub name: &'a str,

@@ -119,8 +119,8 @@ const FALSE: Faulty<'static> = Faulty {
     line: b"rejected query 1 round 2 Root\n",
 };
 
-// Each frame is in order, and the replies have a fault. The bytes behind it are not taken. Where reply 0 is false, which only
-// the root tells, the challenge goes out. The farewell does not.
+// Each frame is in order, and the replies have a fault. The bytes behind it are not taken. Where
+// reply 0 is false, which only the root tells, the challenge goes out. The farewell does not.
 const REPLIES: &[Faulty<'static>] = &[
     Faulty {
         name: "entries fall",

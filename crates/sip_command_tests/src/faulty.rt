@@ -7,7 +7,8 @@ use std::alloc::Global;
 use std::process::Abort;
 use std::test::Fail;
 
-// Replies of which one has a fault, what is said up to the fault, its round and reason, and the line that is written.
+// Replies of which one has a fault, what is said up to the fault, its round and reason, and the
+// line that is written.
 #[derive(Clone, Copy)]
 pub struct Faulty<'a> {
     pub name: &'a str,

@@ -1,9 +1,10 @@
 // Runs of `verify` that ask for the heavy hitters of (3, 0, 5, 1), with scripted replies.
 
+use crate::checks::check_rows;
 use crate::faulty::{Behind, Faulty, check_faulty};
 use crate::frames::*;
 use crate::heavy_frames::*;
-use crate::row::{FIRST_GIVEN, FIRST_RUN, Given, Row, Said, check_rows};
+use crate::row::{FIRST_GIVEN, FIRST_RUN, Given, Row, Said};
 use sip_wire::Reason;
 use std::test::Fail;
 

@@ -1,7 +1,8 @@
 // Talks of `help`, by what the verifier says.
 
+use crate::checks::check_rows;
 use crate::frames::*;
-use crate::row::{Given, HELPING, Row, SERVED, Said, check_rows};
+use crate::row::{Given, HELPING, Row, SERVED, Said};
 use crate::sum_frames::*;
 use sip_verifier::Status;
 use std::test::Fail;
@@ -171,8 +172,9 @@ const TWO_VERSIONS: &[Row<'static>] = &[
     },
 ];
 
-// The sums of side 0, which is 3, 0, 5, 1, of its products with side 1, which is 2, 7, 1, 0, and of its entries 1 to 3. A query
-// that comes too early, or asks for an item that is none, is out of turn.
+// The sums of side 0, which is 3, 0, 5, 1, of its products with side 1, which is 2, 7, 1, 0, and of
+// its entries 1 to 3. A query that comes too early, or asks for an item that is none, is out of
+// turn.
 const SUMS: &[Row<'static>] = &[
     Row {
         name: "three sums",
@@ -275,8 +277,9 @@ const SUMS: &[Row<'static>] = &[
     },
 ];
 
-// The entries of side 0, which is 3, 0, 5, 1, that are at least 4. A query for them that comes too early, or while another one is
-// open, is out of turn; a query for a share is no frame in version 1.
+// The entries of side 0, which is 3, 0, 5, 1, that are at least 4. A query for them that comes too
+// early, or while another one is open, is out of turn; a query for a share is no frame in version
+// 1.
 const HEAVY_ENTRIES: &[Row<'static>] = &[
     Row {
         name: "at least 4",

@@ -43,7 +43,8 @@ fn run_made(alloc: Global, text: &str, chunk: usize) -> Result<(Status, MemorySi
     Ok((status, report))
 }
 
-// The first record of NUMBER 7 has the last bits of 0xfc8651781efb for its item, as many as the depth has.
+// The first record of NUMBER 7 has the last bits of 0xfc8651781efb for its item, as many as the
+// depth has.
 const MADE_33: [u8; 17] = [
     0, 0, 0, 0, 0, 0x51, 0x78, 0x1e, 0xfb, 0, 0, 0, 0, 0, 0, 0, 8,
 ];

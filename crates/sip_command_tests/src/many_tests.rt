@@ -1,4 +1,5 @@
-// Answers of 65,536 entries, the most that one may have, and of one more: items from 0 on at depth 17, with the number 1 each.
+// Answers of 65,536 entries, the most that one may have, and of one more: items from 0 on at depth
+// 17, with the number 1 each.
 
 use crate::case::Case;
 use crate::frames::*;
@@ -17,7 +18,8 @@ const OPEN_17: [u8; 5] = [0x01, 0, 2, 1, 17];
 
 const SUB_0_131071: [u8; 12] = [0x04, 0, 9, 1, 0, 0, 0, 0, 0, 1, 0xff, 0xff];
 
-// Headers of 512 rows: 2 + 512 * 13 = 0x1a02 bytes of updates, and 2 + 512 * 12 = 0x1802 of entries.
+// Headers of 512 rows: 2 + 512 * 13 = 0x1a02 bytes of updates, and 2 + 512 * 12 = 0x1802 of
+// entries.
 const UPDATES_OF_512: [u8; 5] = [0x02, 0x1a, 0x02, 0x02, 0];
 
 const ENTRIES_OF_512: [u8; 5] = [0x13, 0x18, 0x02, 0x02, 0];
@@ -35,7 +37,8 @@ const ENTRY_AND_NO_SIBLINGS: [u8; 21] = [
 // Too many entries.
 const REFUSE_2: [u8; 4] = [0x18, 0, 1, 2];
 
-// An update of each item, as records or as frames of them, or an entry of each, and more bytes behind them.
+// An update of each item, as records or as frames of them, or an entry of each, and more bytes
+// behind them.
 fn ones_and(alloc: Global, header: &[u8], front: &[u8], more: &[u8]) -> Result<Vec<u8>, Fail> {
     let mut bytes = rows_of_ones(alloc, MOST_ENTRIES, header, front)?;
     bytes.extend_from_slice(more)?;
@@ -52,7 +55,8 @@ fn said(alloc: Global, one_more: &[u8]) -> Result<Vec<u8>, Fail> {
     Ok(bytes)
 }
 
-// Helps with the updates that are given, behind which one more may stand, and shows this answer. The verifier leaves then.
+// Helps with the updates that are given, behind which one more may stand, and shows this answer.
+// The verifier leaves then.
 fn check_help(rt: &impl Abort, alloc: Global, one_more: &[u8], answer: &[u8]) -> Result<(), Fail> {
     let heard = said(alloc, one_more)?;
     let row = Row {

@@ -2,7 +2,8 @@
 
 ghost use Rattle.std.specs.Prelude.{◌≡◌, ◌≢◌, ◌↔◌, ◌++◌, ℕ, List, Some};
 ghost use Rattle.arrayvec.specs.ArrayVec.{ArrayVec};
-ghost use Rattle.sip_ports.specs.Memory.{source_is_sure, sink_is_sure, link_is_sure, source_left, sink_bytes, link_talk};
+ghost use Rattle.sip_ports.specs.Memory.{source_is_sure, sink_is_sure, link_is_sure, source_left};
+ghost use Rattle.sip_ports.specs.Memory.{sink_bytes, link_talk};
 ghost use Rattle.sip_ports.specs.Ports.{outs};
 ghost use Rattle.sip_stream.specs.declared.form.Form.{Form};
 ghost use Rattle.sip_stream.specs.declared.form.Form.TheVariants.{Text, Wide};
@@ -12,7 +13,10 @@ ghost use Rattle.sip_verifier.specs.declared.status.Port.TheVariants as ports;
 ghost use Rattle.sip_verifier.specs.Exchanges.{Exchange};
 ghost use Rattle.sip_verifier.specs.Promises.{Promises};
 ghost use Rattle.sip_cli.specs.declared.command.Command.{Command};
-ghost use Rattle.sip_cli.specs.declared.command.Command.TheVariants.{Verify, Gen, Lines, Widen, Help, Audit, Play, Show, Convert, Lookup, HelpLook, Moments, HelpMoments, Panel};
+ghost use Rattle.sip_cli.specs.declared.command.Command.TheVariants.{Verify, Gen, Lines, Widen};
+ghost use Rattle.sip_cli.specs.declared.command.Command.TheVariants.{Help, Audit, Play, Show};
+ghost use Rattle.sip_cli.specs.declared.command.Command.TheVariants.{Convert, Lookup, HelpLook};
+ghost use Rattle.sip_cli.specs.declared.command.Command.TheVariants.{Moments, HelpMoments, Panel};
 ghost use Rattle.sip_cli.specs.declared.helper_name.HelperName.{HelperName};
 ghost use Rattle.sip_cli.specs.CommandClause.{MomentPromises, unkept};
 ghost use Rattle.sip_cli.specs.CopyClause.{CopyClause};
@@ -38,8 +42,8 @@ use std::alloc::Global;
 
 /// Does what the words say over ports in memory.
 ///
-/// Every port tells its bytes, so what is promised of a run is promised here with no premise but the words. Time and
-/// memory are those of [`run`].
+/// Every port tells its bytes, so what is promised of a run is promised here with no premise but
+/// the words. Time and memory are those of [`run`].
 pub fn run_in_memory(
     alloc: Global,
     words: &Words,

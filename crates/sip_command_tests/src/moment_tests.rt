@@ -1,9 +1,10 @@
 // Worked runs of `moments`, and talks of `helpmom`, by the bytes that go in and those that come
 // out.
 
+use crate::checks::check_rows;
 use crate::frames::*;
 use crate::question_frames::*;
-use crate::row::{self, Given, Row, Said, check_rows};
+use crate::row::{self, Given, Row, Said};
 use sip_verifier::Status;
 use sip_wire::Reason;
 use std::test::Fail;

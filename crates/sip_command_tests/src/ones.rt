@@ -1,10 +1,10 @@
-// Streams and answers in which the items from 0 on have the number 1.
+//! Streams and answers in which the items from 0 on have the number 1.
 
 use std::alloc::Global;
 use std::test::Fail;
 
-// A row for each item below `count`: the bytes in front of it, the item in 4 bytes and the number 1 in 8. A header stands in
-// front of each 512 rows.
+/// A row for each item below `count`: the bytes in front of it, the item in 4 bytes and the number
+/// 1 in 8. A header stands in front of each 512 rows.
 pub fn rows_of_ones(
     alloc: Global,
     count: u32,
@@ -23,7 +23,7 @@ pub fn rows_of_ones(
     Ok(bytes)
 }
 
-// The pairs of these items, as a line of the report has them.
+/// The pairs of these items, as a line of the report has them.
 pub fn pairs_of_ones(alloc: Global, count: u32) -> Result<String, Fail> {
     let mut text = String::new(alloc);
     for item in 0..count {

@@ -1,28 +1,27 @@
-// A run of `play` over ports in memory.
+//! A run of `play` over ports in memory.
 
-use crate::case::Case;
 use crate::frames::ZERO_SEED;
 use crate::row::words_of;
 use sip_cli::play_words;
 use sip_ports::{MemorySink, MemorySource};
 use sip_verifier::Status;
 use std::alloc::Global;
-use std::process::Abort;
 use std::test::Fail;
 
-// Side 0 is (3, 0, 5, 1) and side 1 is (2, 7, 1, 0).
+/// Side 0 is (3, 0, 5, 1) and side 1 is (2, 7, 1, 0).
 pub const BOTH_SIDES: &[u8] = b"0 0 3\n0 2 5\n0 3 1\n1 0 2\n1 1 7\n1 2 1\n";
 
-// What a run over both sides keeps, where it ends so and writes these lines. It has no status where
-// its words are none of `play`.
-pub fn kept(
-    rt: &impl Abort,
-    alloc: Global,
-    name: &str,
-    status: Option<Status>,
-    lines: &str,
-) -> Result<MemorySink, Fail> {
-    let words = words_of(alloc, name)?;
+/// What a run showed: how it ended, if its words are those of `play`, its lines, and what it kept.
+#[derive(Drop)]
+pub struct Played {
+    pub ended: Option<Status>,
+    pub report: MemorySink,
+    pub keep: MemorySink,
+}
+
+/// Runs these words over both sides.
+pub fn run_play(alloc: Global, text: &str) -> Result<Played, Fail> {
+    let words = words_of(alloc, text)?;
     let mut first = MemorySource::new(BOTH_SIDES.to_vec(alloc)?, 7, Vec::new(alloc));
     let mut second = MemorySource::new(ZERO_SEED.to_vec(alloc)?, 5, Vec::new(alloc));
     let mut report = MemorySink::new(alloc, 10_000, Vec::new(alloc));
@@ -35,8 +34,9 @@ pub fn kept(
         &mut report,
         &mut keep,
     );
-    let case = Case { name, number: 0 };
-    case.holds(rt, ended == status);
-    case.writes(rt, report.bytes(), lines.as_bytes());
-    Ok(keep)
+    Ok(Played {
+        ended,
+        report,
+        keep,
+    })
 }

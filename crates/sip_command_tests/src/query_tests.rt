@@ -1,9 +1,10 @@
 // Runs of three queries: 1 to 2, 0 to 3, and 1 to 2 again.
 
+use crate::checks::check_rows;
 use crate::cut::{Calls, Cut, check_cuts};
 use crate::faulty::{Behind, Faulty, check_faulty};
 use crate::frames::*;
-use crate::row::{At, FIRST_GIVEN, FIRST_RUN, Given, Row, Said, check_rows};
+use crate::row::{At, FIRST_GIVEN, FIRST_RUN, Given, Row, Said};
 use sip_wire::Reason;
 use std::test::Fail;
 
@@ -68,8 +69,8 @@ const UP_TO_QUERY_2: Row<'static> = Row {
     ..THREE_QUERIES
 };
 
-// The line of query 1 stands, the line of the rejection is the last one, and nothing more is sent. The bytes behind the
-// fault are not taken.
+// The line of query 1 stands, the line of the rejection is the last one, and nothing more is sent.
+// The bytes behind the fault are not taken.
 const ROWS: &[Faulty<'static>] = &[
     Faulty {
         name: "nothing of reply 0 comes",

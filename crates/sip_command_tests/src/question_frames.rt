@@ -48,8 +48,8 @@ pub const ENTRIES_2_3: [u8; 29] = [
     0x13, 0, 0x1a, 0, 2, 0, 0, 0, 2, 0, 0, 0, 0, 0, 0, 0, 5, 0, 0, 0, 3, 0, 0, 0, 0, 0, 0, 0, 1,
 ];
 
-// The node above the entries 5 and 1 at the first challenge of the zero seed, and at its third: each
-// is 5 more than it.
+// The node above the entries 5 and 1 at the first challenge of the zero seed, and at its third:
+// each is 5 more than it.
 pub const RIGHT_NODE: [u8; 12] = [
     0x14, 0, 9, 2, 0x12, 0x07, 0xbe, 0x34, 0x15, 0xbc, 0x17, 0x13,
 ];

@@ -1,17 +1,15 @@
-// A worked run: what goes in, and what has to come out.
+//! A worked run: what goes in, and what has to come out.
 ghost use Rattle.std.specs.Prelude.{◌≤◌};
 
-use crate::case::Case;
 use crate::frames::*;
 use crate::run_in_memory;
-use sip_cli::{Words, exit_code};
+use sip_cli::Words;
 use sip_ports::{MemoryLink, MemorySink, MemorySource, TalkEvent};
 use sip_verifier::Status;
 use std::alloc::Global;
-use std::process::Abort;
 use std::test::Fail;
 
-// What a run is given. Replies are parts that come one after another.
+/// What a run is given. Replies are parts that come one after another.
 #[derive(Clone, Copy)]
 pub struct Given<'a> {
     pub words: &'a str,
@@ -20,7 +18,7 @@ pub struct Given<'a> {
     pub replies: &'a [&'a [u8]],
 }
 
-// One of the ports of a run.
+/// One of the ports of a run.
 #[derive(Clone, Copy, PartialEq, Eq)]
 pub enum At {
     First,
@@ -30,14 +28,14 @@ pub enum At {
     Keep,
 }
 
-// The call of a port that is to fail; the first call has number 1.
+/// The call of a port that is to fail; the first call has number 1.
 #[derive(Clone, Copy)]
 pub struct Failing {
     pub at: At,
     pub number: u64,
 }
 
-// What a run showed.
+/// What a run showed.
 #[derive(Drop)]
 pub struct Shown {
     pub status: Status,
@@ -46,7 +44,7 @@ pub struct Shown {
     pub keep: MemorySink,
 }
 
-// A part of a talk.
+/// A part of a talk.
 #[derive(Clone, Copy)]
 pub enum Said<'a> {
     Out(&'a [u8]),
@@ -54,8 +52,8 @@ pub enum Said<'a> {
     Ended,
 }
 
-// What a run has to show: how it ends, with which exit code, the line that it writes, what it sends before it hears a
-// reply, and what is said after that.
+/// What a run has to show: how it ends, with which exit code, the line that it writes, what it
+/// sends before it hears a reply, and what is said after that.
 #[derive(Clone, Copy)]
 pub struct Row<'a> {
     pub name: &'a str,
@@ -67,7 +65,7 @@ pub struct Row<'a> {
     pub then: &'a [Said<'a>],
 }
 
-// The words of a text.
+/// The words of a text.
 pub fn words_of(alloc: Global, text: &str) -> Result<Words, Fail> {
     let mut list = Vec::new(alloc);
     for word in text.split_whitespace() {
@@ -76,7 +74,7 @@ pub fn words_of(alloc: Global, text: &str) -> Result<Words, Fail> {
     Ok(Words::of(list))
 }
 
-// The parts, one after another.
+/// The parts, one after another.
 pub fn bytes_of(alloc: Global, parts: &[&[u8]]) -> Result<Vec<u8>, Fail> {
     let mut bytes = Vec::new(alloc);
     for part in parts {
@@ -115,7 +113,7 @@ fn fails(alloc: Global, failing: Option<Failing>, at: At) -> Result<Vec<u64>, Fa
     Ok(numbers)
 }
 
-// A source of these bytes, which moves at most a chunk in a call.
+/// A source of these bytes, which moves at most a chunk in a call.
 pub fn source(
     alloc: Global,
     bytes: &[u8],
@@ -129,7 +127,7 @@ pub fn source(
     Ok(MemorySource::new(bytes.to_vec(alloc)?, chunk, fails))
 }
 
-// A link that brings these replies, and moves at most a chunk in a call.
+/// A link that brings these replies, and moves at most a chunk in a call.
 pub fn link(
     alloc: Global,
     replies: &[&[u8]],
@@ -143,7 +141,7 @@ pub fn link(
 }
 
 impl Given<'_> {
-    // Runs it over ports that move at most a chunk in a call.
+    /// Runs it over ports that move at most a chunk in a call.
     pub fn run(&self, alloc: Global, chunk: usize, failing: Option<Failing>) -> Result<Shown, Fail>
         requires { 1 ≤ chunk }
     {
@@ -172,47 +170,16 @@ impl Given<'_> {
 }
 
 impl Row<'_> {
-    // All that is to be said.
+    /// All that is to be said.
     pub fn talk(&self, alloc: Global) -> Result<Vec<TalkEvent>, Fail> {
         let mut events = Vec::new(alloc);
         push_events(&mut events, self.sent)?;
         push_events(&mut events, self.then)?;
         Ok(events)
     }
-
-    // Runs it in single bytes, and in pieces that are as long as is asked for.
-    pub fn check(&self, rt: &impl Abort, alloc: Global) -> Result<(), Fail> {
-        self.check_in(rt, alloc, 1)?;
-        self.check_in(rt, alloc, 10_000)
-    }
-
-    // Runs it over ports that move at most a chunk in a call.
-    pub fn check_in(&self, rt: &impl Abort, alloc: Global, chunk: usize) -> Result<(), Fail>
-        requires { 1 ≤ chunk }
-    {
-        let talk = self.talk(alloc)?;
-        let shown = self.given.run(alloc, chunk, None)?;
-        let case = Case {
-            name: self.name,
-            number: chunk as u64,
-        };
-        case.ends(rt, shown.status, self.status);
-        case.holds(rt, exit_code(&shown.status) == self.code);
-        case.writes(rt, shown.report.bytes(), self.report);
-        case.says(rt, shown.peer.talk(), &talk);
-        Ok(())
-    }
 }
 
-// Runs each of them in single bytes, and in pieces that are as long as is asked for.
-pub fn check_rows(rt: &impl Abort, alloc: Global, rows: &[Row]) -> Result<(), Fail> {
-    for row in rows {
-        row.check(rt, alloc)?;
-    }
-    Ok(())
-}
-
-// The leaves 3, 0, 5, 1, of which 1 to 2 are asked for.
+/// The leaves 3, 0, 5, 1, of which 1 to 2 are asked for.
 pub const FIRST_GIVEN: Given<'static> = Given {
     words: "verify s seed a b - 2 sub:1:2",
     stream: &THREE_RECORDS,
@@ -242,7 +209,7 @@ pub const FIRST_RUN: Row<'static> = Row {
     ],
 };
 
-// A helper leaves the stream, the seed and the report alone.
+/// A helper leaves the stream, the seed and the report alone.
 pub const HELPING: Given<'static> = Given {
     words: "help from to",
     stream: &THREE_RECORDS,

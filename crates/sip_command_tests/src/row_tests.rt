@@ -1,7 +1,8 @@
 // Worked runs of `verify`, by the bytes that go in and those that come out.
 
+use crate::checks::check_rows;
 use crate::frames::*;
-use crate::row::{FIRST_GIVEN, FIRST_RUN, Given, Row, Said, check_rows};
+use crate::row::{FIRST_GIVEN, FIRST_RUN, Given, Row, Said};
 use sip_stream::Why;
 use sip_vector::Side;
 use sip_verifier::Status;
@@ -322,7 +323,8 @@ const NOTHING_SAID: &[Row<'static>] = &[
         name: "seventeen queries",
         given: Given {
             words: "verify s seed a b - 2 sub:0:0 sub:0:0 sub:0:0 sub:0:0 sub:0:0 sub:0:0 sub:0:0 \
-                    sub:0:0 sub:0:0 sub:0:0 sub:0:0 sub:0:0 sub:0:0 sub:0:0 sub:0:0 sub:0:0 sub:0:0",
+                    sub:0:0 sub:0:0 sub:0:0 sub:0:0 sub:0:0 sub:0:0 sub:0:0 sub:0:0 sub:0:0 \
+                    sub:0:0",
             ..FIRST_GIVEN
         },
         status: Status::Usage { word: 23 },
@@ -330,10 +332,37 @@ const NOTHING_SAID: &[Row<'static>] = &[
     },
 ];
 
-// A program that always answers that memory ran out would keep every promise, since that answer is free. It fails here.
+// A program that always answers that memory ran out would keep every promise, since that answer is
+// free. It fails here.
 #[test]
 fn worked_runs(rt: HostRuntime) -> Result<(), Fail> {
     check_rows(&rt, rt.alloc(), ACCEPTED)?;
     check_rows(&rt, rt.alloc(), BAD_STREAMS)?;
     check_rows(&rt, rt.alloc(), NOTHING_SAID)
+}
+
+// `run` does words of `play` and of `panel` over the link that it is given, whatever helpers they
+// name.
+const OVER_A_LINK: &[Row<'static>] = &[
+    Row {
+        name: "words of play",
+        given: Given {
+            words: "play s k mute - 2 sub:1:2",
+            ..FIRST_GIVEN
+        },
+        ..FIRST_RUN
+    },
+    Row {
+        name: "words of panel",
+        given: Given {
+            words: "panel s k mute,skewed 2 sub:1:2",
+            ..FIRST_GIVEN
+        },
+        ..FIRST_RUN
+    },
+];
+
+#[test]
+fn the_link_brings_the_replies_whoever_is_named(rt: HostRuntime) -> Result<(), Fail> {
+    check_rows(&rt, rt.alloc(), OVER_A_LINK)
 }

@@ -1,8 +1,9 @@
 // Runs of `verify` that ask for the sum of the squares of (3, 0, 5, 1), with scripted replies.
 
+use crate::checks::check_rows;
 use crate::faulty::{Behind, Faulty, check_faulty};
 use crate::frames::*;
-use crate::row::{FIRST_GIVEN, FIRST_RUN, Given, Row, Said, check_rows};
+use crate::row::{FIRST_GIVEN, FIRST_RUN, Given, Row, Said};
 use crate::sum_frames::*;
 use sip_wire::Reason;
 use std::test::Fail;

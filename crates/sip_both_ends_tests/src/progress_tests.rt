@@ -1,0 +1,443 @@
+// What a run says on the way.
+ghost use Rattle.std.specs.Prelude.{◌≤◌};
+
+use crate::case::Case;
+use crate::duel::{duel, heard, sent};
+use sip_cli::{ToldLink, ToldSource, exit_code, run};
+use sip_command_tests::frames::*;
+use sip_command_tests::row::{At, FIRST_GIVEN, Failing, Given, Shown, link, source, words_of};
+use sip_ports::{Link, MemoryLink, MemorySink, MemorySource, PortStop, Source, write_whole};
+use sip_verifier::Status;
+use std::alloc::Global;
+use std::process::Abort;
+use std::test::Fail;
+
+const MEBIBYTE: usize = 1 << 20;
+
+// Words, the byte that a stream is full of, how many MiB of it are moved, and what is said.
+type Moved<'a> = (&'a str, u8, usize, &'a str);
+
+const MOVED: &[Moved<'static>] = &[
+    ("lines s 9", 7, 0, ""),
+    (
+        "lines s 9",
+        7,
+        1,
+        "sip: progress: 0 MiB of STREAM read, 0 records\n",
+    ),
+    (
+        "gen 7 1 9",
+        7,
+        64,
+        "sip: progress: 0 MiB of STREAM read, 0 records\n",
+    ),
+    (
+        "gen 7 1 9",
+        7,
+        65,
+        "sip: progress: 0 MiB of STREAM read, 0 records\n\
+        sip: progress: 64 MiB of STREAM read, 5162220 records\n",
+    ),
+    (
+        "widen wide:s 9",
+        7,
+        129,
+        "sip: progress: 0 MiB of STREAM read, 0 records\n\
+        sip: progress: 64 MiB of STREAM read, 3947580 records\n\
+        sip: progress: 128 MiB of STREAM read, 7895160 records\n",
+    ),
+    (
+        "play text:s seed mute - 9 inner",
+        10,
+        65,
+        "sip: progress: 0 MiB of STREAM read, 0 records\n\
+        sip: progress: 64 MiB of STREAM read, 67108864 records\n",
+    ),
+    (
+        "verify text:s seed a b - 9 inner",
+        7,
+        2,
+        "sip: progress: 0 MiB of STREAM read, 0 records\n",
+    ),
+];
+
+// A source that brings a MiB in each call, which it holds too, without an end.
+#[derive(Drop)]
+struct Endless {
+    bytes: Vec<u8>,
+}
+
+impl Source for Endless {
+    ghost use Rattle.std.specs.Prelude.{None, refl};
+    ghost use Rattle.std.proofs.Common.{rules};
+
+    ghost left = { λ _. None };
+
+    ghost ahead = { λ source. source.bytes.items };
+
+    ghost faults = { λ _. 0 };
+
+    ghost wants = { λ _. 0 };
+
+    ghost is_sure = { λ _. Unit {0} };
+
+    ghost faults_fit = { λ _. Prim.search rules };
+
+    ghost wants_fit = { λ _. Prim.search rules };
+
+    ghost sure_counts = { λ _ _. refl };
+
+    fn read(&mut self, buf: &mut [u8]) -> Result<usize, PortStop> {
+        Ok(buf.len())
+    }
+
+    fn held(&self) -> &[u8] {
+        &self.bytes
+    }
+
+    fn skip(&mut self, _count: usize) {}
+}
+
+// Moves as much as that: reads it, or skips what is held.
+fn move_all<S: Source>(source: &mut S, mebibytes: usize, buffer: &mut [u8], skips: bool) -> bool {
+    for _ in 0..mebibytes {
+        if skips {
+            let held = source.held().len();
+            source.skip(held);
+        } else if source.read(buffer).is_err() {
+            return false;
+        }
+    }
+    true
+}
+
+// The bytes of the lines that were said.
+fn said(lines: Option<&MemorySink>) -> &[u8] {
+    match lines {
+        Some(sink) => sink.bytes(),
+        None => b"",
+    }
+}
+
+// What takes lines: the calls of these numbers fail.
+fn taker(alloc: Global, fails: Vec<u64>) -> Option<MemorySink> {
+    Some(MemorySink::new(alloc, 10_000, fails))
+}
+
+fn check_moved(rt: &impl Abort, alloc: Global, rows: &[Moved], skips: bool) -> Result<(), Fail> {
+    for &(name, byte, mebibytes, want) in rows {
+        let words = words_of(alloc, name)?;
+        let mut buffer = vec![in alloc; byte; MEBIBYTE]?;
+        let endless = Endless {
+            bytes: buffer.clone()?,
+        };
+        let mut told = ToldSource::new(&words, endless, taker(alloc, Vec::new(alloc)));
+        let case = Case {
+            name,
+            number: mebibytes as u64,
+        };
+        case.holds(rt, move_all(&mut told, mebibytes, &mut buffer, skips));
+        case.writes(rt, said(told.lines()), want.as_bytes());
+    }
+    Ok(())
+}
+
+#[test]
+fn a_line_comes_once_in_64_mebibytes(rt: HostRuntime) -> Result<(), Fail> {
+    let alloc = rt.alloc();
+    check_moved(&rt, alloc, MOVED, false)?;
+    check_moved(&rt, alloc, MOVED, true)
+}
+
+// What a run showed over ports that tell.
+#[derive(Drop)]
+struct Told {
+    status: Status,
+    first: ToldSource<MemorySource, MemorySink>,
+    peer: ToldLink<MemoryLink, MemorySink>,
+    report: MemorySink,
+    keep: MemorySink,
+}
+
+// Runs it over ports that move at most a chunk in a call, and tell. One call of a port fails, and
+// the calls of these numbers for the lines.
+fn run_told(
+    given: &Given,
+    alloc: Global,
+    chunk: usize,
+    failing: Option<Failing>,
+    fails: &[u64],
+) -> Result<Told, Fail>
+    requires { 1 ≤ chunk }
+{
+    let words = words_of(alloc, given.words)?;
+    let first = source(alloc, given.stream, chunk, failing, At::First)?;
+    let peer = link(alloc, given.replies, chunk, failing)?;
+    let mut first = ToldSource::new(&words, first, taker(alloc, fails.to_vec(alloc)?));
+    let mut peer = ToldLink::new(&words, peer, taker(alloc, fails.to_vec(alloc)?));
+    let mut second = source(alloc, given.seed, chunk, None, At::Second)?;
+    let mut report = MemorySink::new(alloc, chunk, Vec::new(alloc));
+    let mut keep = MemorySink::new(alloc, chunk, Vec::new(alloc));
+    let status = run(
+        alloc,
+        &words,
+        &mut first,
+        &mut second,
+        &mut peer,
+        &mut report,
+        &mut keep,
+    );
+    Ok(Told {
+        status,
+        first,
+        peer,
+        report,
+        keep,
+    })
+}
+
+// The lines of a run: those about its stream, and those about its talk.
+#[derive(Clone, Copy)]
+struct Lines<'a> {
+    stream: &'a str,
+    talk: &'a str,
+}
+
+// Nothing differs between a run over ports that tell and one over ports that don't.
+fn check_same(rt: &impl Abort, case: Case, told: &Told, plain: &Shown) {
+    case.ends(rt, told.status, plain.status);
+    case.holds(rt, exit_code(&told.status) == exit_code(&plain.status));
+    case.writes(rt, told.report.bytes(), plain.report.bytes());
+    case.writes(rt, told.keep.bytes(), plain.keep.bytes());
+    case.says(rt, told.peer.link().talk(), plain.peer.talk());
+}
+
+// Runs it over both: nothing differs, and these are the lines.
+fn check_lines(
+    rt: &impl Abort,
+    alloc: Global,
+    given: &Given,
+    chunk: usize,
+    fails: &[u64],
+    lines: Lines,
+) -> Result<(), Fail>
+    requires { 1 ≤ chunk }
+{
+    let plain = given.run(alloc, chunk, None)?;
+    let told = run_told(given, alloc, chunk, None, fails)?;
+    let case = Case {
+        name: given.words,
+        number: chunk as u64,
+    };
+    check_same(rt, case, &told, &plain);
+    case.writes(rt, said(told.first.lines()), lines.stream.as_bytes());
+    case.writes(rt, said(told.peer.lines()), lines.talk.as_bytes());
+    Ok(())
+}
+
+fn check_cuts(rt: &impl Abort, alloc: Global, given: &Given, lines: Lines) -> Result<(), Fail> {
+    check_lines(rt, alloc, given, 1, &[], lines)?;
+    check_lines(rt, alloc, given, 10_000, &[], lines)
+}
+
+const FIRST: &str = "sip: progress: 0 MiB of STREAM read, 0 records\n";
+
+// Words of `verify` at depth 2 over the three lines, and the lines about the talk. A query whose
+// answer is known without a reply has none, and is counted: 9, the total, is below its threshold.
+const TALKS: &[(&str, &str)] = &[
+    (
+        "verify text:s seed a b - 2 sub:1:2 range:0:0:3",
+        "sip: progress: waiting for the reply of query 1 round 0\n\
+        sip: progress: waiting for the reply of query 1 round 1\n\
+        sip: progress: waiting for the reply of query 2 round 0\n\
+        sip: progress: waiting for the reply of query 2 round 1\n",
+    ),
+    (
+        "verify text:s seed a b - 2 heavy:0:10 f2:0 f2:0 heavy:0:10 heavy:0:9",
+        "sip: progress: waiting for the reply of query 2 round 0\n\
+        sip: progress: waiting for the reply of query 2 round 1\n\
+        sip: progress: waiting for the reply of query 3 round 0\n\
+        sip: progress: waiting for the reply of query 3 round 1\n\
+        sip: progress: waiting for the reply of query 5 round 0\n\
+        sip: progress: waiting for the reply of query 5 round 1\n",
+    ),
+    (
+        "verify text:s seed a b - 2 share:1:1:2 share:0:1:2 inner",
+        "sip: progress: waiting for the reply of query 2 round 0\n\
+        sip: progress: waiting for the reply of query 2 round 1\n\
+        sip: progress: waiting for the reply of query 3 round 0\n\
+        sip: progress: waiting for the reply of query 3 round 1\n",
+    ),
+];
+
+// A run that is rejected in its last round waits for no more; one whose seed is too short reads no
+// stream; a copy has no talk.
+const OTHERS: &[(Given<'static>, Lines<'static>)] = &[
+    (
+        Given {
+            replies: &[&ENTRY_2, &SIBLINGS_3_1, &PART_OF_NO_SIBLINGS],
+            ..FIRST_GIVEN
+        },
+        Lines {
+            stream: FIRST,
+            talk: "sip: progress: waiting for the reply of query 1 round 0\n\
+                sip: progress: waiting for the reply of query 1 round 1\n",
+        },
+    ),
+    (
+        Given {
+            seed: &SHORT_SEED,
+            ..FIRST_GIVEN
+        },
+        Lines {
+            stream: "",
+            talk: "",
+        },
+    ),
+    (
+        Given {
+            words: "widen text:s 2",
+            stream: &THREE_LINES,
+            seed: &[],
+            replies: &[],
+        },
+        Lines {
+            stream: FIRST,
+            talk: "",
+        },
+    ),
+];
+
+const HEARD_NOTHING: &str = "sip: progress: waiting for the other side, 0 MiB of FROM read\n";
+
+const HEARING: Lines<'static> = Lines {
+    stream: "",
+    talk: HEARD_NOTHING,
+};
+
+// Both sides of a talk that they held: that of the verifier, whose first line about it is lost too,
+// and that of the helper.
+fn check_talk(rt: &impl Abort, alloc: Global, words: &str, talk: &str) -> Result<(), Fail> {
+    let whole = duel(alloc, words, &THREE_LINES)?;
+    let (replies, asked) = (
+        heard(alloc, whole.peer.talk())?,
+        sent(alloc, whole.peer.talk())?,
+    );
+    let asking = Given {
+        words,
+        stream: &THREE_LINES,
+        seed: &ZERO_SEED,
+        replies: &[&replies],
+    };
+    let lines = Lines {
+        stream: FIRST,
+        talk,
+    };
+    check_cuts(rt, alloc, &asking, lines)?;
+    let lost = Lines {
+        stream: "",
+        talk: talk.split_once('\n').unwrap_or(("", "")).1,
+    };
+    check_lines(rt, alloc, &asking, 10_000, &[1], lost)?;
+    let helping = Given {
+        words: "help from to",
+        stream: &[],
+        seed: &[],
+        replies: &[&asked],
+    };
+    check_cuts(rt, alloc, &helping, HEARING)
+}
+
+#[test]
+fn a_run_that_tells_its_progress_is_the_same(rt: HostRuntime) -> Result<(), Fail> {
+    let alloc = rt.alloc();
+    for &(words, talk) in TALKS {
+        check_talk(&rt, alloc, words, talk)?;
+    }
+    for (given, lines) in OTHERS {
+        check_cuts(&rt, alloc, given, *lines)?;
+    }
+    Ok(())
+}
+
+// Each of the first calls of a port fails once, in single bytes: nothing differs either.
+fn check_failing(rt: &impl Abort, alloc: Global, given: &Given, at: At) -> Result<(), Fail> {
+    for number in 1..60 {
+        let failing = Some(Failing { at, number });
+        let plain = given.run(alloc, 1, failing)?;
+        let told = run_told(given, alloc, 1, failing, &[])?;
+        let case = Case {
+            name: given.words,
+            number,
+        };
+        check_same(rt, case, &told, &plain);
+    }
+    Ok(())
+}
+
+#[test]
+fn ports_that_tell_fail_where_those_inside_do(rt: HostRuntime) -> Result<(), Fail> {
+    let alloc = rt.alloc();
+    check_failing(&rt, alloc, &FIRST_GIVEN, At::First)?;
+    check_failing(&rt, alloc, &FIRST_GIVEN, At::Peer)
+}
+
+// The frames that ask the nearest entry at 1 or above it, the value at 0 and a third moment, the
+// one in which a helper says where it found an entry, and what is asked of it behind that.
+const ASK_SUCC_1: [u8; 12] = [0x21, 0, 9, 3, 0, 0, 0, 0, 0, 0, 0, 1];
+
+const ASK_INDEX_0: [u8; 12] = [0x21, 0, 9, 1, 0, 0, 0, 0, 0, 0, 0, 0];
+
+const ASK_MOMENT_3: [u8; 5] = [0x24, 0, 2, 0, 3];
+
+const FOUND_2: [u8; 12] = [0x22, 0, 9, 1, 0, 0, 0, 0, 0, 0, 0, 2];
+
+// Words, frames that are sent with a receive behind each, and the lines about them: a lookup or a
+// moment has the number of its Ask, and the query that proves a lookup has none of its own.
+type Asking<'a> = (&'a str, &'a [&'a [u8]], &'a str);
+
+const ASKING: &[Asking<'static>] = &[
+    (
+        "lookup text:s seed a b 2 succ:1 index:0",
+        &[
+            &ASK_SUCC_1,
+            &SUB_1_2,
+            &REVEAL,
+            &ASK_INDEX_0,
+            &SUB_0_1,
+            &REVEAL,
+        ],
+        "sip: progress: waiting for the reply of query 1 round 0\n\
+        sip: progress: waiting for the reply of query 1 round 1\n\
+        sip: progress: waiting for the reply of query 2 round 0\n\
+        sip: progress: waiting for the reply of query 2 round 1\n",
+    ),
+    (
+        "moments text:s seed a b 3 moment:0:3 moment:1:3",
+        &[&ASK_MOMENT_3, &REVEAL, &REVEAL_OF_2, &ASK_MOMENT_3, &REVEAL],
+        "sip: progress: waiting for the reply of query 1 round 0\n\
+        sip: progress: waiting for the reply of query 1 round 1\n\
+        sip: progress: waiting for the reply of query 1 round 2\n\
+        sip: progress: waiting for the reply of query 2 round 0\n\
+        sip: progress: waiting for the reply of query 2 round 1\n",
+    ),
+    ("helplook from to", &[&FOUND_2, &FOUND_2], HEARD_NOTHING),
+];
+
+#[test]
+fn lookups_and_moments_are_told_by_their_number(rt: HostRuntime) -> Result<(), Fail> {
+    let alloc = rt.alloc();
+    for &(name, frames, want) in ASKING {
+        let peer = link(alloc, &[&THREE_RECORDS], 10_000, None)?;
+        let lines = taker(alloc, Vec::new(alloc));
+        let mut told = ToldLink::new(&words_of(alloc, name)?, peer, lines);
+        let mut moved = true;
+        for frame in frames {
+            moved = moved && write_whole(&mut told, frame).is_ok() && told.recv(&mut [0]).is_ok();
+        }
+        let case = Case { name, number: 0 };
+        case.holds(&rt, moved);
+        case.writes(&rt, said(told.lines()), want.as_bytes());
+    }
+    Ok(())
+}

@@ -1,0 +1,143 @@
+// The words that ask for a text, and what the page says.
+
+use crate::case::Case;
+use crate::page_tests::words_between;
+use sip_cli::{
+    AUDIT_PART, GEN_PART, HELP, HELP_PART, HELPLOOK_PART, HELPMOM_PART, LINES_PART, LOOKUP_PART,
+    MOMENTS_PART, PANEL_PART, PLAY_PART, VERIFY_PART, VERSION, WIDEN_PART, page_of,
+};
+use std::alloc::Global;
+use std::process::Abort;
+use std::test::Fail;
+
+// Words with a bar between them, and the text that they ask for.
+type Asked<'a> = (&'a str, Option<&'a str>);
+
+// Words for the whole page or the version, and words for none.
+const PAGES: &[Asked<'static>] = &[
+    ("--help", Some(HELP)),
+    ("-h", Some(HELP)),
+    ("--version", Some(VERSION)),
+    ("-V", Some(VERSION)),
+    ("show|--help", None),
+    ("convert|-h", None),
+    ("-H", None),
+    ("-v", None),
+    ("-?", None),
+    ("help", None),
+    ("-h|verify", None),
+    ("--help|verify", None),
+    ("-h|-h", None),
+    ("help|--version", None),
+    ("verify|-V", None),
+    ("Audit|--help", None),
+    ("audit|--help|--help", None),
+    ("help|--help|to", None),
+    ("lines|--help|20", None),
+    ("gen|7|--help", None),
+    ("helplook|--help|to", None),
+    ("helpmom|-h|to", None),
+    ("lookups|--help", None),
+];
+
+// Words for a part. The texts of a test are checked together, and so many stand in one of their
+// own.
+const PARTS: &[Asked<'static>] = &[
+    ("verify|--help", Some(VERIFY_PART)),
+    ("verify|-h", Some(VERIFY_PART)),
+    ("play|--help", Some(PLAY_PART)),
+    ("play|-h", Some(PLAY_PART)),
+    ("panel|--help", Some(PANEL_PART)),
+    ("panel|-h", Some(PANEL_PART)),
+    ("help|--help", Some(HELP_PART)),
+    ("help|-h", Some(HELP_PART)),
+    ("lookup|--help", Some(LOOKUP_PART)),
+    ("lookup|-h", Some(LOOKUP_PART)),
+    ("helplook|--help", Some(HELPLOOK_PART)),
+    ("helplook|-h", Some(HELPLOOK_PART)),
+    ("moments|--help", Some(MOMENTS_PART)),
+    ("moments|-h", Some(MOMENTS_PART)),
+    ("helpmom|--help", Some(HELPMOM_PART)),
+    ("helpmom|-h", Some(HELPMOM_PART)),
+    ("audit|--help", Some(AUDIT_PART)),
+    ("audit|-h", Some(AUDIT_PART)),
+    ("gen|--help", Some(GEN_PART)),
+    ("gen|-h", Some(GEN_PART)),
+    ("lines|--help", Some(LINES_PART)),
+    ("lines|-h", Some(LINES_PART)),
+    ("widen|--help", Some(WIDEN_PART)),
+    ("widen|-h", Some(WIDEN_PART)),
+];
+
+fn check_asked(rt: &impl Abort, alloc: Global, rows: &[Asked]) -> Result<(), Fail> {
+    for &(name, want) in rows {
+        let text = page_of(&words_between(alloc, name, '|')?);
+        Case { name, number: 0 }.holds(rt, text == want);
+    }
+    Ok(())
+}
+
+// The page has each part, each line of a status, each why of a bad record and each limit.
+const SAID: &[&str] = &[
+    VERIFY_PART,
+    PLAY_PART,
+    PANEL_PART,
+    HELP_PART,
+    LOOKUP_PART,
+    HELPLOOK_PART,
+    MOMENTS_PART,
+    HELPMOM_PART,
+    AUDIT_PART,
+    GEN_PART,
+    LINES_PART,
+    WIDEN_PART,
+    "\n  sip verify STREAM SEED FROM TO RECORD DEPTH QUERY..\n",
+    "\n  sip panel STREAM SEED HELPERS DEPTH QUERY..\n",
+    "\n  sip lookup STREAM SEED FROM TO DEPTH LOOKUP..\n",
+    "\n  sip moments STREAM SEED FROM TO DEPTH MOMENT..\n",
+    "\n  sip show TRANSCRIPT\n",
+    "\n  sip convert TRANSCRIPT\n",
+    "\n  sip: usage at word N\n",
+    "\n  sip: bad stream at record N: WHY\n",
+    "\n  sip: seed too short\n",
+    "\n  sip: seed spent\n",
+    "\n  sip: query K too wide\n",
+    "\n  sip: query K too high\n",
+    "\n  sip: bad transcript at offset N\n",
+    "\n  sip: bad frame at offset N\n",
+    "\n  sip: read fault on FILE, sip: write fault on FILE\n",
+    "\n  sip: peer fault\n",
+    "\n  sip: peer closed\n",
+    "\n  sip: out of memory\n",
+    "\n      Truncated ",
+    "\n      BadLine ",
+    "\n      BadSide ",
+    "\n      BadItem ",
+    "\n      ZeroDelta ",
+    "\n      TooHeavy(S) ",
+    "first is STREAM or STORED, second is SEED or TRANSCRIPT",
+    "record N of a text is line N + 1",
+    "1073741823",
+    "1048575",
+];
+
+fn check_said(rt: &impl Abort, said: &[&str]) {
+    for &name in said {
+        Case { name, number: 0 }.holds(rt, HELP.contains(name));
+    }
+}
+
+#[test]
+fn words_ask_for_the_page_alone(rt: HostRuntime) -> Result<(), Fail> {
+    check_asked(&rt, rt.alloc(), PAGES)
+}
+
+#[test]
+fn words_ask_for_their_part_alone(rt: HostRuntime) -> Result<(), Fail> {
+    check_asked(&rt, rt.alloc(), PARTS)
+}
+
+#[test]
+fn the_page_says_all(rt: HostRuntime) {
+    check_said(&rt, SAID);
+}
