@@ -26,6 +26,14 @@ pub enum TalkEvent {
     In(u8),
     /// A receive found that the other end had closed.
     Ended,
+    /// An empty file was made beside the one that is kept.
+    Fresh,
+    /// A byte was written to it.
+    Stored(u8),
+    /// It is on the disk, and takes the name of the one that is kept.
+    Renames,
+    /// That is on the disk.
+    Kept,
 }
 
 /// Bytes that come. A source over memory tells those that are left, and one over a file tells none.
