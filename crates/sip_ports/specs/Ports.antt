@@ -1,11 +1,14 @@
 -- What the calls of a port do to what it tells, and when they may fail.
-use Rattle.std.specs.Prelude.{◌≡◌, ℕ, ◌+◌, ◌-◌, ◌^◌, ◌<◌, ◌≤◌, min, List, [], ◌∷◌, ◌++◌, length, take, map, ⊤, None, Some, Result, MatchResult, IsErrOf, zero, suc, nat_lt, if◌then◌else◌, Ok, Err}
+use Rattle.std.specs.Prelude.{◌≡◌, ℕ, ◌+◌, ◌-◌, ◌^◌, ◌<◌, ◌≤◌, min, List, [], ◌∷◌, ◌++◌, length}
+use Rattle.std.specs.Prelude.{take, map, ⊤, None, Some, Result, MatchResult, IsErrOf, zero, suc}
+use Rattle.std.specs.Prelude.{nat_lt, if◌then◌else◌, Ok, Err}
 use Rattle.std.specs.declared.option.Option.{Option}
 use Rattle.std.specs.Io.KnownBytes.{Consumes, IsAtEnd}
 use Rattle.sip_ports.specs.declared.port.PortStop.{PortStop}
 use Rattle.sip_ports.specs.declared.port.PortStop.TheVariants.{Failed, OutOfMemory}
 use Rattle.sip_ports.specs.declared.port.TalkEvent.{TalkEvent}
-use Rattle.sip_ports.specs.declared.port.TalkEvent.TheVariants.{Out, In, Ended, Fresh, Stored, Renames, Kept}
+use Rattle.sip_ports.specs.declared.port.TalkEvent.TheVariants.{Out, In, Ended, Fresh, Stored}
+use Rattle.sip_ports.specs.declared.port.TalkEvent.TheVariants.{Renames, Kept}
 
 -- a count rose, or it stands at its type's end
 abbrev pub Rose : ℕ → ℕ → Type 0
