@@ -1,5 +1,5 @@
--- A desk is a link, and one file that is replaced whole or not at all. Both have one talk, which says
--- in which order they were used.
+-- A desk is a link, and one file that is replaced whole or not at all. Both have one talk, which
+-- says in which order they were used.
 use Rattle.std.specs.Prelude.{◌≡◌, ℕ, ◌+◌, ◌-◌, ◌^◌, ◌<◌, min, ⊤, List, [], ◌∷◌, ◌++◌, map, length}
 use Rattle.std.specs.Prelude.{take, Contains, None, Some, option_map, Result, MatchResult, Ok, Err}
 use Rattle.std.specs.declared.option.Option.{Option}
@@ -30,8 +30,8 @@ beside_after beside (Out _ ∷ talk) = beside_after beside talk
 beside_after beside (In _ ∷ talk) = beside_after beside talk
 beside_after beside (Ended ∷ talk) = beside_after beside talk
 
--- The contents that the file may have where a crash comes behind these events, of those that it might
--- have before, where the file beside it has these bytes. `None` is a file that is missing.
+-- The contents that the file may have where a crash comes behind these events, of those that it
+-- might have before, where the file beside it has these bytes. `None` is a file that is missing.
 abbrev pub held_after : List (Option (List ℕ)) → List ℕ → List TalkEvent → List (Option (List ℕ))
 held_after held beside [] = held
 held_after held beside (Fresh ∷ talk) = held_after held [] talk
@@ -47,8 +47,8 @@ held_after held beside (Ended ∷ talk) = held_after held beside talk
 abbrev pub may_hold : Option (List ℕ) → List TalkEvent → List (Option (List ℕ))
 may_hold start talk = held_after (start ∷ []) [] talk
 
--- What the file has behind these events where there was no crash, of one that had this, where the file
--- beside it has these bytes.
+-- What the file has behind these events where there was no crash, of one that had this, where the
+-- file beside it has these bytes.
 abbrev pub file_after : Option (List ℕ) → List ℕ → List TalkEvent → Option (List ℕ)
 file_after file beside [] = file
 file_after file beside (Fresh ∷ talk) = file_after file [] talk
@@ -103,8 +103,8 @@ as_port (Err desk_stops.Failed) = Err port_stops.Failed
 as_port (Err desk_stops.OutOfMemory) = Err port_stops.OutOfMemory
 as_port (Err desk_stops.Busy) = Ok tt
 
--- A desk's counts never fall. `Failed` is answered only where that of faults rose, `OutOfMemory` only
--- where that of wants did. A desk that never fails stays so.
+-- A desk's counts never fall. `Failed` is answered only where that of faults rose, `OutOfMemory`
+-- only where that of wants did. A desk that never fails stays so.
 abbrev pub HasDeskCause : {P T : Type 0} → (P → ℕ) → (P → ℕ) → (P → Type 0) → P → P
     → Result T DeskStop → Type 0
 HasDeskCause faults wants is_sure before now r =

@@ -2,11 +2,12 @@
 ghost use Rattle.std.specs.Prelude.{◌≡◌, ℕ, ◌≤◌, List, [], length, option_map, IfOk, IfSome};
 ghost use Rattle.std.specs.Prelude.{IsErrOf};
 ghost use Rattle.std.specs.declared.option.Option.{Option};
+ghost use Rattle.sip_ports.specs.declared.desk.DeskStop.TheVariants.{OutOfMemory};
 ghost use Rattle.sip_ports.specs.Ports.{GoesOn};
 ghost use Rattle.sip_ports.specs.Desk.{HasDeskCause, Loads, Replaces};
 
 use crate::{Link, PortStop};
-use std::alloc::Global;
+use std::alloc::{AllocError, AllocFailed, Global};
 
 /// The most bytes that a [`Desk`] loads: one more than the longest sketch has, the longest file
 /// that is ever stored by one, so that a file that is too long is seen to be. One that never ends,
@@ -36,6 +37,22 @@ impl From<PortStop> for DeskStop {
             PortStop::Failed => DeskStop::Failed,
             PortStop::OutOfMemory => DeskStop::OutOfMemory,
         }
+    }
+}
+
+impl From<AllocError> for DeskStop {
+    ghost from_gives = { λ _ stop. stop ≡ OutOfMemory };
+
+    fn from(_: AllocError) -> DeskStop {
+        DeskStop::OutOfMemory
+    }
+}
+
+impl<T: Drop> From<AllocFailed<T>> for DeskStop {
+    ghost from_gives = { λ _ stop. stop ≡ OutOfMemory };
+
+    fn from(_: AllocFailed<T>) -> DeskStop {
+        DeskStop::OutOfMemory
     }
 }
 

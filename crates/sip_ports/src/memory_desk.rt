@@ -14,7 +14,7 @@ use crate::{Desk, DeskStop, LONGEST_LOAD, Link, PortStop, Sink, TalkEvent};
 use std::alloc::{AllocError, Global};
 
 // What is loaded of a file with these bytes.
-fn front(bytes: &[u8]) -> &[u8]
+fn loaded_of(bytes: &[u8]) -> &[u8]
     ensures bytes { result.now ≡ take LONGEST_LOAD bytes.now }
     ensures bound { length result.now ≤ LONGEST_LOAD }
 {
@@ -220,7 +220,7 @@ impl Desk for MemoryDesk {
         }
         let copy = match self.file() {
             None => return Ok(None),
-            Some(bytes) => front(bytes).to_vec(alloc),
+            Some(bytes) => loaded_of(bytes).to_vec(alloc),
         };
         match copy {
             Ok(bytes) => Ok(Some(bytes)),
