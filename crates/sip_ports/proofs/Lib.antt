@@ -1,3 +1,4 @@
+pub mod DeskLemmas
 pub mod FaultLemmas
 pub mod Steps
 pub mod TalkLemmas

@@ -7,7 +7,7 @@ use Rattle.std.proofs.lemmas.List.{map-append}
 use Rattle.std.specs.Prelude.{option_map}
 use Rattle.std.specs.Io.KnownBytes.{Appends}
 use Rattle.sip_ports.specs.declared.port.TalkEvent.{TalkEvent}
-use Rattle.sip_ports.specs.declared.port.TalkEvent.TheVariants.{Out, In, Ended}
+use Rattle.sip_ports.specs.declared.port.TalkEvent.TheVariants.{Out, In, Ended, Fresh, Stored, Renames, Kept}
 use Rattle.std.proofs.lemmas.Bool.Decides.{nat_tests}
 use Rattle.sip_ports.specs.Ports.{GoesOn, Writes, ins, outs, written, heard, received, ended_if}
 
@@ -54,12 +54,20 @@ written-append [] ys = refl
 written-append (Out b ∷ xs) ys = ap (λ l. b ∷ l) (written-append xs ys)
 written-append (In b ∷ xs) ys = written-append xs ys
 written-append (Ended ∷ xs) ys = written-append xs ys
+written-append (Fresh ∷ xs) ys = written-append xs ys
+written-append (Stored b ∷ xs) ys = written-append xs ys
+written-append (Renames ∷ xs) ys = written-append xs ys
+written-append (Kept ∷ xs) ys = written-append xs ys
 
 pub heard-append : (xs ys : List TalkEvent) → heard (xs ++ ys) ≡ heard xs ++ heard ys
 heard-append [] ys = refl
 heard-append (Out b ∷ xs) ys = heard-append xs ys
 heard-append (In b ∷ xs) ys = ap (λ l. b ∷ l) (heard-append xs ys)
 heard-append (Ended ∷ xs) ys = heard-append xs ys
+heard-append (Fresh ∷ xs) ys = heard-append xs ys
+heard-append (Stored b ∷ xs) ys = heard-append xs ys
+heard-append (Renames ∷ xs) ys = heard-append xs ys
+heard-append (Kept ∷ xs) ys = heard-append xs ys
 
 pub written-outs : (bytes : List ℕ) → written (outs bytes) ≡ bytes
 written-outs [] = refl

@@ -1,5 +1,6 @@
 -- Calls are numbered from 1, and those whose numbers stand in a list fail.
-use Rattle.std.specs.Prelude.{◌≡◌, ◌==◌, ℕ, zero, suc, ◌+◌, ◌-◌, ◌^◌, ◌<◌, ◌≤◌, min, Bool, true, false, ◌&&◌, nat_lt, List, [], refl}
+use Rattle.std.specs.Prelude.{◌≡◌, ◌==◌, ℕ, zero, suc, ◌+◌, ◌-◌, ◌^◌, ◌<◌, ◌≤◌, min, Bool, true}
+use Rattle.std.specs.Prelude.{false, ◌&&◌, nat_lt, List, [], refl}
 use Rattle.std.specs.List.{list_any}
 use Rattle.std.proofs.Common.{◌∷◌, arith, add-one}
 

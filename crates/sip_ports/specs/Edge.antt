@@ -10,6 +10,7 @@ use Rattle.sip_ports.specs.declared.reader_source.ReaderSource.{ReaderSource}
 use Rattle.sip_ports.specs.declared.writer_sink.WriterSink.{WriterSink}
 use Rattle.sip_ports.specs.declared.two_way.TwoWayLink.{TwoWayLink}
 use Rattle.sip_ports.specs.declared.stream.StreamSink.{StreamSink}
+use Rattle.sip_ports.specs.declared.file_desk.FileDesk.{FileDesk}
 use Rattle.sip_ports.specs.Ports.{outs}
 
 -- what one tells that is there; one that is not tells nothing
@@ -64,6 +65,32 @@ link_faults link = min (link.from.faults.count + link.to.faults.count) (2 ^ 64 -
 -- the sink over the stream
 abbrev pub stream_sink : {W : Type 0} {w : Ghosts W} → StreamSink W w → WriterSink W
 stream_sink stream = stream.sink
+
+-- the desk's link
+abbrev pub file_desk_link : {L : Type 0} → FileDesk L → L
+file_desk_link desk = desk.link
+
+-- how often a call of its file failed, and how often memory was refused to one
+abbrev pub own_faults : {L : Type 0} → FileDesk L → ℕ
+own_faults desk = desk.faults.count
+
+abbrev pub own_wants : {L : Type 0} → FileDesk L → ℕ
+own_wants desk = desk.wants.count
+
+-- the same of its link and its file together; it stands still at its type's end, as they do
+abbrev pub file_desk_faults : {L : Type 0} → (L → ℕ) → FileDesk L → ℕ
+file_desk_faults faults desk = min (faults desk.link + desk.faults.count) (2 ^ 64 - 1)
+
+abbrev pub file_desk_wants : {L : Type 0} → (L → ℕ) → FileDesk L → ℕ
+file_desk_wants wants desk = min (wants desk.link + desk.wants.count) (2 ^ 64 - 1)
+
+pub file_desk_faults-fit : {L : Type 0} (faults : L → ℕ) (desk : FileDesk L)
+    → file_desk_faults faults desk < 2 ^ 64
+file_desk_faults-fit faults desk = omega arith
+
+pub file_desk_wants-fit : {L : Type 0} (wants : L → ℕ) (desk : FileDesk L)
+    → file_desk_wants wants desk < 2 ^ 64
+file_desk_wants-fit wants desk = omega arith
 
 -- what a law of the link rests on
 pub link_faults-fit : {R W : Type 0} → (link : TwoWayLink R W) → link_faults link < 2 ^ 64

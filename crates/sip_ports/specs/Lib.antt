@@ -1,4 +1,5 @@
 pub mod Calls
+pub mod Desk
 pub mod Edge
 pub mod Memory
 pub mod Ports

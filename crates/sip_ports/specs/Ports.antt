@@ -1,11 +1,14 @@
 -- What the calls of a port do to what it tells, and when they may fail.
-use Rattle.std.specs.Prelude.{◌≡◌, ℕ, ◌+◌, ◌-◌, ◌^◌, ◌<◌, ◌≤◌, min, List, [], ◌∷◌, ◌++◌, length, take, map, ⊤, None, Some, Result, MatchResult, IsErrOf, zero, suc, nat_lt, if◌then◌else◌, Ok, Err}
+use Rattle.std.specs.Prelude.{◌≡◌, ℕ, ◌+◌, ◌-◌, ◌^◌, ◌<◌, ◌≤◌, min, List, [], ◌∷◌, ◌++◌, length}
+use Rattle.std.specs.Prelude.{take, map, ⊤, None, Some, Result, MatchResult, IsErrOf, zero, suc}
+use Rattle.std.specs.Prelude.{nat_lt, if◌then◌else◌, Ok, Err}
 use Rattle.std.specs.declared.option.Option.{Option}
 use Rattle.std.specs.Io.KnownBytes.{Consumes, IsAtEnd}
 use Rattle.sip_ports.specs.declared.port.PortStop.{PortStop}
 use Rattle.sip_ports.specs.declared.port.PortStop.TheVariants.{Failed, OutOfMemory}
 use Rattle.sip_ports.specs.declared.port.TalkEvent.{TalkEvent}
-use Rattle.sip_ports.specs.declared.port.TalkEvent.TheVariants.{Out, In, Ended}
+use Rattle.sip_ports.specs.declared.port.TalkEvent.TheVariants.{Out, In, Ended, Fresh, Stored}
+use Rattle.sip_ports.specs.declared.port.TalkEvent.TheVariants.{Renames, Kept}
 
 -- a count rose, or it stands at its type's end
 abbrev pub Rose : ℕ → ℕ → Type 0
@@ -47,6 +50,10 @@ written [] = []
 written (Out byte ∷ talk) = byte ∷ written talk
 written (In _ ∷ talk) = written talk
 written (Ended ∷ talk) = written talk
+written (Fresh ∷ talk) = written talk
+written (Stored _ ∷ talk) = written talk
+written (Renames ∷ talk) = written talk
+written (Kept ∷ talk) = written talk
 
 -- the bytes that were received
 abbrev pub heard : List TalkEvent → List ℕ
@@ -54,6 +61,10 @@ heard [] = []
 heard (Out _ ∷ talk) = heard talk
 heard (In byte ∷ talk) = byte ∷ heard talk
 heard (Ended ∷ talk) = heard talk
+heard (Fresh ∷ talk) = heard talk
+heard (Stored _ ∷ talk) = heard talk
+heard (Renames ∷ talk) = heard talk
+heard (Kept ∷ talk) = heard talk
 
 -- a talk that is told goes on by these events
 abbrev pub GoesOn : Option (List TalkEvent) → Option (List TalkEvent) → List TalkEvent → Type 0

@@ -7,6 +7,10 @@
 //! whatever pieces they came in; [`read_exact_into`], [`write_whole`] and [`recv_whole`] move all
 //! that is asked for.
 //!
+//! A [`Desk`] is a link beside one file that is replaced whole or not at all. Its talk has the
+//! steps of each replacement between the bytes of the link, and so says which came first. From it
+//! follows which contents the file may have where a crash comes.
+//!
 //! The ports over memory tell everything and fail at chosen calls. Those over readers and writers
 //! tell what these tell: [`ReaderSource`], [`WriterSink`] and [`TwoWayLink`]. Over files and over
 //! the runtime's writers, which tell nothing, they are the edge to the machine.
@@ -14,11 +18,15 @@
 
 mod calls;
 mod count;
+mod desk;
 mod events;
 mod file;
+mod file_desk;
 mod give;
 pub mod laws;
+mod load;
 mod memory;
+mod memory_desk;
 mod null;
 mod port;
 mod read_ahead;
@@ -29,9 +37,13 @@ mod uninterrupted;
 mod whole;
 mod writer_sink;
 
-pub use events::{received_events, sent_events};
+pub use desk::{Desk, DeskStop, LONGEST_LOAD};
+pub use events::{received_events, replacing_events, sent_events};
 pub use file::{FileLink, FileSink, FileSource};
+pub use file_desk::{FileDesk, load_file};
+pub use load::load_front;
 pub use memory::{MemoryLink, MemorySink, MemorySource};
+pub use memory_desk::MemoryDesk;
 pub use null::NullSink;
 pub use port::{Link, PortStop, Sink, Source, TalkEvent};
 pub use reader_source::ReaderSource;

@@ -1,9 +1,10 @@
 // Ports over memory: calls of chosen numbers fail, and each call moves a chunk at most.
-ghost use Rattle.std.specs.Prelude.{◌≡◌, ◌↔◌, ◌<◌, ◌≤◌, ◌++◌, [], min, length, take, true, false, Some, IfOk, MatchResult, IsErrOf, IsOk, OnOk};
+ghost use Rattle.std.specs.Prelude.{◌≡◌, ◌↔◌, ◌<◌, ◌≤◌, ◌+◌, ◌-◌, ◌^◌, ◌++◌, [], min, length, take};
+ghost use Rattle.std.specs.Prelude.{true, false, Some, IfOk, MatchResult, IsErrOf, IsOk, OnOk};
 ghost use Rattle.std.specs.Io.{ReadsAtMost, WritesAtMost};
 ghost use Rattle.std.specs.Io.KnownBytes.{ReadConsumes};
 ghost use Rattle.sip_ports.specs.Ports.{Sends, Hears, CountsWants, outs, ins};
-ghost use Rattle.sip_ports.specs.Calls.{MakesCall, failed_of-fits, failed_of-sure};
+ghost use Rattle.sip_ports.specs.Calls.{MakesCall, next_fails, failed_of-fits, failed_of-sure};
 
 use crate::calls::Calls;
 use crate::count::Count;
@@ -50,7 +51,8 @@ impl Source for MemorySource {
     ghost use Rattle.std.specs.Io.{ReadsAtMost};
     ghost use Rattle.std.specs.Io.KnownBytes.{ReadConsumes};
     ghost use Rattle.sip_ports.specs.Calls.{MakesCall, failed_of-fits, failed_of-sure};
-    ghost use Rattle.sip_ports.specs.Memory.{source_left, source_chunk, source_fails, source_calls, source_next_fails, source_faults, source_is_sure};
+    ghost use Rattle.sip_ports.specs.Memory.{source_left, source_chunk, source_fails, source_calls};
+    ghost use Rattle.sip_ports.specs.Memory.{source_next_fails, source_faults, source_is_sure};
 
     ghost left = { λ source. Some (source_left source) };
 
@@ -113,7 +115,8 @@ pub struct MemorySink {
 }
 
 impl MemorySink {
-    ghost use Rattle.sip_ports.specs.Memory.{sink_bytes, sink_chunk, sink_fails, sink_calls, sink_wants};
+    ghost use Rattle.sip_ports.specs.Memory.{sink_bytes, sink_chunk, sink_fails, sink_calls};
+    ghost use Rattle.sip_ports.specs.Memory.{sink_wants};
 
     /// An empty sink, of which no call was made.
     pub fn new(alloc: Global, chunk: usize, fails: Vec<u64>) -> Self
@@ -141,7 +144,9 @@ impl MemorySink {
 }
 
 impl Sink for MemorySink {
-    ghost use Rattle.sip_ports.specs.Memory.{sink_bytes, sink_chunk, sink_fails, sink_calls, sink_next_fails, sink_faults, sink_wants, sink_is_sure};
+    ghost use Rattle.sip_ports.specs.Memory.{sink_bytes, sink_chunk, sink_fails, sink_calls};
+    ghost use Rattle.sip_ports.specs.Memory.{sink_next_fails, sink_faults, sink_wants};
+    ghost use Rattle.sip_ports.specs.Memory.{sink_is_sure};
 
     ghost talk = { λ sink. Some (outs (sink_bytes sink)) };
 
@@ -199,7 +204,8 @@ pub struct MemoryLink {
 }
 
 impl MemoryLink {
-    ghost use Rattle.sip_ports.specs.Memory.{link_incoming, link_talk, link_chunk, link_fails, link_calls, link_wants};
+    ghost use Rattle.sip_ports.specs.Memory.{link_incoming, link_talk, link_chunk, link_fails};
+    ghost use Rattle.sip_ports.specs.Memory.{link_calls, link_wants};
 
     /// A link that gives these bytes and then has ended. Nothing has happened on it.
     pub fn new(alloc: Global, incoming: Vec<u8>, chunk: usize, fails: Vec<u64>) -> Self
@@ -229,6 +235,47 @@ impl MemoryLink {
         &self.talk
     }
 
+    /// Where its events are kept.
+    pub(crate) fn alloc(&self) -> Global {
+        self.alloc
+    }
+
+    /// Counts one more call, and answers whether it fails.
+    pub(crate) fn next_fails(&mut self) -> bool
+        ensures answer { result ≡ next_fails (link_fails self.old) (link_calls self.old) }
+        ensures call { MakesCall link_fails link_calls link_chunk self.old self.new }
+        ensures incoming { link_incoming self.new ≡ link_incoming self.old }
+        ensures talk { link_talk self.new ≡ link_talk self.old }
+        ensures wants { link_wants self.new ≡ link_wants self.old }
+    {
+        self.calls.next_fails()
+    }
+
+    /// Counts a refusal of memory.
+    pub(crate) fn refused(&mut self) -> PortStop
+        ensures answer { result ≡ PortStop.OutOfMemory }
+        ensures wants { link_wants self.new ≡ min (link_wants self.old + 1) (2 ^ 64 - 1) }
+        ensures calls { self.new.calls ≡ self.old.calls }
+        ensures chunk { link_chunk self.new ≡ link_chunk self.old }
+        ensures incoming { link_incoming self.new ≡ link_incoming self.old }
+        ensures talk { link_talk self.new ≡ link_talk self.old }
+    {
+        self.wants.refused()
+    }
+
+    /// Adds these events to the talk, all of them or none.
+    pub(crate) fn add(&mut self, events: &[TalkEvent]) -> Result<(), AllocError>
+        ensures talk { MatchResult result
+            (λ _. link_talk self.new ≡ link_talk self.old ++ events.now)
+            (λ _. link_talk self.new ≡ link_talk self.old) }
+        ensures wants { link_wants self.new ≡ link_wants self.old }
+        ensures calls { self.new.calls ≡ self.old.calls }
+        ensures chunk { link_chunk self.new ≡ link_chunk self.old }
+        ensures incoming { link_incoming self.new ≡ link_incoming self.old }
+    {
+        self.talk.extend_from_slice(events)
+    }
+
     // Keeps the events of a call, all of them or none.
     fn keep(&mut self, events: Result<Vec<TalkEvent>, AllocError>) -> Result<(), PortStop>
         ensures talk { MatchResult result
@@ -250,7 +297,9 @@ impl MemoryLink {
 }
 
 impl Sink for MemoryLink {
-    ghost use Rattle.sip_ports.specs.Memory.{link_incoming, link_talk, link_chunk, link_fails, link_calls, link_next_fails, link_faults, link_wants, link_is_sure};
+    ghost use Rattle.sip_ports.specs.Memory.{link_incoming, link_talk, link_chunk, link_fails};
+    ghost use Rattle.sip_ports.specs.Memory.{link_calls, link_next_fails, link_faults, link_wants};
+    ghost use Rattle.sip_ports.specs.Memory.{link_is_sure};
 
     ghost talk = { λ link. Some (link_talk link) };
 
@@ -289,7 +338,8 @@ impl Sink for MemoryLink {
 }
 
 impl Link for MemoryLink {
-    ghost use Rattle.sip_ports.specs.Memory.{link_incoming, link_talk, link_chunk, link_fails, link_calls, link_next_fails, link_faults, link_wants};
+    ghost use Rattle.sip_ports.specs.Memory.{link_incoming, link_talk, link_chunk, link_fails};
+    ghost use Rattle.sip_ports.specs.Memory.{link_calls, link_next_fails, link_faults, link_wants};
 
     fn recv(&mut self, buf: &mut [u8]) -> Result<usize, PortStop>
         ensures bound { ReadsAtMost result buf.new }

@@ -1,5 +1,6 @@
 // What bytes come from and go to: a source, a sink, and a link, which is a sink that can be heard.
-ghost use Rattle.std.specs.Prelude.{◌≡◌, ◌≤◌, ◌<◌, ◌^◌, ◌-◌, List, ℕ, length, take, IfOk, IfSome, OnOk, OnErr};
+ghost use Rattle.std.specs.Prelude.{◌≡◌, ◌≤◌, ◌<◌, ◌^◌, ◌-◌, List, ℕ, length, take, IfOk, IfSome};
+ghost use Rattle.std.specs.Prelude.{OnOk, OnErr};
 ghost use Rattle.std.specs.declared.option.Option.{Option};
 ghost use Rattle.std.specs.Io.{ReadsAtMost, WritesAtMost, StartsWith};
 ghost use Rattle.std.specs.Io.KnownBytes.{Consumes, ReadConsumes};
@@ -26,6 +27,14 @@ pub enum TalkEvent {
     In(u8),
     /// A receive found that the other end had closed.
     Ended,
+    /// An empty file was made beside the one that is kept.
+    Fresh,
+    /// A byte was written to it.
+    Stored(u8),
+    /// It is on the disk, and takes the name of the one that is kept.
+    Renames,
+    /// That is on the disk.
+    Kept,
 }
 
 /// Bytes that come. A source over memory tells those that are left, and one over a file tells none.
