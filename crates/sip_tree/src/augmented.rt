@@ -1,9 +1,12 @@
 //! The root of a vector's augmented tree, as two running numbers.
-ghost use Rattle.std.specs.Prelude.{◌≡◌, ℕ, ◌+◌, ◌*◌, ◌%◌, ◌^◌, ◌<◌, ◌≤◌, ℤ, pos, ◌+ℤ◌, nat_abs, List, All, take, length, min, replicate};
+ghost use Rattle.std.specs.Prelude.{◌≡◌, ℕ, ◌+◌, ◌*◌, ◌%◌, ◌^◌, ◌<◌, ◌≤◌, ℤ, pos, ◌+ℤ◌, nat_abs, List, ◌++◌, All, take, length, min, replicate};
 ghost use Rattle.sip_field.specs.Residue.{residue};
 ghost use Rattle.sip_tree.specs.Blocks.{hash_after, total_after};
 ghost use Rattle.sip_tree.specs.StandsFor.{AugRootStandsFor};
-ghost use Rattle.sip_vector.specs.Streams.{most_weight};
+ghost use Rattle.sip_vector.specs.Lines.{added_numbers};
+ghost use Rattle.sip_vector.specs.Streams.{most_weight, vector};
+ghost use Rattle.sip_vector.specs.declared.update.Side.{Side as AnySide};
+ghost use Rattle.sip_vector.specs.declared.update.Update.{Update as AnyUpdate};
 ghost use Rattle.sip_vector.specs.Limits.{most_depth};
 ghost use Rattle.sip_vector.specs.Weights.{raised_numbers, numbers_after, hash_weight};
 
@@ -99,6 +102,34 @@ impl<F: Field, const CAP: usize> AugRoot<F, CAP> {
             }
             self.total = total;
         }
+    }
+
+    /// The root of the entrywise sum, where `other` is that of more numbers for the same
+    /// challenges: so what two roots were fed with apart adds up, in any order.
+    ///
+    /// One `plus`, and no memory.
+    pub fn absorb(&mut self, other: &AugRoot<F, CAP>)
+        requires seat { other.now.seat ≡ self.old.seat }
+        requires weight { nat_abs (self.old.total +ℤ other.now.total) ≤ most_weight }
+        ensures seat { self.new.seat ≡ self.old.seat }
+        ensures hash { self.new.hash ≡ (self.old.hash + other.now.hash) % F.MODULUS }
+        ensures total { self.new.total ≡ self.old.total +ℤ other.now.total }
+        ensures stands { (numbers others : List ℤ)
+            → AugRootStandsFor F.MODULUS self.old.seat self.old.hash self.old.total numbers
+            → AugRootStandsFor F.MODULUS other.now.seat other.now.hash other.now.total others
+            → AugRootStandsFor F.MODULUS self.new.seat self.new.hash self.new.total
+            (added_numbers numbers others) }
+        ensures joins { (depth : ℕ) (stream more : List AnyUpdate) (side : AnySide)
+            → AugRootStandsFor F.MODULUS self.old.seat self.old.hash self.old.total
+            (vector depth stream side)
+            → AugRootStandsFor F.MODULUS other.now.seat other.now.hash other.now.total
+            (vector depth more side)
+            → AugRootStandsFor F.MODULUS self.new.seat self.new.hash self.new.total
+            (vector depth (stream ++ more) side) }
+    {
+        let more = F::of_number(other.hash);
+        self.hash = F::of_number(self.hash).plus(more).number();
+        self.total += other.total;
     }
 
     /// The hash.

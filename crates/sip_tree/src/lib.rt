@@ -19,9 +19,12 @@
 //! root.value numbers` of its own vector has it again after each update, whatever the order of the
 //! updates. The clauses `value` and `hash` say besides which number comes out, for all numbers.
 //!
-//! [`laws`] has the facts of the definitions alone: what a raised entry does to a root, that the
-//! root is the sum of a level's nodes each times its weight, that a fold keeps such a sum, and what
-//! an update does to the vector of a stream.
+//! A root is linear in its numbers: [`Root::absorb`] and [`AugRoot::absorb`] go from two roots for
+//! the same challenges to that of the entrywise sum, which is the vector of both streams.
+//!
+//! [`laws`] has the facts of the definitions alone: what a raised entry does to a root, that roots
+//! add up, that the root is the sum of a level's nodes each times its weight, that a fold keeps such
+//! a sum, and what an update does to the vector of a stream.
 //!
 //! # Cost
 //!
@@ -35,6 +38,7 @@
 //! | `Root::new`, `Root::value`, `AugRoot::new`, `AugRoot::hash`, `AugRoot::total` | 0 | |
 //! | `Root::update` | one for each bit that is 1, d at most | d steps along the bits, one `of_signed` and one `plus` |
 //! | `Root::update_all` of 32 and more | one for an update and 7 challenges, and 127 for 7 challenges | an `of_signed` and a `plus` for an update |
+//! | `Root::absorb`, `AugRoot::absorb` | 0 | one `plus` |
 //! | `Root::weight_above` | one for each bit that is 1, d - level at most | d - level steps along the bits |
 //! | `AugRoot::update` | two for each bit that is 1, and one: 2d + 1 at most | d steps along the bits, each with one `plus`; one `of_signed` |
 //! | `AugRoot::update_all` of 32 and more | one for an update and 7 challenges, and 261 for 7 challenges | an `of_signed` for an update and a sum for each of its `times`, and 127 `plus` for 7 challenges |

@@ -7,6 +7,8 @@ pub mod Folds
 pub mod Sums
 pub mod Products
 pub mod Sides
+pub mod Lines
+pub mod Splits
 pub mod Kept
 pub mod Filters
 pub mod SpotsAbove
