@@ -12,6 +12,7 @@ ghost use Rattle.sip_vector.specs.Weights.{raised_numbers, numbers_after, hash_w
 
 use crate::hashing::hashed;
 use crate::steps::{Step, fill_steps};
+use crate::weight::hash_weighted;
 use sip_field::{Field, Seat};
 use sip_vector::Update;
 
@@ -63,7 +64,8 @@ impl<F: Field, const CAP: usize> AugRoot<F, CAP> {
             → AugRootStandsFor F.MODULUS self.new.seat self.new.hash self.new.total
             (raised_numbers numbers index delta) }
     {
-        let term = F::of_signed(delta).times(hash_weight(&self.seat, index));
+        let weight = hash_weighted(F::of(1), &self.seat, index);
+        let term = F::of_signed(delta).times(weight);
         self.hash = F::of_number(self.hash).plus(term).number();
         self.total += delta;
     }
@@ -156,25 +158,4 @@ impl<F: Field, const CAP: usize> Default for AugRoot<F, CAP> {
     fn default() -> AugRoot<F, CAP> {
         AugRoot::new(Seat::default())
     }
-}
-
-// The factor of an entry in the hash. A level makes it h + r where the node stands left, and h *
-// r^2 + r^3, which is (h + r) * r^2, where it stands right: the second form has two products and
-// not three.
-fn hash_weight<F: Field, const CAP: usize>(seat: &Seat<F, CAP>, index: u64) -> F
-    ensures { F.number result ≡ hash_weight F.MODULUS index seat.now }
-{
-    let mut weight = F::of(1);
-    let mut path = index;
-    for below in 0..seat.depth() {
-        let r = seat.at(below + 1);
-        let sum = weight.plus(r);
-        weight = if path % 2 == 1 {
-            sum.times(r.times(r))
-        } else {
-            sum
-        };
-        path /= 2;
-    }
-    weight
 }

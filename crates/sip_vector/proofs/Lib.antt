@@ -9,6 +9,7 @@ pub mod Products
 pub mod Sides
 pub mod Lines
 pub mod Splits
+pub mod SplitTree
 pub mod Kept
 pub mod Filters
 pub mod SpotsAbove

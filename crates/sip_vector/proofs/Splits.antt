@@ -1,4 +1,4 @@
--- The split tree, and the weights of the items of a stream.
+-- The weights of the items of a stream.
 use Rattle.std.proofs.Common.{◌≡◌, ℕ, ◌^◌, ◌<◌, true, false, pos, nat_abs, List, [], ◌∷◌, ◌++◌, map, refl, ◌∙◌, ap, inl, inr, arith}
 use Rattle.std.specs.Prelude.{◌≤ℤ◌, All}
 use Rattle.std.specs.List.{range_with_len}
@@ -16,8 +16,6 @@ use Rattle.sip_vector.specs.declared.update.Side.{Side}
 use Rattle.sip_vector.specs.declared.update.Update.{Update}
 use Rattle.sip_vector.proofs.Sides.{vector-same_side, vector-other_side, total-is}
 use Rattle.sip_vector.proofs.Lines.{vector_joined}
-
--- ---- the weights of a stream's items
 
 pub weights_joined : (depth : ℕ) (s t : List Update) (side : Side) → weights depth (s ++ t) side ≡ added_numbers (weights depth s side) (weights depth t side)
 weights_joined depth s t side = ap (λ r. vector depth r side) (map-append absolute s t) ∙ vector_joined depth (map absolute s) (map absolute t) side

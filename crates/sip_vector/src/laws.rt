@@ -4,13 +4,14 @@
 //! In the examples the vector is (3, 0, 5, 1) over four items, and the challenges are (2, 10)
 //! modulo 2^61 - 1.
 
-ghost use Rattle.std.specs.Prelude.{◌≡◌, ℕ, ◌+◌, ◌-◌, ◌^◌, ◌<◌, List, [], ◌∷◌, ◌++◌, pos, negsuc, ℤ, ◌≤ℤ◌, ◌+ℤ◌, nat_abs, Some, None, slice_get, map, fold, length, replicate, true, false, All};
+ghost use Rattle.std.specs.Prelude.{◌≡◌, ℕ, ◌+◌, ◌-◌, ◌*◌, ◌%◌, ◌^◌, ◌<◌, List, [], ◌∷◌, ◌++◌, pos, negsuc, ℤ, ◌≤ℤ◌, ◌+ℤ◌, nat_abs, Some, None, slice_get, map, fold, length, replicate, true, false, All};
 ghost use Rattle.sip_field.specs.Moduli.{m61_modulus as p};
+ghost use Rattle.sip_field.specs.Residue.{residue};
 ghost use Rattle.sip_vector.specs.Streams.{same_side, vector, total, weight, int_sum, of_side};
 ghost use Rattle.sip_vector.specs.Lines.{added_numbers};
-ghost use Rattle.sip_vector.specs.Splits.{weights, splittree, splittop, value_factor, weight_factor};
+ghost use Rattle.sip_vector.specs.Splits.{weights, splittree, splittop, splitroot, value_factor, weight_factor};
 ghost use Rattle.sip_vector.specs.Vectors.{side_vector, zero_vector, with_update, nonzero_within};
-ghost use Rattle.sip_vector.specs.Weights.{raised_numbers, numbers_after};
+ghost use Rattle.sip_vector.specs.Weights.{raised_numbers, numbers_after, hash_weight_from};
 ghost use Rattle.sip_vector.specs.declared.update.Entry.{Entry};
 ghost use Rattle.sip_vector.specs.declared.update.Side.{Side};
 ghost use Rattle.sip_vector.specs.declared.update.Update.{Update};
@@ -77,6 +78,45 @@ pub fn weights_add_up()
         → pos (weight stream side) ≡ int_sum (weights depth stream side) }
     ensures positive { (depth : ℕ) (stream : List Update) (side : Side)
         → All (λ w. pos 0 ≤ℤ w) (weights depth stream side) }
+{}
+
+/// The top of the split tree over entrywise sums has the sum of both hashes modulo p and the sum of
+/// both counts. Over zeros it is 0 and 0. A value and a weight that are raised raise the hash by
+/// what was added times their factors, which add up to the weight that a number has in the augmented
+/// tree, and the count by what was added to the weight.
+pub fn split_tops_add_up()
+    ensures sum { (p : ℕ) (values others weights more : List ℤ) (challenges : List ℕ)
+        → 0 < p → length values ≡ length weights → length others ≡ length more
+        → length values ≡ length others
+        → splittop p (added_numbers values others) (added_numbers weights more) challenges
+        ≡ record {
+          hash = (splitroot p values weights challenges + splitroot p others more challenges) % p;
+          count = (splittop p values weights challenges).count
+              +ℤ (splittop p others more challenges).count;
+        } }
+    ensures streams { (p depth : ℕ) (stream more : List Update) (side : Side) (challenges : List ℕ)
+        → 0 < p
+        → splitroot p (vector depth (stream ++ more) side) (weights depth (stream ++ more) side)
+        challenges
+        ≡ (splitroot p (vector depth stream side) (weights depth stream side) challenges
+        + splitroot p (vector depth more side) (weights depth more side) challenges)
+        % p }
+    ensures zeros { (p n : ℕ) (challenges : List ℕ)
+        → splittop p (replicate n (pos 0)) (replicate n (pos 0)) challenges
+        ≡ record { hash = 0; count = pos 0 } }
+    ensures raised { (p : ℕ) (values weights : List ℤ) (challenges : List ℕ) (i : ℕ) (a w : ℤ)
+        → 0 < p → length values ≡ 2 ^ length challenges → length weights ≡ 2 ^ length challenges
+        → i < length values
+        → splittop p (raised_numbers values i a) (raised_numbers weights i w) challenges
+        ≡ record {
+          hash = (splitroot p values weights challenges
+              + residue p a * value_factor p i challenges
+              + residue p w * weight_factor p i challenges) % p;
+          count = (splittop p values weights challenges).count +ℤ w;
+        } }
+    ensures factors { (p h i : ℕ) (challenges : List ℕ)
+        → hash_weight_from p h i challenges % p
+        ≡ (h * value_factor p i challenges + weight_factor p i challenges) % p }
 {}
 
 /// The first entry that is not 0, and then those after it, are all of them: so a walk finds each.
