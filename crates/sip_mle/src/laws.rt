@@ -3,6 +3,7 @@ ghost use Rattle.std.specs.Prelude.{◌≡◌, ℕ, ◌+◌, ◌-◌, ◌*◌, �
 ghost use Rattle.std.specs.List.{range_with_len};
 ghost use Rattle.sip_field.specs.Moduli.{m61_modulus};
 ghost use Rattle.sip_field.specs.Residue.{residue};
+ghost use Rattle.sip_vector.specs.Lines.{IsLinear, AddsUp};
 ghost use Rattle.sip_vector.specs.Weights.{raised_numbers};
 ghost use Rattle.sip_vector.specs.Examples.{four};
 ghost use Rattle.sip_vector.specs.Extensions.{chi, ext, line, ones};
@@ -13,6 +14,13 @@ pub fn extension_of_a_raised_entry()
         → 0 < p → i < length numbers
         → ext p (raised_numbers numbers i delta) challenges
         ≡ (ext p numbers challenges + residue p delta * chi p i challenges) % p }
+{}
+
+/// Of an entrywise sum of numbers, and so of two streams, one behind the other, the extension is
+/// the sum modulo p.
+pub fn extensions_add_up()
+    ensures numbers { IsLinear ext }
+    ensures streams { AddsUp ext }
 {}
 
 /// The extension of zeros, however many, is 0.

@@ -15,9 +15,12 @@
 //! `Extensions` of `sip_vector` defines the extension, as a sum over all entries, its factors and
 //! the fold. A contract here gives the exact value, for every vector. `StandsFor` says which
 //! vectors a point stands for, and `Intervals` how the list of an interval looks between two folds.
+//! An extension is linear in its numbers: [`Point::absorb`] goes from two points at the same
+//! challenges to that of the entrywise sum, which is the vector of both streams.
+//!
 //! [`laws`] has the facts about the definitions alone: how a raised entry raises an extension, that
-//! folding a list by all challenges leaves its extension, and that the extension of an interval is
-//! the sum of the factors of its entries.
+//! extensions add up, that folding a list by all challenges leaves its extension, and that the
+//! extension of an interval is the sum of the factors of its entries.
 //!
 //! # Cost
 //!
@@ -26,7 +29,7 @@
 //! | Call | `times` |
 //! |---|---|
 //! | `chi` | d |
-//! | `Point::new`, `Point::value` | 0 |
+//! | `Point::new`, `Point::value`, `Point::absorb` | 0 |
 //! | `Point::update` | d |
 //! | `Point::update_all` of n, 32 and more | n for each 7 challenges, and 127 for their table |
 //! | `interval_at` | 2d |

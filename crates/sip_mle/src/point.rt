@@ -1,11 +1,15 @@
 //! The extension of a vector at the challenges of a seat, as a running number.
-ghost use Rattle.std.specs.Prelude.{◌≡◌, ◌+◌, ◌*◌, ◌%◌, ◌^◌, ◌<◌, ◌≤◌, ℤ, pos, List, All, length, min, replicate};
+ghost use Rattle.std.specs.Prelude.{◌≡◌, ℕ, ◌+◌, ◌*◌, ◌%◌, ◌^◌, ◌<◌, ◌≤◌, ℤ, pos, List, ◌++◌, All, length, min, replicate};
 ghost use Rattle.sip_field.specs.Residue.{residue};
 ghost use Rattle.sip_mle.specs.Blocks.{point_after};
 ghost use Rattle.sip_mle.specs.StandsFor.{PointStandsFor};
 ghost use Rattle.sip_vector.specs.Weights.{raised_numbers, numbers_after};
 ghost use Rattle.sip_vector.specs.Limits.{most_depth};
 ghost use Rattle.sip_vector.specs.Extensions.{chi};
+ghost use Rattle.sip_vector.specs.Lines.{added_numbers};
+ghost use Rattle.sip_vector.specs.Streams.{vector};
+ghost use Rattle.sip_vector.specs.declared.update.Side.{Side as AnySide};
+ghost use Rattle.sip_vector.specs.declared.update.Update.{Update as AnyUpdate};
 
 use crate::factor::times_chi;
 use sip_field::{Factors, Field, Seat, by_tables, fill_tables};
@@ -84,6 +88,29 @@ impl<F: Field, const CAP: usize> Point<F, CAP> {
             }
             self.value = sum.number();
         }
+    }
+
+    /// The extension of the entrywise sum, where `other` is that of more numbers at the same
+    /// challenges: so what two points were fed with apart adds up, in any order.
+    ///
+    /// One `plus`, and no memory.
+    pub fn absorb(&mut self, other: &Point<F, CAP>)
+        requires { other.now.seat ≡ self.old.seat }
+        ensures seat { self.new.seat ≡ self.old.seat }
+        ensures value { self.new.value ≡ (self.old.value + other.now.value) % F.MODULUS }
+        ensures stands { (numbers others : List ℤ)
+            → PointStandsFor F.MODULUS self.old.seat self.old.value numbers
+            → PointStandsFor F.MODULUS other.now.seat other.now.value others
+            → PointStandsFor F.MODULUS self.new.seat self.new.value
+            (added_numbers numbers others) }
+        ensures joins { (depth : ℕ) (stream more : List AnyUpdate) (side : AnySide)
+            → PointStandsFor F.MODULUS self.old.seat self.old.value (vector depth stream side)
+            → PointStandsFor F.MODULUS other.now.seat other.now.value (vector depth more side)
+            → PointStandsFor F.MODULUS self.new.seat self.new.value
+            (vector depth (stream ++ more) side) }
+    {
+        let more = F::of_number(other.value);
+        self.value = F::of_number(self.value).plus(more).number();
     }
 
     /// The extension.

@@ -3,4 +3,5 @@ pub mod FoldSteps
 pub mod StandsLemmas
 pub mod Blocks
 pub mod StepTables
+pub mod Splitting
 pub mod Heights

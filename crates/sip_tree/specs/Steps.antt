@@ -1,5 +1,5 @@
 -- Tables of the steps that a hash takes from level to level.
-use Rattle.std.specs.Prelude.{◌≡◌, ℕ, zero, suc, ◌+◌, ◌*◌, ◌%◌, ◌^◌, ◌<◌, List, [], length, take, drop, slice_index_or}
+use Rattle.std.specs.Prelude.{◌≡◌, ℕ, zero, suc, ◌+◌, ◌*◌, ◌%◌, ◌^◌, ◌<◌, ℤ, pos, negsuc, List, [], length, take, drop, slice_index_or}
 use Rattle.sip_vector.specs.Weights.{hash_weight_from}
 use Rattle.sip_tree.specs.declared.steps.Step.{Step}
 
@@ -33,3 +33,9 @@ abbrev pub AreStepTables : ℕ → List ℕ → List (List Step) → Type 0
 AreStepTables p challenges tables =
     (g : ℕ) → g < length tables
     → HasSteps p (start_of g) (take 7 (drop (7 * g) challenges)) (slice_index_or tables g [])
+
+-- 1 with the sign of a number: the hash of a leaf in the split tree whose number is that and whose
+-- weight is 1
+abbrev pub sign : ℤ → ℤ
+sign (pos n) = pos 1
+sign (negsuc n) = negsuc 0

@@ -1,14 +1,18 @@
 //! The root of a vector's augmented tree, as two running numbers.
-ghost use Rattle.std.specs.Prelude.{◌≡◌, ℕ, ◌+◌, ◌*◌, ◌%◌, ◌^◌, ◌<◌, ◌≤◌, ℤ, pos, ◌+ℤ◌, nat_abs, List, All, take, length, min, replicate};
+ghost use Rattle.std.specs.Prelude.{◌≡◌, ℕ, ◌+◌, ◌*◌, ◌%◌, ◌^◌, ◌<◌, ◌≤◌, ℤ, pos, ◌+ℤ◌, nat_abs, List, ◌++◌, All, take, length, min, replicate};
 ghost use Rattle.sip_field.specs.Residue.{residue};
 ghost use Rattle.sip_tree.specs.Blocks.{hash_after, total_after};
 ghost use Rattle.sip_tree.specs.StandsFor.{AugRootStandsFor};
-ghost use Rattle.sip_vector.specs.Streams.{most_weight};
+ghost use Rattle.sip_vector.specs.Lines.{added_numbers};
+ghost use Rattle.sip_vector.specs.Streams.{most_weight, vector};
+ghost use Rattle.sip_vector.specs.declared.update.Side.{Side as AnySide};
+ghost use Rattle.sip_vector.specs.declared.update.Update.{Update as AnyUpdate};
 ghost use Rattle.sip_vector.specs.Limits.{most_depth};
 ghost use Rattle.sip_vector.specs.Weights.{raised_numbers, numbers_after, hash_weight};
 
 use crate::hashing::hashed;
 use crate::steps::{Step, fill_steps};
+use crate::weight::hash_weighted;
 use sip_field::{Field, Seat};
 use sip_vector::Update;
 
@@ -60,7 +64,8 @@ impl<F: Field, const CAP: usize> AugRoot<F, CAP> {
             → AugRootStandsFor F.MODULUS self.new.seat self.new.hash self.new.total
             (raised_numbers numbers index delta) }
     {
-        let term = F::of_signed(delta).times(hash_weight(&self.seat, index));
+        let weight = hash_weighted(F::of(1), &self.seat, index);
+        let term = F::of_signed(delta).times(weight);
         self.hash = F::of_number(self.hash).plus(term).number();
         self.total += delta;
     }
@@ -101,6 +106,34 @@ impl<F: Field, const CAP: usize> AugRoot<F, CAP> {
         }
     }
 
+    /// The root of the entrywise sum, where `other` is that of more numbers for the same
+    /// challenges: so what two roots were fed with apart adds up, in any order.
+    ///
+    /// One `plus`, and no memory.
+    pub fn absorb(&mut self, other: &AugRoot<F, CAP>)
+        requires seat { other.now.seat ≡ self.old.seat }
+        requires weight { nat_abs (self.old.total +ℤ other.now.total) ≤ most_weight }
+        ensures seat { self.new.seat ≡ self.old.seat }
+        ensures hash { self.new.hash ≡ (self.old.hash + other.now.hash) % F.MODULUS }
+        ensures total { self.new.total ≡ self.old.total +ℤ other.now.total }
+        ensures stands { (numbers others : List ℤ)
+            → AugRootStandsFor F.MODULUS self.old.seat self.old.hash self.old.total numbers
+            → AugRootStandsFor F.MODULUS other.now.seat other.now.hash other.now.total others
+            → AugRootStandsFor F.MODULUS self.new.seat self.new.hash self.new.total
+            (added_numbers numbers others) }
+        ensures joins { (depth : ℕ) (stream more : List AnyUpdate) (side : AnySide)
+            → AugRootStandsFor F.MODULUS self.old.seat self.old.hash self.old.total
+            (vector depth stream side)
+            → AugRootStandsFor F.MODULUS other.now.seat other.now.hash other.now.total
+            (vector depth more side)
+            → AugRootStandsFor F.MODULUS self.new.seat self.new.hash self.new.total
+            (vector depth (stream ++ more) side) }
+    {
+        let more = F::of_number(other.hash);
+        self.hash = F::of_number(self.hash).plus(more).number();
+        self.total += other.total;
+    }
+
     /// The hash.
     pub fn hash(&self) -> F
         ensures { F.number result ≡ self.now.hash }
@@ -125,25 +158,4 @@ impl<F: Field, const CAP: usize> Default for AugRoot<F, CAP> {
     fn default() -> AugRoot<F, CAP> {
         AugRoot::new(Seat::default())
     }
-}
-
-// The factor of an entry in the hash. A level makes it h + r where the node stands left, and h *
-// r^2 + r^3, which is (h + r) * r^2, where it stands right: the second form has two products and
-// not three.
-fn hash_weight<F: Field, const CAP: usize>(seat: &Seat<F, CAP>, index: u64) -> F
-    ensures { F.number result ≡ hash_weight F.MODULUS index seat.now }
-{
-    let mut weight = F::of(1);
-    let mut path = index;
-    for below in 0..seat.depth() {
-        let r = seat.at(below + 1);
-        let sum = weight.plus(r);
-        weight = if path % 2 == 1 {
-            sum.times(r.times(r))
-        } else {
-            sum
-        };
-        path /= 2;
-    }
-    weight
 }

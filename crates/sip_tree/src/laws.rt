@@ -2,6 +2,7 @@
 ghost use Rattle.std.specs.Prelude.{◌≡◌, ℕ, ◌+◌, ◌-◌, ◌*◌, ◌%◌, ◌^◌, ◌<◌, ◌≤◌, ℤ, pos, ◌+ℤ◌, List, [], ◌∷◌, ◌++◌, true, false, length, map, take, replicate, slice_index};
 ghost use Rattle.sip_field.specs.Moduli.{m61_modulus};
 ghost use Rattle.sip_field.specs.Residue.{residue};
+ghost use Rattle.sip_vector.specs.Lines.{added_numbers, IsLinear, AddsUp};
 ghost use Rattle.sip_vector.specs.Streams.{same_side, vector};
 ghost use Rattle.sip_vector.specs.Trees.{up, tree, root, augroot};
 ghost use Rattle.sip_vector.specs.Weights.{raised_numbers, node_weight, weight_above, weighted_sum, hash_weight};
@@ -23,6 +24,25 @@ pub fn roots_of_a_raised_entry()
         → 0 < p → length numbers ≡ 2 ^ length challenges → i < length numbers
         → (augroot p (raised_numbers numbers i delta) challenges).count
         ≡ (augroot p numbers challenges).count +ℤ delta }
+{}
+
+/// Of an entrywise sum of numbers, and so of two streams, one behind the other, the root and the
+/// hash are the sums modulo p, and the count is the sum.
+pub fn roots_add_up()
+    ensures root { IsLinear root }
+    ensures hash { IsLinear (λ p numbers challenges. (augroot p numbers challenges).hash) }
+    ensures count { (p : ℕ) (numbers others : List ℤ) (challenges : List ℕ)
+        → 0 < p → length numbers ≡ length others
+        → (augroot p (added_numbers numbers others) challenges).count
+        ≡ (augroot p numbers challenges).count +ℤ (augroot p others challenges).count }
+    ensures root_of_streams { AddsUp root }
+    ensures hash_of_streams { AddsUp
+        (λ p numbers challenges. (augroot p numbers challenges).hash) }
+    ensures count_of_streams { (p depth : ℕ) (stream more : List AnyUpdate) (side : AnySide)
+        (challenges : List ℕ) → 0 < p
+        → (augroot p (vector depth (stream ++ more) side) challenges).count
+        ≡ (augroot p (vector depth stream side) challenges).count
+        +ℤ (augroot p (vector depth more side) challenges).count }
 {}
 
 /// The roots of zeros, however many, are 0.

@@ -8,6 +8,9 @@
 //! - [`Root`] is the root of the tree in which a node is `left + r * right`. [`Root::weight_above`]
 //!   is the factor that a node has in it.
 //! - [`AugRoot`] is the root of the augmented tree: a hash, and the sum of the vector.
+//! - [`SplitRoot`] is the root of the split tree: a hash, and the sum of the weights, which is that
+//!   of the absolute values of all that was added. Where nothing was taken away it is the augmented
+//!   root.
 //! - [`up`] folds a level of nodes to the one above.
 //!
 //! # What the contracts say
@@ -19,9 +22,13 @@
 //! root.value numbers` of its own vector has it again after each update, whatever the order of the
 //! updates. The clauses `value` and `hash` say besides which number comes out, for all numbers.
 //!
-//! [`laws`] has the facts of the definitions alone: what a raised entry does to a root, that the
-//! root is the sum of a level's nodes each times its weight, that a fold keeps such a sum, and what
-//! an update does to the vector of a stream.
+//! A root is linear in its numbers: [`Root::absorb`], [`AugRoot::absorb`] and [`SplitRoot::absorb`]
+//! go from two roots for the same challenges to that of the entrywise sum, which is the vector of
+//! both streams.
+//!
+//! [`laws`] has the facts of the definitions alone: what a raised entry does to a root, that roots
+//! add up, that the root is the sum of a level's nodes each times its weight, that a fold keeps such
+//! a sum, and what an update does to the vector of a stream.
 //!
 //! # Cost
 //!
@@ -32,12 +39,13 @@
 //!
 //! | Call | `times` | Beside it |
 //! |---|---|---|
-//! | `Root::new`, `Root::value`, `AugRoot::new`, `AugRoot::hash`, `AugRoot::total` | 0 | |
+//! | `new` of each, `Root::value`, `AugRoot::hash`, `AugRoot::total`, `SplitRoot::hash`, `SplitRoot::weight` | 0 | |
 //! | `Root::update` | one for each bit that is 1, d at most | d steps along the bits, one `of_signed` and one `plus` |
 //! | `Root::update_all` of 32 and more | one for an update and 7 challenges, and 127 for 7 challenges | an `of_signed` and a `plus` for an update |
+//! | `absorb` of each | 0 | one `plus` |
 //! | `Root::weight_above` | one for each bit that is 1, d - level at most | d - level steps along the bits |
-//! | `AugRoot::update` | two for each bit that is 1, and one: 2d + 1 at most | d steps along the bits, each with one `plus`; one `of_signed` |
-//! | `AugRoot::update_all` of 32 and more | one for an update and 7 challenges, and 261 for 7 challenges | an `of_signed` for an update and a sum for each of its `times`, and 127 `plus` for 7 challenges |
+//! | `AugRoot::update`, `SplitRoot::update` | two for each bit that is 1, and one: 2d + 1 at most | d steps along the bits, each with one `plus`; one `of_signed` |
+//! | `AugRoot::update_all`, `SplitRoot::update_all` of 32 and more | one for an update and 7 challenges, and 261 for 7 challenges | an `of_signed` for an update and a sum for each of its `times`, and 127 `plus` for 7 challenges |
 //! | `up` | n / 2 | n / 2 `plus` |
 #![tactic(auto)]
 
@@ -47,9 +55,11 @@ mod fold;
 mod hashing;
 pub mod laws;
 mod root;
+mod split;
 mod steps;
 mod weight;
 
 pub use augmented::AugRoot;
 pub use fold::up;
 pub use root::Root;
+pub use split::SplitRoot;

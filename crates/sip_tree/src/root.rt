@@ -1,9 +1,13 @@
 //! The root of a vector's tree, as a running number.
-ghost use Rattle.std.specs.Prelude.{◌≡◌, ◌+◌, ◌-◌, ◌*◌, ◌%◌, ◌^◌, ◌<◌, ◌≤◌, ℤ, pos, List, All, length, min, replicate};
+ghost use Rattle.std.specs.Prelude.{◌≡◌, ℕ, ◌+◌, ◌-◌, ◌*◌, ◌%◌, ◌^◌, ◌<◌, ◌≤◌, ℤ, pos, List, ◌++◌, All, length, min, replicate};
 ghost use Rattle.sip_field.specs.Residue.{residue};
 ghost use Rattle.sip_tree.specs.Blocks.{root_after};
 ghost use Rattle.sip_tree.specs.StandsFor.{RootStandsFor};
 ghost use Rattle.sip_vector.specs.Limits.{most_depth};
+ghost use Rattle.sip_vector.specs.Lines.{added_numbers};
+ghost use Rattle.sip_vector.specs.Streams.{vector};
+ghost use Rattle.sip_vector.specs.declared.update.Side.{Side as AnySide};
+ghost use Rattle.sip_vector.specs.declared.update.Update.{Update as AnyUpdate};
 ghost use Rattle.sip_vector.specs.Weights.{raised_numbers, numbers_after, node_weight, weight_above};
 
 use crate::adding::added_by_tables;
@@ -79,6 +83,28 @@ impl<F: Field, const CAP: usize> Root<F, CAP> {
             let root = F::of_number(self.value);
             self.value = added_by_tables(root, &tables[..count], updates).number();
         }
+    }
+
+    /// The root of the entrywise sum, where `other` is that of more numbers for the same
+    /// challenges: so what two roots were fed with apart adds up, in any order.
+    ///
+    /// One `plus`, and no memory.
+    pub fn absorb(&mut self, other: &Root<F, CAP>)
+        requires { other.now.seat ≡ self.old.seat }
+        ensures seat { self.new.seat ≡ self.old.seat }
+        ensures value { self.new.value ≡ (self.old.value + other.now.value) % F.MODULUS }
+        ensures stands { (numbers others : List ℤ)
+            → RootStandsFor F.MODULUS self.old.seat self.old.value numbers
+            → RootStandsFor F.MODULUS other.now.seat other.now.value others
+            → RootStandsFor F.MODULUS self.new.seat self.new.value (added_numbers numbers others) }
+        ensures joins { (depth : ℕ) (stream more : List AnyUpdate) (side : AnySide)
+            → RootStandsFor F.MODULUS self.old.seat self.old.value (vector depth stream side)
+            → RootStandsFor F.MODULUS other.now.seat other.now.value (vector depth more side)
+            → RootStandsFor F.MODULUS self.new.seat self.new.value
+            (vector depth (stream ++ more) side) }
+    {
+        let more = F::of_number(other.value);
+        self.value = F::of_number(self.value).plus(more).number();
     }
 
     /// The root.

@@ -1,7 +1,8 @@
 //! What a seat's levels make of a hash, worked out once for many updates.
 ghost use Rattle.std.specs.Prelude.{◌≡◌, ℕ, List, ◌+◌, ◌*◌, ◌/◌, ◌%◌, ◌^◌, ◌<◌, ◌≤◌, All, length, take, drop};
-ghost use Rattle.sip_tree.specs.Steps.{HasSteps, AreStepTables, IsBelow};
-ghost use Rattle.sip_vector.specs.Weights.{hash_weight};
+ghost use Rattle.sip_field.specs.Residue.{residue};
+ghost use Rattle.sip_tree.specs.Steps.{HasSteps, AreStepTables, IsBelow, sign};
+ghost use Rattle.sip_vector.specs.Weights.{hash_weight, hash_weight_from};
 
 use sip_field::{Field, Seat};
 
@@ -84,6 +85,36 @@ pub(crate) fn fill_steps<F: Field, const CAP: usize>(
     count
 }
 
+/// A number with the residue of what all tables but the first make of a hash, along the bits of a
+/// path. It is below 7 * 2^61.
+///
+/// One `loose_times` for each of them.
+#[inline(always)]
+fn loosely_from<F: Field>(tables: &[[Step; 128]], hash: u64, path: u64) -> u64
+    requires some { 1 ≤ length tables.now }
+    requires few { length tables.now ≤ 7 }
+    requires below { All (All (IsBelow F.MODULUS)) tables.now }
+    requires hash { hash < F.MODULUS }
+    ensures most { result < 7 * 2 ^ 61 }
+    ensures hash { (challenges : List ℕ) → AreStepTables F.MODULUS challenges tables.now
+        → length challenges ≤ 7 * length tables.now → path < 2 ^ length (drop 7 challenges)
+        → result % F.MODULUS ≡ hash_weight_from F.MODULUS hash path (drop 7 challenges) }
+{
+    let mut weight = hash;
+    let mut rest = path;
+    for group in 1..tables.len() {
+        // A step makes the number longer by less than 2^62, and 64 bits have room for three steps
+        // from a residue on.
+        if group == 4 {
+            weight = F::of(weight).number();
+        }
+        let step = tables[group][(rest % 128) as usize];
+        weight = F::loose_times(weight, step.scale) + step.shift;
+        rest /= 128;
+    }
+    weight
+}
+
 /// A number with the residue of the factor of an entry in the hash, by the tables of all levels. It
 /// is below 7 * 2^61.
 ///
@@ -97,17 +128,31 @@ pub(crate) fn loosely_by_steps<F: Field>(tables: &[[Step; 128]], index: u64) -> 
         → length challenges ≤ 7 * length tables.now → index < 2 ^ length challenges
         → result % F.MODULUS ≡ hash_weight F.MODULUS index challenges }
 {
-    let mut weight = tables[0][(index % 128) as usize].shift;
-    let mut path = index / 128;
-    for group in 1..tables.len() {
-        // A step makes the number longer by less than 2^62, and 64 bits have room for three steps
-        // from a residue on.
-        if group == 4 {
-            weight = F::of(weight).number();
-        }
-        let step = tables[group][(path % 128) as usize];
-        weight = F::loose_times(weight, step.scale) + step.shift;
-        path /= 128;
+    let step = tables[0][(index % 128) as usize];
+    loosely_from::<F>(tables, step.shift, index / 128)
+}
+
+/// Likewise for a leaf whose hash is 1 or -1, by the sign of `delta`.
+pub(crate) fn loosely_by_signed_steps<F: Field>(
+    tables: &[[Step; 128]],
+    index: u64,
+    delta: i64,
+) -> u64
+    requires some { 1 ≤ length tables.now }
+    requires few { length tables.now ≤ 7 }
+    requires below { All (All (IsBelow F.MODULUS)) tables.now }
+    ensures most { result < 7 * 2 ^ 61 }
+    ensures weight { (challenges : List ℕ) → AreStepTables F.MODULUS challenges tables.now
+        → length challenges ≤ 7 * length tables.now → index < 2 ^ length challenges
+        → result % F.MODULUS
+        ≡ hash_weight_from F.MODULUS (residue F.MODULUS (sign delta)) index challenges }
+{
+    let step = tables[0][(index % 128) as usize];
+    let mut hash = step.shift;
+    if delta < 0 {
+        // The table is for the leaf 1, which is 2 more than -1.
+        let scale = F::of_number(step.scale);
+        hash = F::of_number(step.shift).minus(scale).minus(scale).number();
     }
-    weight
+    loosely_from::<F>(tables, hash, index / 128)
 }

@@ -1,6 +1,8 @@
-//! The factor that a node has in the root.
+//! The factor that a node has in the root, and in the hash of an augmented root.
 ghost use Rattle.std.specs.Prelude.{◌≡◌, ◌*◌, ◌%◌, ◌≤◌, length};
-ghost use Rattle.sip_vector.specs.Weights.{weight_above};
+ghost use Rattle.sip_field.specs.Residue.{residue};
+ghost use Rattle.sip_tree.specs.Steps.{sign};
+ghost use Rattle.sip_vector.specs.Weights.{weight_above, hash_weight_from};
 
 use sip_field::{Field, Seat};
 
@@ -27,4 +29,38 @@ pub(crate) fn weighted<F: Field, const CAP: usize>(
         path /= 2;
     }
     product
+}
+
+/// What the levels of a seat make of the hash of a leaf: 1 becomes the factor of an entry in the
+/// hash. A level makes h + r of h where the node stands left, and h * r^2 + r^3, which is (h + r) *
+/// r^2, where it stands right: the second form has two products and not three.
+pub(crate) fn hash_weighted<F: Field, const CAP: usize>(
+    leaf: F,
+    seat: &Seat<F, CAP>,
+    index: u64,
+) -> F
+    ensures { F.number result ≡ hash_weight_from F.MODULUS (F.number leaf) index seat.now }
+{
+    let mut weight = leaf;
+    let mut path = index;
+    for below in 0..seat.depth() {
+        let r = seat.at(below + 1);
+        let sum = weight.plus(r);
+        weight = if path % 2 == 1 {
+            sum.times(r.times(r))
+        } else {
+            sum
+        };
+        path /= 2;
+    }
+    weight
+}
+
+/// The hash of a leaf in the split tree whose value has this sign and whose weight is 1: 1, or -1
+/// below 0.
+pub(crate) fn sign_of<F: Field>(delta: i64) -> F
+    ensures { F.number result ≡ residue F.MODULUS (sign delta) }
+{
+    let sign = if delta < 0 { -1 } else { 1 };
+    F::of_signed(sign)
 }

@@ -7,6 +7,9 @@ pub mod Folds
 pub mod Sums
 pub mod Products
 pub mod Sides
+pub mod Lines
+pub mod Splits
+pub mod SplitTree
 pub mod Kept
 pub mod Filters
 pub mod SpotsAbove

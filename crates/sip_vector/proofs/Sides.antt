@@ -15,12 +15,14 @@ use Rattle.sip_vector.specs.Vectors.{number_at, zeros, with_update, side_vector,
 use Rattle.sip_vector.proofs.Kept.{same_parts}
 use Rattle.sip_vector.proofs.Sums.{int_sum-append, int_sum-set, int_sum-zeros}
 
-total-append : (s t : List Update) (side : Side) → total (s ++ t) side ≡ total s side +ℤ total t side
+-- the total of two streams, one after the other, is the sum
+pub total-append : (s t : List Update) (side : Side) → total (s ++ t) side ≡ total s side +ℤ total t side
 total-append s t side =
     rw (filter-append (λ (u : Update). same_side u.side side) s t, map-append (λ (u : Update). u.delta) (of_side s side) (of_side t side))
     (int_sum-append (map (λ (u : Update). u.delta) (of_side s side)) (map (λ (u : Update). u.delta) (of_side t side)))
 
-frequency-append : (s t : List Update) (side : Side) (item : ℕ) → frequency (s ++ t) side item ≡ frequency s side item +ℤ frequency t side item
+-- and so is that of an item
+pub frequency-append : (s t : List Update) (side : Side) (item : ℕ) → frequency (s ++ t) side item ≡ frequency s side item +ℤ frequency t side item
 frequency-append s t side item =
     rw (filter-append (λ (u : Update). u.item == item) s t)
     (total-append (filter (λ (u : Update). u.item == item) s) (filter (λ (u : Update). u.item == item) t) side)

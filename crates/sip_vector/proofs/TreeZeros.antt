@@ -29,7 +29,7 @@ root_of_zeros p n challenges =
     ap (λ level. top p level challenges) (map_replicate (residue p) n (pos 0) ∙ ap (replicate n) (zero-mod p)) ∙ top_zeros p n challenges
 
 -- likewise in the augmented tree
-abbrev nothing : Counted
+abbrev pub nothing : Counted
 nothing = record { hash = 0; count = pos 0 }
 
 up3_zeros : (p r n : ℕ) → up3 p (replicate n nothing) r ≡ replicate (n / 2) nothing
@@ -41,7 +41,7 @@ up3_zeros p r (suc (suc n)) =
     let node : parent p nothing nothing r ≡ nothing = same_node _ _ _ _ (ap (λ k. k % p) zeros ∙ zero-mod p) refl in
     rw half (ap (λ x. x ∷ up3 p (replicate n nothing) r) node ∙ ap (λ xs. nothing ∷ xs) (up3_zeros p r n))
 
-counted_top_zeros : (p n : ℕ) (challenges : List ℕ) → counted_top p (replicate n nothing) challenges ≡ nothing
+pub counted_top_zeros : (p n : ℕ) (challenges : List ℕ) → counted_top p (replicate n nothing) challenges ≡ nothing
 counted_top_zeros p zero [] = same_node _ _ _ _ (zero-mod p) refl
 counted_top_zeros p (suc n) [] = refl
 counted_top_zeros p n (r ∷ challenges) = rw (up3_zeros p r n) (counted_top_zeros p (n / 2) challenges)

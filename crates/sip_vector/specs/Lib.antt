@@ -12,4 +12,6 @@ pub mod Examples
 pub mod Pieces
 pub mod Steps
 pub mod Weights
+pub mod Lines
+pub mod Splits
 pub mod inside

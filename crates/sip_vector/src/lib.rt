@@ -19,12 +19,15 @@
 //! | `Thresholds` | from which entry on a query for heavy hitters asks, and whether its answer may be too wide |
 //! | `Limits` | how large things are at the most |
 //! | `Trees`, `Extensions`, `Levels` | the two hash trees over a vector; its multilinear extension; the level above |
+//! | `Splits` | the weights of a side's items, which only grow; the tree that hashes a vector and counts by weights |
+//! | `Lines` | what is linear in a vector, and so adds up over streams |
 //! | `Sparse` | lists that are kept by the entries at which they are not 0 |
 //!
 //! A contract sees a [`Vector`] as the list of its `2^depth` numbers with its weight, and a
 //! [`Level`] as the list of all its residues, though both keep only what is not 0.
 //! [`laws::vectors_add_up`] ties a vector to a stream: the vector to which the updates of a side
-//! were added is `side_vector` of the stream.
+//! were added is `side_vector` of the stream. [`laws::streams_add_up`] says what two streams, one
+//! behind the other, come to.
 //!
 //! # Cost
 //!

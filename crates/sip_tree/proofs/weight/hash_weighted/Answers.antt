@@ -1,16 +1,9 @@
-use Rattle.std.proofs.Common.{◌<◌, sym, ◌∙◌, ap, arith}
-use Rattle.std.proofs.Math.Nat.{mod-eq_of_lt}
+use Rattle.std.proofs.Common.{sym, ◌∙◌, ap, arith}
 use Rattle.std.proofs.lemmas.List.{drop_all}
 use Rattle.sip_vector.specs.Weights.{hash_weight_from}
 use Rattle.sip_tree.proofs.WeightSteps.{hash_right, hash_left}
-use Rattle.sip_tree.proofs.augmented.hash_weight.Goals as goal
-use Rattle.sip_tree.proofs.augmented.hash_weight.Goals.{then-path-eq1, else-path-eq1}
-
-pub loop-below-init : goal.loop-below-init
-loop-below-init g c =
-    let p = g.F.Field.MODULUS in
-    let above : 1 < p = omega (arith, g.met.F.Field.at_least) in
-    ap (λ h. hash_weight_from p h c.args.index c.args.seat.now) (c.of-weight.ensures ∙ mod-eq_of_lt above)
+use Rattle.sip_tree.proofs.weight.hash_weighted.Goals as goal
+use Rattle.sip_tree.proofs.weight.hash_weighted.Goals.{then-path-eq1, else-path-eq1}
 
 pub loop-below-preserved : goal.loop-below-preserved
 loop-below-preserved g c = elim c.if-path-eq1.branch [
