@@ -24,7 +24,7 @@ use Rattle.sip_verifier.specs.declared.status.Status.{Status}
 use Rattle.sip_verifier.specs.declared.status.Status.TheVariants as statuses
 use Rattle.sip_verifier.specs.declared.task.Task.{Task}
 use Rattle.sip_verifier.specs.Exchanges.{Appends, Exchange, Tells}
-use Rattle.sip_verifier.specs.Moments.{Moment, IsTold}
+use Rattle.sip_verifier.specs.Snapshots.{Snapshot, IsTold}
 use Rattle.sip_verifier.specs.Promises.{Promises}
 use Rattle.sip_verifier.specs.RunClause.{RunClause}
 use Rattle.sip_verifier.specs.Statuses.{FaultClause}
@@ -45,7 +45,7 @@ use Rattle.sip_cli.proofs.UnkeptRuns.{caused, completed, faulted, moves_all, tel
 
 -- ---- what each command keeps
 
-module _ (before now : Moment) (status : Status) where
+module _ (before now : Snapshot) (status : Status) where
   -- a stream was copied at a depth from one form to another
   abbrev Copied : ℕ → Form → Form → Type 0
   Copied depth from to = (bytes : List ℕ) → before.first ≡ Some bytes
@@ -80,7 +80,7 @@ module _ (before now : Moment) (status : Status) where
   Keeps HelpMoments = HelpClause ServesMoments before.talk now.talk status
   Keeps (Panel task names) = Verified task
 
-module _ {before now : Moment} {status : Status} where
+module _ {before now : Snapshot} {status : Status} where
   -- where the command is known, what it keeps is all that is to be kept
   pub obeys : {c : Command} (d : Command) → c ≡ d → Keeps before now status d
       → (IsTold before → (x : Exchange) × Tells before now x)
@@ -198,7 +198,7 @@ module _ {before now : Moment} {status : Status} where
   }
 
 -- where nothing is a command and nothing moved
-pub none_keeps : {Is : Command → Type 0} {m : Moment} (word : ℕ)
+pub none_keeps : {Is : Command → Type 0} {m : Snapshot} (word : ℕ)
     → ((command : Command) → Is command → ⊥) → CommandClause Is m m (statuses.Usage word)
 none_keeps {m = m} word none = record {
   verify = λ task is. absurd (none (Verify task) is);
@@ -230,7 +230,7 @@ went_on old new bytes told = rw (told.1, told.2) refl
 
 -- an audit, by whose ports there is an exchange, where the link and the record of a talk are as
 -- they were
-pub audit_moves : (form : Form) (before now : Moment) (status : Status)
+pub audit_moves : (form : Form) (before now : Snapshot) (status : Status)
     → AuditClause form before now status
     → GoesOn before.talk now.talk [] → GoesOn before.keep now.keep []
     → IsTold before → (x : Exchange) × Tells before now x

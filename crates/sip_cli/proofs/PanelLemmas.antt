@@ -14,7 +14,7 @@ use Rattle.sip_verifier.specs.declared.task.Task.{Task}
 use Rattle.sip_verifier.specs.Tasks.{CanBeDone}
 use Rattle.sip_verifier.proofs.RunTalks.{nothing_reported}
 use Rattle.sip_session.specs.PanelClause.{PanelRunClause}
-use Rattle.sip_session.specs.PanelExchanges.{panel_moment}
+use Rattle.sip_session.specs.PanelExchanges.{panel_snapshot}
 use Rattle.sip_session.proofs.Begun.{queries_few}
 use Rattle.sip_session.proofs.PanelRuns.{not_begun, panel_tells}
 use Rattle.sip_cli.specs.declared.command.Command.{Command}
@@ -42,8 +42,8 @@ module _ (helpers : ℕ) (task : Task) (some : 0 < helpers) (can : CanBeDone tas
     (few : helpers * length task.queries.items ≤ most_queries)
     (first second : Option (List ℕ)) (firsts seconds : ℕ) (report : Option (List TalkEvent)) (reports : ℕ) where
   -- it wanted memory
-  begun_not : PanelRunClause helpers task (panel_moment first firsts second seconds (replicate helpers []) report reports)
-      (panel_moment first firsts second seconds (replicate helpers []) report reports) statuses.OutOfMemory
+  begun_not : PanelRunClause helpers task (panel_snapshot first firsts second seconds (replicate helpers []) report reports)
+      (panel_snapshot first firsts second seconds (replicate helpers []) report reports) statuses.OutOfMemory
   begun_not = record {
     promises = λ x t.
         not_begun helpers task some can deep most (queries_few helpers (length task.queries.items) most_queries some few) x _ _ (λ r. Rose-positive 0 0 r refl) (λ r. Rose-positive 0 0 r refl) first (replicate helpers []) (length-replicate helpers [])
@@ -55,8 +55,8 @@ module _ (helpers : ℕ) (task : Task) (some : 0 < helpers) (can : CanBeDone tas
   }
 
   -- and keeps what words of `panel` do
-  pub unbegun : PanelWordsClause task helpers (λ talks. panel_moment first firsts second seconds talks report reports)
-      (λ talks. panel_moment first firsts second seconds talks report reports) statuses.OutOfMemory
+  pub unbegun : PanelWordsClause task helpers (λ talks. panel_snapshot first firsts second seconds talks report reports)
+      (λ talks. panel_snapshot first firsts second seconds talks report reports) statuses.OutOfMemory
   unbegun = record {
     talks = replicate helpers [];
     keeps = begun_not;

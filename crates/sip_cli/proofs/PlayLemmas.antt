@@ -11,7 +11,7 @@ use Rattle.sip_verifier.specs.Concluding.{Ended}
 use Rattle.sip_verifier.specs.Exchanges.{Exchange, Tells}
 use Rattle.sip_verifier.specs.Inquiries.{inquiry_of}
 use Rattle.sip_verifier.specs.KeepClause.{Keeps}
-use Rattle.sip_verifier.specs.Moments.{Moment, moment}
+use Rattle.sip_verifier.specs.Snapshots.{PortState, Snapshot, snapshot, tells}
 use Rattle.sip_verifier.specs.Promises.{Promises}
 use Rattle.sip_verifier.specs.RunClause.{RunClause}
 use Rattle.sip_verifier.specs.Tasks.{CanBeDone}
@@ -34,10 +34,10 @@ nothing_is_honest = inl (record { steps = []; part = []; give = []; follows = re
 
 module _ (task : Task) (can : CanBeDone task) (some : 1 ≤ task.depth) (most : task.depth ≤ most_depth) where
   -- it wanted memory
-  wanted : (m : Moment) (x : Exchange) → Tells m m x → Ended (inquiry_of task x) x m.faults m.faults statuses.OutOfMemory
+  wanted : (m : Snapshot) (x : Exchange) → Tells m m x → Ended (inquiry_of task x) x m.faults m.faults statuses.OutOfMemory
   wanted m x t = after_gather asking task.queries.items task x m.faults m.faults statuses.OutOfMemory _ _ t.talk (nothing_reported _ _ t.report) (inl refl) tt
 
-  unbegun_promises : (m : Moment) (x : Exchange) → Tells m m x → Promises task x m.faults m.faults statuses.OutOfMemory
+  unbegun_promises : (m : Snapshot) (x : Exchange) → Tells m m x → Promises task x m.faults m.faults statuses.OutOfMemory
   unbegun_promises m x t =
       let e = wanted m x t in
       let counted = task_counted task x can some statuses.OutOfMemory e.verdict refl in
@@ -51,7 +51,7 @@ module _ (task : Task) (can : CanBeDone task) (some : 1 ≤ task.depth) (most : 
         kept = kept_is (Keeps task x statuses.OutOfMemory) m.keep m.keep [] x.kept (GoesOn-refl m.keep) t.kept (inl refl);
       }
 
-  pub unbegun : (m : Moment) → RunClause task m m statuses.OutOfMemory
+  pub unbegun : (m : Snapshot) → RunClause task m m statuses.OutOfMemory
   unbegun m = record {
     promises = unbegun_promises m;
     moves = λ is. tells m m is (λ some. some) [] (GoesOn-refl _) [] (GoesOn-refl _) [] (GoesOn-refl _);
@@ -71,6 +71,6 @@ pub none_of_play : (words : List (List ℕ)) (n : ℕ) → IsRefusedAt words n �
 none_of_play words n refused task name spells = spelled_not_refused words (Play task name) n spells refused
 
 -- a link on which nothing has happened tells no event
-pub tells_on : {items : List TalkEvent} → items ≡ [] → {first second : Option (List ℕ)} {report keep : Option (List TalkEvent)} {a b c d e : ℕ} {now : Moment} {x : Exchange}
-    → Tells (moment first a second b (Some []) c report d keep e) now x → Tells (moment first a second b (Some items) c report d keep e) now x
+pub tells_on : {items : List TalkEvent} → items ≡ [] → {first second : PortState ℕ} {report keep : PortState TalkEvent} {now : Snapshot} {x : Exchange}
+    → Tells (snapshot first second (tells []) report keep) now x → Tells (snapshot first second (tells items) report keep) now x
 tells_on none t = record { stream = t.stream; unread = t.unread; seed = t.seed; talk = (t.talk.0, ap Some none ∙ t.talk.1, t.talk.2); report = t.report; kept = t.kept }

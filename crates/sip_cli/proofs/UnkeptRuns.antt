@@ -7,7 +7,7 @@ use Rattle.sip_verifier.specs.declared.status.Port.TheVariants as ports
 use Rattle.sip_verifier.specs.declared.status.Status.{Status}
 use Rattle.sip_verifier.specs.declared.status.Status.TheVariants as statuses
 use Rattle.sip_verifier.specs.Exchanges.{Appends, Exchange, Tells}
-use Rattle.sip_verifier.specs.Moments.{Counts, Moment, IsTold}
+use Rattle.sip_verifier.specs.Snapshots.{Counts, Snapshot, IsTold}
 use Rattle.sip_verifier.specs.runs.CauseClause.{CauseClause}
 use Rattle.sip_verifier.specs.runs.CompletenessClause.{CompletenessClause, Honesty}
 use Rattle.sip_verifier.specs.runs.Manners.{Asking}
@@ -20,7 +20,7 @@ abbrev pub uncounted : Counts → Counts
 uncounted c = record c { keep = 0 }
 
 -- a moment without what the record tells
-abbrev pub untold : Moment → Moment
+abbrev pub untold : Snapshot → Snapshot
 untold m = record m { keep = None; faults = uncounted m.faults }
 
 -- ---- exchanges
@@ -36,7 +36,7 @@ kept_on old new same =
     subst (λ (o : Option (List TalkEvent)). (kept : Option (List ℕ)) × Appends old o kept)
     (sym same) (none_new old)
 
-module _ {before now : Moment} where
+module _ {before now : Snapshot} where
   -- what all ports tell, those but the record tell
   pub tells_rest : {x : Exchange} → Tells before now x
       → Tells (untold before) (untold now) (unkept x)

@@ -26,7 +26,7 @@ use Rattle.sip_transcript.specs.Writing.{Writes}
 use Rattle.sip_verifier.specs.declared.status.Status.{Status}
 use Rattle.sip_verifier.specs.declared.task.Task.{Task}
 use Rattle.sip_verifier.specs.Exchanges.{Exchange, Tells}
-use Rattle.sip_verifier.specs.Moments.{Counts, Moment, IsTold}
+use Rattle.sip_verifier.specs.Snapshots.{Counts, Snapshot, IsTold}
 use Rattle.sip_verifier.specs.Promises.{Promises}
 use Rattle.sip_verifier.specs.runs.Promises as runs
 use Rattle.sip_verifier.specs.Statuses.{FaultClause}
@@ -41,7 +41,7 @@ MomentPromises task x before now status =
     runs.Promises asking counting honesty (run_of task x) x before now status
 
 -- `Is command` says which command it is
-pub record CommandClause (Is : Command → Type 0) (before now : Moment) (status : Status)
+pub record CommandClause (Is : Command → Type 0) (before now : Snapshot) (status : Status)
     : Type 0 where
   -- `verify`: the seven promises, on the exchange that the ports tell
   pub verify : (task : Task) → Is (Verify task) → (x : Exchange) → Tells before now x

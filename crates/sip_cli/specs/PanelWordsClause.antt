@@ -5,7 +5,7 @@
 use Rattle.std.specs.Prelude.{◌≢◌, ℕ, List, [], replicate}
 use Rattle.sip_ports.specs.declared.port.TalkEvent.{TalkEvent}
 use Rattle.sip_session.specs.PanelClause.{PanelRunClause}
-use Rattle.sip_session.specs.PanelExchanges.{PanelMoment}
+use Rattle.sip_session.specs.PanelExchanges.{PanelSnapshot}
 use Rattle.sip_verifier.specs.declared.status.Port.TheVariants.{Keep}
 use Rattle.sip_verifier.specs.declared.status.Status.{Status}
 use Rattle.sip_verifier.specs.declared.status.Status.TheVariants as statuses
@@ -15,7 +15,7 @@ use Rattle.sip_verifier.specs.declared.task.Task.{Task}
 -- events on the links in the order of the helpers, and `now talks` the moment after it. Nothing has
 -- happened on the links before.
 pub record PanelWordsClause (task : Task) (helpers : ℕ)
-    (before now : List (List TalkEvent) → PanelMoment) (status : Status) : Type 0 where
+    (before now : List (List TalkEvent) → PanelSnapshot) (status : Status) : Type 0 where
   pub talks : List (List TalkEvent)
   -- all that a run over so many links keeps
   pub keeps : PanelRunClause helpers task (before (replicate helpers [])) (now talks) status

@@ -10,14 +10,14 @@ use Rattle.sip_verifier.specs.declared.status.Status.{Status}
 use Rattle.sip_verifier.specs.declared.status.Status.TheVariants as statuses
 use Rattle.sip_verifier.specs.declared.task.Task.{Task}
 use Rattle.sip_verifier.specs.Exchanges.{Exchange, Tells}
-use Rattle.sip_verifier.specs.Moments.{Moment}
+use Rattle.sip_verifier.specs.Snapshots.{Snapshot}
 use Rattle.sip_verifier.specs.RunClause.{RunClause}
 
 -- `before` is the moment before the run, at which nothing has happened on the link, and `now talk`
 -- the moment after it if these are the events on the link; `IsHonest` says that the helper is the
 -- honest one
-pub record PlayClause (task : Task) (IsHonest : Type 0) (before : Moment)
-    (now : List TalkEvent → Moment) (status : Status) : Type 0 where
+pub record PlayClause (task : Task) (IsHonest : Type 0) (before : Snapshot)
+    (now : List TalkEvent → Snapshot) (status : Status) : Type 0 where
   pub talk : List TalkEvent
   -- all that a run of `verify` keeps
   pub keeps : RunClause task before (now talk) status

@@ -3,7 +3,7 @@
 ghost use Rattle.std.specs.Prelude.{◌≡◌, ◌⊎◌, ◌≤◌, ℕ, List, Some, IsSome};
 ghost use Rattle.sip_ports.specs.Ports.{GoesOn, Lasts, Rose, outs};
 ghost use Rattle.sip_vector.specs.Limits.{most_narrow_depth};
-ghost use Rattle.sip_verifier.specs.Moments.{counts};
+ghost use Rattle.sip_verifier.specs.Snapshots.{counts};
 ghost use Rattle.sip_verifier.specs.Statuses.{FaultClause};
 ghost use Rattle.sip_cli.specs.CopyClause.{CopyClause};
 ghost use Rattle.sip_cli.specs.Statuses.{EndsCopy};

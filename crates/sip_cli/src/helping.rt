@@ -6,7 +6,7 @@ ghost use Rattle.sip_ports.specs.Ports.{GoesOn, Lasts, Rose};
 ghost use Rattle.sip_helper.specs.Serving.{Serves};
 ghost use Rattle.sip_lookup.specs.Serving.{ServesLooks};
 ghost use Rattle.sip_moments.specs.Serving.{ServesMoments};
-ghost use Rattle.sip_verifier.specs.Moments.{Counts, counts};
+ghost use Rattle.sip_verifier.specs.Snapshots.{Counts, counts};
 ghost use Rattle.sip_verifier.specs.Statuses.{FaultClause};
 ghost use Rattle.sip_cli.specs.HelpClause.{HelpClause, status_of};
 ghost use Rattle.sip_cli.specs.Statuses.{EndsHelp};

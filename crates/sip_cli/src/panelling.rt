@@ -3,7 +3,7 @@
 ghost use Rattle.std.specs.Prelude.{◌≡◌, ◌*◌, ◌<◌, ◌≤◌, None, IfOk, OnErr, MatchOption, length};
 ghost use Rattle.arrayvec.specs.ArrayVec.{ArrayVec as AnyNames};
 ghost use Rattle.sip_ports.specs.Ports.{Lasts};
-ghost use Rattle.sip_session.specs.PanelExchanges.{panel_moment};
+ghost use Rattle.sip_session.specs.PanelExchanges.{panel_snapshot};
 ghost use Rattle.sip_verifier.specs.declared.task.Task.{Task as AnyTask};
 ghost use Rattle.sip_verifier.specs.Exchanges.{TakesAtMost};
 ghost use Rattle.sip_verifier.specs.Tasks.{CanBeDone};
@@ -38,9 +38,9 @@ fn panel_named<A: Source, B: Source, K: Sink>(
     requires some { 0 < length names.now }
     requires few { length names.now * length task.now.queries.items ≤ most_queries }
     ensures seated { IfOk result (PanelWordsClause task.now (length names.now)
-        (λ talks. panel_moment (A.left first.old) (A.faults first.old) (B.left second.old)
+        (λ talks. panel_snapshot (A.left first.old) (A.faults first.old) (B.left second.old)
         (B.faults second.old) talks (K.talk report.old) (K.faults report.old))
-        (λ talks. panel_moment (A.left first.new) (A.faults first.new) (B.left second.new)
+        (λ talks. panel_snapshot (A.left first.new) (A.faults first.new) (B.left second.new)
         (B.faults second.new) talks (K.talk report.new) (K.faults report.new))) }
     ensures unbegun { OnErr result ((first.new ≡ first.old) × (second.new ≡ second.old)
         × (report.new ≡ report.old)) }
@@ -97,9 +97,9 @@ pub fn panel_words<A: Source, B: Source, K: Sink>(
         (λ status. (task : AnyTask) × (names : AnyNames AnyName)
         × Spells words.now (Command.Panel task names)
         × PanelWordsClause task (length names.items)
-        (λ talks. panel_moment (A.left first.old) (A.faults first.old) (B.left second.old)
+        (λ talks. panel_snapshot (A.left first.old) (A.faults first.old) (B.left second.old)
         (B.faults second.old) talks (K.talk report.old) (K.faults report.old))
-        (λ talks. panel_moment (A.left first.new) (A.faults first.new) (B.left second.new)
+        (λ talks. panel_snapshot (A.left first.new) (A.faults first.new) (B.left second.new)
         (B.faults second.new) talks (K.talk report.new) (K.faults report.new)) status) }
     ensures untouched { result ≡ None → (first.new ≡ first.old) × (second.new ≡ second.old)
         × (report.new ≡ report.old) }

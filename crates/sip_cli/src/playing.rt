@@ -6,7 +6,7 @@ ghost use Rattle.sip_duel.specs.Told.{told};
 ghost use Rattle.sip_helper.specs.Turns.{fresh};
 ghost use Rattle.sip_verifier.specs.declared.task.Task.{Task as AnyTask};
 ghost use Rattle.sip_verifier.specs.Exchanges.{TakesAtMost};
-ghost use Rattle.sip_verifier.specs.Moments.{moment};
+ghost use Rattle.sip_verifier.specs.Snapshots.{port, snapshot, tells};
 ghost use Rattle.sip_verifier.specs.Tasks.{CanBeDone};
 ghost use Rattle.sip_cli.specs.declared.command.Command.{Command as AnyCommand};
 ghost use Rattle.sip_cli.specs.declared.helper_name.HelperName.{HelperName as AnyName};
@@ -51,13 +51,13 @@ fn play_boxed<A: Source, B: Source, K: Sink, C: Sink>(
     requires done { CanBeDone task.now }
     requires named { name ≡ HelperName.Honest → honest_state helper ≡ Some fresh }
     ensures played { IfOk result (PlayClause task.now (name ≡ HelperName.Honest)
-        (moment (A.left first.old) (A.faults first.old) (B.left second.old) (B.faults second.old)
-        (Some []) 0 (K.talk report.old) (K.faults report.old)
-        (C.talk keep.old) (C.faults keep.old))
-        (λ talk. moment (A.left first.new) (A.faults first.new)
-        (B.left second.new) (B.faults second.new)
-        (Some talk) 0 (K.talk report.new) (K.faults report.new)
-        (C.talk keep.new) (C.faults keep.new))) }
+        (snapshot (port A.left A.faults first.old) (port B.left B.faults second.old)
+        (tells []) (port K.talk K.faults report.old)
+        (port C.talk C.faults keep.old))
+        (λ talk. snapshot (port A.left A.faults first.new)
+        (port B.left B.faults second.new)
+        (tells talk) (port K.talk K.faults report.new)
+        (port C.talk C.faults keep.new))) }
     ensures unbegun { OnErr result ((first.new ≡ first.old) × (second.new ≡ second.old)
         × (report.new ≡ report.old) × (keep.new ≡ keep.old)) }
     ensures first { Lasts A.faults A.wants A.is_sure first.old first.new }
@@ -83,13 +83,13 @@ fn play_named<A: Source, B: Source, K: Sink, C: Sink>(
 ) -> Result<Status, OutOfMemory>
     requires { CanBeDone task.now }
     ensures played { IfOk result (PlayClause task.now (name ≡ HelperName.Honest)
-        (moment (A.left first.old) (A.faults first.old) (B.left second.old) (B.faults second.old)
-        (Some []) 0 (K.talk report.old) (K.faults report.old)
-        (C.talk keep.old) (C.faults keep.old))
-        (λ talk. moment (A.left first.new) (A.faults first.new)
-        (B.left second.new) (B.faults second.new)
-        (Some talk) 0 (K.talk report.new) (K.faults report.new)
-        (C.talk keep.new) (C.faults keep.new))) }
+        (snapshot (port A.left A.faults first.old) (port B.left B.faults second.old)
+        (tells []) (port K.talk K.faults report.old)
+        (port C.talk C.faults keep.old))
+        (λ talk. snapshot (port A.left A.faults first.new)
+        (port B.left B.faults second.new)
+        (tells talk) (port K.talk K.faults report.new)
+        (port C.talk C.faults keep.new))) }
     ensures unbegun { OnErr result ((first.new ≡ first.old) × (second.new ≡ second.old)
         × (report.new ≡ report.old) × (keep.new ≡ keep.old)) }
     ensures first { Lasts A.faults A.wants A.is_sure first.old first.new }
@@ -165,13 +165,13 @@ pub fn play_words<A: Source, B: Source, K: Sink, C: Sink>(
         (λ status. (task : AnyTask) × (name : AnyName)
         × Spells words.now (Command.Play task name)
         × PlayClause task (name ≡ HelperName.Honest)
-        (moment (A.left first.old) (A.faults first.old) (B.left second.old) (B.faults second.old)
-        (Some []) 0 (K.talk report.old) (K.faults report.old)
-        (C.talk keep.old) (C.faults keep.old))
-        (λ talk. moment (A.left first.new) (A.faults first.new)
-        (B.left second.new) (B.faults second.new)
-        (Some talk) 0 (K.talk report.new) (K.faults report.new)
-        (C.talk keep.new) (C.faults keep.new)) status) }
+        (snapshot (port A.left A.faults first.old) (port B.left B.faults second.old)
+        (tells []) (port K.talk K.faults report.old)
+        (port C.talk C.faults keep.old))
+        (λ talk. snapshot (port A.left A.faults first.new)
+        (port B.left B.faults second.new)
+        (tells talk) (port K.talk K.faults report.new)
+        (port C.talk C.faults keep.new)) status) }
     ensures untouched { result ≡ None → (first.new ≡ first.old) × (second.new ≡ second.old)
         × (report.new ≡ report.old) × (keep.new ≡ keep.old) }
 

@@ -10,7 +10,7 @@ ghost use Rattle.sip_moments.specs.declared.task.MomentTask.{MomentTask as AnyMo
 ghost use Rattle.sip_moments.specs.Tasks.{CanBeDone as CanBeSummed};
 ghost use Rattle.sip_verifier.specs.declared.task.Task.{Task as AnyTask};
 ghost use Rattle.sip_verifier.specs.Exchanges.{TakesAtMost};
-ghost use Rattle.sip_verifier.specs.Moments.{moment};
+ghost use Rattle.sip_verifier.specs.Snapshots.{port, snapshot};
 ghost use Rattle.sip_verifier.specs.Tasks.{CanBeDone};
 ghost use Rattle.sip_cli.specs.declared.command.Command.{Command as AnyCommand};
 ghost use Rattle.sip_cli.specs.declared.helper_name.HelperName.{HelperName as AnyName};
@@ -48,12 +48,12 @@ fn obey<A: Source, B: Source, L: Link, K: Sink, C: Sink>(
     requires summed { (task : AnyMomentTask) → command.now ≡ Command.Moments task
         → CanBeSummed task }
     ensures keeps { CommandClause (λ is. command.now ≡ is)
-        (moment (A.left first.old) (A.faults first.old) (B.left second.old) (B.faults second.old)
-        (L.talk peer.old) (L.faults peer.old) (K.talk report.old) (K.faults report.old)
-        (C.talk keep.old) (C.faults keep.old))
-        (moment (A.left first.new) (A.faults first.new) (B.left second.new) (B.faults second.new)
-        (L.talk peer.new) (L.faults peer.new) (K.talk report.new) (K.faults report.new)
-        (C.talk keep.new) (C.faults keep.new))
+        (snapshot (port A.left A.faults first.old) (port B.left B.faults second.old)
+        (port L.talk L.faults peer.old) (port K.talk K.faults report.old)
+        (port C.talk C.faults keep.old))
+        (snapshot (port A.left A.faults first.new) (port B.left B.faults second.new)
+        (port L.talk L.faults peer.new) (port K.talk K.faults report.new)
+        (port C.talk C.faults keep.new))
         result }
     ensures copies_apart { IsCopy command.now → (second.new ≡ second.old) × (peer.new ≡ peer.old)
         × (keep.new ≡ keep.old) }
@@ -154,12 +154,12 @@ pub fn run<A: Source, B: Source, L: Link, K: Sink, C: Sink>(
     // `convert` what the report gets of the transcript; and whatever the command, its faults have
     // their cause, and its status is one of its own.
     ensures keeps { CommandClause (Spells words.now)
-        (moment (A.left first.old) (A.faults first.old) (B.left second.old) (B.faults second.old)
-        (L.talk peer.old) (L.faults peer.old) (K.talk report.old) (K.faults report.old)
-        (C.talk keep.old) (C.faults keep.old))
-        (moment (A.left first.new) (A.faults first.new) (B.left second.new) (B.faults second.new)
-        (L.talk peer.new) (L.faults peer.new) (K.talk report.new) (K.faults report.new)
-        (C.talk keep.new) (C.faults keep.new))
+        (snapshot (port A.left A.faults first.old) (port B.left B.faults second.old)
+        (port L.talk L.faults peer.old) (port K.talk K.faults report.old)
+        (port C.talk C.faults keep.old))
+        (snapshot (port A.left A.faults first.new) (port B.left B.faults second.new)
+        (port L.talk L.faults peer.new) (port K.talk K.faults report.new)
+        (port C.talk C.faults keep.new))
         result }
 
     // Copies and helpers leave the other ports alone, `keep` among them.

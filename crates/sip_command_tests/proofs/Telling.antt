@@ -9,12 +9,12 @@ use Rattle.sip_verifier.specs.declared.status.Port.TheVariants as ports
 use Rattle.sip_verifier.specs.declared.status.Status.{Status}
 use Rattle.sip_verifier.specs.declared.status.Status.TheVariants as statuses
 use Rattle.sip_verifier.specs.Exchanges.{Appends, Exchange, Tells}
-use Rattle.sip_verifier.specs.Moments.{Counts, Moment, IsTold}
+use Rattle.sip_verifier.specs.Snapshots.{Counts, Snapshot, IsTold}
 use Rattle.sip_verifier.specs.Statuses.{FaultClause}
 use Rattle.sip_command_tests.specs.Moves.{Held, Moves}
 
 -- the moment of ports that hold this, and have failed so often
-abbrev pub moment_of : Held → Counts → Moment
+abbrev pub moment_of : Held → Counts → Snapshot
 moment_of h faults = record {
   first = Some h.first;
   second = Some h.second;

@@ -8,7 +8,7 @@ use Rattle.sip_ports.specs.Memory.{source_left, source_faults, sink_bytes, sink_
 use Rattle.sip_ports.specs.Memory.{link_faults}
 use Rattle.sip_transcript.specs.Auditing.{Audit}
 use Rattle.sip_verifier.specs.Exchanges.{Exchange}
-use Rattle.sip_verifier.specs.Moments.{Counts, counts}
+use Rattle.sip_verifier.specs.Snapshots.{Counts, counts}
 
 -- what ports in memory hold: the bytes to come, the events so far, and the bytes that were written
 pub record Held : Type 0 where

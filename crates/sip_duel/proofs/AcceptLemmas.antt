@@ -38,7 +38,7 @@ use Rattle.sip_verifier.specs.CompletenessClause.{HasFewEntries}
 use Rattle.sip_verifier.specs.Draws.{blocks, challenge_count, drawn}
 use Rattle.sip_verifier.specs.Exchanges.{Exchange, Tells}
 use Rattle.sip_verifier.specs.Inquiries.{inquiry_of}
-use Rattle.sip_verifier.specs.Moments.{Counts, Moment}
+use Rattle.sip_verifier.specs.Snapshots.{Counts, Snapshot}
 use Rattle.sip_verifier.specs.RunClause.{RunClause}
 use Rattle.sip_verifier.specs.Questions.{AreQuestions, IsFaulty, Question, questions_of, said_for, updates}
 use Rattle.sip_verifier.specs.Reports.{report_of}
@@ -296,7 +296,7 @@ module _ (task : Task) (x : Exchange) (some : 1 ≤ task.depth) (most : task.dep
 -- ---- a run over a link
 
 -- the run's talk is the one that its link tells, where nothing had happened on it
-pub played : (task : Task) → 1 ≤ task.depth → task.depth ≤ most_depth → length task.queries.items ≤ most_queries → CanBeDone task → (before now : Moment) (status : Status) (old new : List TalkEvent) → RunClause task before now status
+pub played : (task : Task) → 1 ≤ task.depth → task.depth ≤ most_depth → length task.queries.items ≤ most_queries → CanBeDone task → (before now : Snapshot) (status : Status) (old new : List TalkEvent) → RunClause task before now status
     → before.talk ≡ Some old → now.talk ≡ Some new → IsHonestTalk new → old ≡ [] → (x : Exchange) → Tells before now x → DuelAccepts task x before.faults now.faults status
 played task some most room can before now status old new keeps was is honest none x tells =
     let had : List TalkEvent = tells.talk.0 in

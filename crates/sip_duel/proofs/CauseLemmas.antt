@@ -8,7 +8,7 @@ use Rattle.sip_ports.proofs.FaultLemmas.{Rose-positive}
 use Rattle.sip_verifier.specs.declared.status.Status.{Status}
 use Rattle.sip_verifier.specs.declared.status.Status.TheVariants as statuses
 use Rattle.sip_verifier.specs.declared.task.Task.{Task}
-use Rattle.sip_verifier.specs.Moments.{Moment}
+use Rattle.sip_verifier.specs.Snapshots.{Snapshot}
 use Rattle.sip_verifier.specs.RunClause.{RunClause}
 use Rattle.sip_verifier.specs.Statuses.{FaultClause}
 use Rattle.sip_duel.specs.Receiving.{StopsOnlyByWant}
@@ -25,5 +25,5 @@ caused (Err Failed) before now fit e = absurd e
 caused (Err OutOfMemory) before now fit e = record { later = omega (arith, e, fit); failed = λ h. absurd cc; wanted = λ h. omega (arith, e) }
 
 -- a run over a link that counts no fault never ends by one
-pub no_peer_fault : (task : Task) (m n : Moment) (s : Status) → RunClause task m n s → n.faults.peer ≡ 0 → s ≡ statuses.PeerFault → ⊥
+pub no_peer_fault : (task : Task) (m n : Snapshot) (s : Status) → RunClause task m n s → n.faults.peer ≡ 0 → s ≡ statuses.PeerFault → ⊥
 no_peer_fault task m n s c none e = Rose-positive m.faults.peer n.faults.peer (subst (FaultClause m.faults n.faults) e c.fault) none

@@ -14,7 +14,7 @@ use Rattle.sip_verifier.specs.CompletenessClause.{HasFewEntries, NoneRose}
 use Rattle.sip_verifier.specs.Draws.{drawn}
 use Rattle.sip_verifier.specs.Exchanges.{Exchange}
 use Rattle.sip_verifier.specs.Inquiries.{inquiry_of}
-use Rattle.sip_verifier.specs.Moments.{Counts}
+use Rattle.sip_verifier.specs.Snapshots.{Counts}
 use Rattle.sip_verifier.specs.Questions.{IsLegalToEnd, updates}
 use Rattle.sip_verifier.specs.Reports.{report_of}
 use Rattle.sip_verifier.specs.Tasks.{version_of}

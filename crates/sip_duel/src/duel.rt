@@ -4,7 +4,7 @@ ghost use Rattle.std.specs.Prelude.{◌≡◌, ◌≢◌, ◌≤◌, None, Some,
 ghost use Rattle.std.specs.Option.{option_and_then};
 ghost use Rattle.sip_ports.specs.Ports.{Lasts};
 ghost use Rattle.sip_verifier.specs.Exchanges.{Exchange as AnyExchange, Tells, TakesAtMost};
-ghost use Rattle.sip_verifier.specs.Moments.{counts, moment};
+ghost use Rattle.sip_verifier.specs.Snapshots.{counts, port, snapshot};
 ghost use Rattle.sip_verifier.specs.RunClause.{RunClause};
 ghost use Rattle.sip_verifier.specs.Tasks.{CanBeDone};
 ghost use Rattle.sip_duel.specs.Accepting.{DuelAccepts};
@@ -36,12 +36,12 @@ pub fn play<A: Source, B: Source, K: Sink, C: Sink>(
 ) -> Status
     requires { CanBeDone task.now }
     ensures keeps { RunClause task.now
-        (moment (A.left first.old) (A.faults first.old) (B.left second.old) (B.faults second.old)
-        (Some link.old.kept.talk.items) 0 (K.talk report.old) (K.faults report.old)
-        (C.talk keep.old) (C.faults keep.old))
-        (moment (A.left first.new) (A.faults first.new) (B.left second.new) (B.faults second.new)
-        (Some link.new.kept.talk.items) 0 (K.talk report.new) (K.faults report.new)
-        (C.talk keep.new) (C.faults keep.new))
+        (snapshot (port A.left A.faults first.old) (port B.left B.faults second.old)
+        (Some link.old.kept.talk.items) 0 (port K.talk K.faults report.old)
+        (port C.talk C.faults keep.old))
+        (snapshot (port A.left A.faults first.new) (port B.left B.faults second.new)
+        (Some link.new.kept.talk.items) 0 (port K.talk K.faults report.new)
+        (port C.talk C.faults keep.new))
         result }
     ensures peer { result ≢ Status.PeerFault }
     ensures honest { Keeps (option_and_then honest_state link.old.helper) link.old.kept
@@ -49,12 +49,12 @@ pub fn play<A: Source, B: Source, K: Sink, C: Sink>(
     ensures accepts { Keeps (option_and_then honest_state link.old.helper) link.old.kept
         → link.old.kept.talk.items ≡ [] → (x : AnyExchange)
         → Tells
-        (moment (A.left first.old) (A.faults first.old) (B.left second.old) (B.faults second.old)
-        (Some link.old.kept.talk.items) 0 (K.talk report.old) (K.faults report.old)
-        (C.talk keep.old) (C.faults keep.old))
-        (moment (A.left first.new) (A.faults first.new) (B.left second.new) (B.faults second.new)
-        (Some link.new.kept.talk.items) 0 (K.talk report.new) (K.faults report.new)
-        (C.talk keep.new) (C.faults keep.new)) x
+        (snapshot (port A.left A.faults first.old) (port B.left B.faults second.old)
+        (Some link.old.kept.talk.items) 0 (port K.talk K.faults report.old)
+        (port C.talk C.faults keep.old))
+        (snapshot (port A.left A.faults first.new) (port B.left B.faults second.new)
+        (Some link.new.kept.talk.items) 0 (port K.talk K.faults report.new)
+        (port C.talk C.faults keep.new)) x
         → DuelAccepts task.now x
         (counts (A.faults first.old) (B.faults second.old) 0 (K.faults report.old)
         (C.faults keep.old))

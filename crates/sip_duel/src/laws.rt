@@ -8,7 +8,7 @@ ghost use Rattle.sip_verifier.specs.declared.task.Task.{Task as AnyTask};
 ghost use Rattle.sip_verifier.specs.CauseClause.{CauseClause};
 ghost use Rattle.sip_verifier.specs.Exchanges.{Exchange as AnyExchange};
 ghost use Rattle.sip_verifier.specs.Inquiries.{inquiry_of};
-ghost use Rattle.sip_verifier.specs.Moments.{Counts as AnyCounts};
+ghost use Rattle.sip_verifier.specs.Snapshots.{Counts as AnyCounts};
 ghost use Rattle.sip_verifier.specs.Statuses.{IsListed};
 ghost use Rattle.sip_verifier.specs.Tasks.{CanBeDone};
 ghost use Rattle.sip_verifier.specs.VerdictClause.{VerdictClause};

@@ -17,7 +17,7 @@ use Rattle.sip_verifier.specs.declared.task.Task.{Task}
 use Rattle.sip_verifier.specs.Exchanges.{Exchange, Tells}
 use Rattle.sip_verifier.specs.Gathering.{IsGathered}
 use Rattle.sip_verifier.specs.Inquiries.{run_over}
-use Rattle.sip_verifier.specs.Moments.{Counts, Moment, IsTold, counts}
+use Rattle.sip_verifier.specs.Snapshots.{Counts, Snapshot, IsTold, counts}
 use Rattle.sip_verifier.specs.QuerySeats.{StandsFor}
 use Rattle.sip_verifier.specs.runs.Askers.{GoesBehind}
 use Rattle.sip_verifier.specs.runs.Concluding.{Ended, status_of}
@@ -110,7 +110,7 @@ module _ (task : LookTask) (rooted : Task) (same_depth : rooted.depth ≡ task.d
   }
 
   -- a run keeps all, where each exchange that is told has the first three promises
-  pub kept : {before now : Moment} {status : Status}
+  pub kept : {before now : Snapshot} {status : Status}
       → ((x : Exchange) → Tells before now x → Ended looking (run_of task x) x before.faults now.faults status)
       → (IsTold before → (x : Exchange) × Tells before now x)
       → FaultClause before.faults now.faults status → IsListed status

@@ -9,7 +9,7 @@ use Rattle.sip_counts.specs.Strategies.{Strategy, IsOfBytes}
 use Rattle.sip_wire.specs.declared.version.Version.{Version}
 use Rattle.sip_verifier.specs.declared.status.Status.{Status}
 use Rattle.sip_verifier.specs.Exchanges.{Exchange, Tells}
-use Rattle.sip_verifier.specs.Moments.{Counts, IsTold, Moment}
+use Rattle.sip_verifier.specs.Snapshots.{Counts, IsTold, Snapshot}
 use Rattle.sip_verifier.specs.runs.CauseClause.{CauseClause}
 use Rattle.sip_verifier.specs.runs.CompletenessClause.{CompletenessClause}
 use Rattle.sip_verifier.specs.runs.CountClause.{CountClause, Counting}
@@ -64,7 +64,7 @@ IsListed status =
     IsTrue (is_accepted status || stops_gathering status || stops_asking status)
 
 -- from the moment before a run to the moment after
-pub record LookClause (task : LookTask) (before now : Moment) (status : Status) : Type 0 where
+pub record LookClause (task : LookTask) (before now : Snapshot) (status : Status) : Type 0 where
   -- the promises, on the exchange that the ports tell
   pub promises : (x : Exchange) → Tells before now x
       → LookPromises task x before.faults now.faults status

@@ -3,7 +3,7 @@
 ghost use Rattle.std.specs.Prelude.{None};
 ghost use Rattle.sip_ports.specs.Ports.{Lasts};
 ghost use Rattle.sip_verifier.specs.Exchanges.{TakesAtMost};
-ghost use Rattle.sip_verifier.specs.Moments.{moment};
+ghost use Rattle.sip_verifier.specs.Snapshots.{no_port, port, snapshot};
 ghost use Rattle.sip_verifier.specs.runs.Concluding.{status_of};
 ghost use Rattle.sip_lookup.specs.Promises.{LookClause};
 ghost use Rattle.sip_lookup.specs.Tasks.{CanLookUp};
@@ -26,10 +26,10 @@ fn steps<A: Source, B: Source, L: Link, K: Sink>(
 ) -> Result<(), Status>
     requires { CanLookUp task.now }
     ensures keeps { LookClause task.now
-        (moment (A.left first.old) (A.faults first.old) (B.left second.old) (B.faults second.old)
-        (L.talk peer.old) (L.faults peer.old) (K.talk report.old) (K.faults report.old) None 0)
-        (moment (A.left first.new) (A.faults first.new) (B.left second.new) (B.faults second.new)
-        (L.talk peer.new) (L.faults peer.new) (K.talk report.new) (K.faults report.new) None 0)
+        (snapshot (port A.left A.faults first.old) (port B.left B.faults second.old)
+        (port L.talk L.faults peer.old) (port K.talk K.faults report.old) no_port)
+        (snapshot (port A.left A.faults first.new) (port B.left B.faults second.new)
+        (port L.talk L.faults peer.new) (port K.talk K.faults report.new) no_port)
         (status_of result) }
     ensures first { Lasts A.faults A.wants A.is_sure first.old first.new }
     ensures seed { TakesAtMost 32 (B.left second.old) (B.left second.new) }
@@ -41,7 +41,17 @@ fn steps<A: Source, B: Source, L: Link, K: Sink>(
     prove!(levels >= 1 && levels <= Depth::MOST);
     // A run of lookups keeps no record of its talk.
     let mut keep = NullSink::new();
-    let seats = gather(&task.rooted(), first, second, peer, &mut keep)?;
+    // Nothing is gathered yet.
+    let mut gathered = Err(Status::SeedSpent);
+    gather(
+        &task.rooted(),
+        first,
+        second,
+        peer,
+        &mut keep,
+        &mut gathered,
+    );
+    let seats = gathered?;
     let mut looker = Looker::new(alloc, task, seats)?;
     conclude_run(&mut looker, peer, report, &mut keep)
 }
@@ -64,10 +74,10 @@ pub fn look_stream<A: Source, B: Source, L: Link, K: Sink>(
 ) -> Status
     requires { CanLookUp task.now }
     ensures keeps { LookClause task.now
-        (moment (A.left first.old) (A.faults first.old) (B.left second.old) (B.faults second.old)
-        (L.talk peer.old) (L.faults peer.old) (K.talk report.old) (K.faults report.old) None 0)
-        (moment (A.left first.new) (A.faults first.new) (B.left second.new) (B.faults second.new)
-        (L.talk peer.new) (L.faults peer.new) (K.talk report.new) (K.faults report.new) None 0)
+        (snapshot (port A.left A.faults first.old) (port B.left B.faults second.old)
+        (port L.talk L.faults peer.old) (port K.talk K.faults report.old) no_port)
+        (snapshot (port A.left A.faults first.new) (port B.left B.faults second.new)
+        (port L.talk L.faults peer.new) (port K.talk K.faults report.new) no_port)
         result }
     ensures first { Lasts A.faults A.wants A.is_sure first.old first.new }
     ensures seed { TakesAtMost 32 (B.left second.old) (B.left second.new) }

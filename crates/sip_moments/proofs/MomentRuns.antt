@@ -22,8 +22,7 @@ use Rattle.sip_verifier.specs.Draws.{challenges_of}
 use Rattle.sip_verifier.specs.Exchanges.{Exchange, Tells}
 use Rattle.sip_verifier.specs.Gathering.{HasSeed, IsGathered}
 use Rattle.sip_verifier.specs.Inquiries.{run_over}
-use Rattle.sip_verifier.specs.Moments as instants
-use Rattle.sip_verifier.specs.Moments.{Counts, IsTold, counts}
+use Rattle.sip_verifier.specs.Snapshots.{Counts, IsTold, Snapshot, counts}
 use Rattle.sip_verifier.specs.Seats.{AreSeats, Seating}
 use Rattle.sip_verifier.specs.Statuses as statuses_of
 use Rattle.sip_verifier.specs.Statuses.{FaultClause, Stops, is_accepted, stops_asking, stops_gathering}
@@ -138,7 +137,7 @@ module _ (task : MomentTask) (some : 1 ≤ task.depth) (x : Exchange) where
   }
 
 -- a run keeps all, where each exchange that is told has the first three promises
-pub kept : (task : MomentTask) → 1 ≤ task.depth → {before now : instants.Moment} {status : Status}
+pub kept : (task : MomentTask) → 1 ≤ task.depth → {before now : Snapshot} {status : Status}
     → ((x : Exchange) → Tells before now x
     → Ended asking (run_over (squares_of task) task.moments.items x) x before.faults now.faults status)
     → (IsTold before → (x : Exchange) × Tells before now x)

@@ -4,8 +4,7 @@ use Rattle.std.specs.Prelude.{Bool, true, false, ◌||◌, IsTrue}
 use Rattle.sip_verifier.specs.declared.status.Status.{Status}
 use Rattle.sip_verifier.specs.declared.status.Status.TheVariants as statuses
 use Rattle.sip_verifier.specs.Exchanges.{Exchange, Tells}
-use Rattle.sip_verifier.specs.Moments as instants
-use Rattle.sip_verifier.specs.Moments.{IsTold}
+use Rattle.sip_verifier.specs.Snapshots.{IsTold, Snapshot}
 use Rattle.sip_verifier.specs.Statuses.{FaultClause, is_accepted, stops_asking, stops_gathering}
 use Rattle.sip_verifier.specs.runs.Promises.{Promises}
 use Rattle.sip_moments.specs.declared.task.MomentTask.{MomentTask}
@@ -24,7 +23,7 @@ IsListed status =
     IsTrue (is_accepted status || stops_gathering status || stops_high status
     || stops_asking status)
 
-pub record MomentClause (task : MomentTask) (before now : instants.Moment) (status : Status)
+pub record MomentClause (task : MomentTask) (before now : Snapshot) (status : Status)
     : Type 0 where
   -- the promises of a run that asks in this manner, on the exchange that the ports tell
   pub promises : (x : Exchange) → Tells before now x

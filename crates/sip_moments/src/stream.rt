@@ -5,7 +5,7 @@ ghost use Rattle.sip_ports.specs.Ports.{Lasts};
 ghost use Rattle.sip_vector.specs.declared.update.Update.{Update as AnyUpdate};
 ghost use Rattle.sip_wire.specs.Table.{most_queries};
 ghost use Rattle.sip_verifier.specs.Exchanges.{TakesAtMost};
-ghost use Rattle.sip_verifier.specs.Moments.{moment};
+ghost use Rattle.sip_verifier.specs.Snapshots.{no_port, port, snapshot};
 ghost use Rattle.sip_verifier.specs.Weights.{AreWeights};
 ghost use Rattle.sip_verifier.specs.runs.Concluding.{status_of};
 ghost use Rattle.sip_moments.specs.Manner.{first_high};
@@ -19,7 +19,7 @@ use crate::task::MomentTask;
 use arrayvec::ArrayVec;
 use sip_ports::{Link, NullSink, Sink, Source};
 use sip_vector::{Depth, Query};
-use sip_verifier::{Status, Task, Weights, conclude_run, gather_weighed};
+use sip_verifier::{Status, Task, Weights, conclude_run, gather};
 use sip_wire::{Frame, MOST_QUERIES, Version};
 use std::alloc::Global;
 
@@ -76,10 +76,10 @@ fn steps<A: Source, B: Source, L: Link, K: Sink>(
 ) -> Result<(), Status>
     requires { CanBeDone task.now }
     ensures keeps { MomentClause task.now
-        (moment (A.left first.old) (A.faults first.old) (B.left second.old) (B.faults second.old)
-        (L.talk peer.old) (L.faults peer.old) (K.talk report.old) (K.faults report.old) None 0)
-        (moment (A.left first.new) (A.faults first.new) (B.left second.new) (B.faults second.new)
-        (L.talk peer.new) (L.faults peer.new) (K.talk report.new) (K.faults report.new) None 0)
+        (snapshot (port A.left A.faults first.old) (port B.left B.faults second.old)
+        (port L.talk L.faults peer.old) (port K.talk K.faults report.old) no_port)
+        (snapshot (port A.left A.faults first.new) (port B.left B.faults second.new)
+        (port L.talk L.faults peer.new) (port K.talk K.faults report.new) no_port)
         (status_of result) }
     ensures first { Lasts A.faults A.wants A.is_sure first.old first.new }
     ensures seed { TakesAtMost 32 (B.left second.old) (B.left second.new) }
@@ -89,10 +89,18 @@ fn steps<A: Source, B: Source, L: Link, K: Sink>(
 {
     let levels = task.depth.get();
     prove!(levels >= 1 && levels <= Depth::MOST);
-    let mut weights = Weights::default();
-    // No record of the talk is kept.
+    // No record of the talk is kept, and nothing is gathered yet.
     let mut keep = NullSink::new();
-    let seats = gather_weighed(&squares(task), first, second, peer, &mut keep, &mut weights)?;
+    let mut gathered = Err(Status::SeedSpent);
+    let weights = gather(
+        &squares(task),
+        first,
+        second,
+        peer,
+        &mut keep,
+        &mut gathered,
+    );
+    let seats = gathered?;
     if let Some(query) = first_high(&task.moments, &weights) {
         return Err(Status::TooHigh { query });
     }
@@ -126,10 +134,10 @@ pub fn moment_stream<A: Source, B: Source, L: Link, K: Sink>(
 ) -> Status
     requires { CanBeDone task.now }
     ensures keeps { MomentClause task.now
-        (moment (A.left first.old) (A.faults first.old) (B.left second.old) (B.faults second.old)
-        (L.talk peer.old) (L.faults peer.old) (K.talk report.old) (K.faults report.old) None 0)
-        (moment (A.left first.new) (A.faults first.new) (B.left second.new) (B.faults second.new)
-        (L.talk peer.new) (L.faults peer.new) (K.talk report.new) (K.faults report.new) None 0)
+        (snapshot (port A.left A.faults first.old) (port B.left B.faults second.old)
+        (port L.talk L.faults peer.old) (port K.talk K.faults report.old) no_port)
+        (snapshot (port A.left A.faults first.new) (port B.left B.faults second.new)
+        (port L.talk L.faults peer.new) (port K.talk K.faults report.new) no_port)
         result }
     ensures first { Lasts A.faults A.wants A.is_sure first.old first.new }
     ensures seed { TakesAtMost 32 (B.left second.old) (B.left second.new) }

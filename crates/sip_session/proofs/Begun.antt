@@ -12,7 +12,7 @@ use Rattle.sip_verifier.specs.declared.status.Status.TheVariants as statuses
 use Rattle.sip_verifier.specs.declared.task.Task.{Task}
 use Rattle.sip_verifier.specs.Gathering.{legal}
 use Rattle.sip_verifier.specs.inside.Ending.{status_of_start}
-use Rattle.sip_verifier.specs.Moments.{Counts, counts}
+use Rattle.sip_verifier.specs.Snapshots.{Counts, counts}
 use Rattle.sip_verifier.specs.QuerySeats.{Seated}
 use Rattle.sip_verifier.specs.Seats.{Seating}
 use Rattle.sip_verifier.specs.Sittings.{Starts}

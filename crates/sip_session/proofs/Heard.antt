@@ -32,7 +32,7 @@ use Rattle.sip_verifier.specs.inside.Drawing.{Draws, HasDrawn}
 use Rattle.sip_verifier.specs.inside.Ending.{status_of_link, status_of_stream}
 use Rattle.sip_verifier.specs.inside.Passing.{taken_with}
 use Rattle.sip_verifier.specs.inside.Sending.{IsSentBut, IsStopped}
-use Rattle.sip_verifier.specs.Moments.{counts}
+use Rattle.sip_verifier.specs.Snapshots.{counts}
 use Rattle.sip_verifier.specs.Seats.{AreSeats, Seating}
 use Rattle.sip_verifier.specs.Statuses.{FaultClause, Stops, stops_following}
 use Rattle.sip_verifier.specs.Tasks.{version_of}

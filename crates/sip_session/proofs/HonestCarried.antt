@@ -15,7 +15,7 @@ use Rattle.sip_verifier.specs.declared.status.Status.TheVariants as statuses
 use Rattle.sip_verifier.specs.declared.task.Task.{Task}
 use Rattle.sip_verifier.specs.CompletenessClause.{HasFewEntries, NoneRose}
 use Rattle.sip_verifier.specs.Gathering.{legal}
-use Rattle.sip_verifier.specs.Moments.{Counts}
+use Rattle.sip_verifier.specs.Snapshots.{Counts}
 use Rattle.sip_verifier.specs.Questions.{asking}
 use Rattle.sip_verifier.specs.runs.CauseClause.{CanBeJudged, CauseClause}
 use Rattle.sip_verifier.specs.Tasks.{CanBeDone, version_of}

@@ -26,7 +26,7 @@ use Rattle.sip_verifier.specs.declared.status.Status.TheVariants as statuses
 use Rattle.sip_verifier.specs.declared.task.Task.{Task}
 use Rattle.sip_verifier.specs.Draws.{blocks}
 use Rattle.sip_verifier.specs.Gathering.{EndsLegally, HasSeed, IsPassedOn, Refuses, before_end, legal}
-use Rattle.sip_verifier.specs.Moments.{Counts}
+use Rattle.sip_verifier.specs.Snapshots.{Counts}
 use Rattle.sip_verifier.specs.Questions.{Question, asking}
 use Rattle.sip_verifier.specs.QuerySeats.{Seated}
 use Rattle.sip_verifier.specs.runs.CauseClause.{CanBeJudged, CauseClause}

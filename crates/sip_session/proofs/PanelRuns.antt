@@ -19,7 +19,7 @@ use Rattle.sip_verifier.specs.declared.task.Task.{Task}
 use Rattle.sip_verifier.specs.Concluding.{status_of}
 use Rattle.sip_verifier.specs.Gathering.{legal}
 use Rattle.sip_verifier.specs.inside.Ending.{status_of_link}
-use Rattle.sip_verifier.specs.Moments.{Counts, counts}
+use Rattle.sip_verifier.specs.Snapshots.{Counts, counts}
 use Rattle.sip_verifier.specs.runs.Concluding.{Reports}
 use Rattle.sip_verifier.specs.Seats.{Seating}
 use Rattle.sip_verifier.specs.Sittings.{Sitting, Starts, asks_left}
@@ -32,12 +32,12 @@ use Rattle.sip_session.specs.inside.Beginning.{Begins, IsHeard, task_of_seats}
 use Rattle.sip_session.specs.inside.Hearing.{AllTalks, Each, Says}
 use Rattle.sip_session.specs.inside.Trying.{Halts, Trails}
 use Rattle.sip_session.specs.PanelClause.{PanelClause}
-use Rattle.sip_session.specs.PanelExchanges.{PanelExchange, PanelIsTold, PanelMoment, PanelTells}
+use Rattle.sip_session.specs.PanelExchanges.{PanelExchange, PanelIsTold, PanelSnapshot, PanelTells}
 use Rattle.sip_session.proofs.Begun.{caused_by, never_rose}
 use Rattle.sip_session.proofs.PanelEndings.{all_answered, cut_in_farewell, depth_is, halted, in_part, refused, too_wide, version_is}
 
 -- ports that tell go on telling
-pub panel_tells : (old new : PanelMoment) → PanelIsTold old → (IsSome old.first → IsSome new.first)
+pub panel_tells : (old new : PanelSnapshot) → PanelIsTold old → (IsSome old.first → IsSome new.first)
     → (bytes : List ℕ) → GoesOn old.report new.report (outs bytes)
     → (x : PanelExchange) × PanelTells old new x
 panel_tells old new is still bytes wrote =

@@ -2,13 +2,13 @@
 use Rattle.std.specs.Prelude.{◌≢◌, ℕ, List, []}
 use Rattle.sip_verifier.specs.declared.status.Status.{Status}
 use Rattle.sip_verifier.specs.declared.task.Task.{Task}
-use Rattle.sip_verifier.specs.Moments.{Counts}
+use Rattle.sip_verifier.specs.Snapshots.{Counts}
 use Rattle.sip_verifier.specs.Questions.{asking}
 use Rattle.sip_verifier.specs.runs.CauseClause.{CanBeJudged, CauseClause}
 use Rattle.sip_verifier.specs.Statuses.{FaultClause, IsListed}
 use Rattle.sip_session.specs.PanelCounts.{JointCountOnPanel}
 use Rattle.sip_session.specs.PanelEnds.{Ends}
-use Rattle.sip_session.specs.PanelExchanges.{PanelExchange, PanelIsTold, PanelMoment, PanelTells, without_links}
+use Rattle.sip_session.specs.PanelExchanges.{PanelExchange, PanelIsTold, PanelSnapshot, PanelTells, without_links}
 use Rattle.sip_session.specs.PanelHonesty.{AnswersAreOwn, AreDroppedRightly, IsCarried}
 use Rattle.sip_session.specs.Panels.{Attempt, AreAttempts, inquiry_of_panel}
 
@@ -41,7 +41,7 @@ pub record PanelClause (helpers : ℕ) (task : Task) (x : PanelExchange) (before
   pub own : AnswersAreOwn helpers task x attempts status
 
 -- all that a panel keeps, from the moment before it to the moment after
-pub record PanelRunClause (helpers : ℕ) (task : Task) (before now : PanelMoment)
+pub record PanelRunClause (helpers : ℕ) (task : Task) (before now : PanelSnapshot)
     (status : Status) : Type 0 where
   -- the promises, on the exchange that the ports tell
   pub promises : (x : PanelExchange) → PanelTells before now x

@@ -2,12 +2,12 @@
 use Rattle.std.specs.Prelude.{◌≡◌, ℕ, List, [], Option, Some, None, IsSome}
 use Rattle.sip_ports.specs.declared.port.TalkEvent.{TalkEvent}
 use Rattle.sip_verifier.specs.Exchanges.{Appends, Exchange}
-use Rattle.sip_verifier.specs.Moments.{Counts, counts}
+use Rattle.sip_verifier.specs.Snapshots.{Counts, counts}
 
 -- The bytes that the stream and the seed have to give, the events on each link in the order of the
 -- helpers, those on the report, and how often the stream, the seed and the report have failed. The
 -- links count no fault, and no record is kept.
-pub record PanelMoment : Type 0 where
+pub record PanelSnapshot : Type 0 where
   pub first : Option (List ℕ)
   pub second : Option (List ℕ)
   pub talks : List (List TalkEvent)
@@ -15,9 +15,9 @@ pub record PanelMoment : Type 0 where
   pub faults : Counts
 
 -- a moment, port by port: what each tells, and how often it has failed
-abbrev pub panel_moment : Option (List ℕ) → ℕ → Option (List ℕ) → ℕ → List (List TalkEvent)
-    → Option (List TalkEvent) → ℕ → PanelMoment
-panel_moment first firsts second seconds talks report reports = record {
+abbrev pub panel_snapshot : Option (List ℕ) → ℕ → Option (List ℕ) → ℕ → List (List TalkEvent)
+    → Option (List TalkEvent) → ℕ → PanelSnapshot
+panel_snapshot first firsts second seconds talks report reports = record {
   first = first;
   second = second;
   talks = talks;
@@ -35,7 +35,7 @@ pub record PanelExchange : Type 0 where
   pub report : List ℕ
 
 -- the ports tell this exchange by what they told before and what they tell after
-pub record PanelTells (old new : PanelMoment) (x : PanelExchange) : Type 0 where
+pub record PanelTells (old new : PanelSnapshot) (x : PanelExchange) : Type 0 where
   pub stream : old.first ≡ Some x.stream
   pub unread : new.first ≡ Some x.unread
   pub seed : old.second ≡ Some x.seed
@@ -43,7 +43,7 @@ pub record PanelTells (old new : PanelMoment) (x : PanelExchange) : Type 0 where
   pub report : Appends old.report new.report (Some x.report)
 
 -- each port tells; the links always do
-pub record PanelIsTold (m : PanelMoment) : Type 0 where
+pub record PanelIsTold (m : PanelSnapshot) : Type 0 where
   pub first : IsSome m.first
   pub second : IsSome m.second
   pub report : IsSome m.report

@@ -23,7 +23,7 @@ use Rattle.sip_verifier.specs.declared.status.Status.TheVariants as statuses
 use Rattle.sip_verifier.specs.declared.task.Task.{Task}
 use Rattle.sip_verifier.specs.CompletenessClause.{HasFewEntries, NoneRose}
 use Rattle.sip_verifier.specs.Gathering.{EndsLegally, legal}
-use Rattle.sip_verifier.specs.Moments.{Counts}
+use Rattle.sip_verifier.specs.Snapshots.{Counts}
 use Rattle.sip_verifier.specs.Questions.{Question}
 use Rattle.sip_verifier.specs.Reports.{line, report_of}
 use Rattle.sip_verifier.specs.Tasks.{version_of}

@@ -6,7 +6,7 @@ ghost use Rattle.sip_ports.specs.declared.port.TalkEvent.{TalkEvent as AnyEvent}
 ghost use Rattle.sip_vector.specs.declared.query.Query.{Query as AnyQuery};
 ghost use Rattle.sip_vector.specs.declared.update.Update.{Update as AnyUpdate};
 ghost use Rattle.sip_wire.specs.Table.{most_queries};
-ghost use Rattle.sip_verifier.specs.Moments.{counts};
+ghost use Rattle.sip_verifier.specs.Snapshots.{counts};
 ghost use Rattle.sip_verifier.specs.Questions.{asking};
 ghost use Rattle.sip_verifier.specs.QuerySeats.{StandsFor};
 ghost use Rattle.sip_verifier.specs.runs.Askers.{IsFirst};

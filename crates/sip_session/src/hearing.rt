@@ -12,7 +12,7 @@ ghost use Rattle.sip_wire.specs.Versions.{index_width};
 ghost use Rattle.sip_verifier.specs.Feeding.{due_at_end, due_with, waiting_with};
 ghost use Rattle.sip_verifier.specs.Gathering.{AreOf};
 ghost use Rattle.sip_verifier.specs.inside.Passing.{taken_with};
-ghost use Rattle.sip_verifier.specs.Moments.{counts};
+ghost use Rattle.sip_verifier.specs.Snapshots.{counts};
 ghost use Rattle.sip_verifier.specs.QuerySeats.{HaveRoom};
 ghost use Rattle.sip_verifier.specs.Seats.{AreSeats};
 ghost use Rattle.sip_verifier.specs.Statuses.{Stops, stops_following};

@@ -13,7 +13,7 @@ ghost use Rattle.sip_wire.specs.declared.message.Reason.{Reason as AnyReason};
 ghost use Rattle.sip_wire.specs.Table.{most_queries};
 ghost use Rattle.sip_verifier.specs.declared.status.Status.{Status as AnyStatus};
 ghost use Rattle.sip_verifier.specs.declared.task.Task.{Task as AnyTask};
-ghost use Rattle.sip_verifier.specs.Moments.{Counts as AnyCounts};
+ghost use Rattle.sip_verifier.specs.Snapshots.{Counts as AnyCounts};
 ghost use Rattle.sip_verifier.specs.Questions.{asking};
 ghost use Rattle.sip_verifier.specs.runs.CauseClause.{CanBeJudged, CauseClause};
 ghost use Rattle.sip_verifier.specs.Tasks.{CanBeDone};

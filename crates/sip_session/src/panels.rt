@@ -7,13 +7,13 @@ ghost use Rattle.sip_duel.specs.Story.{IsHonestTalk};
 ghost use Rattle.sip_verifier.specs.Concluding.{status_of};
 ghost use Rattle.sip_verifier.specs.Exchanges.{TakesAtMost};
 ghost use Rattle.sip_verifier.specs.inside.Passing.{left};
-ghost use Rattle.sip_verifier.specs.Moments.{counts};
+ghost use Rattle.sip_verifier.specs.Snapshots.{counts};
 ghost use Rattle.sip_verifier.specs.Statuses.{FaultClause, IsListed, Stops, stops_gathering};
 ghost use Rattle.sip_verifier.specs.Tasks.{CanBeDone};
 ghost use Rattle.sip_session.specs.inside.Beginning.{Begins, GathersAll, by_query, task_of_seats};
 ghost use Rattle.sip_session.specs.Links.{EachLink};
 ghost use Rattle.sip_session.specs.PanelClause.{PanelRunClause};
-ghost use Rattle.sip_session.specs.PanelExchanges.{panel_moment};
+ghost use Rattle.sip_session.specs.PanelExchanges.{panel_snapshot};
 ghost use Rattle.sip_session.specs.Panels.{seat_queries};
 
 use crate::asking::ask_all;
@@ -151,10 +151,10 @@ fn steps<A: Source, B: Source, K: Sink>(
     requires few { length links.old * length task.now.queries.items ≤ most_queries }
     requires new { All (λ l. l.kept.talk.items ≡ []) links.old }
     ensures keeps { PanelRunClause (length links.old) task.now
-        (panel_moment (A.left first.old) (A.faults first.old) (B.left second.old)
+        (panel_snapshot (A.left first.old) (A.faults first.old) (B.left second.old)
         (B.faults second.old) (map (λ l. l.kept.talk.items) links.old) (K.talk report.old)
         (K.faults report.old))
-        (panel_moment (A.left first.new) (A.faults first.new) (B.left second.new)
+        (panel_snapshot (A.left first.new) (A.faults first.new) (B.left second.new)
         (B.faults second.new) (map (λ l. l.kept.talk.items) links.new) (K.talk report.new)
         (K.faults report.new))
         (status_of result) }
@@ -189,10 +189,10 @@ fn run<A: Source, B: Source, K: Sink>(
     requires few { length links.old * length task.now.queries.items ≤ most_queries }
     requires new { All (λ l. l.kept.talk.items ≡ []) links.old }
     ensures keeps { PanelRunClause (length links.old) task.now
-        (panel_moment (A.left first.old) (A.faults first.old) (B.left second.old)
+        (panel_snapshot (A.left first.old) (A.faults first.old) (B.left second.old)
         (B.faults second.old) (map (λ l. l.kept.talk.items) links.old) (K.talk report.old)
         (K.faults report.old))
-        (panel_moment (A.left first.new) (A.faults first.new) (B.left second.new)
+        (panel_snapshot (A.left first.new) (A.faults first.new) (B.left second.new)
         (B.faults second.new) (map (λ l. l.kept.talk.items) links.new) (K.talk report.new)
         (K.faults report.new))
         result }
@@ -241,10 +241,10 @@ pub fn panel<A: Source, B: Source, K: Sink>(
     requires few { length links.old.items * length task.now.queries.items ≤ most_queries }
     requires new { All (λ l. l.kept.talk.items ≡ []) links.old.items }
     ensures keeps { PanelRunClause (length links.old.items) task.now
-        (panel_moment (A.left first.old) (A.faults first.old) (B.left second.old)
+        (panel_snapshot (A.left first.old) (A.faults first.old) (B.left second.old)
         (B.faults second.old) (map (λ l. l.kept.talk.items) links.old.items) (K.talk report.old)
         (K.faults report.old))
-        (panel_moment (A.left first.new) (A.faults first.new) (B.left second.new)
+        (panel_snapshot (A.left first.new) (A.faults first.new) (B.left second.new)
         (B.faults second.new) (map (λ l. l.kept.talk.items) links.new.items) (K.talk report.new)
         (K.faults report.new))
         result }

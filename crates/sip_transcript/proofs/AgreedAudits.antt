@@ -15,7 +15,7 @@ use Rattle.sip_verifier.specs.CauseClause.{CanBeJudged, CauseClause}
 use Rattle.sip_verifier.specs.Exchanges.{Exchange}
 use Rattle.sip_verifier.specs.Inquiries.{Inquiry, inquiry_of}
 use Rattle.sip_verifier.specs.KeepClause.{IsTranscript, Keeps}
-use Rattle.sip_verifier.specs.Moments.{Counts}
+use Rattle.sip_verifier.specs.Snapshots.{Counts}
 use Rattle.sip_verifier.specs.Tasks.{version_of}
 use Rattle.sip_verifier.specs.Transcripts.{asks_of}
 use Rattle.sip_verifier.specs.Widths.{first_wide}

@@ -20,7 +20,7 @@ use Rattle.sip_wire.proofs.ReadsBack.{read_frame-message}
 use Rattle.sip_wire.proofs.Wider.{fits_two}
 use Rattle.sip_verifier.specs.declared.status.Status.{Status}
 use Rattle.sip_verifier.specs.Inquiries.{Inquiry}
-use Rattle.sip_verifier.specs.Moments.{Counts}
+use Rattle.sip_verifier.specs.Snapshots.{Counts}
 use Rattle.sip_transcript.specs.Agreements.{stops_freely}
 use Rattle.sip_transcript.specs.AlikeAudits.{ConvertAgrees, IsConverted, TellSame}
 use Rattle.sip_transcript.specs.Auditing.{Audit, Audits, Replay, inquiry_in}

@@ -21,7 +21,7 @@ use Rattle.sip_verifier.specs.declared.task.Task.{Task}
 use Rattle.sip_verifier.specs.Concluding.{GoesBehind, status_of}
 use Rattle.sip_verifier.specs.Exchanges.{Appends, Exchange}
 use Rattle.sip_verifier.specs.Inquiries.{Inquiry}
-use Rattle.sip_verifier.specs.Moments.{Counts, counts}
+use Rattle.sip_verifier.specs.Snapshots.{Counts, counts}
 use Rattle.sip_verifier.specs.Seats.{AreSeats}
 use Rattle.sip_verifier.specs.Sittings.{Sitting}
 use Rattle.sip_verifier.specs.Statuses.{FaultClause, Stops, stops_asking}

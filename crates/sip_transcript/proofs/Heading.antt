@@ -25,7 +25,7 @@ use Rattle.sip_verifier.specs.declared.status.Status.TheVariants as statuses
 use Rattle.sip_verifier.specs.declared.task.Task.{Task}
 use Rattle.sip_verifier.specs.QuerySeats.{Seated}
 use Rattle.sip_verifier.specs.Gathering.{AreOf, Breaks, IsPassedOn}
-use Rattle.sip_verifier.specs.Moments.{counts}
+use Rattle.sip_verifier.specs.Snapshots.{counts}
 use Rattle.sip_verifier.specs.Seats.{AreSeats, Seating}
 use Rattle.sip_verifier.specs.Sittings.{Sitting, Starts}
 use Rattle.sip_verifier.specs.Statuses.{FaultClause, stops_following}

@@ -19,7 +19,7 @@ use Rattle.sip_verifier.specs.declared.status.Status.TheVariants as statuses
 use Rattle.sip_verifier.specs.Concluding.{Ended}
 use Rattle.sip_verifier.specs.Exchanges.{Appends, Exchange}
 use Rattle.sip_verifier.specs.Inquiries.{Inquiry}
-use Rattle.sip_verifier.specs.Moments.{Counts, Moment}
+use Rattle.sip_verifier.specs.Snapshots.{Counts, Snapshot}
 use Rattle.sip_verifier.specs.Statuses.{FaultClause}
 use Rattle.sip_transcript.specs.Fields.{head_fault}
 use Rattle.sip_transcript.specs.Heads.{Ask, IsRun}
@@ -53,7 +53,7 @@ pub record Audit : Type 0 where
   pub report : List ℕ
 
 -- the ports tell this audit by what they told before and what they tell after
-pub record TellsAudit (old new : Moment) (a : Audit) : Type 0 where
+pub record TellsAudit (old new : Snapshot) (a : Audit) : Type 0 where
   pub stream : old.first ≡ Some a.stream
   pub unread : new.first ≡ Some a.unread
   pub stored : old.second ≡ Some a.stored
@@ -156,7 +156,7 @@ module _ (form : Form) (a : Audit) (before now : Counts) where
   Audits _ = ⊥
 
 -- all that an audit keeps, from the moment before it to the moment after
-pub record AuditClause (form : Form) (before now : Moment) (status : Status) : Type 0 where
+pub record AuditClause (form : Form) (before now : Snapshot) (status : Status) : Type 0 where
   -- the promises, on what the ports tell
   pub audits : (a : Audit) → TellsAudit before now a
       → Audits form a before.faults now.faults status

@@ -14,7 +14,7 @@ use Rattle.sip_verifier.specs.declared.task.Task.{Task}
 use Rattle.sip_verifier.specs.Concluding.{Ended, GoesBehind, status_of}
 use Rattle.sip_verifier.specs.Exchanges.{Appends, Exchange}
 use Rattle.sip_verifier.specs.Inquiries.{Inquiry}
-use Rattle.sip_verifier.specs.Moments.{Counts}
+use Rattle.sip_verifier.specs.Snapshots.{Counts}
 use Rattle.sip_verifier.specs.Seats.{AreSeats, Seating}
 use Rattle.sip_verifier.specs.Sittings.{Sitting, Starts}
 use Rattle.sip_verifier.specs.Statuses.{FaultClause}

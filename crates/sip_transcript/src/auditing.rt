@@ -8,7 +8,7 @@ ghost use Rattle.sip_ports.specs.Ports.{Lasts};
 ghost use Rattle.sip_vector.specs.declared.update.Update.{Update as AnyUpdate};
 ghost use Rattle.sip_wire.specs.Table.{is_element, most_queries};
 ghost use Rattle.sip_verifier.specs.Concluding.{Reports};
-ghost use Rattle.sip_verifier.specs.Moments.{Counts as AnyCounts, counts, moment};
+ghost use Rattle.sip_verifier.specs.Snapshots.{Counts as AnyCounts, PortState, counts, port, snapshot};
 ghost use Rattle.sip_verifier.specs.QuerySeats.{StandsFor};
 ghost use Rattle.sip_verifier.specs.Statuses.{FaultClause, Stops, stops_asking};
 ghost use Rattle.sip_transcript.specs.Auditing.{Audit, AuditClause, Audits, EndsAudit, stops_auditing};
@@ -249,12 +249,11 @@ pub fn audit<A: Source, B: Source, K: Sink>(
     second: &mut B,
     report: &mut K,
 ) -> Status
-    ensures keeps { (talk talks keep keeps : Option (List TalkEvent))
-        (peer peers kept kepts : ℕ) → AuditClause form
-        (moment (A.left first.old) (A.faults first.old) (B.left second.old)
-        (B.faults second.old) talk peer (K.talk report.old) (K.faults report.old) keep kept)
-        (moment (A.left first.new) (A.faults first.new) (B.left second.new)
-        (B.faults second.new) talks peers (K.talk report.new) (K.faults report.new) keeps kepts)
+    ensures keeps { (peer peers keep keeps : PortState TalkEvent) → AuditClause form
+        (snapshot (port A.left A.faults first.old) (port B.left B.faults second.old) peer
+        (port K.talk K.faults report.old) keep)
+        (snapshot (port A.left A.faults first.new) (port B.left B.faults second.new) peers
+        (port K.talk K.faults report.new) keeps)
         result }
     ensures first { Lasts A.faults A.wants A.is_sure first.old first.new }
     ensures second { Lasts B.faults B.wants B.is_sure second.old second.new }

@@ -16,7 +16,7 @@ ghost use Rattle.sip_wire.specs.declared.version.Version.TheVariants.{Two};
 ghost use Rattle.sip_verifier.specs.Exchanges.{Exchange as AnyExchange};
 ghost use Rattle.sip_verifier.specs.Inquiries.{Inquiry as AnyInquiry};
 ghost use Rattle.sip_verifier.specs.VerdictClause.{AllWritten};
-ghost use Rattle.sip_verifier.specs.Moments.{Counts as AnyCounts};
+ghost use Rattle.sip_verifier.specs.Snapshots.{Counts as AnyCounts};
 ghost use Rattle.sip_verifier.specs.declared.status.Status.{Status as AnyStatus};
 ghost use Rattle.sip_verifier.specs.declared.status.Status.TheVariants as statuses;
 ghost use Rattle.sip_verifier.specs.declared.task.Task.{Task as AnyTask};

@@ -4,7 +4,7 @@ ghost use Rattle.std.specs.Prelude.{◌≡◌, ◌<◌, List, ℕ, Some, IsSome,
 ghost use Rattle.std.specs.declared.option.Option.{Option};
 ghost use Rattle.sip_ports.specs.declared.port.TalkEvent.{TalkEvent};
 ghost use Rattle.sip_ports.specs.Ports.{GoesOn, Lasts, outs};
-ghost use Rattle.sip_verifier.specs.Moments.{counts};
+ghost use Rattle.sip_verifier.specs.Snapshots.{counts};
 ghost use Rattle.sip_verifier.specs.Statuses.{FaultClause, Stops};
 ghost use Rattle.sip_transcript.specs.Conversions.{in_version_2};
 ghost use Rattle.sip_transcript.specs.Listings.{listing};

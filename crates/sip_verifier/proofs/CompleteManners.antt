@@ -18,7 +18,7 @@ use Rattle.sip_verifier.specs.declared.status.Port.TheVariants as ports
 use Rattle.sip_verifier.specs.declared.status.Status.{Status}
 use Rattle.sip_verifier.specs.declared.status.Status.TheVariants as statuses
 use Rattle.sip_verifier.specs.Exchanges.{Exchange}
-use Rattle.sip_verifier.specs.Moments.{Counts}
+use Rattle.sip_verifier.specs.Snapshots.{Counts}
 use Rattle.sip_verifier.specs.runs.CauseClause.{CauseClause}
 use Rattle.sip_verifier.specs.runs.CompletenessClause.{CompletenessClause, Honesty, IsHonest, honest_report}
 use Rattle.sip_verifier.specs.runs.Manners.{Accepted, Asking, Manner, Question}

@@ -19,7 +19,7 @@ use Rattle.sip_verifier.specs.Draws.{blocks, challenge_count}
 use Rattle.sip_verifier.specs.Exchanges.{Exchange}
 use Rattle.sip_verifier.specs.Inquiries.{inquiry_of}
 use Rattle.sip_verifier.specs.Kinds.{kind_row}
-use Rattle.sip_verifier.specs.Moments.{Counts}
+use Rattle.sip_verifier.specs.Snapshots.{Counts}
 use Rattle.sip_verifier.specs.Questions.{asking, is_refused, updates}
 use Rattle.sip_verifier.specs.Tasks.{version_of}
 use Rattle.sip_verifier.specs.VerdictClause.{VerdictClause}

@@ -28,7 +28,7 @@ use Rattle.sip_verifier.specs.declared.status.Status.{Status}
 use Rattle.sip_verifier.specs.declared.status.Status.TheVariants as statuses
 use Rattle.sip_verifier.specs.declared.task.Task.{Task}
 use Rattle.sip_verifier.specs.declared.weights.Weights.{Weights}
-use Rattle.sip_verifier.specs.inside.Drawing.{HasDrawn}
+use Rattle.sip_verifier.specs.inside.Drawing.{Draws, HasDrawn}
 use Rattle.sip_verifier.specs.Draws.{blocks}
 use Rattle.sip_verifier.specs.inside.Ending.{status_of_link, status_of_stream}
 use Rattle.sip_replies.specs.Talks.{IsPrefix}
@@ -248,6 +248,18 @@ module _ (task : Task) (bytes : List ℕ) (start : Option (List TalkEvent)) (fir
       (number ∙ ap (λ (r : Records). length r.legal) (sym is), ap (λ (r : Records). r.fault) is, subst (GoesOn start now) (sym frames) so.said.talk)
   reading_stops left left' now reader seats waiting faults.ReadFault so front = stops_between left now reader seats waiting so
   reading_stops left left' now reader seats waiting faults.OutOfMemory so front = cut_short now (stops_between left now reader seats waiting so)
+
+-- where no challenges were drawn nothing is said
+pub undrawn : (task : Task) (bytes seed : List ℕ) (talk : Option (List TalkEvent)) (status : Status) → Draws task seed (Err status) → Refuses task bytes seed talk talk status
+undrawn task bytes seed talk statuses.BadSeed short = (short, refl)
+undrawn task bytes seed talk statuses.SeedSpent (enough, none) = (enough, none, refl)
+undrawn task bytes seed talk (statuses.ReadFault ports.First) is = absurd is
+undrawn task bytes seed talk (statuses.ReadFault ports.Second) is = refl
+undrawn task bytes seed talk (statuses.ReadFault ports.Report) is = absurd is
+undrawn task bytes seed talk (statuses.ReadFault ports.Keep) is = absurd is
+undrawn task bytes seed talk (statuses.WriteFault port) is = absurd is
+undrawn task bytes seed talk statuses.OutOfMemory is = inl refl
+undrawn task bytes seed talk _ is = absurd is
 
 -- ---- behind the draw
 

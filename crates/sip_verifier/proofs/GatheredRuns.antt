@@ -10,7 +10,7 @@ use Rattle.sip_verifier.specs.Draws.{drawn}
 use Rattle.sip_verifier.specs.Exchanges.{Exchange}
 use Rattle.sip_verifier.specs.Gathering.{Refuses, HasSeed, IsCut}
 use Rattle.sip_verifier.specs.Inquiries.{run_over}
-use Rattle.sip_verifier.specs.Moments.{Counts}
+use Rattle.sip_verifier.specs.Snapshots.{Counts}
 use Rattle.sip_verifier.specs.runs.Concluding.{Ended}
 use Rattle.sip_verifier.specs.runs.Manners.{Asking}
 use Rattle.sip_verifier.specs.runs.Runs.{Run, updates, IsLegalToEnd, farewell, AreQuestions}

@@ -1,11 +1,11 @@
 -- The head of a run's transcript, behind the draw.
-use Rattle.std.proofs.Common.{◌≡◌, Option, Result, Ok, Err, List, ℕ, sym, inr, append-nil, take, drop, take-append-drop, []}
+use Rattle.std.proofs.Common.{◌≡◌, Option, Result, Ok, Err, List, ℕ, refl, sym, inl, inr, append-nil, take, drop, take-append-drop, []}
 use Rattle.std.specs.Prelude.{IsTrue}
 use Rattle.std.specs.List.{zip}
 use Rattle.sip_ports.specs.declared.port.PortStop.{PortStop}
 use Rattle.sip_ports.specs.declared.port.PortStop.TheVariants as port_stops
 use Rattle.sip_ports.specs.declared.port.TalkEvent.{TalkEvent}
-use Rattle.sip_ports.specs.Ports.{SendsWhole}
+use Rattle.sip_ports.specs.Ports.{Rose, SendsWhole}
 use Rattle.sip_vector.specs.declared.query.Query.{Query}
 use Rattle.sip_vector.specs.declared.update.Update.{Update}
 use Rattle.sip_wire.specs.Versions.{needed}
@@ -14,11 +14,13 @@ use Rattle.sip_verifier.specs.declared.status.Status.{Status}
 use Rattle.sip_verifier.specs.declared.status.Status.TheVariants as statuses
 use Rattle.sip_verifier.specs.declared.task.Task.{Task}
 use Rattle.sip_verifier.specs.Draws.{blocks}
-use Rattle.sip_verifier.specs.inside.Drawing.{HasDrawn}
+use Rattle.sip_verifier.specs.Gathering.{Refuses}
+use Rattle.sip_verifier.specs.inside.Drawing.{Draws, HasDrawn}
 use Rattle.sip_verifier.specs.inside.Ending.{status_of_keep}
 use Rattle.sip_verifier.specs.Keeping.{HeadIsKept, HeadIsCut, KeepsHead}
 use Rattle.sip_verifier.specs.Seats.{AreSeats, Seating}
-use Rattle.sip_verifier.specs.Statuses.{stops_following, stops_gathering}
+use Rattle.sip_verifier.specs.Snapshots.{Counts}
+use Rattle.sip_verifier.specs.Statuses.{FaultClause, stops_following, stops_gathering}
 use Rattle.sip_verifier.specs.Tasks.{version_of}
 use Rattle.sip_verifier.specs.Transcripts.{asks_of, head_of}
 
@@ -32,6 +34,18 @@ following_gathers (statuses.ReadFault ports.Keep) is = is
 following_gathers statuses.PeerFault is = is
 following_gathers statuses.OutOfMemory is = is
 following_gathers _ is = absurd (let no = is in cc)
+
+-- where no challenges were drawn nothing is written
+pub undrawn_head : (task : Task) (seed : List ℕ) (talk : Option (List TalkEvent)) (status : Status) → Draws task seed (Err status) → KeepsHead task seed talk talk (Err status)
+undrawn_head task seed talk statuses.BadSeed is = refl
+undrawn_head task seed talk statuses.SeedSpent is = refl
+undrawn_head task seed talk (statuses.ReadFault ports.First) is = absurd is
+undrawn_head task seed talk (statuses.ReadFault ports.Second) is = refl
+undrawn_head task seed talk (statuses.ReadFault ports.Report) is = absurd is
+undrawn_head task seed talk (statuses.ReadFault ports.Keep) is = absurd is
+undrawn_head task seed talk (statuses.WriteFault port) is = absurd is
+undrawn_head task seed talk statuses.OutOfMemory is = inl refl
+undrawn_head task seed talk _ is = absurd is
 
 -- what the seats wrote, whatever they stand for
 abbrev pub WritesHead : Seating → Option (List TalkEvent) → Option (List TalkEvent) → Result (Unit {0}) PortStop → Type 0
@@ -77,3 +91,19 @@ module _ (task : Task) (seed : List ℕ) (seats : Seating) (before now : Option 
   head_followed statuses.PeerFault k is = k
   head_followed statuses.OutOfMemory k is = inr (whole_cut k)
   head_followed _ k is = absurd (let no = is in cc)
+
+-- ---- the head was not written whole
+
+-- nothing is said then
+pub unheaded : (task : Task) (bytes seed : List ℕ) (seats : Seating) (talk : Option (List TalkEvent)) (stop : PortStop) → HasDrawn task seed seats → Refuses task bytes seed talk talk (status_of_keep stop)
+unheaded task bytes seed seats talk port_stops.Failed drawn = ((drawn.challenges, drawn.draws), refl)
+unheaded task bytes seed seats talk port_stops.OutOfMemory drawn = inl refl
+
+-- and it has its cause
+pub keep_stops : (before now : Counts) (stop : PortStop) → (stop ≡ port_stops.Failed → Rose before.keep now.keep) → IsTrue (stops_gathering (status_of_keep stop)) × FaultClause before now (status_of_keep stop)
+keep_stops before now port_stops.Failed rose = (cc, rose refl)
+keep_stops before now port_stops.OutOfMemory rose = (cc, tt)
+
+pub keep_wanted : {S R : Type 0} (r : Result S Status) (stop : PortStop) → r ≡ Err (status_of_keep stop) → (stop ≡ port_stops.OutOfMemory → R) → r ≡ Err statuses.OutOfMemory → R
+keep_wanted r port_stops.Failed of_stop rose is = absurd cc
+keep_wanted r port_stops.OutOfMemory of_stop rose is = rose refl

@@ -21,7 +21,7 @@ use Rattle.sip_verifier.specs.declared.status.Status.{Status}
 use Rattle.sip_verifier.specs.declared.status.Status.TheVariants as statuses
 use Rattle.sip_verifier.specs.Exchanges.{Exchange}
 use Rattle.sip_verifier.specs.inside.Ending.{status_of_fault, status_of_link, status_of_report}
-use Rattle.sip_verifier.specs.Moments.{counts}
+use Rattle.sip_verifier.specs.Snapshots.{counts}
 use Rattle.sip_verifier.specs.Reports.{rejection}
 use Rattle.sip_verifier.specs.runs.Askers.{Asks, GoesBehind, Remaining, queries_in, blocks_in}
 use Rattle.sip_verifier.specs.runs.Asking.{IsAnswered, IsRejected, question_of}

@@ -17,7 +17,7 @@ use Rattle.sip_verifier.specs.declared.status.Status.{Status}
 use Rattle.sip_verifier.specs.declared.status.Status.TheVariants as statuses
 use Rattle.sip_verifier.specs.Exchanges.{Exchange}
 use Rattle.sip_verifier.specs.inside.Ending.{status_of_link}
-use Rattle.sip_verifier.specs.Moments.{Counts}
+use Rattle.sip_verifier.specs.Snapshots.{Counts}
 use Rattle.sip_verifier.specs.Reports.{rejection}
 use Rattle.sip_verifier.specs.runs.Asking.{question_of}
 use Rattle.sip_verifier.specs.runs.CauseClause.{CanBeJudged}

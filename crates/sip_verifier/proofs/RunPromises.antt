@@ -9,7 +9,7 @@ use Rattle.sip_verifier.specs.declared.status.Status.{Status}
 use Rattle.sip_verifier.specs.declared.task.Task.{Task}
 use Rattle.sip_verifier.specs.Exchanges.{Exchange, Tells}
 use Rattle.sip_verifier.specs.Inquiries.{inquiry_of}
-use Rattle.sip_verifier.specs.Moments.{Counts, Moment, IsTold, counts}
+use Rattle.sip_verifier.specs.Snapshots.{Counts, Snapshot, IsTold, counts}
 use Rattle.sip_verifier.specs.inside.Ending.{status_of_start}
 use Rattle.sip_verifier.specs.Concluding.{Ended, status_of}
 use Rattle.sip_verifier.specs.KeepClause.{KeepClause, Keeps}
@@ -45,7 +45,7 @@ module _ (task : Task) (can : CanBeDone task) (some : 1 ≤ task.depth) (most : 
 
   -- a run keeps all, where each exchange that is told has the first three promises, and what is kept
   -- is so
-  pub kept : {before now : Moment} {status : Status}
+  pub kept : {before now : Snapshot} {status : Status}
       → ((x : Exchange) → Tells before now x → Ended (inquiry_of task x) x before.faults now.faults status)
       → ((x : Exchange) → Tells before now x → KeptSo task x status before.keep now.keep)
       → (IsTold before → (x : Exchange) × Tells before now x)

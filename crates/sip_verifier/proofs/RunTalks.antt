@@ -12,7 +12,7 @@ use Rattle.sip_verifier.specs.declared.task.Task.{Task}
 use Rattle.sip_replies.specs.Talks.{IsPrefix}
 use Rattle.sip_verifier.specs.Exchanges.{Appends, Exchange, Tells}
 use Rattle.sip_verifier.specs.Gathering.{Refuses}
-use Rattle.sip_verifier.specs.Moments.{Moment, IsTold}
+use Rattle.sip_verifier.specs.Snapshots.{Snapshot, IsTold}
 use Rattle.sip_verifier.specs.Reports.{rejection}
 use Rattle.sip_verifier.specs.runs.Concluding.{Reports}
 use Rattle.sip_verifier.specs.runs.Manners.{Accepted, Manner}
@@ -68,7 +68,7 @@ grows_to (Some had) new bytes went = (Some bytes, (had, refl, GoesOn-told had ne
 
 -- Where the stream goes on being told, and what is new on the link, in the report and on the record
 -- of the talk is known, there is an exchange.
-pub tells : (old new : Moment) → IsTold old → (IsSome old.first → IsSome new.first)
+pub tells : (old new : Snapshot) → IsTold old → (IsSome old.first → IsSome new.first)
     → (said : List TalkEvent) → GoesOn old.talk new.talk said
     → (bytes : List ℕ) → GoesOn old.report new.report (outs bytes)
     → (record_of : List ℕ) → GoesOn old.keep new.keep (outs record_of)

@@ -16,7 +16,7 @@ use Rattle.sip_verifier.specs.Exchanges.{Exchange}
 use Rattle.sip_verifier.specs.Inquiries.{inquiry_of}
 use Rattle.sip_verifier.specs.Concluding.{Ended, GoesBehind}
 use Rattle.sip_verifier.specs.Gathering.{HasSeed, IsGathered}
-use Rattle.sip_verifier.specs.Moments.{Counts}
+use Rattle.sip_verifier.specs.Snapshots.{Counts}
 use Rattle.sip_verifier.specs.Sittings.{Sitting, Starts}
 use Rattle.sip_verifier.specs.Talks.{stream_sent}
 use Rattle.sip_verifier.specs.Questions.{asking, updates, IsLegalToEnd}

@@ -3,7 +3,7 @@
 use Rattle.sip_verifier.specs.declared.status.Status.{Status}
 use Rattle.sip_verifier.specs.Exchanges.{Exchange}
 use Rattle.sip_verifier.specs.Inquiries.{Inquiry}
-use Rattle.sip_verifier.specs.Moments.{Counts}
+use Rattle.sip_verifier.specs.Snapshots.{Counts}
 use Rattle.sip_verifier.specs.Questions.{asking}
 use Rattle.sip_verifier.specs.runs.CauseClause as runs
 

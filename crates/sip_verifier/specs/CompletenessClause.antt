@@ -15,7 +15,7 @@ use Rattle.sip_verifier.specs.declared.task.Task.{Task}
 use Rattle.sip_verifier.specs.Exchanges.{Exchange}
 use Rattle.sip_verifier.specs.Inquiries.{inquiry_of}
 use Rattle.sip_verifier.specs.Kinds.{KindRow, built, missing, kind_row, OfKind}
-use Rattle.sip_verifier.specs.Moments.{Counts}
+use Rattle.sip_verifier.specs.Snapshots.{Counts}
 use Rattle.sip_verifier.specs.Questions.{asking}
 use Rattle.sip_verifier.specs.runs.CompletenessClause as runs
 use Rattle.sip_verifier.specs.runs.CompletenessClause.{Honesty}

@@ -6,7 +6,7 @@ use Rattle.sip_vector.specs.Pieces.{cut}
 use Rattle.sip_verifier.specs.declared.status.Status.{Status}
 use Rattle.sip_verifier.specs.Exchanges.{Exchange}
 use Rattle.sip_verifier.specs.Inquiries.{Inquiry}
-use Rattle.sip_verifier.specs.Moments.{Counts}
+use Rattle.sip_verifier.specs.Snapshots.{Counts}
 use Rattle.sip_verifier.specs.Questions.{asking, IsLegalToEnd, updates}
 use Rattle.sip_verifier.specs.QuerySeats.{StandsFor}
 use Rattle.sip_verifier.specs.runs.Concluding as runs

@@ -3,7 +3,7 @@ use Rattle.std.specs.Prelude.{◌≡◌, ℕ, List, ◌++◌, Option, Some, None
 use Rattle.std.specs.Io.KnownBytes.{Consumes}
 use Rattle.sip_ports.specs.declared.port.TalkEvent.{TalkEvent}
 use Rattle.sip_ports.specs.Ports.{outs}
-use Rattle.sip_verifier.specs.Moments.{Moment}
+use Rattle.sip_verifier.specs.Snapshots.{Snapshot}
 
 -- What there was to read, and what was said and written.
 pub record Exchange : Type 0 where
@@ -25,7 +25,7 @@ Appends old new (Some bytes) =
 Appends old new None = old ≡ None
 
 -- the ports tell this exchange by what they told before and what they tell after
-pub record Tells (old new : Moment) (x : Exchange) : Type 0 where
+pub record Tells (old new : Snapshot) (x : Exchange) : Type 0 where
   pub stream : old.first ≡ Some x.stream
   pub unread : new.first ≡ Some x.unread
   pub seed : old.second ≡ Some x.seed

@@ -69,8 +69,8 @@ module _ (task : Task) (bytes : List ℕ) where
   Breaks old new _ = ⊥
 
   -- what a call answers that leaves the seats so
-  abbrev pub PassesOn : List (List ℕ) → Option (List ℕ) → Option (List TalkEvent)
-      → Option (List TalkEvent) → Seating → Result Unit Status → Type 0
+  abbrev pub PassesOn : {T : Type 0} → List (List ℕ) → Option (List ℕ) → Option (List TalkEvent)
+      → Option (List TalkEvent) → Seating → Result T Status → Type 0
   PassesOn at_blocks left old new seats (Ok _) = IsPassedOn at_blocks left old new seats
   PassesOn at_blocks left old new seats (Err status) = Breaks old new status
 

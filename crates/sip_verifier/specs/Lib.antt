@@ -1,7 +1,7 @@
 pub mod Draws
 pub mod Talks
 pub mod Reports
-pub mod Moments
+pub mod Snapshots
 pub mod Statuses
 pub mod Exchanges
 pub mod runs
@@ -22,11 +22,12 @@ pub mod Seats
 pub mod SeatNumbers
 pub mod Feeding
 pub mod Gathering
+pub mod Keeping
+pub mod GatherClause
 pub mod Sittings
 pub mod Given
 pub mod Asking
 pub mod Concluding
-pub mod Keeping
 pub mod CountClause
 pub mod JointClause
 pub mod CompletenessClause

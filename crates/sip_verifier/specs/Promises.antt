@@ -8,7 +8,7 @@ use Rattle.sip_verifier.specs.Exchanges.{Exchange}
 use Rattle.sip_verifier.specs.Inquiries.{inquiry_of}
 use Rattle.sip_verifier.specs.JointClause.{JointClause}
 use Rattle.sip_verifier.specs.KeepClause.{KeepClause}
-use Rattle.sip_verifier.specs.Moments.{Counts}
+use Rattle.sip_verifier.specs.Snapshots.{Counts}
 use Rattle.sip_verifier.specs.TalkClause.{TalkClause}
 use Rattle.sip_verifier.specs.VerdictClause.{VerdictClause}
 

@@ -3,11 +3,11 @@
 use Rattle.sip_verifier.specs.declared.status.Status.{Status}
 use Rattle.sip_verifier.specs.declared.task.Task.{Task}
 use Rattle.sip_verifier.specs.Exchanges.{Exchange, Tells}
-use Rattle.sip_verifier.specs.Moments.{Moment, IsTold}
+use Rattle.sip_verifier.specs.Snapshots.{Snapshot, IsTold}
 use Rattle.sip_verifier.specs.Promises.{Promises}
 use Rattle.sip_verifier.specs.Statuses.{FaultClause, IsListed}
 
-pub record RunClause (task : Task) (before now : Moment) (status : Status) : Type 0 where
+pub record RunClause (task : Task) (before now : Snapshot) (status : Status) : Type 0 where
   -- the seven promises, on the exchange that the ports tell
   pub promises : (x : Exchange) → Tells before now x
       → Promises task x before.faults now.faults status

@@ -5,7 +5,7 @@ use Rattle.sip_ports.specs.Ports.{Rose}
 use Rattle.sip_verifier.specs.declared.status.Port.TheVariants as ports
 use Rattle.sip_verifier.specs.declared.status.Status.{Status}
 use Rattle.sip_verifier.specs.declared.status.Status.TheVariants as statuses
-use Rattle.sip_verifier.specs.Moments.{Counts}
+use Rattle.sip_verifier.specs.Snapshots.{Counts}
 
 -- Which count of faults rose where this status is answered, whatever the ports tell. A status that
 -- is no fault needs none.

@@ -13,3 +13,7 @@ weight_in w Second = w.second
 -- these are the weights of this stream's sides
 abbrev pub AreWeights : List Update → Weights → Type 0
 AreWeights stream w = (side : Side) → weight_in w side ≡ weight stream side
+
+-- those of no stream
+abbrev pub none : Weights
+none = record { first = 0; second = 0 }

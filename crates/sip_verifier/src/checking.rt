@@ -11,7 +11,7 @@ ghost use Rattle.sip_verifier.specs.Exchanges.{Exchange, TakesAtMost};
 ghost use Rattle.sip_verifier.specs.inside.Ending.{status_of_start};
 ghost use Rattle.sip_verifier.specs.Inquiries.{Inquiry};
 ghost use Rattle.sip_verifier.specs.Keeping.{KeepsTalk};
-ghost use Rattle.sip_verifier.specs.Moments.{Counts, counts, moment};
+ghost use Rattle.sip_verifier.specs.Snapshots.{Counts, counts, port, snapshot};
 ghost use Rattle.sip_verifier.specs.QuerySeats.{StandsFor};
 ghost use Rattle.sip_verifier.specs.RunClause.{RunClause};
 ghost use Rattle.sip_verifier.specs.Seats.{Seating};
@@ -21,8 +21,8 @@ ghost use Rattle.sip_verifier.specs.Tasks.{CanBeDone};
 
 use crate::concluding::conclude_run;
 use crate::ending::status_of_start;
-use crate::gathering::gather_into;
-use crate::{Seats, Session, Status, Task, Weights};
+use crate::gathering::gather;
+use crate::{Seats, Session, Status, Task};
 use sip_ports::{Link, Sink, Source};
 use sip_vector::{Depth, Query};
 use sip_wire::Version;
@@ -111,12 +111,12 @@ fn steps<A: Source, B: Source, L: Link, K: Sink, C: Sink>(
 ) -> Result<(), Status>
     requires { CanBeDone task.now }
     ensures keeps { RunClause task.now
-        (moment (A.left first.old) (A.faults first.old) (B.left second.old) (B.faults second.old)
-        (L.talk peer.old) (L.faults peer.old) (K.talk report.old) (K.faults report.old)
-        (C.talk keep.old) (C.faults keep.old))
-        (moment (A.left first.new) (A.faults first.new) (B.left second.new) (B.faults second.new)
-        (L.talk peer.new) (L.faults peer.new) (K.talk report.new) (K.faults report.new)
-        (C.talk keep.new) (C.faults keep.new))
+        (snapshot (port A.left A.faults first.old) (port B.left B.faults second.old)
+        (port L.talk L.faults peer.old) (port K.talk K.faults report.old)
+        (port C.talk C.faults keep.old))
+        (snapshot (port A.left A.faults first.new) (port B.left B.faults second.new)
+        (port L.talk L.faults peer.new) (port K.talk K.faults report.new)
+        (port C.talk C.faults keep.new))
         (status_of result) }
     ensures first { Lasts A.faults A.wants A.is_sure first.old first.new }
     ensures seed { TakesAtMost 32 (B.left second.old) (B.left second.new) }
@@ -130,15 +130,7 @@ fn steps<A: Source, B: Source, L: Link, K: Sink, C: Sink>(
     let version = task.version();
     // Nothing is gathered yet. What is stays here until the session has it.
     let mut gathered = Err(Status::SeedSpent);
-    gather_into(
-        task,
-        first,
-        second,
-        peer,
-        keep,
-        &mut gathered,
-        &mut Weights::default(),
-    );
+    gather(task, first, second, peer, keep, &mut gathered);
     let mut session = open(alloc, version, &mut gathered)?;
     conclude(&mut *session, &task.queries, peer, report, keep)
 }
@@ -163,12 +155,12 @@ pub fn check_stream<A: Source, B: Source, L: Link, K: Sink, C: Sink>(
 ) -> Status
     requires { CanBeDone task.now }
     ensures keeps { RunClause task.now
-        (moment (A.left first.old) (A.faults first.old) (B.left second.old) (B.faults second.old)
-        (L.talk peer.old) (L.faults peer.old) (K.talk report.old) (K.faults report.old)
-        (C.talk keep.old) (C.faults keep.old))
-        (moment (A.left first.new) (A.faults first.new) (B.left second.new) (B.faults second.new)
-        (L.talk peer.new) (L.faults peer.new) (K.talk report.new) (K.faults report.new)
-        (C.talk keep.new) (C.faults keep.new))
+        (snapshot (port A.left A.faults first.old) (port B.left B.faults second.old)
+        (port L.talk L.faults peer.old) (port K.talk K.faults report.old)
+        (port C.talk C.faults keep.old))
+        (snapshot (port A.left A.faults first.new) (port B.left B.faults second.new)
+        (port L.talk L.faults peer.new) (port K.talk K.faults report.new)
+        (port C.talk C.faults keep.new))
         result }
     ensures first { Lasts A.faults A.wants A.is_sure first.old first.new }
     ensures seed { TakesAtMost 32 (B.left second.old) (B.left second.new) }

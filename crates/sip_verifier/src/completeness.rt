@@ -15,7 +15,7 @@ ghost use Rattle.sip_verifier.specs.CauseClause.{CauseClause};
 ghost use Rattle.sip_verifier.specs.CompletenessClause.{honest_bytes, CompletenessClause};
 ghost use Rattle.sip_verifier.specs.Exchanges.{Exchange};
 ghost use Rattle.sip_verifier.specs.Inquiries.{inquiry_of};
-ghost use Rattle.sip_verifier.specs.Moments.{Counts};
+ghost use Rattle.sip_verifier.specs.Snapshots.{Counts};
 ghost use Rattle.sip_verifier.specs.Reports.{report_of};
 ghost use Rattle.sip_verifier.specs.Statuses.{IsListed};
 ghost use Rattle.sip_verifier.specs.VerdictClause.{VerdictClause};

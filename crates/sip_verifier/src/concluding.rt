@@ -6,7 +6,7 @@ ghost use Rattle.sip_vector.specs.declared.update.Update.{Update as AnyUpdate};
 ghost use Rattle.sip_wire.specs.Table.{most_queries};
 ghost use Rattle.sip_verifier.specs.Exchanges.{Exchange};
 ghost use Rattle.sip_verifier.specs.Keeping.{KeepsTalk};
-ghost use Rattle.sip_verifier.specs.Moments.{Counts, counts};
+ghost use Rattle.sip_verifier.specs.Snapshots.{Counts, counts};
 ghost use Rattle.sip_verifier.specs.runs.Askers.{GoesBehind, IsFirst, behind, blocks_in, queries_in};
 ghost use Rattle.sip_verifier.specs.runs.Concluding.{Ended, Reports, status_of};
 ghost use Rattle.sip_verifier.specs.runs.Progress.{Checks, ChecksAll};

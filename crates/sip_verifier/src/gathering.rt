@@ -2,6 +2,7 @@
 
 ghost use Rattle.std.specs.Prelude.{◌≡◌, ◌≢◌, ◌⊎◌, ◌<◌, ◌^◌, ◌++◌, ◌∷◌, [], map, ℕ, List, length, All, Some, Ok, Err, IsSome, IfOk, OnOk, MatchResult, false, pos};
 ghost use Rattle.sip_ports.specs.Ports.{HasCause, Lasts, Rose, SendsWhole};
+ghost use Rattle.sip_ports.specs.declared.port.TalkEvent.{TalkEvent as AnyEvent};
 ghost use Rattle.sip_wire.specs.Table.{most_rows};
 ghost use Rattle.sip_wire.specs.Versions.{index_width};
 ghost use Rattle.sip_vector.specs.declared.query.Query.{Query as AnyQuery};
@@ -11,14 +12,14 @@ ghost use Rattle.sip_stream.specs.declared.fault.StreamFault.{StreamFault as Any
 ghost use Rattle.sip_verifier.specs.inside.Drawing.{Draws};
 ghost use Rattle.sip_verifier.specs.inside.Ending.{status_of_stream};
 ghost use Rattle.sip_verifier.specs.Feeding.{due_with, waiting_with};
-ghost use Rattle.sip_verifier.specs.inside.Passing.{left, taken_with};
+ghost use Rattle.sip_verifier.specs.inside.Passing.{left, taken_with, weighed};
 ghost use Rattle.sip_verifier.specs.QuerySeats.{HaveRoom};
 ghost use Rattle.sip_verifier.specs.Seats.{AreSeats};
 ghost use Rattle.std.specs.Result.{is_err};
 ghost use Rattle.sip_verifier.specs.Exchanges.{TakesAtMost};
-ghost use Rattle.sip_verifier.specs.Gathering.{AreOf, Gathers, PassesOn, legal};
-ghost use Rattle.sip_verifier.specs.Keeping.{KeepsHead};
-ghost use Rattle.sip_verifier.specs.Moments.{counts};
+ghost use Rattle.sip_verifier.specs.GatherClause.{GatherClause};
+ghost use Rattle.sip_verifier.specs.Gathering.{AreOf, PassesOn, legal};
+ghost use Rattle.sip_verifier.specs.Snapshots.{PortState, counts, port, snapshot};
 ghost use Rattle.sip_verifier.specs.Statuses.{Stops, stops_following, stops_gathering};
 ghost use Rattle.sip_verifier.specs.Tasks.{CanBeDone};
 ghost use Rattle.sip_verifier.specs.Weights.{AreWeights};
@@ -123,16 +124,22 @@ fn pass_on<K: Sink>(
     feed.send(peer)
 }
 
-/// [`follow`], which also leaves the weights of the stream's sides in `weights`, where it was read to
-/// its end.
+/// Opens the talk, reads the stream of `first` to its end, sends it on over `peer` and adds it to the
+/// seats. Answers the weights of the stream's sides. Nothing is heard, so a sink is enough. There is
+/// no allocator: see [`gather`], which draws the seats before.
+///
+/// # Errors
+///
+/// `PeerFault` of the opening; then what comes first while the stream is read and sent: `BadStream`,
+/// `ReadFault` of `first`, `PeerFault`. `OutOfMemory` comes only where a port's count of wants rose.
+/// The end of the stream was then not sent whole, and what the seats stand for is not said.
 #[inline(never)]
-pub fn follow_weighed<A: Source, K: Sink>(
+pub fn follow<A: Source, K: Sink>(
     task: &Task,
     seats: &mut Seats,
     first: &mut A,
     peer: &mut K,
-    weights: &mut Weights,
-) -> Result<(), Status>
+) -> Result<Weights, Status>
     requires { AreOf task.now [] seats.old }
     ensures passes_on { (bytes : List ℕ) (at_blocks : List (List ℕ)) → A.left first.old ≡ Some bytes
         → AreSeats task.now.depth task.now.queries.items at_blocks [] seats.old
@@ -140,7 +147,7 @@ pub fn follow_weighed<A: Source, K: Sink>(
         (K.talk peer.new) seats.new result }
     ensures seats { IfOk result (λ _. (stream : List AnyUpdate) × AreOf task.now stream seats.new) }
     ensures weights { (bytes : List ℕ) → A.left first.old ≡ Some bytes
-        → OnOk result (AreWeights (legal task.now bytes) weights.new) }
+        → IfOk result (AreWeights (legal task.now bytes)) }
     ensures fault { (second seconds report reports keep keeps : ℕ) → Stops stops_following
         (counts (A.faults first.old) second (K.faults peer.old) report keep)
         (counts (A.faults first.new) seconds (K.faults peer.new) reports keeps) result }
@@ -164,48 +171,13 @@ pub fn follow_weighed<A: Source, K: Sink>(
     let rest = feed.waiting();
     seats.update_all(rest);
     on_link(feed.finish(peer))?;
-    *weights = Weights {
+    Ok(Weights {
         first: reader.weight(Side::First),
         second: reader.weight(Side::Second),
-    };
-    Ok(())
+    })
 }
 
-/// Opens the talk, reads the stream of `first` to its end, sends it on over `peer` and adds it to the seats. Nothing is heard, so a
-/// sink is enough. There is no allocator: see [`gather`], which draws the seats before.
-///
-/// # Errors
-///
-/// `PeerFault` of the opening; then what comes first while the stream is read and sent: `BadStream`, `ReadFault` of `first`, `PeerFault`.
-/// `OutOfMemory` comes only where a port's count of wants rose. The end of the stream was then not sent whole, and what the seats
-/// stand for is not said.
-#[inline(never)]
-pub fn follow<A: Source, K: Sink>(
-    task: &Task,
-    seats: &mut Seats,
-    first: &mut A,
-    peer: &mut K,
-) -> Result<(), Status>
-    requires { AreOf task.now [] seats.old }
-    ensures passes_on { (bytes : List ℕ) (at_blocks : List (List ℕ)) → A.left first.old ≡ Some bytes
-        → AreSeats task.now.depth task.now.queries.items at_blocks [] seats.old
-        → PassesOn task.now bytes at_blocks (A.left first.new) (K.talk peer.old)
-        (K.talk peer.new) seats.new result }
-    ensures seats { IfOk result (λ _. (stream : List AnyUpdate) × AreOf task.now stream seats.new) }
-    ensures fault { (second seconds report reports keep keeps : ℕ) → Stops stops_following
-        (counts (A.faults first.old) second (K.faults peer.old) report keep)
-        (counts (A.faults first.new) seconds (K.faults peer.new) reports keeps) result }
-    ensures memory { result ≡ Err Status.OutOfMemory
-        → Rose (A.wants first.old) (A.wants first.new)
-        ⊎ Rose (K.wants peer.old) (K.wants peer.new) }
-    ensures told { IsSome (A.left first.old) → IsSome (A.left first.new) }
-    ensures first { Lasts A.faults A.wants A.is_sure first.old first.new }
-    ensures peer { Lasts K.faults K.wants K.is_sure peer.old peer.new }
-{
-    follow_weighed(task, seats, first, peer, &mut Weights::default())
-}
-
-/// All steps of `gather`. The seats are left in `gathered`, as they are where the steps stop.
+/// All steps of [`gather`]. The seats are left in `gathered`, as they are where the steps stop.
 fn lead<A: Source, B: Source, L: Link, C: Sink>(
     task: &Task,
     first: &mut A,
@@ -213,150 +185,51 @@ fn lead<A: Source, B: Source, L: Link, C: Sink>(
     peer: &mut L,
     keep: &mut C,
     gathered: &mut Result<Seats, Status>,
-    weights: &mut Weights,
-) -> Result<(), Status>
+) -> Result<Weights, Status>
     requires { CanBeDone task.now }
-    ensures gathers { (bytes seed : List ℕ) → A.left first.old ≡ Some bytes
-        → B.left second.old ≡ Some seed
-        → Gathers task.now bytes seed (A.left first.new) (L.talk peer.old)
-        (L.talk peer.new) (left gathered.new result) }
-    ensures kept { (seed : List ℕ) → B.left second.old ≡ Some seed
-        → KeepsHead task.now seed (C.talk keep.old) (C.talk keep.new) (left gathered.new result) }
-    ensures fault { (report reports : ℕ) → Stops stops_gathering
-        (counts (A.faults first.old) (B.faults second.old) (L.faults peer.old) report
-        (C.faults keep.old))
-        (counts (A.faults first.new) (B.faults second.new) (L.faults peer.new) reports
-        (C.faults keep.new)) (left gathered.new result) }
-    ensures memory { (left gathered.new result) ≡ Err Status.OutOfMemory
-        → Rose (A.wants first.old) (A.wants first.new)
-        ⊎ Rose (B.wants second.old) (B.wants second.new)
-        ⊎ Rose (L.wants peer.old) (L.wants peer.new)
-        ⊎ Rose (C.wants keep.old) (C.wants keep.new) }
-    ensures seated { IfOk (left gathered.new result) (λ seats. (seats.depth ≡ task.now.depth)
-        × (map (λ s. s.query) seats.seats ≡ task.now.queries.items)) }
-    ensures weights { (bytes : List ℕ) → A.left first.old ≡ Some bytes
-        → IfOk (left gathered.new result) (λ _. AreWeights (legal task.now bytes) weights.new) }
-    ensures told { IsSome (A.left first.old) → IsSome (A.left first.new) }
-    ensures also_told { IsSome (B.left second.old) → IsSome (B.left second.new) }
-    ensures seed { TakesAtMost 32 (B.left second.old) (B.left second.new) }
+    ensures keeps { (report reports : PortState AnyEvent) → GatherClause task.now
+        (snapshot (port A.left A.faults first.old) (port B.left B.faults second.old)
+        (port L.talk L.faults peer.old) report (port C.talk C.faults keep.old))
+        (snapshot (port A.left A.faults first.new) (port B.left B.faults second.new)
+        (port L.talk L.faults peer.new) reports (port C.talk C.faults keep.new))
+        (counts (A.wants first.old) (B.wants second.old) (L.wants peer.old) 0 (C.wants keep.old))
+        (counts (A.wants first.new) (B.wants second.new) (L.wants peer.new) 0 (C.wants keep.new))
+        (left gathered.new result) (weighed result) }
     ensures first { Lasts A.faults A.wants A.is_sure first.old first.new }
     ensures second { Lasts B.faults B.wants B.is_sure second.old second.new }
     ensures peer { Lasts L.faults L.wants L.is_sure peer.old peer.new }
     ensures keep { Lasts C.faults C.wants C.is_sure keep.old keep.new }
 {
     draw(task, second, gathered)?;
-    if let Ok(seats) = gathered {
-        on_keep(seats.put_transcript_head(keep))?;
-        follow_weighed(task, seats, first, peer, weights)?;
-    }
-    Ok(())
-}
-
-/// [`gather`], but what that answers is left in `gathered`, whatever stood there. So the seats stay
-/// where they were drawn: they are too large to be moved about. The weights of the stream are left in
-/// `weights`.
-#[inline(never)]
-pub(crate) fn gather_into<A: Source, B: Source, L: Link, C: Sink>(
-    task: &Task,
-    first: &mut A,
-    second: &mut B,
-    peer: &mut L,
-    keep: &mut C,
-    gathered: &mut Result<Seats, Status>,
-    weights: &mut Weights,
-)
-    requires { CanBeDone task.now }
-    ensures gathers { (bytes seed : List ℕ) → A.left first.old ≡ Some bytes
-        → B.left second.old ≡ Some seed
-        → Gathers task.now bytes seed (A.left first.new) (L.talk peer.old)
-        (L.talk peer.new) gathered.new }
-    ensures kept { (seed : List ℕ) → B.left second.old ≡ Some seed
-        → KeepsHead task.now seed (C.talk keep.old) (C.talk keep.new) gathered.new }
-    ensures fault { (report reports : ℕ) → Stops stops_gathering
-        (counts (A.faults first.old) (B.faults second.old) (L.faults peer.old) report
-        (C.faults keep.old))
-        (counts (A.faults first.new) (B.faults second.new) (L.faults peer.new) reports
-        (C.faults keep.new)) gathered.new }
-    ensures memory { gathered.new ≡ Err Status.OutOfMemory
-        → Rose (A.wants first.old) (A.wants first.new)
-        ⊎ Rose (B.wants second.old) (B.wants second.new)
-        ⊎ Rose (L.wants peer.old) (L.wants peer.new)
-        ⊎ Rose (C.wants keep.old) (C.wants keep.new) }
-    ensures seated { IfOk gathered.new (λ seats. (seats.depth ≡ task.now.depth)
-        × (map (λ s. s.query) seats.seats ≡ task.now.queries.items)) }
-    ensures weights { (bytes : List ℕ) → A.left first.old ≡ Some bytes
-        → IfOk gathered.new (λ _. AreWeights (legal task.now bytes) weights.new) }
-    ensures told { IsSome (A.left first.old) → IsSome (A.left first.new) }
-    ensures also_told { IsSome (B.left second.old) → IsSome (B.left second.new) }
-    ensures seed { TakesAtMost 32 (B.left second.old) (B.left second.new) }
-    ensures first { Lasts A.faults A.wants A.is_sure first.old first.new }
-    ensures second { Lasts B.faults B.wants B.is_sure second.old second.new }
-    ensures peer { Lasts L.faults L.wants L.is_sure peer.old peer.new }
-    ensures keep { Lasts C.faults C.wants C.is_sure keep.old keep.new }
-{
-    if let Err(status) = lead(task, first, second, peer, keep, gathered, weights) {
-        *gathered = Err(status);
+    match gathered {
+        Ok(seats) => {
+            on_keep(seats.put_transcript_head(keep))?;
+            let weights = follow(task, seats, first, peer)?;
+            Ok(weights)
+        }
+        Err(status) => Err(*status),
     }
 }
 
-/// [`gather`], which also leaves the weights of the stream's sides in `weights`, where it was read to
-/// its end.
-#[inline(never)]
-pub fn gather_weighed<A: Source, B: Source, L: Link, C: Sink>(
-    task: &Task,
-    first: &mut A,
-    second: &mut B,
-    peer: &mut L,
-    keep: &mut C,
-    weights: &mut Weights,
-) -> Result<Seats, Status>
-    requires { CanBeDone task.now }
-    ensures gathers { (bytes seed : List ℕ) → A.left first.old ≡ Some bytes
-        → B.left second.old ≡ Some seed
-        → Gathers task.now bytes seed (A.left first.new) (L.talk peer.old)
-        (L.talk peer.new) result }
-    ensures kept { (seed : List ℕ) → B.left second.old ≡ Some seed
-        → KeepsHead task.now seed (C.talk keep.old) (C.talk keep.new) result }
-    ensures fault { (report reports : ℕ) → Stops stops_gathering
-        (counts (A.faults first.old) (B.faults second.old) (L.faults peer.old) report
-        (C.faults keep.old))
-        (counts (A.faults first.new) (B.faults second.new) (L.faults peer.new) reports
-        (C.faults keep.new)) result }
-    ensures memory { result ≡ Err Status.OutOfMemory
-        → Rose (A.wants first.old) (A.wants first.new)
-        ⊎ Rose (B.wants second.old) (B.wants second.new)
-        ⊎ Rose (L.wants peer.old) (L.wants peer.new)
-        ⊎ Rose (C.wants keep.old) (C.wants keep.new) }
-    ensures seated { IfOk result (λ seats. (seats.depth ≡ task.now.depth)
-        × (map (λ s. s.query) seats.seats ≡ task.now.queries.items)) }
-    ensures weights { (bytes : List ℕ) → A.left first.old ≡ Some bytes
-        → IfOk result (λ _. AreWeights (legal task.now bytes) weights.new) }
-    ensures told { IsSome (A.left first.old) → IsSome (A.left first.new) }
-    ensures also_told { IsSome (B.left second.old) → IsSome (B.left second.new) }
-    ensures seed { TakesAtMost 32 (B.left second.old) (B.left second.new) }
-    ensures first { Lasts A.faults A.wants A.is_sure first.old first.new }
-    ensures second { Lasts B.faults B.wants B.is_sure second.old second.new }
-    ensures peer { Lasts L.faults L.wants L.is_sure peer.old peer.new }
-    ensures keep { Lasts C.faults C.wants C.is_sure keep.old keep.new }
-{
-    // Nothing is drawn yet.
-    let mut gathered = Err(Status::SeedSpent);
-    gather_into(task, first, second, peer, keep, &mut gathered, weights);
-    gathered
-}
-
-/// Draws the challenges from 32 bytes of `second`, writes the head of the run's transcript to `keep`, opens the talk, reads the
-/// stream of `first` to its end, sends it on over `peer` and keeps the seats that stand for it.
+/// Draws the challenges from 32 bytes of `second`, writes the head of the run's transcript to
+/// `keep`, opens the talk, reads the stream of `first` to its end, sends it on over `peer` and keeps
+/// the seats that stand for it. Answers the weights of the stream's sides, zeros where there are no
+/// seats.
 ///
-/// There is no allocator here: what is kept of a stream has a fixed size, whatever its length. The seats take the records in blocks
-/// of 512: the time for each record is one look-up and one multiplication for each seven levels and query, and that of their tables
-/// once a block. A frame is sent for each 512 records, in one write.
+/// The seats, or why there are none, are left in `gathered`, whatever stood there: so they stay where
+/// they were drawn, since they are too large to be moved about.
+///
+/// There is no allocator here: what is kept of a stream has a fixed size, whatever its length. The
+/// seats take the records in blocks of 512: the time for each record is one look-up and one
+/// multiplication for each seven levels and query, and that of their tables once a block. A frame is
+/// sent for each 512 records, in one write.
 ///
 /// # Errors
 ///
-/// The first in this order: `ReadFault` of `second`, `BadSeed`, `SeedSpent`; then `WriteFault` of `keep`, before anything is said; then
-/// `PeerFault` of the opening; then what comes first while the stream is read and sent: `BadStream`, `ReadFault` of `first`, `PeerFault`.
-/// `OutOfMemory` comes only where a port's count of wants rose. The end of the stream was then not sent whole.
+/// The first in this order: `ReadFault` of `second`, `BadSeed`, `SeedSpent`; then `WriteFault` of
+/// `keep`, before anything is said; then `PeerFault` of the opening; then what comes first while the
+/// stream is read and sent: `BadStream`, `ReadFault` of `first`, `PeerFault`. `OutOfMemory` comes
+/// only where a port's count of wants rose. The end of the stream was then not sent whole.
 #[inline(never)]
 pub fn gather<A: Source, B: Source, L: Link, C: Sink>(
     task: &Task,
@@ -364,33 +237,27 @@ pub fn gather<A: Source, B: Source, L: Link, C: Sink>(
     second: &mut B,
     peer: &mut L,
     keep: &mut C,
-) -> Result<Seats, Status>
+    gathered: &mut Result<Seats, Status>,
+) -> Weights
     requires { CanBeDone task.now }
-    ensures gathers { (bytes seed : List ℕ) → A.left first.old ≡ Some bytes
-        → B.left second.old ≡ Some seed
-        → Gathers task.now bytes seed (A.left first.new) (L.talk peer.old)
-        (L.talk peer.new) result }
-    ensures kept { (seed : List ℕ) → B.left second.old ≡ Some seed
-        → KeepsHead task.now seed (C.talk keep.old) (C.talk keep.new) result }
-    ensures fault { (report reports : ℕ) → Stops stops_gathering
-        (counts (A.faults first.old) (B.faults second.old) (L.faults peer.old) report
-        (C.faults keep.old))
-        (counts (A.faults first.new) (B.faults second.new) (L.faults peer.new) reports
-        (C.faults keep.new)) result }
-    ensures memory { result ≡ Err Status.OutOfMemory
-        → Rose (A.wants first.old) (A.wants first.new)
-        ⊎ Rose (B.wants second.old) (B.wants second.new)
-        ⊎ Rose (L.wants peer.old) (L.wants peer.new)
-        ⊎ Rose (C.wants keep.old) (C.wants keep.new) }
-    ensures seated { IfOk result (λ seats. (seats.depth ≡ task.now.depth)
-        × (map (λ s. s.query) seats.seats ≡ task.now.queries.items)) }
-    ensures told { IsSome (A.left first.old) → IsSome (A.left first.new) }
-    ensures also_told { IsSome (B.left second.old) → IsSome (B.left second.new) }
-    ensures seed { TakesAtMost 32 (B.left second.old) (B.left second.new) }
+    ensures keeps { (report reports : PortState AnyEvent) → GatherClause task.now
+        (snapshot (port A.left A.faults first.old) (port B.left B.faults second.old)
+        (port L.talk L.faults peer.old) report (port C.talk C.faults keep.old))
+        (snapshot (port A.left A.faults first.new) (port B.left B.faults second.new)
+        (port L.talk L.faults peer.new) reports (port C.talk C.faults keep.new))
+        (counts (A.wants first.old) (B.wants second.old) (L.wants peer.old) 0 (C.wants keep.old))
+        (counts (A.wants first.new) (B.wants second.new) (L.wants peer.new) 0 (C.wants keep.new))
+        gathered.new result }
     ensures first { Lasts A.faults A.wants A.is_sure first.old first.new }
     ensures second { Lasts B.faults B.wants B.is_sure second.old second.new }
     ensures peer { Lasts L.faults L.wants L.is_sure peer.old peer.new }
     ensures keep { Lasts C.faults C.wants C.is_sure keep.old keep.new }
 {
-    gather_weighed(task, first, second, peer, keep, &mut Weights::default())
+    match lead(task, first, second, peer, keep, gathered) {
+        Ok(weights) => weights,
+        Err(status) => {
+            *gathered = Err(status);
+            Weights::default()
+        }
+    }
 }

@@ -72,7 +72,7 @@ pub use checking::{check_stream, conclude, open};
 pub use concluding::conclude_run;
 pub use ending::{on_link, on_report, status_of_fault};
 pub use feed::Feed;
-pub use gathering::{draw, follow, follow_weighed, gather, gather_weighed, on_stream};
+pub use gathering::{draw, follow, gather, on_stream};
 pub use queries::Given;
 pub use report::{query_word, write_dropped};
 pub use seats::Seats;

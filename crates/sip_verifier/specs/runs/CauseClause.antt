@@ -18,7 +18,7 @@ use Rattle.sip_verifier.specs.declared.status.Port.TheVariants as ports
 use Rattle.sip_verifier.specs.declared.status.Status.{Status}
 use Rattle.sip_verifier.specs.declared.status.Status.TheVariants as statuses
 use Rattle.sip_verifier.specs.Exchanges.{Exchange}
-use Rattle.sip_verifier.specs.Moments.{Counts}
+use Rattle.sip_verifier.specs.Snapshots.{Counts}
 use Rattle.sip_verifier.specs.runs.Manners.{Asking}
 use Rattle.sip_verifier.specs.runs.Runs.{Run, manner, updates, IsLegalToEnd}
 use Rattle.sip_verifier.specs.Statuses.{FaultClause}

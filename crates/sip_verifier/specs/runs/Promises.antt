@@ -2,7 +2,7 @@
 -- the status that it answers.
 use Rattle.sip_verifier.specs.declared.status.Status.{Status}
 use Rattle.sip_verifier.specs.Exchanges.{Exchange}
-use Rattle.sip_verifier.specs.Moments.{Counts}
+use Rattle.sip_verifier.specs.Snapshots.{Counts}
 use Rattle.sip_verifier.specs.runs.CauseClause.{CauseClause}
 use Rattle.sip_verifier.specs.runs.CompletenessClause.{CompletenessClause, Honesty}
 use Rattle.sip_verifier.specs.runs.CountClause.{CountClause, Counting}

@@ -23,7 +23,7 @@ returns-in-Help-clause-keeps g c =
 
 pub returns-in-Audit-clause-keeps : goal.returns-in-Audit-clause-keeps
 returns-in-Audit-clause-keeps g c =
-    let keeps = c.audit.ensures.keeps _ _ _ _ _ _ _ _ in
+    let keeps = c.audit.ensures.keeps _ _ _ _ in
     audit_keeps _ c.in-Audit.is keeps (audit_moves _ _ _ _ keeps (GoesOn-refl _) (GoesOn-refl _))
 
 pub returns-in-Show-clause-keeps : goal.returns-in-Show-clause-keeps

@@ -2,7 +2,7 @@
 use Rattle.std.proofs.Common.{◌≤◌, arith, length}
 use Rattle.std.proofs.lemmas.Result.{err_from_is_err_and}
 use Rattle.sip_vector.specs.Limits.{most_depth}
-use Rattle.sip_verifier.specs.Moments.{counts}
+use Rattle.sip_verifier.specs.Snapshots.{counts}
 use Rattle.sip_verifier.proofs.RunPromises.{gathering_listed}
 use Rattle.sip_verifier.proofs.SeatsHead.{gathered-speak}
 use Rattle.sip_session.proofs.Begun.{begun_counted, begun_listed, begun_named, gathers_begins, stops_listed}

@@ -8,7 +8,7 @@ use Rattle.sip_wire.specs.Table.{most_queries}
 use Rattle.sip_duel.proofs.KeepsLemmas.{kept_is_honest}
 use Rattle.sip_verifier.specs.declared.task.Task.{Task}
 use Rattle.sip_verifier.specs.Gathering.{legal}
-use Rattle.sip_verifier.specs.Moments.{counts}
+use Rattle.sip_verifier.specs.Snapshots.{counts}
 use Rattle.sip_verifier.specs.Sittings.{Sitting}
 use Rattle.sip_verifier.proofs.RunTalks.{nothing_reported, some_value, written_is}
 use Rattle.sip_verifier.proofs.SeatedBehind.{seats_left}

@@ -10,10 +10,10 @@ use Rattle.sip_transcript.proofs.Audited.{head_audits, head_caused, since_earlie
 use Rattle.sip_transcript.proofs.auditing.audit.Goals as goal
 
 pub returns-in-Ok-clause-keeps : goal.returns-in-Ok-clause-keeps
-returns-in-Ok-clause-keeps g c = λ talk talks keep keeps peer peers kept kepts.
+returns-in-Ok-clause-keeps g c = λ peer peers keep keeps.
     let (asks, says, taken) = c.in-Ok.ensures.reads in
     let head = c.in-Ok.head in
-    let fault = since_earlier _ _ _ (g.B.Source.faults c.args.second.now) (g.B.Source.faults c.head.new.source) _ peer peers _ _ _ kept kepts c.check.result (le_refl _) c.head.ensures.lasts.later (le_refl _) (c.check.ensures.fault peer peers kept kepts) in
+    let fault = since_earlier _ _ _ (g.B.Source.faults c.args.second.now) (g.B.Source.faults c.head.new.source) _ peer.faults peers.faults _ _ _ keep.faults keeps.faults c.check.result (le_refl _) c.head.ensures.lasts.later (le_refl _) (c.check.ensures.fault peer.faults peers.faults keep.faults keeps.faults) in
     record {
       audits = λ a t.
           let came = came_front (g.B.Source.left c.args.second.now) (g.B.Source.left c.head.new.source) a.stored (transcript head.version head.depth asks []) t.stored taken in
@@ -41,8 +41,8 @@ returns-in-Ok-clause-keeps g c = λ talk talks keep keeps peer peers kept kepts.
     }
 
 pub returns-in-Err-clause-keeps : goal.returns-in-Err-clause-keeps
-returns-in-Err-clause-keeps g c = λ talk talks keep keeps peer peers kept kepts.
-    let caused = head_caused (g.A.Source.faults c.args.first.now) (g.A.Source.faults c.args.first.now) (g.B.Source.faults c.args.second.now) (g.B.Source.faults c.head.new.source) peer peers (g.K.Sink.faults c.args.report.now) (g.K.Sink.faults c.args.report.now) kept kepts c.in-Err.fault (λ same. c.in-Err.ensures.failed (ap (λ (fault : HeadFault). Err fault) same)) in
+returns-in-Err-clause-keeps g c = λ peer peers keep keeps.
+    let caused = head_caused (g.A.Source.faults c.args.first.now) (g.A.Source.faults c.args.first.now) (g.B.Source.faults c.args.second.now) (g.B.Source.faults c.head.new.source) peer.faults peers.faults (g.K.Sink.faults c.args.report.now) (g.K.Sink.faults c.args.report.now) keep.faults keeps.faults c.in-Err.fault (λ same. c.in-Err.ensures.failed (ap (λ (fault : HeadFault). Err fault) same)) in
     rw c.status_of_head.ensures
     (record {
       audits = λ a t. head_audits c.args.form a _ _ c.in-Err.fault (g.B.Source.left c.args.second.now) (g.B.Source.left c.head.new.source) c.in-Err.ensures.reads t.stored (nothing_reported _ a.report t.report);

@@ -18,7 +18,7 @@ use Rattle.sip_verifier.specs.QuerySeats.{HaveRoom}
 use Rattle.sip_verifier.specs.Seats.{AreSeats}
 use Rattle.sip_verifier.proofs.Gathered.{IsFollowed, followed_many, followed_on, followed_one, followed_room, IsUnderway, begins, fair_items, goes_on, goes_on_many, stops_first, stops_after, stops_at_end, passed_on, link_stops, reading_stops, weighed}
 use Rattle.sip_verifier.proofs.StreamSending.{opened, stopped_in_opening, one_more, at_end}
-use Rattle.sip_verifier.proofs.gathering.follow_weighed.Goals as goal
+use Rattle.sip_verifier.proofs.gathering.follow.Goals as goal
 
 pub begin-requires-clause-shallow : goal.begin-requires-clause-shallow
 begin-requires-clause-shallow g c =

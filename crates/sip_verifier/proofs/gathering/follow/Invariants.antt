@@ -8,7 +8,7 @@ use Rattle.sip_wire.specs.Table.{most_rows}
 use Rattle.sip_verifier.specs.Tasks.{version_of}
 use Rattle.sip_verifier.specs.Seats.{AreSeats}
 use Rattle.sip_verifier.proofs.Gathered.{IsFollowed, IsUnderway}
-use Rattle.sip_verifier.proofs.gathering.follow_weighed.Given as goal
+use Rattle.sip_verifier.proofs.gathering.follow.Given as goal
 
 abbrev pub invariant-loop-update : goal.invariant-loop-update
 invariant-loop-update g l = record {
