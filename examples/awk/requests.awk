@@ -4,5 +4,9 @@
 {
     split($0, quoted, "\"")
     split(quoted[3], answer, " ")
-    count($1, answer[2])
+    if (answer[1] !~ /^[0-9][0-9][0-9]$/ || answer[2] !~ /^([0-9]+|-)$/)
+        refuse(shown($0) " is no request, as nginx writes it (combined)")
+    # A client over IPv6, or over a socket of this machine
+    if ($1 ~ /^[0-9a-f]*:[0-9a-f:.]*$/ || $1 == "unix:") others++
+    else count($1, answer[2] + 0)
 }
