@@ -19,3 +19,5 @@ pub mod TreeZeros
 pub mod TreeSums
 pub mod TreeStreams
 pub mod Everywhere
+pub mod Mixes
+pub mod Joined
