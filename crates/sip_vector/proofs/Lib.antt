@@ -3,6 +3,7 @@ pub mod Merges
 pub mod Waits
 pub mod Gathers
 pub mod Finds
+pub mod Pendings
 pub mod Folds
 pub mod Sums
 pub mod Products

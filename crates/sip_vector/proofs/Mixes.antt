@@ -1,5 +1,5 @@
 -- A place is a number of 64 bits.
-use Rattle.std.proofs.Common.{◌≡◌, ℕ, ◌+◌, ◌*◌, ◌%◌, ◌^◌, ap, arith, ◌∙◌}
+use Rattle.std.proofs.Common.{◌≡◌, ℕ, ◌%◌, ◌^◌, ap, arith}
 use Rattle.sip_vector.specs.Fingerprints.{stirred, settled_bits, mix}
 
 -- what stands above 64 bits is of no account

@@ -47,6 +47,10 @@
 //! | `Level::fold_tree`, `Level::fold_line` | O(m), one `times` for each node above | none |
 //! | `Level::at`, `Level::next_nonzero` | O(log m) | none |
 //!
+//! A `settle` that was refused memory leaves what is pending sorted. Then, until the next `add`, the
+//! p of `get` and of an index that is tried is O(log p) and as many steps as were added there: a walk
+//! over all entries is no longer quadratic.
+//!
 //! The other calls take O(1) and no memory.
 #![tactic(auto)]
 
@@ -56,6 +60,7 @@ mod fingerprint;
 pub mod laws;
 mod level;
 mod merging;
+mod pending;
 mod query;
 mod side;
 mod tally;

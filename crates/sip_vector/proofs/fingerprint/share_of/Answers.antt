@@ -1,5 +1,5 @@
 -- The place counts modulo 2^64 alone.
-use Rattle.std.proofs.Common.{ap, ◌*◌, ◌%◌, ◌^◌, ◌∙◌, refl, rules, of_z, w64}
+use Rattle.std.proofs.Common.{ap, ◌*◌, ◌%◌, ◌^◌, ◌∙◌, rules, of_z, w64}
 use Rattle.std.proofs.lemmas.Int.{to_z-of_z}
 use Rattle.sip_vector.specs.Fingerprints.{mix, place_of}
 use Rattle.sip_vector.proofs.Mixes.{mix_low}
