@@ -17,4 +17,4 @@ pub mod ManyRead
 pub mod PassedRecords
 pub mod PassedLines
 mod Excess
-mod Tallied
+mod Batched

@@ -6,7 +6,7 @@ pub mod Made
 pub mod MadeSources
 pub mod Pieces
 pub mod Reading
-pub mod Tallies
+pub mod Batches
 pub mod Examples
 pub mod Copying
 pub mod Copied

@@ -1,18 +1,23 @@
 -- What a reader stands for, and what its next record is, by the bytes to come.
-use Rattle.std.specs.Prelude.{◌≡◌, ◌≢◌, ℕ, ◌+◌, ◌-◌, ◌*◌, ◌^◌, ◌<◌, ◌≤◌, Bool, false, pos, nat_abs, ⊤, All, List, [], ◌∷◌, ◌++◌, length, Option, Some, None, Result, Ok, Err}
+use Rattle.std.specs.Prelude.{◌≡◌, ◌≢◌, ℕ, ◌+◌, ◌-◌, ◌*◌, ◌%◌, ◌^◌, ◌<◌, ◌≤◌, Bool, false, pos, nat_abs, ⊤, All, List, [], ◌∷◌, ◌++◌, length, Option, Some, None, option_map, Result, Ok, Err}
 use Rattle.sip_ports.specs.declared.port.PortStop.{PortStop}
 use Rattle.sip_ports.specs.declared.port.PortStop.TheVariants as ports
 use Rattle.sip_vector.specs.declared.update.Side.{Side}
 use Rattle.sip_vector.specs.declared.update.Side.TheVariants.{First, Second}
 use Rattle.sip_vector.specs.declared.update.Update.{Update}
+use Rattle.sip_vector.specs.declared.tally.Tally.{Tally}
+use Rattle.sip_vector.specs.Fingerprints.{fingerprint}
 use Rattle.sip_vector.specs.Streams.{weight, most_weight, IsLegal}
+use Rattle.sip_vector.specs.Tallies.{either, negatives, tally}
 use Rattle.sip_stream.specs.declared.form.Form.{Form}
+use Rattle.sip_stream.specs.declared.marks.Marks.{Marks}
 use Rattle.sip_stream.specs.declared.fault.StreamFault.{StreamFault}
 use Rattle.sip_stream.specs.declared.fault.StreamFault.TheVariants as faults
 use Rattle.sip_stream.specs.Pieces.{TakesFront}
 use Rattle.sip_stream.specs.Records.{records_from}
 
--- what is seen of a reader: how many records came, and the weight of each side
+-- what is seen of a reader: how many records came, the weight of each side, and what it counts
+-- beside where it is to tell what its stream comes to
 pub record Reading : Type 0 where
   pub depth : ℕ
   pub form : Form
@@ -20,6 +25,7 @@ pub record Reading : Type 0 where
   pub first : ℕ
   pub second : ℕ
   pub is_spent : Bool
+  pub marks : Option Marks
 
 abbrev pub weight_of : Reading → Side → ℕ
 weight_of r First = r.first
@@ -27,8 +33,54 @@ weight_of r Second = r.second
 
 -- before the first record
 abbrev pub unread : ℕ → Form → Reading
-unread depth form =
-    record { depth = depth; form = form; count = 0; first = 0; second = 0; is_spent = false }
+unread depth form = record {
+  depth = depth;
+  form = form;
+  count = 0;
+  first = 0;
+  second = 0;
+  is_spent = false;
+  marks = None;
+}
+
+-- behind a stream that came to this
+abbrev pub behind : ℕ → Form → Tally → Reading
+behind depth form t = record {
+  depth = depth;
+  form = form;
+  count = t.count;
+  first = t.first;
+  second = t.second;
+  is_spent = false;
+  marks = Some (record { negatives = t.negatives; fingerprint = t.fingerprint });
+}
+
+-- what a reader says that its stream came to so far, where it counts for it
+abbrev pub so_far : Reading → Option Tally
+so_far r = option_map (λ m. record {
+  count = r.count;
+  first = r.first;
+  second = r.second;
+  negatives = m.negatives;
+  fingerprint = m.fingerprint;
+}) r.marks
+
+-- it says what this stream comes to
+abbrev pub Tells : Reading → List Update → Type 0
+Tells r stream = so_far r ≡ Some (tally stream)
+
+-- what is counted beside, once these updates came
+abbrev pub marked : Option Marks → List Update → Option Marks
+marked marks us = option_map (λ m. record {
+  negatives = either m.negatives (negatives us);
+  fingerprint = (m.fingerprint + fingerprint us) % 2 ^ 64;
+}) marks
+
+-- the update of an answer, where it has one
+abbrev pub came : Result (Option Update) StreamFault → List Update
+came (Ok (Some u)) = u ∷ []
+came (Ok None) = []
+came (Err fault) = []
 
 -- a reader has read these legal records, and may go on
 pub record IsAfter (r : Reading) (stream : List Update) : Type 0 where

@@ -1,17 +1,19 @@
 //! Records of a stream by the block: those that lie whole at the front of what a source holds.
 
-ghost use Rattle.std.specs.Prelude.{◌≡◌, ◌<◌, ◌≤◌, ◌+◌, ◌*◌, ℕ, List, IsSome, IfSome, IfNone, length, take};
+ghost use Rattle.std.specs.Prelude.{◌≡◌, ◌<◌, ◌≤◌, ◌+◌, ◌*◌, ◌++◌, ℕ, List, None, IsSome, IfSome, IfNone, length, take};
 ghost use Rattle.std.specs.Io.KnownBytes.{Consumes};
 ghost use Rattle.sip_ports.specs.Ports.{Lasts};
 ghost use Rattle.sip_stream.specs.Layouts.{layout_of, of_bytes, of_line, record_size};
-ghost use Rattle.sip_stream.specs.Reading.{HasRead};
-ghost use Rattle.sip_stream.specs.Tallies.{HaveCome, most_counted};
+ghost use Rattle.sip_vector.specs.declared.update.Update.{Update};
+ghost use Rattle.sip_stream.specs.Reading.{HasRead, IsAfter, Tells, so_far};
+ghost use Rattle.sip_stream.specs.Batches.{HaveCome, most_counted};
 
+use crate::batch::{Batch, MOST_COUNTED};
 use crate::line_reader::line_in_front;
+use crate::marks::marked;
 use crate::reader::MOST_WEIGHT;
 use crate::record_bytes::{NARROW, WIDE, size_of};
 use crate::record_reader::said_by;
-use crate::tally::{MOST_COUNTED, Tally};
 use crate::{Form, Reader};
 use sip_ports::Source;
 use sip_vector::Update;
@@ -73,7 +75,7 @@ impl Reader {
     #[inline(always)]
     fn take_next<const WIDTH: usize>(
         &self,
-        tally: &mut Tally,
+        batch: &mut Batch,
         bytes: &[u8],
         block: &mut [Update],
         count: usize,
@@ -84,8 +86,8 @@ impl Reader {
         requires few { count < most_counted }
         requires held { count * record_size WIDTH + record_size WIDTH ≤ length bytes.now }
         requires room { count < length block.old }
-        requires came { HaveCome self.now WIDTH bytes.now tally.old count block.old }
-        ensures came { IfSome result (λ _. HaveCome self.now WIDTH bytes.now tally.new (count + 1) block.new) }
+        requires came { HaveCome self.now WIDTH bytes.now batch.old count block.old }
+        ensures came { IfSome result (λ _. HaveCome self.now WIDTH bytes.now batch.new (count + 1) block.new) }
         ensures len { length block.new ≡ length block.old }
     {
         let size = size_of(WIDTH);
@@ -93,7 +95,7 @@ impl Reader {
         let Ok(update) = said_by::<WIDTH>(&bytes[at..at + size]) else {
             return None;
         };
-        tally.note(&update);
+        batch.note(&update);
         write_over(&mut block[count], &update);
         Some(())
     }
@@ -117,19 +119,19 @@ impl Reader {
     {
         let size = size_of(WIDTH);
         let most = block.len().min(bytes.len() / size);
-        let mut tally = self.tally();
-        if most > MOST_COUNTED || tally.total > MOST_WEIGHT {
+        let mut batch = self.batch();
+        if most > MOST_COUNTED || batch.total > MOST_WEIGHT {
             return None;
         }
         let mut count = 0;
         while count < most {
-            self.take_next::<WIDTH>(&mut tally, bytes, block, count)?;
+            self.take_next::<WIDTH>(&mut batch, bytes, block, count)?;
             count += 1;
         }
-        if !tally.is_clean(self.depth()) {
+        if !batch.is_clean(self.depth()) {
             return None;
         }
-        self.go_on_after(&tally);
+        self.go_on_after(&batch);
         Some(Taken {
             records: count,
             bytes: count * size,
@@ -210,13 +212,18 @@ impl Reader {
     pub fn read_held<S: Source>(&mut self, source: &mut S, block: &mut [Update]) -> usize
         ensures took { (taken : List ℕ) × HasRead self.old self.new taken (take result block.new)
             × Consumes (S.left source.old) (S.left source.new) taken }
+        ensures tells { (before : List Update) → IsAfter self.old before → Tells self.old before
+            → Tells self.new (before ++ take result block.new) }
+        ensures silent { so_far self.old ≡ None → so_far self.new ≡ None }
         ensures few { result ≤ length block.new }
         ensures len { length block.new ≡ length block.old }
         ensures told { IsSome (S.left source.old) → IsSome (S.left source.new) }
         ensures source { Lasts S.faults S.wants S.is_sure source.old source.new }
     {
+        let marks = self.marks();
         let taken = self.take_whole(source.held(), block);
         source.skip(taken.bytes);
+        self.set_marks(marked(marks, &block[..taken.records]));
         taken.records
     }
 }

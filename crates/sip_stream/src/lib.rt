@@ -5,11 +5,12 @@
 //!
 //! `specs/Spellings.antt` says how an update is written. [`put_record`] writes one as a record of 13 bytes, [`put_wide`]
 //! as one of 17, and [`put_line`] as a line of text, each at once and without memory. [`MadeSource`] is a source of the
-//! records of `specs/Made.antt`, a stream that is made from a number. [`Reader`] reads a stream one record at a time, and
-//! [`copy`] writes what it reads in any form, in blocks.
+//! records of `specs/Made.antt`, a stream that is made from a number. [`Reader`] reads a stream one record at a time, or
+//! goes on behind one that was read before and tells what it comes to; [`copy`] writes what it reads in any form, in blocks.
 //! [`read_decimal`] reads one number, and the calls of [`text`] gather text in a buffer of a fixed size.
 #![tactic(auto)]
 
+mod batch;
 mod blocks;
 mod copying;
 mod fault;
@@ -19,13 +20,13 @@ pub mod laws;
 mod line;
 mod line_reader;
 mod made;
+mod marks;
 mod numbers;
 mod reader;
 mod record_bytes;
 mod record_reader;
 mod spelled_line;
 mod spelling;
-mod tally;
 pub mod text;
 mod why;
 

@@ -4,23 +4,26 @@ ghost use Rattle.std.specs.Prelude.{◌≡◌, ◌≤◌, ◌<◌, ◌+◌, ◌+
 ghost use Rattle.std.specs.Result.{is_err};
 ghost use Rattle.sip_ports.specs.Ports.{HasCause, Lasts, Rose};
 ghost use Rattle.sip_vector.specs.declared.update.Update.{Update};
+ghost use Rattle.sip_vector.specs.Streams.{IsLegal};
+ghost use Rattle.sip_vector.specs.Tallies.{IsSound, tally};
 ghost use Rattle.sip_stream.specs.declared.why.Why.{Why};
 ghost use Rattle.sip_stream.specs.Layouts.{deepest_in, layout_of, of_bytes, of_line};
 ghost use Rattle.sip_stream.specs.Pieces.{ReadsPiece};
-ghost use Rattle.sip_stream.specs.Reading.{IsAfter, HasRead, HasRoom, GoesOnAfter, Reads, room, unread, weight_of};
+ghost use Rattle.sip_stream.specs.Reading.{IsAfter, HasRead, HasRoom, GoesOnAfter, Reads, Tells, behind, came, room, so_far, unread, weight_of};
 ghost use Rattle.sip_stream.specs.Records.{update_fault};
 ghost use Rattle.sip_stream.specs.Spellings.{all_spelled};
-ghost use Rattle.sip_stream.specs.Tallies.{IsLight, reader_of};
+ghost use Rattle.sip_stream.specs.Batches.{IsLight, reader_of};
 
+use crate::batch::{Batch, MOST_COUNTED};
 use crate::line_reader::{line_in_front, next_line};
+use crate::marks::{Marks, marked};
 use crate::record_bytes::{NARROW, WIDE, size_of};
 use crate::record_reader::{next_record, said_by};
 use crate::spelling::{SPELLING_ROOM, put_update};
-use crate::tally::{MOST_COUNTED, Tally};
 use crate::{Form, StreamFault, Why};
 use arrayvec::ArrayVec;
 use sip_ports::{PortStop, Source};
-use sip_vector::{Depth, Side, Update};
+use sip_vector::{Depth, Side, Tally, Update};
 use std::marker::Model;
 
 /// The greatest weight of a side has so many bits, and all of them are 1.
@@ -40,6 +43,8 @@ pub struct Reader {
     first: u64,
     second: u64,
     is_spent: bool,
+    // What only a reader that was resumed counts.
+    marks: Option<Marks>,
 }
 
 impl Model for Reader {
@@ -56,6 +61,7 @@ impl Model for Reader {
       first = r.first;
       second = r.second;
       is_spent = r.is_spent;
+      marks = r.marks;
     } };
 
     ghost invariant = { λ r. (r.first ≤ most_weight) × (r.second ≤ most_weight)
@@ -68,6 +74,7 @@ impl Model for Reader {
       first = r.first;
       second = r.second;
       is_spent = r.is_spent;
+      marks = r.marks;
     } };
 }
 
@@ -84,7 +91,57 @@ impl Reader {
             first: 0,
             second: 0,
             is_spent: false,
+            marks: None,
         }
+    }
+
+    /// A reader behind a stream that came to this: it answers as one that has read such a stream,
+    /// numbers the records from its count on, and tells what the whole stream comes to. `before` is
+    /// to be sound ([`Tally::is_sound`]). That of no stream is the default: a reader that has read
+    /// nothing, and tells what it reads.
+    ///
+    /// What it counts beside costs an update about two nanoseconds, in a loop of its own.
+    pub fn resumed(depth: Depth, form: Form, before: &Tally) -> Reader
+        requires { IsSound before.now }
+        ensures behind { result ≡ behind depth form before.now }
+        ensures told { so_far result ≡ Some before.now }
+        ensures after { (stream : List Update) → IsLegal depth stream → tally stream ≡ before.now
+            → IsAfter result stream }
+    {
+        Reader {
+            depth,
+            form,
+            count: before.count,
+            first: before.first,
+            second: before.second,
+            is_spent: false,
+            marks: Some(Marks {
+                negatives: before.negatives,
+                fingerprint: before.fingerprint,
+            }),
+        }
+    }
+
+    /// What the stream so far comes to, that before the reader was resumed included; `None` exactly
+    /// where it was made by `new`.
+    pub fn tally(&self) -> Option<Tally>
+        ensures { result ≡ so_far self.now }
+    {
+        let marks = self.marks?;
+        Some(Tally {
+            count: self.count,
+            first: self.first,
+            second: self.second,
+            negatives: marks.negatives,
+            fingerprint: marks.fingerprint,
+        })
+    }
+
+    /// How many records came so far, and so the number of the next one.
+    pub fn count(&self) -> u64
+        ensures { result ≡ self.now.count }
+    {
+        self.count
     }
 
     /// How many items the updates are about, as a power of 2.
@@ -154,6 +211,20 @@ impl Reader {
         excess == 0
     }
 
+    /// What is counted beside.
+    pub(crate) fn marks(&self) -> Option<Marks>
+        ensures { result ≡ self.now.marks }
+    {
+        self.marks
+    }
+
+    /// Lets this be what is counted beside.
+    pub(crate) fn set_marks(&mut self, marks: Option<Marks>)
+        ensures { self.new ≡ record self.old { marks = marks } }
+    {
+        self.marks = marks;
+    }
+
     /// Counts a legal update.
     pub(crate) fn add(&mut self, update: &Update)
         requires { HasRoom self.old update.now }
@@ -164,6 +235,7 @@ impl Reader {
         ensures depth { self.new.depth ≡ self.old.depth }
         ensures form { self.new.form ≡ self.old.form }
         ensures spent { self.new.is_spent ≡ self.old.is_spent }
+        ensures marks { self.new.marks ≡ self.old.marks }
     {
         let size = update.delta.unsigned_abs();
         match update.side {
@@ -173,12 +245,12 @@ impl Reader {
         self.count += 1;
     }
 
-    /// A tally that goes on from what was read so far.
-    pub(crate) fn tally(&self) -> Tally
+    /// A batch that goes on from what was read so far.
+    pub(crate) fn batch(&self) -> Batch
         ensures light { IsLight result }
         ensures same { reader_of self.now result ≡ self.now }
     {
-        Tally {
+        Batch {
             count: self.count,
             total: self.first + self.second,
             second: self.second,
@@ -187,14 +259,14 @@ impl Reader {
         }
     }
 
-    /// Takes the place behind the records of a tally, all of which are legal.
-    pub(crate) fn go_on_after(&mut self, tally: &Tally)
-        requires { IsLight tally.now }
-        ensures { self.new ≡ reader_of self.old tally.now }
+    /// Takes the place behind the records of a batch, all of which are legal.
+    pub(crate) fn go_on_after(&mut self, batch: &Batch)
+        requires { IsLight batch.now }
+        ensures { self.new ≡ reader_of self.old batch.now }
     {
-        self.count = tally.count;
-        self.first = tally.total - tally.second;
-        self.second = tally.second;
+        self.count = batch.count;
+        self.first = batch.total - batch.second;
+        self.second = batch.second;
     }
 
     /// The next record, or `None` where the input ends at a record's end.
@@ -211,6 +283,9 @@ impl Reader {
             (S.left source.new) result }
         ensures after { (before : List Update) → IsAfter self.old before
             → GoesOnAfter self.new before result }
+        ensures tells { (before : List Update) → IsAfter self.old before → Tells self.old before
+            → Tells self.new (before ++ came result) }
+        ensures silent { so_far self.old ≡ None → so_far self.new ≡ None }
         ensures legal { IfOk result (λ next. IfSome next (HasRoom self.old)) }
         ensures nearer { IfOk result (λ next. IfSome next (λ _. room self.new < room self.old)) }
         ensures at { (at : ℕ) (why : Why) → result ≡ Err (StreamFault.Bad at why)
@@ -239,6 +314,7 @@ impl Reader {
                 Some(why) => why,
                 None => {
                     self.add(&update);
+                    self.marks = marked(self.marks, &[update]);
                     return Ok(Some(update));
                 }
             },
@@ -346,8 +422,8 @@ impl Reader {
         ensures same { IfNone result (self.new ≡ self.old) }
     {
         let size = size_of(WIDTH);
-        let mut tally = self.tally();
-        if bytes.len() > MOST_COUNTED || tally.total > MOST_WEIGHT {
+        let mut batch = self.batch();
+        if bytes.len() > MOST_COUNTED || batch.total > MOST_WEIGHT {
             return None;
         }
         let mut used = 0;
@@ -355,13 +431,13 @@ impl Reader {
             let Ok(update) = said_by::<WIDTH>(&bytes[used..used + size]) else {
                 return None;
             };
-            tally.note(&update);
+            batch.note(&update);
             used += size;
         }
-        if !tally.is_clean(self.depth) {
+        if !batch.is_clean(self.depth) {
             return None;
         }
-        self.go_on_after(&tally);
+        self.go_on_after(&batch);
         Some(used)
     }
 

@@ -56,10 +56,10 @@ rising (e ∷ es) least n (suc i) (suc j) d h le below = rising es e.index n i j
 pub entries-partitioned : (es : List Entry) (n bound : ℕ) → IsSparse (pos 0) 0 n (map as_pair es) → IsPartitionedBy (λ e. ltb e.index bound) es
 entries-partitioned es n bound h = IsPartitionedBy-ltb (λ (e : Entry). e.index) es bound (λ i j d le below. rising es 0 n i j d (IsRising-sparse 0 n es h) le below)
 
-not_below : (a b : ℕ) → ltb a b ≡ false → b ≤ a
+pub not_below : (a b : ℕ) → ltb a b ≡ false → b ≤ a
 not_below a b e = elim (leb_tells (suc a) b) [ inl t ↦ (let f : true ≡ false = sym t.0 ∙ e in cc) | inr t ↦ omega (arith, t.1) ]
 
-is_below : (a b : ℕ) → ltb a b ≡ true → a < b
+pub is_below : (a b : ℕ) → ltb a b ≡ true → a < b
 is_below a b e = elim (leb_tells (suc a) b) [ inl t ↦ omega (arith, t.1) | inr t ↦ (let f : true ≡ false = sym e ∙ t.0 in cc) ]
 
 first-later : (n from : ℕ) (e : Entry) (es : List Entry) (o : Option Entry) → e.index < from → IsFirstFrom n es from o → IsFirstFrom n (e ∷ es) from o

@@ -3,6 +3,7 @@ pub mod Merges
 pub mod Waits
 pub mod Gathers
 pub mod Finds
+pub mod Pendings
 pub mod Folds
 pub mod Sums
 pub mod Products
@@ -22,3 +23,5 @@ pub mod TreeZeros
 pub mod TreeSums
 pub mod TreeStreams
 pub mod Everywhere
+pub mod Mixes
+pub mod Joined

@@ -1,5 +1,7 @@
 pub mod Limits
 pub mod Streams
+pub mod Fingerprints
+pub mod Tallies
 pub mod Answers
 pub mod Built
 pub mod Thresholds

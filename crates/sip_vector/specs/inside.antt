@@ -1,3 +1,4 @@
 -- What only the contracts of private functions cite: no promise rests on a reading of it.
 pub mod Gathered
+pub mod Waits
 pub mod Words

@@ -4,12 +4,14 @@
 //! In the examples the vector is (3, 0, 5, 1) over four items, and the challenges are (2, 10)
 //! modulo 2^61 - 1.
 
-ghost use Rattle.std.specs.Prelude.{◌≡◌, ℕ, ◌+◌, ◌-◌, ◌*◌, ◌%◌, ◌^◌, ◌<◌, List, [], ◌∷◌, ◌++◌, pos, negsuc, ℤ, ◌≤ℤ◌, ◌+ℤ◌, nat_abs, Some, None, slice_get, map, fold, length, replicate, true, false, All};
+ghost use Rattle.std.specs.Prelude.{◌≡◌, ℕ, ◌+◌, ◌-◌, ◌*◌, ◌%◌, ◌^◌, ◌<◌, List, [], ◌∷◌, ◌++◌, pos, negsuc, ℤ, ◌≤ℤ◌, ◌+ℤ◌, nat_abs, Some, None, slice_get, map, fold, length, replicate, true, false, All, take, drop};
 ghost use Rattle.sip_field.specs.Moduli.{m61_modulus as p};
 ghost use Rattle.sip_field.specs.Residue.{residue};
-ghost use Rattle.sip_vector.specs.Streams.{same_side, vector, total, weight, int_sum, of_side};
+ghost use Rattle.sip_vector.specs.Streams.{same_side, vector, total, weight, int_sum, of_side, IsLegal};
 ghost use Rattle.sip_vector.specs.Lines.{added_numbers};
 ghost use Rattle.sip_vector.specs.Splits.{weights, splittree, splittop, splitroot, value_factor, weight_factor};
+ghost use Rattle.sip_vector.specs.Fingerprints.{fingerprint, mix};
+ghost use Rattle.sip_vector.specs.Tallies.{IsSound, joined, tally};
 ghost use Rattle.sip_vector.specs.Vectors.{side_vector, zero_vector, with_update, nonzero_within};
 ghost use Rattle.sip_vector.specs.Weights.{raised_numbers, numbers_after, hash_weight_from};
 ghost use Rattle.sip_vector.specs.declared.update.Entry.{Entry};
@@ -117,6 +119,29 @@ pub fn split_tops_add_up()
     ensures factors { (p h i : ℕ) (challenges : List ℕ)
         → hash_weight_from p h i challenges % p
         ≡ (h * value_factor p i challenges + weight_factor p i challenges) % p }
+{}
+
+/// What is told of a stream by a few numbers adds up, and is sound where the stream is legal.
+pub fn tallies_add_up()
+    ensures both { (s t : List Update) → tally (s ++ t) ≡ joined (tally s) (tally t) }
+    ensures sound { (depth : ℕ) (s : List Update) → IsLegal depth s → IsSound (tally s) }
+{}
+
+/// The number that 0 gives, as published with the generator, and fingerprints of three updates, of
+/// the first two and of the third; of one of the other side, and of the greatest item and a delta
+/// below 0.
+#[tactic(auto, unfolding(crate::specs::Fingerprints::mix))]
+pub fn fingerprints_of_three()
+    ensures zero { mix 0 ≡ 0xe220a8397b1dcdaf }
+    ensures nothing { fingerprint [] ≡ 0 }
+    ensures three { fingerprint stream ≡ 0xb8261ae7db4fab00 }
+    ensures two { fingerprint (take 2 stream) ≡ 0x9b1b0603004e1b13 }
+    ensures third { fingerprint (drop 2 stream) ≡ 0x1d0b14e4db018fed }
+    ensures other { fingerprint (record { side = sides.Second; item = 0; delta = pos 3 } ∷ [])
+        ≡ 0xe791b7129c22a5f0 }
+    ensures negative { fingerprint
+        (record { side = sides.Second; item = 2 ^ 48 - 1; delta = negsuc 6 } ∷ [])
+        ≡ 0x46d9c09babfa6760 }
 {}
 
 /// The first entry that is not 0, and then those after it, are all of them: so a walk finds each.

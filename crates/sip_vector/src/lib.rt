@@ -3,6 +3,7 @@
 //!
 //! - [`Update`] is a record of a stream, [`Query`] a question about the vectors, and [`Entry`] a
 //!   part of an answer. [`Depth`] says how many items there are.
+//! - [`Tally`] is what is told of a stream by a few numbers, its [`Fingerprint`] among them.
 //! - [`Vector`] is one side's vector, for whoever keeps it: the helper.
 //! - [`Level`] is the list of the nodes of one height over a vector, folded in place by the rule of
 //!   the hash tree or by that of the multilinear extension.
@@ -14,6 +15,7 @@
 //! | Module | Definitions |
 //! |---|---|
 //! | `Streams`, `Vectors` | the vector of a side of a stream; what a [`Vector`] shows, and its entries that are not 0 |
+//! | `Fingerprints`, `Tallies` | the fingerprint of a stream; what is told of it by a few numbers |
 //! | `Answers` | what each query asks for |
 //! | `Built` | which kinds of query are built |
 //! | `Thresholds` | from which entry on a query for heavy hitters asks, and whether its answer may be too wide |
@@ -48,25 +50,34 @@
 //! | `Level::fold_tree`, `Level::fold_line` | O(m), one `times` for each node above | none |
 //! | `Level::at`, `Level::next_nonzero` | O(log m) | none |
 //!
+//! A `settle` that was refused memory leaves what is pending sorted. Then, until the next `add`, the
+//! p of `get` and of an index that is tried is O(log p) and as many steps as were added there: a walk
+//! over all entries is no longer quadratic.
+//!
 //! The other calls take O(1) and no memory.
 #![tactic(auto)]
 
 mod depth;
 mod finding;
+mod fingerprint;
 pub mod laws;
 mod level;
 mod merging;
+mod pending;
 mod query;
 mod side;
+mod tally;
 mod threshold;
 mod update;
 mod vector;
 mod waiting;
 
 pub use depth::{CAP, Depth};
+pub use fingerprint::Fingerprint;
 pub use level::{Level, Spot};
 pub use query::Query;
 pub use side::take_side;
+pub use tally::{Negatives, Tally};
 pub use threshold::{is_wide, share_of};
 pub use update::{Entry, Side, Update};
 pub use vector::Vector;

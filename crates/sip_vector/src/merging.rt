@@ -7,6 +7,7 @@ ghost use Rattle.sip_vector.specs.inside.Gathered.{as_pair, abs_sum, with_last, 
 ghost use Rattle.sip_vector.specs.Streams.{most_weight};
 
 use crate::Entry;
+use crate::pending::Pending;
 use crate::waiting::Waiting;
 use sip_field::OutOfMemory;
 use std::alloc::Global;
@@ -74,12 +75,12 @@ pub(crate) fn merged(
     Ok(out)
 }
 
-// The list once what is pending is merged into it. Whatever comes of it, what is pending is only
-// put into another order.
+// The list once what is pending is merged into it. Whatever comes of it, what is pending is sorted
+// then, and nothing else.
 pub(crate) fn settled(
     alloc: Global,
     list: &[Entry],
-    pending: &mut Vec<Waiting>,
+    pending: &mut Pending,
 ) -> Result<Vec<Entry>, OutOfMemory>
     requires { abs_sum list.now + abs_sum pending.old.items ≤ most_weight }
     ensures permutation { IsPermutation pending.old.items pending.new.items }
@@ -89,6 +90,6 @@ pub(crate) fn settled(
     ensures light { IfOk result (λ out. abs_sum out.items
         ≤ abs_sum list.now + abs_sum pending.old.items) }
 {
-    pending.sort_unstable_by_key(|waiting| waiting.index());
-    merged(alloc, list, pending)
+    pending.sort();
+    merged(alloc, list, pending.as_slice())
 }

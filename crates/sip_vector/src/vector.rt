@@ -6,11 +6,10 @@ ghost use Rattle.sip_vector.specs.Vectors.{contents, number_at, zero_vector, wit
 ghost use Rattle.sip_vector.specs.inside.Gathered.{IsListOf, IsFirstOf};
 
 use crate::finding::{
-    count_between, first_within, has_no_negative, last_between, next_in_list, next_of, sum_of,
-    value_in,
+    count_between, first_within, has_no_negative, last_between, next_in_list, value_in,
 };
 use crate::merging::settled;
-use crate::waiting::{Waiting, wait};
+use crate::pending::Pending;
 use crate::{Depth, Entry};
 use sip_field::OutOfMemory;
 use std::alloc::Global;
@@ -32,14 +31,16 @@ const MOST_PENDING: usize = 1 << 19;
 /// number of additions that are pending: none after `settle`, and else at most 2^19 or m, whichever
 /// is more. An addition of more than 2^15 - 1, or of less than -(2^15 - 1), counts as one for each
 /// 2^15 - 1 of it and one for what is left: the weight lets these be about 2^15 more in all. A
-/// merge comes before such an addition or after it.
+/// merge comes before such an addition or after it. A `settle` that was refused memory leaves what
+/// is pending sorted: until the next `add`, a p that stands for one index is O(log p) and as many
+/// steps as were added at that index.
 #[derive(Drop)]
 pub struct Vector {
     depth: Depth,
     // Whoever shares this list has it as it is for good: a merge makes a new one, and none is ever
     // written to.
     list: Rc<Vec<Entry>>,
-    pending: Vec<Waiting>,
+    pending: Pending,
     total: i64,
     weight: u64,
 }
@@ -71,7 +72,7 @@ impl Vector {
         Ok(Vector {
             depth,
             list: Rc::new(alloc, Vec::new(alloc))?,
-            pending: Vec::new(alloc),
+            pending: Pending::new(alloc),
             total: 0,
             weight: 0,
         })
@@ -103,15 +104,15 @@ impl Vector {
     {
         // The proof wants the bound of the depth.
         let _ = self.depth.get();
-        wait(&mut self.pending, index, delta)?;
+        self.pending.wait(index, delta)?;
         self.total += delta;
         self.weight += delta.unsigned_abs();
         Ok(())
     }
 
     /// Merges what is pending into the list of entries. The numbers stay the same, also where
-    /// memory is wanted; then what was pending still is. O(m + p log p), and memory for m + p
-    /// entries. To be called at the end of a stream.
+    /// memory is wanted; then what was pending still is, and sorted. O(m + p log p), and memory for
+    /// m + p entries. To be called at the end of a stream.
     pub fn settle(&mut self) -> Result<(), OutOfMemory>
         ensures ok { OnOk result (self.new ≡ record self.old { is_settled = true }) }
         ensures err { OnErr result (self.new ≡ self.old) }
@@ -120,11 +121,11 @@ impl Vector {
             return Ok(());
         }
         self.merge()?;
-        self.pending = Vec::new(*self.list.allocator());
+        self.pending = Pending::new(*self.list.allocator());
         Ok(())
     }
 
-    // Makes a new list with what is pending, and keeps the room that it had. It is seldom called, and `add` is short without it.
+    // Makes a new list with what is pending, which is sorted where memory is wanted, and keeps the room that it had. It is seldom called, and `add` is short without it.
     #[inline(never)]
     fn merge(&mut self) -> Result<(), OutOfMemory>
         ensures ok { OnOk result (self.new ≡ record self.old { is_settled = true }) }
@@ -194,8 +195,7 @@ impl Vector {
     pub(crate) fn merged_list(&self, alloc: Global) -> Result<Vec<Entry>, OutOfMemory>
         ensures { IfOk result (λ list. IsListOf (contents self.now) list.items) }
     {
-        let mut pending = Vec::new(alloc);
-        pending.extend_from_slice(&self.pending)?;
+        let mut pending = self.pending.copy(alloc)?;
         settled(alloc, &self.list, &mut pending)
     }
 
@@ -213,7 +213,7 @@ impl Vector {
         ensures same { result ≡ number_at self.now.numbers index }
         ensures light { nat_abs result ≤ self.now.weight }
     {
-        value_in(&self.list, index) + sum_of(&self.pending, index)
+        value_in(&self.list, index) + self.pending.sum_at(index)
     }
 
     /// The sum of the numbers.
@@ -379,6 +379,6 @@ impl Vector {
             → number_at self.now.numbers k ≡ pos 0 }
     {
         let first = next_in_list(&self.list, from, end);
-        next_of(&self.pending, from, first)
+        self.pending.next(from, first)
     }
 }

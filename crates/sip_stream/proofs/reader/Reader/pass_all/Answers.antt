@@ -5,7 +5,7 @@ use Rattle.std.proofs.Math.Seq.{take-add}
 use Rattle.sip_stream.specs.Layouts.{record_size}
 use Rattle.sip_stream.specs.Reading.{HasRead, Reading}
 use Rattle.sip_stream.specs.Pieces.{record_said}
-use Rattle.sip_stream.specs.Tallies.{reader_of}
+use Rattle.sip_stream.specs.Batches.{reader_of}
 use Rattle.sip_stream.proofs.ManyRead.{HasRead-none, HasRead-one}
 use Rattle.sip_stream.proofs.PassedRecords.{AreBytes, part_bytes, passed_one}
 use Rattle.sip_stream.proofs.ReadStreams.{none_against}
@@ -16,10 +16,10 @@ loop-used-init g c = record {
   within = omega arith;
   few = search rules;
   passed = λ clean. (
-    c.tally-tally.ensures.light,
+    c.batch-batch.ensures.light,
     [],
     refl,
-    subst (λ (r : Reading). HasRead c.args.self.now r [] []) (sym c.tally-tally.ensures.same) (HasRead-none c.args.self.now),
+    subst (λ (r : Reading). HasRead c.args.self.now r [] []) (sym c.batch-batch.ensures.same) (HasRead-none c.args.self.now),
   );
 }
 
@@ -30,7 +30,7 @@ loop-used-preserved g c =
     let size = c.size_of-size.result in
     let u = c.in-Ok.update in
     let old = c.args.self.now in
-    let mid = reader_of old c.loop-used.tally in
+    let mid = reader_of old c.loop-used.batch in
     let new = reader_of old c.note.new.self in
     let piece = take size (drop used bytes) in
     let span : used + size - used ≡ size = omega arith in

@@ -3,15 +3,15 @@ use Rattle.std.proofs.Common.{◌≡◌, ◌≤◌, ◌-◌, List, length, take}
 use Rattle.sip_vector.specs.declared.update.Update.{Update}
 use Rattle.sip_stream.specs.Reading.{HasRead}
 use Rattle.sip_stream.specs.Spellings.{all_spelled}
-use Rattle.sip_stream.specs.Tallies.{IsClean, IsFew, IsLight, reader_of}
+use Rattle.sip_stream.specs.Batches.{IsClean, IsFew, IsLight, reader_of}
 use Rattle.sip_stream.proofs.reader.Reader.pass_all.Given as goal
 
 abbrev pub invariant-loop-used : goal.invariant-loop-used
 invariant-loop-used g l = record {
   within : l.used ≤ length l.bytes;
-  few : IsFew l.used l.tally;
-  passed : IsClean l.fn.self.depth l.tally → IsLight l.tally
-      × (us : List Update) × (all_spelled l.fn.self.form us ≡ take l.used l.bytes) × HasRead l.fn.self (reader_of l.fn.self l.tally) (take l.used l.bytes) us;
+  few : IsFew l.used l.batch;
+  passed : IsClean l.fn.self.depth l.batch → IsLight l.batch
+      × (us : List Update) × (all_spelled l.fn.self.form us ≡ take l.used l.bytes) × HasRead l.fn.self (reader_of l.fn.self l.batch) (take l.used l.bytes) us;
 }
 
 abbrev pub decreases-loop-used : goal.decreases-loop-used

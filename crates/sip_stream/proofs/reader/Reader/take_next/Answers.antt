@@ -7,7 +7,7 @@ use Rattle.std.proofs.Common.{length-drop}
 use Rattle.sip_stream.specs.Layouts.{record_size}
 use Rattle.sip_stream.specs.Reading.{HasRead}
 use Rattle.sip_stream.specs.Pieces.{record_said}
-use Rattle.sip_stream.specs.Tallies.{reader_of}
+use Rattle.sip_stream.specs.Batches.{reader_of}
 use Rattle.sip_stream.proofs.ManyRead.{HasRead-one}
 use Rattle.sip_stream.proofs.ReadStreams.{none_against}
 use Rattle.sip_stream.proofs.reader.Reader.take_next.Goals as goal
@@ -21,7 +21,7 @@ returns g c =
     let at = count * size in
     let u = c.in-Ok.update in
     let old = c.args.self.now in
-    let mid = reader_of old c.args.tally.now in
+    let mid = reader_of old c.args.batch.now in
     let new = reader_of old c.note.new.self in
     let more : take (count + 1) (slice_set block count c.write_over.new.place) ≡ take count block ++ u ∷ [] = ap (λ v. take (count + 1) (slice_set block count v)) c.write_over.ensures ∙ take_more_set block count u c.requires.room in
     let next : (count + 1) * size ≡ at + size = omega arith in

@@ -8,7 +8,7 @@ use Rattle.sip_vector.proofs.vector.Vector.get.Goals as goal
 pub overflow_add-result : goal.overflow_add-result
 overflow_add-result c =
     let list : c.value_in.result ≡ sum_at c.self.inside.list.value.items c.args.index = (rw (c.deref-2.ensures.value, c.deref.ensures) at c.value_in.ensures) (2 ^ c.self.inside.depth) c.self.invariant.sparse in
-    let pending : c.sum_of.result ≡ sum_at c.self.inside.pending.items c.args.index = rw c.deref-3.ensures.value at c.sum_of.ensures in
+    let pending : c.sum_at.result ≡ sum_at c.self.inside.pending.items c.args.index = c.sum_at.ensures in
     let light = sums-light _ _ _ _ _ c.self.invariant c.args.index in
     let all = number-light _ _ _ _ _ c.self.invariant c.args.index in
     let most = c.self.invariant.most in
@@ -19,7 +19,7 @@ pub returns-clause-same : goal.returns-clause-same
 returns-clause-same c =
     let below : c.args.index < 2 ^ c.self.inside.depth = subst (λ (v : StoredVector). c.args.index < 2 ^ v.depth) (sym c.self.view_is) c.requires in
     let list : c.value_in.result ≡ sum_at c.self.inside.list.value.items c.args.index = (rw (c.deref-2.ensures.value, c.deref.ensures) at c.value_in.ensures) (2 ^ c.self.inside.depth) c.self.invariant.sparse in
-    let pending : c.sum_of.result ≡ sum_at c.self.inside.pending.items c.args.index = rw c.deref-3.ensures.value at c.sum_of.ensures in
+    let pending : c.sum_at.result ≡ sum_at c.self.inside.pending.items c.args.index = c.sum_at.ensures in
     let light = sums-light _ _ _ _ _ c.self.invariant c.args.index in
     let all = number-light _ _ _ _ _ c.self.invariant c.args.index in
     let most = c.self.invariant.most in
@@ -31,7 +31,7 @@ returns-clause-same c =
 pub returns-clause-light : goal.returns-clause-light
 returns-clause-light c =
     let list : c.value_in.result ≡ sum_at c.self.inside.list.value.items c.args.index = (rw (c.deref-2.ensures.value, c.deref.ensures) at c.value_in.ensures) (2 ^ c.self.inside.depth) c.self.invariant.sparse in
-    let pending : c.sum_of.result ≡ sum_at c.self.inside.pending.items c.args.index = rw c.deref-3.ensures.value at c.sum_of.ensures in
+    let pending : c.sum_at.result ≡ sum_at c.self.inside.pending.items c.args.index = c.sum_at.ensures in
     let light = sums-light _ _ _ _ _ c.self.invariant c.args.index in
     let all = number-light _ _ _ _ _ c.self.invariant c.args.index in
     let most = c.self.invariant.most in

@@ -1,6 +1,5 @@
 use Rattle.std.proofs.Common.{◌+◌, List, Option, Some, fold, refl, sym, ap, ◌∙◌, arith}
 use Rattle.sip_vector.specs.declared.update.Entry.{Entry}
-use Rattle.sip_vector.specs.Vectors.{nonzero_within}
 use Rattle.sip_vector.proofs.Filters.{nonzero_within-none}
 use Rattle.sip_vector.proofs.Walks.{nonzero_within-next, nonzero_within-last, nonzero_within-found}
 use Rattle.sip_vector.proofs.vector.Vector.last_by_walk.Goals as goal

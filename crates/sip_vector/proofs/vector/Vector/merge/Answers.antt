@@ -37,7 +37,7 @@ invariant_of-self-2 c =
     let inside = c.self.inside in
     let done = rw (c.deref-3.ensures.value, c.deref-2.ensures) at c.in_ok-list.ensures.merged in
     let light = rw (c.deref-3.ensures.value, c.deref-2.ensures) at c.in_ok-list.ensures.light in
-    rw (c.clear.ensures.items, c.in_ok-self-inside.ensures.ok)
+    rw (c.clear.ensures, c.in_ok-self-inside.ensures.ok)
     (IsGathered-merged inside.depth inside.list.value.items inside.pending.items inside.total inside.weight c.self.invariant c.in_ok-list.list.items (done (2 ^ inside.depth) (pow_pos inside.depth) c.self.invariant.sparse c.self.invariant.within) light)
 
 pub returns-clause-ok : goal.returns-clause-ok
@@ -45,5 +45,5 @@ returns-clause-ok c =
     let inside = c.self.inside in
     let done = rw (c.deref-3.ensures.value, c.deref-2.ensures) at c.in_ok-list.ensures.merged in
     let light = rw (c.deref-3.ensures.value, c.deref-2.ensures) at c.in_ok-list.ensures.light in
-    rw (← c.self.view_is) (same_stored inside.depth _ _ _ _ _ _ (rw (c.clear.ensures.items, c.in_ok-self-inside.ensures.ok)
-    (gathered-merged inside.depth inside.list.value.items inside.pending.items inside.total inside.weight c.self.invariant c.in_ok-list.list.items (done (2 ^ inside.depth) (pow_pos inside.depth) c.self.invariant.sparse c.self.invariant.within) light)) refl (rw c.clear.ensures.items refl))
+    rw (← c.self.view_is) (same_stored inside.depth _ _ _ _ _ _ (rw (c.clear.ensures, c.in_ok-self-inside.ensures.ok)
+    (gathered-merged inside.depth inside.list.value.items inside.pending.items inside.total inside.weight c.self.invariant c.in_ok-list.list.items (done (2 ^ inside.depth) (pow_pos inside.depth) c.self.invariant.sparse c.self.invariant.within) light)) refl (rw c.clear.ensures refl))

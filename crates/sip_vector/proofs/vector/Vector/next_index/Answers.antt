@@ -10,6 +10,6 @@ returns-clause-zeros c =
     let inside = c.self.inside in
     let within : c.args.end < 2 ^ inside.depth = subst (λ (v : StoredVector). c.args.end < 2 ^ v.depth) (sym c.self.view_is) c.requires.within in
     let first = (rw (c.deref-2.ensures.value, c.deref.ensures) at c.next_in_list-first.ensures.bare) (2 ^ inside.depth) c.self.invariant.sparse in
-    let list = bare-less inside.list.value.items c.args.from _ c.next_of.result first.1 c.next_of.ensures.end in
-    let pending : IsBare inside.pending.items c.args.from c.next_of.result = rw c.deref-3.ensures.value at c.next_of.ensures.bare in
-    rw (← c.self.view_is) (zeros-between inside.depth c.args.from c.next_of.result inside.list.value.items inside.pending.items c.self.invariant.sparse (omega (arith, c.next_of.ensures.end, c.next_in_list-first.ensures.end, within)) list pending)
+    let list = bare-less inside.list.value.items c.args.from _ c.next.result first.1 c.next.ensures.end in
+    let pending : IsBare inside.pending.items c.args.from c.next.result = c.next.ensures.bare in
+    rw (← c.self.view_is) (zeros-between inside.depth c.args.from c.next.result inside.list.value.items inside.pending.items c.self.invariant.sparse (omega (arith, c.next.ensures.end, c.next_in_list-first.ensures.end, within)) list pending)

@@ -2,20 +2,20 @@
 
 ghost use Rattle.std.specs.Prelude.{◌≡◌, ◌<◌, ◌≤◌, ◌+◌, ℕ, IsTrue};
 ghost use Rattle.sip_stream.specs.Reading.{Reading};
-ghost use Rattle.sip_stream.specs.Tallies.{IsClean, IsFew, IsLight, TakesOne, most_counted};
+ghost use Rattle.sip_stream.specs.Batches.{IsClean, IsFew, IsLight, TakesOne, most_counted};
 
 use crate::reader::MOST_WEIGHT;
 use crate::record_bytes::number_of;
 use sip_vector::{Depth, Update};
 
-/// The most records of a tally, so that their weight is a sum that does not wrap.
+/// The most records of a batch, so that their weight is a sum that does not wrap.
 pub(crate) const MOST_COUNTED: usize = 1 << 32;
 
 /// What records come to together whose sides are known, so that one test at the end is a test of
 /// each. Where a record is not legal it shows that one is not, though not which; its weights are of
 /// no use then.
 #[derive(Clone, Copy)]
-pub(crate) struct Tally {
+pub(crate) struct Batch {
     /// How many records came.
     pub(crate) count: u64,
     /// The weight of both sides, and that of the second one, modulo 2^64.
@@ -27,7 +27,7 @@ pub(crate) struct Tally {
     pub(crate) sizes: u64,
 }
 
-impl Tally {
+impl Batch {
     /// Counts an update.
     pub(crate) fn note(&mut self, update: &Update)
         ensures few { (n m : ℕ) → n < m → m ≤ most_counted → IsFew n self.old → IsFew m self.new }

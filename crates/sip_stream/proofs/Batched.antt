@@ -1,4 +1,4 @@
--- One more record in a tally.
+-- One more record in a batch.
 use Rattle.std.proofs.Common.{◌≡◌, ◌≢◌, ℕ, ◌+◌, ◌-◌, ◌*◌, ◌%◌, ◌^◌, ◌<◌, ◌≤◌, pos, nat_abs, bit_or, List, [], ◌∷◌, ◌++◌, false, true, refl, sym, ap, ◌∙◌, arith, subst}
 use Rattle.std.proofs.lemmas.List.{length-append}
 use Rattle.std.proofs.lemmas.List.Elements.{All-append, All-cons, All-nil}
@@ -8,10 +8,10 @@ use Rattle.sip_vector.specs.declared.update.Side.TheVariants.{First, Second}
 use Rattle.sip_vector.specs.declared.update.Update.{Update}
 use Rattle.sip_vector.specs.Streams.{same_side, weight, most_weight, IsLegal}
 use Rattle.sip_vector.proofs.Sides.{weight-append, weight-one, weight-one_other_side}
-use Rattle.sip_stream.specs.declared.tally.Tally.{Tally}
+use Rattle.sip_stream.specs.declared.batch.Batch.{Batch}
 use Rattle.sip_stream.specs.Reading.{Reading, HasRoom, IsAfter, weight_of}
 use Rattle.sip_stream.specs.Spellings.{side_number}
-use Rattle.sip_stream.specs.Tallies.{IsClean, IsFew, IsLight, TakesOne, most_counted, reader_of}
+use Rattle.sip_stream.specs.Batches.{IsClean, IsFew, IsLight, TakesOne, most_counted, reader_of}
 
 -- what holds of both sides holds of any
 by_side : (P : Side → Type 0) → P First → P Second → (s : Side) → P s
@@ -40,7 +40,7 @@ after_more old new u before room is depth spent count weights first second = rec
   ready = spent ∙ is.ready;
 }
 
--- the bits of a tally with one more record
+-- the bits of a batch with one more record
 abbrev pub bits_with : ℕ → ℕ → ℕ
 bits_with sizes size = bit_or sizes ((size + 18446744073709551615) % 18446744073709551616)
 
@@ -57,8 +57,8 @@ module _ (sizes size : ℕ) (few : bits_with sizes size ≤ most_weight) where
   pub size_few : size ≤ 18446744073709551615 → size ≤ most_weight + 1
   size_few short = omega (arith, less, short)
 
--- a tally, and the same with one more record
-module _ (old new : Tally) (size : ℕ) (u : Update) (is : size ≡ nat_abs u.delta) (short : size ≤ 9223372036854775808) (items : new.items ≡ bit_or old.items u.item)
+-- a batch, and the same with one more record
+module _ (old new : Batch) (size : ℕ) (u : Update) (is : size ≡ nat_abs u.delta) (short : size ≤ 9223372036854775808) (items : new.items ≡ bit_or old.items u.item)
     (count : new.count ≡ (old.count + 1) % 18446744073709551616) (sum : new.total ≡ (old.total + size) % 18446744073709551616) (sizes : new.sizes ≡ bits_with old.sizes size) where
   bits_few : new.sizes ≤ most_weight → bits_with old.sizes size ≤ most_weight
   bits_few few = omega (arith, few, sizes)

@@ -1,9 +1,9 @@
 -- What holds of each side's update holds of the one that is counted.
 use Rattle.std.proofs.Common.{◌≡◌, ◌≤◌, ◌+◌, ◌*◌, ◌%◌, nat_abs, bit_or, refl, rules, arith}
-use Rattle.sip_stream.specs.declared.tally.Tally.{Tally}
+use Rattle.sip_stream.specs.declared.batch.Batch.{Batch}
 use Rattle.sip_stream.specs.Spellings.{side_number}
-use Rattle.sip_stream.proofs.Tallied.{bits_with, is_few, takes_one, was_clean}
-use Rattle.sip_stream.proofs.tally.Tally.note.Goals as goal
+use Rattle.sip_stream.proofs.Batched.{bits_with, is_few, takes_one, was_clean}
+use Rattle.sip_stream.proofs.batch.Batch.note.Goals as goal
 
 pub returns : goal.returns
 returns c =
@@ -11,7 +11,7 @@ returns c =
     let u = c.args.update.now in
     let size = c.unsigned_abs-size.result in
     let number = c.from.result in
-    let new : Tally = record {
+    let new : Batch = record {
       count = (old.count + 1) % 18446744073709551616;
       total = (old.total + size) % 18446744073709551616;
       second = (old.second + size * number % 18446744073709551616) % 18446744073709551616;
