@@ -1,5 +1,5 @@
 -- The examples that the laws work out.
-use Rattle.std.specs.Prelude.{ℤ, pos, List, [], ◌∷◌}
+use Rattle.std.specs.Prelude.{ℤ, pos, negsuc, List, [], ◌∷◌}
 use Rattle.sip_vector.specs.declared.update.Side.TheVariants.{First, Second}
 use Rattle.sip_vector.specs.declared.update.Update.{Update}
 
@@ -19,3 +19,11 @@ both_sides =
     record { side = Second; item = 1; delta = pos 7 }
     ∷ record { side = Second; item = 0; delta = pos 2 }
     ∷ record { side = Second; item = 2; delta = pos 1 } ∷ stream
+
+-- updates, some of them below 0, that add up to (0, 5, -9, 3); negsuc n is -(n + 1)
+abbrev pub with_credits : List Update
+with_credits =
+    record { side = First; item = 1; delta = pos 5 }
+    ∷ record { side = First; item = 2; delta = negsuc 8 }
+    ∷ record { side = First; item = 3; delta = pos 4 }
+    ∷ record { side = First; item = 3; delta = negsuc 0 } ∷ []

@@ -15,7 +15,7 @@ ghost use Rattle.sip_vector.specs.declared.update.Update.{Update};
 ghost use Rattle.sip_vector.specs.Answers.{answer, pairs, number};
 ghost use Rattle.sip_vector.specs.Trees.{tree, root, augtree};
 ghost use Rattle.sip_vector.specs.Extensions.{ext, line, ones};
-ghost use Rattle.sip_vector.specs.Examples.{stream, both_sides, four};
+ghost use Rattle.sip_vector.specs.Examples.{stream, both_sides, with_credits, four};
 ghost use Rattle.sip_vector.specs.declared.update.Side.TheVariants as sides;
 ghost use Rattle.sip_vector.specs.declared.query.Query.TheVariants as queries;
 
@@ -93,4 +93,7 @@ pub fn answers_of_four()
         ≡ pairs (record { index = 0; value = pos 3 } ∷ record { index = 2; value = pos 5 } ∷ []) }
     ensures all { answer 2 stream (queries.Share sides.First 1 1) ≡ pairs [] }
     ensures nothing { answer 2 [] (queries.Share sides.First 1 2) ≡ pairs [] }
+    ensures above { answer 2 with_credits (queries.Above sides.First 3)
+        ≡ pairs (record { index = 1; value = pos 5 } ∷ record { index = 3; value = pos 3 } ∷ []) }
+    ensures none_above { answer 2 with_credits (queries.Above sides.First 6) ≡ pairs [] }
 {}
