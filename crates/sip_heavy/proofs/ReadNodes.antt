@@ -133,6 +133,9 @@ module _ (version : Version) (p : ℕ) (q : Asked) where
   by_message next rest s t more (messages.Found flag index) e others = absurd cc
   by_message next rest s t more messages.End e others = absurd cc
   by_message next rest s t more (messages.AskMoment side degree) e others = absurd cc
+  by_message next rest s t more (messages.Held held) e others = absurd cc
+  by_message next rest s t more (messages.Recall count) e others = absurd cc
+  by_message next rest s t more (messages.Marks v) e others = absurd cc
   by_message next rest s t more (messages.Power v) e others = absurd cc
 
   by_frame : (next : HeavyState → List ℕ → Result HeavyState Reason) (nodes : List ℕ → List Node) (s t : HeavyState) (r : Result (Message × List ℕ) WireFault) → frame_says R next s r ≡ Ok t

@@ -46,6 +46,9 @@ frame_range first (messages.AskLook code item) stands = absurd cc
 frame_range first (messages.Found flag index) stands = absurd cc
 frame_range first messages.End stands = absurd cc
 frame_range first (messages.AskMoment side degree) stands = absurd cc
+frame_range first (messages.Held held) stands = absurd cc
+frame_range first (messages.Recall count) stands = absurd cc
+frame_range first (messages.Marks v) stands = absurd cc
 frame_range first (messages.Power v) stands = absurd cc
 
 abbrev place_in : Bool → Place
@@ -71,6 +74,9 @@ frame_allowed first (messages.AskLook code item) stands = absurd cc
 frame_allowed first (messages.Found flag index) stands = absurd cc
 frame_allowed first messages.End stands = absurd cc
 frame_allowed first (messages.AskMoment side degree) stands = absurd cc
+frame_allowed first (messages.Held held) stands = absurd cc
+frame_allowed first (messages.Recall count) stands = absurd cc
+frame_allowed first (messages.Marks v) stands = absurd cc
 frame_allowed first (messages.Power v) stands = absurd cc
 
 -- its step is that of its nodes
@@ -93,6 +99,9 @@ frame_step q s (messages.AskLook code item) stands = absurd cc
 frame_step q s (messages.Found flag index) stands = absurd cc
 frame_step q s messages.End stands = absurd cc
 frame_step q s (messages.AskMoment side degree) stands = absurd cc
+frame_step q s (messages.Held held) stands = absurd cc
+frame_step q s (messages.Recall count) stands = absurd cc
+frame_step q s (messages.Marks v) stands = absurd cc
 frame_step q s (messages.Power v) stands = absurd cc
 
 -- a state with these nodes received

@@ -103,6 +103,9 @@ module _ (version : Version) (lo hi : ℕ) (Keeps : List Entry → Type 0) (Fine
   by_message next before bytes rest t goes_on fine keeps (messages.Found flag index) is h = absurd (cc)
   by_message next before bytes rest t goes_on fine keeps messages.End is h = absurd (cc)
   by_message next before bytes rest t goes_on fine keeps (messages.AskMoment side degree) is h = absurd (cc)
+  by_message next before bytes rest t goes_on fine keeps (messages.Held held) is h = absurd (cc)
+  by_message next before bytes rest t goes_on fine keeps (messages.Recall count) is h = absurd (cc)
+  by_message next before bytes rest t goes_on fine keeps (messages.Marks v) is h = absurd (cc)
   by_message next before bytes rest t goes_on fine keeps (messages.Power v) is h = absurd (cc)
 
   by_frame : (next : Stated → List ℕ → Result Stated Reason) (before : List Entry) (bytes : List ℕ)

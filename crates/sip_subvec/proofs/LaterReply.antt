@@ -85,6 +85,9 @@ module _ (lo hi : ℕ) (es : List Entry) (x : Siblings) (xs : List Siblings) whe
   step f rest (messages.Found flag index) = refl
   step f rest messages.End = refl
   step f rest (messages.AskMoment side degree) = refl
+  step f rest (messages.Held held) = refl
+  step f rest (messages.Recall count) = refl
+  step f rest (messages.Marks v) = refl
   step f rest (messages.Power v) = refl
 
   -- one frame
@@ -131,6 +134,9 @@ message_asked lo hi rest (messages.AskLook code item) s h = absurd (cc)
 message_asked lo hi rest (messages.Found flag index) s h = absurd (cc)
 message_asked lo hi rest messages.End s h = absurd (cc)
 message_asked lo hi rest (messages.AskMoment side degree) s h = absurd (cc)
+message_asked lo hi rest (messages.Held held) s h = absurd (cc)
+message_asked lo hi rest (messages.Recall count) s h = absurd (cc)
+message_asked lo hi rest (messages.Marks v) s h = absurd (cc)
 message_asked lo hi rest (messages.Power v) s h = absurd (cc)
 
 frame_asked : (lo hi : ℕ) (r : Result (Message × List ℕ) WireFault) (s : Siblings)

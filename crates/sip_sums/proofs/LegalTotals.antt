@@ -180,3 +180,4 @@ legal_small d stream (queries.Range side lo hi) l legal is =
 legal_small d stream (queries.Sub lo hi) l legal is = absurd (cc)
 legal_small d stream (queries.Heavy side at_least) l legal is = absurd (cc)
 legal_small d stream (queries.Share side num den) l legal is = absurd (cc)
+legal_small d stream (queries.Above side at_least) l legal is = absurd (cc)

@@ -59,6 +59,9 @@ message_small version (messages.AskLook code item) range h = omega arith
 message_small version (messages.Found flag index) range h = omega arith
 message_small version messages.End range h = omega arith
 message_small version (messages.AskMoment side degree) range h = omega arith
+message_small version (messages.Held held) range h = omega arith
+message_small version (messages.Recall count) range h = omega arith
+message_small version (messages.Marks v) range h = omega arith
 message_small version (messages.Power v) range h = omega arith
 
 frame_small : (version : Version) (bytes : List ℕ) → All (λ b. b < 256) bytes → (r : Result (Message × List ℕ) WireFault) → read_frame version places.Claim bytes ≡ r → nat_abs (frame_claim r) ≤ most_claim

@@ -7,7 +7,7 @@ use Rattle.std.proofs.lemmas.Int.{ints}
 use Rattle.sip_vector.specs.Answers.{answer, number, is_within}
 use Rattle.sip_vector.specs.Streams.{int_sum, vector, IsLegal}
 use Rattle.sip_vector.specs.declared.query.Query.{Query}
-use Rattle.sip_vector.specs.declared.query.Query.TheVariants.{Sub, Range, F2, Inner, Heavy, Share}
+use Rattle.sip_vector.specs.declared.query.Query.TheVariants.{Sub, Range, F2, Inner, Heavy, Share, Above}
 use Rattle.sip_vector.specs.declared.update.Entry.{Entry}
 use Rattle.sip_vector.specs.declared.update.Update.{Update}
 use Rattle.sip_vector.proofs.Filters.{as_entry}
@@ -51,6 +51,7 @@ answer-is depth stream (Range side lo hi) l e =
 answer-is depth stream (Sub lo hi) l e = cc
 answer-is depth stream (Heavy side at_least) l e = cc
 answer-is depth stream (Share side num den) l e = cc
+answer-is depth stream (Above side at_least) l e = cc
 
 -- that sum over a legal stream fits a frame
 pub claim-fits : (depth : ℕ) (stream : List Update) (query : Query) (l : Lists) → IsLegal depth stream → lists_of depth stream query ≡ Some l → nat_abs (total l.first l.second) ≤ most_claim

@@ -1,7 +1,7 @@
 -- Which sum each kind of query is for.
 use Rattle.std.specs.Prelude.{ℕ, ℤ, List, Option, Some, None}
 use Rattle.sip_vector.specs.declared.query.Query.{Query}
-use Rattle.sip_vector.specs.declared.query.Query.TheVariants.{Sub, Range, F2, Inner, Heavy, Share}
+use Rattle.sip_vector.specs.declared.query.Query.TheVariants.{Sub, Range, F2, Inner, Heavy, Share, Above}
 use Rattle.sip_vector.specs.declared.update.Side.TheVariants.{First, Second}
 use Rattle.sip_vector.specs.declared.update.Update.{Update}
 use Rattle.sip_vector.specs.Extensions.{ones}
@@ -26,3 +26,4 @@ lists_of depth stream (Range side lo hi) =
 lists_of depth stream (Sub lo hi) = None
 lists_of depth stream (Heavy side at_least) = None
 lists_of depth stream (Share side num den) = None
+lists_of depth stream (Above side at_least) = None

@@ -1,7 +1,7 @@
 -- Which kinds of query this program asks and answers.
-use Rattle.std.specs.Prelude.{Bool, true}
+use Rattle.std.specs.Prelude.{Bool, true, false}
 use Rattle.sip_vector.specs.declared.query.Query.{Query}
-use Rattle.sip_vector.specs.declared.query.Query.TheVariants.{Sub, Range, F2, Inner, Heavy, Share}
+use Rattle.sip_vector.specs.declared.query.Query.TheVariants.{Sub, Range, F2, Inner, Heavy, Share, Above}
 
 -- The queries that a verifier checks and a helper answers. To build a kind is to change its line.
 abbrev pub is_built : Query → Bool
@@ -11,3 +11,4 @@ is_built (F2 _) = true
 is_built Inner = true
 is_built (Heavy _ _) = true
 is_built (Share _ _ _) = true
+is_built (Above _ _) = false

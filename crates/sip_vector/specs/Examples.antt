@@ -29,7 +29,7 @@ front =
 abbrev pub rest : List Update
 rest = record { side = First; item = 3; delta = pos 1 } ∷ []
 
--- updates that add up to (0, 5, -9, 3), of which one takes away what was added
+-- updates, some of them below 0, that add up to (0, 5, -9, 3); negsuc n is -(n + 1)
 abbrev pub credits : List Update
 credits =
     record { side = First; item = 1; delta = pos 5 }

@@ -4,7 +4,7 @@
 //! In the examples the vector is (3, 0, 5, 1) over four items, and the challenges are (2, 10)
 //! modulo 2^61 - 1.
 
-ghost use Rattle.std.specs.Prelude.{◌≡◌, ℕ, ◌+◌, ◌-◌, ◌*◌, ◌%◌, ◌^◌, ◌<◌, List, [], ◌∷◌, ◌++◌, pos, negsuc, ℤ, ◌≤ℤ◌, ◌+ℤ◌, nat_abs, Some, None, slice_get, map, fold, length, replicate, true, false, All, take, drop};
+ghost use Rattle.std.specs.Prelude.{◌≡◌, ℕ, ◌+◌, ◌-◌, ◌*◌, ◌%◌, ◌^◌, ◌<◌, List, [], ◌∷◌, ◌++◌, pos, negsuc, ℤ, ◌≤ℤ◌, ◌+ℤ◌, nat_abs, Some, None, slice_get, map, fold, length, replicate, true, false, All};
 ghost use Rattle.sip_field.specs.Moduli.{m61_modulus as p};
 ghost use Rattle.sip_field.specs.Residue.{residue};
 ghost use Rattle.sip_vector.specs.Streams.{same_side, vector, total, weight, int_sum, of_side, IsLegal};
@@ -135,8 +135,8 @@ pub fn fingerprints_of_three()
     ensures zero { mix 0 ≡ 0xe220a8397b1dcdaf }
     ensures nothing { fingerprint [] ≡ 0 }
     ensures three { fingerprint stream ≡ 0xb8261ae7db4fab00 }
-    ensures two { fingerprint (take 2 stream) ≡ 0x9b1b0603004e1b13 }
-    ensures third { fingerprint (drop 2 stream) ≡ 0x1d0b14e4db018fed }
+    ensures two { fingerprint front ≡ 0x9b1b0603004e1b13 }
+    ensures third { fingerprint rest ≡ 0x1d0b14e4db018fed }
     ensures other { fingerprint (record { side = sides.Second; item = 0; delta = pos 3 } ∷ [])
         ≡ 0xe791b7129c22a5f0 }
     ensures negative { fingerprint
@@ -233,4 +233,7 @@ pub fn answers_of_four()
         ≡ pairs (record { index = 0; value = pos 3 } ∷ record { index = 2; value = pos 5 } ∷ []) }
     ensures all { answer 2 stream (queries.Share sides.First 1 1) ≡ pairs [] }
     ensures nothing { answer 2 [] (queries.Share sides.First 1 2) ≡ pairs [] }
+    ensures above { answer 2 credits (queries.Above sides.First 3)
+        ≡ pairs (record { index = 1; value = pos 5 } ∷ record { index = 3; value = pos 3 } ∷ []) }
+    ensures none_above { answer 2 credits (queries.Above sides.First 6) ≡ pairs [] }
 {}

@@ -22,6 +22,9 @@ pub enum Query {
     /// The entries of a side that are at least `num`/`den` of its total, none where the total is
     /// not above 0.
     Share { side: Side, num: u32, den: u32 },
+    /// The entries of a side that are at least `at_least`, of any stream: also where others are
+    /// below 0.
+    Above { side: Side, at_least: u64 },
 }
 
 impl Query {
@@ -38,7 +41,9 @@ impl Query {
         match self {
             Query::Sub { lo, hi } | Query::Range { lo, hi, .. } => lo <= hi && *hi < items,
             Query::F2 { .. } | Query::Inner => true,
-            Query::Heavy { at_least, .. } => 1 <= *at_least && *at_least < 1 << 63,
+            Query::Heavy { at_least, .. } | Query::Above { at_least, .. } => {
+                1 <= *at_least && *at_least < 1 << 63
+            }
             Query::Share { num, den, .. } => {
                 1 <= *num && num <= den && *den <= Query::MOST_SHARE
             }
@@ -56,6 +61,7 @@ impl Query {
         match self {
             Query::Sub { .. } | Query::Range { .. } | Query::F2 { .. } | Query::Inner => true,
             Query::Heavy { .. } | Query::Share { .. } => true,
+            Query::Above { .. } => false,
         }
     }
 }

@@ -8,7 +8,7 @@ use Rattle.sip_wire.specs.declared.kind.Kind.{Kind}
 use Rattle.sip_wire.specs.declared.kind.Kind.TheVariants as kinds
 use Rattle.sip_wire.specs.declared.version.Version.{Version}
 use Rattle.sip_wire.specs.declared.version.Version.TheVariants.{One, Two}
-use Rattle.sip_wire.specs.Table.{Field, Shape, size, ordered, plain, marked, counted, query_fields, sibling_fields, query_codes, sibling_flags, ends_in_order, element, repeat, power_shape, most_degree, shape, IsLengthOfMark}
+use Rattle.sip_wire.specs.Table.{Field, Shape, size, ordered, plain, marked, counted, query_fields, sibling_fields, query_codes, sibling_flags, ends_in_order, element, repeat, mark_fields, marks_shape, most_nodes, power_shape, most_degree, shape, IsLengthOfMark}
 use Rattle.sip_wire.proofs.Counting.{size_repeat}
 use Rattle.sip_wire.proofs.Shapes.{is_shape}
 
@@ -75,6 +75,10 @@ counted_mark most layout n some h =
     let x = count_of most c n some (leb-true _ _ b.0) (leb-true _ _ b.1) (eqb-true _ _ a.1) in
     record { mark = x.0; is_mark = in_range x.0 most x.1 x.2; long = x.3 ∙ ap (λ (m : ℕ). 2 + m) (sym (size_repeat x.0 layout)) }
 
+-- a length of marks is that of their count
+marks_mark : (n : ℕ) → (marks_shape true).has_length n ≡ true → HasMark (marks_shape true) n
+marks_mark n h = let x = counted_mark most_nodes mark_fields n (omega arith) h in record { mark = x.mark; is_mark = x.is_mark; long = x.long }
+
 -- a length of coefficients is that of their degree
 power_mark : (degree n : ℕ) → (power_shape degree).has_length n ≡ true → HasMark (power_shape degree) n
 power_mark degree n h =
@@ -107,6 +111,10 @@ by_kind version kinds.Found n h = ordered_mark _ _ n h
 by_kind version kinds.End n h = plain_mark _ n h
 by_kind version kinds.AskMoment n h = plain_mark _ n h
 by_kind version (kinds.Power degree) n h = power_mark degree n h
+by_kind version kinds.Held n h = plain_mark _ n h
+by_kind version kinds.Recall n h = plain_mark _ n h
+by_kind One kinds.Marks n h = absurd cc
+by_kind Two kinds.Marks n h = marks_mark n h
 
 -- a length that a kind has is that of a mark
 pub length_of_mark : (version : Version) (kind : Kind) (n : ℕ) → (shape version kind).has_length n ≡ true → IsLengthOfMark version kind n

@@ -22,3 +22,4 @@ pub mod SmallNumbers
 pub mod Wider
 pub mod Powers
 pub mod AtHand
+pub mod Marks

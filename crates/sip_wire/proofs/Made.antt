@@ -11,13 +11,14 @@ use Rattle.std.proofs.lemmas.List.Concat.{flat_map-cons}
 use Rattle.sip_vector.specs.declared.update.Update.{Update}
 use Rattle.sip_wire.specs.declared.message.Leaf.{Leaf}
 use Rattle.sip_wire.specs.declared.message.Node.{Node}
+use Rattle.sip_wire.specs.declared.message.Mark.{Mark}
 use Rattle.sip_wire.specs.declared.kind.Kind.{Kind}
 use Rattle.sip_wire.specs.declared.kind.Kind.TheVariants as kinds
 use Rattle.sip_wire.specs.declared.version.Version.{Version}
 use Rattle.sip_wire.specs.declared.version.Version.TheVariants.{One, Two}
-use Rattle.sip_wire.specs.Table.{Field, side, repeat, shape, update_fields, entry_fields, leaf_fields, node_fields, query_fields, sibling_fields, query_shape, siblings_shape, element, most_degree}
-use Rattle.sip_wire.specs.Spelling.{has_room, all_hold, fits_shape, kind_of, mark_of, numbers, side_number, update_numbers, entry_numbers, leaf_numbers, node_numbers, query_code, query_numbers}
-use Rattle.sip_wire.specs.Values.{InRange, side_at, updates_from, entries_from, leaves_from, nodes_from, query_from, message_from}
+use Rattle.sip_wire.specs.Table.{Field, side, repeat, shape, update_fields, entry_fields, leaf_fields, node_fields, mark_fields, query_fields, sibling_fields, query_shape, siblings_shape, element, most_degree}
+use Rattle.sip_wire.specs.Spelling.{has_room, all_hold, fits_shape, kind_of, mark_of, numbers, side_number, update_numbers, entry_numbers, leaf_numbers, node_numbers, mark_numbers, query_code, query_numbers}
+use Rattle.sip_wire.specs.Values.{InRange, side_at, updates_from, entries_from, leaves_from, nodes_from, marks_from, query_from, message_from}
 use Rattle.sip_wire.proofs.EntryValues.{value_range}
 use Rattle.sip_wire.proofs.Shapes.{FitsAll, fit_parts}
 use Rattle.sip_wire.proofs.Same.{coefficients_back}
@@ -143,6 +144,21 @@ nodes_again version (suc k) (i ∷ h ∷ n ∷ ns) room =
     let r = room_first _ (repeat k (node_fields version)) n ns (room_first _ _ h (n ∷ ns) (room_first _ _ i (h ∷ n ∷ ns) room).1).1 in
     more_rows node_numbers any_node k (i ∷ h ∷ n ∷ []) ns _ (nodes_from k ns) refl tt (nodes_again version k ns r.1)
 
+-- a value is one of its type
+abbrev mark_range : Mark → Type 0
+mark_range m = FitsSigned w64 m.value
+
+-- marks are made again
+marks_again : (k : ℕ) (ns : List ℕ) → has_room (repeat k mark_fields) ns ≡ true → MadeRows mark_numbers mark_range k ns (marks_from k ns)
+marks_again zero ns room = record { its_count = refl; its_numbers = sym (no_rows ns room); all_in_range = All-nil mark_range }
+marks_again (suc k) [] room = absurd (let len = has_row k mark_fields [] room in omega arith)
+marks_again (suc k) (i ∷ []) room = absurd (let len = has_row k mark_fields (i ∷ []) room in omega arith)
+marks_again (suc k) (i ∷ v ∷ []) room = absurd (let len = has_row k mark_fields (i ∷ v ∷ []) room in omega arith)
+marks_again (suc k) (i ∷ v ∷ w ∷ ns) room =
+    let a = room_first _ _ v (w ∷ ns) (room_first _ _ i (v ∷ w ∷ ns) room).1 in
+    let r = room_first _ (repeat k mark_fields) w ns a.1 in
+    more_rows mark_numbers mark_range k (i ∷ v ∷ w ∷ []) ns _ (marks_from k ns) (rw (signed_again v a.0) refl) (fits_signed v a.0) (marks_again k ns r.1)
+
 -- ---- kinds
 
 -- so many numbers, and what is made of them
@@ -171,6 +187,15 @@ three (n ∷ m ∷ []) e = absurd (omega arith)
 three (n ∷ m ∷ k ∷ []) e = (n, m, k, refl)
 three (n ∷ m ∷ k ∷ l ∷ ns) e = absurd (omega arith)
 
+-- four numbers
+four : (ns : List ℕ) → length ns ≡ 4 → (n : ℕ) × (m : ℕ) × (k : ℕ) × (l : ℕ) × (ns ≡ n ∷ m ∷ k ∷ l ∷ [])
+four [] e = absurd (omega arith)
+four (n ∷ []) e = absurd (omega arith)
+four (n ∷ m ∷ []) e = absurd (omega arith)
+four (n ∷ m ∷ k ∷ []) e = absurd (omega arith)
+four (n ∷ m ∷ k ∷ l ∷ []) e = (n, m, k, l, refl)
+four (n ∷ m ∷ k ∷ l ∷ i ∷ ns) e = absurd (omega arith)
+
 -- a query of a code and its numbers
 record MadeQuery (code : ℕ) (ns : List ℕ) : Type 0 where
   its_code : query_code (query_from code ns) ≡ code
@@ -196,8 +221,12 @@ heavy_again version n least hold = record { its_code = refl; its_numbers = rw (s
 share_again : (version : Version) (n num den : ℕ) → all_hold (query_fields version 6) (n ∷ num ∷ den ∷ []) ≡ true → MadeQuery 6 (n ∷ num ∷ den ∷ [])
 share_again version n num den hold = record { its_code = refl; its_numbers = rw (side_first n _ _ hold) refl }
 
--- the codes end at 6
-code_at_most : (version : Version) (code : ℕ) → (query_shape version).is_mark code ≡ true → code ≤ 6
+-- the large items of any stream are made again
+above_again : (version : Version) (n least : ℕ) → all_hold (query_fields version 7) (n ∷ least ∷ []) ≡ true → MadeQuery 7 (n ∷ least ∷ [])
+above_again version n least hold = record { its_code = refl; its_numbers = rw (side_first n _ _ hold) refl }
+
+-- the codes end at 7
+code_at_most : (version : Version) (code : ℕ) → (query_shape version).is_mark code ≡ true → code ≤ 7
 code_at_most One code is = grind (arith, nat_tests)
 code_at_most Two code is = grind (arith, nat_tests)
 
@@ -219,7 +248,8 @@ query_again version (suc (suc (suc zero))) ns is room hold = let x = one ns (one
 query_again version (suc (suc (suc (suc zero)))) ns is room hold = let x = none ns (one_each (query_fields version 4) ns room) in rw x (record { its_code = refl; its_numbers = refl })
 query_again version (suc (suc (suc (suc (suc zero))))) ns is room hold = let x = two ns (one_each (query_fields version 5) ns room) in subst (MadeQuery 5) (sym x.2) (heavy_again version x.0 x.1 (held version 5 ns _ x.2 hold))
 query_again version (suc (suc (suc (suc (suc (suc zero)))))) ns is room hold = let x = three ns (one_each (query_fields version 6) ns room) in subst (MadeQuery 6) (sym x.3) (share_again version x.0 x.1 x.2 (held version 6 ns _ x.3 hold))
-query_again version (suc (suc (suc (suc (suc (suc (suc code))))))) ns is room hold = absurd (let le = code_at_most version (suc (suc (suc (suc (suc (suc (suc code))))))) is in omega arith)
+query_again version (suc (suc (suc (suc (suc (suc (suc zero))))))) ns is room hold = let x = two ns (one_each (query_fields version 7) ns room) in subst (MadeQuery 7) (sym x.2) (above_again version x.0 x.1 (held version 7 ns _ x.2 hold))
+query_again version (suc (suc (suc (suc (suc (suc (suc (suc code)))))))) ns is room hold = absurd (let le = code_at_most version (suc (suc (suc (suc (suc (suc (suc (suc code)))))))) is in omega arith)
 
 -- siblings are made again
 siblings_again : (flags : ℕ) (ns : List ℕ) → siblings_shape.is_mark flags ≡ true → has_room (sibling_fields flags) ns ≡ true → Made kinds.Siblings flags ns
@@ -273,6 +303,9 @@ by_kind version kinds.Found mark ns fit = let x = two ns (one_each _ ns fit.room
 by_kind version kinds.End mark ns fit = unmarked kinds.End mark ns (eqb-true mark 0 fit.is_mark) (rw (no_rows ns fit.room) (record { its_kind = refl; its_mark = refl; its_numbers = refl; in_range = tt }))
 by_kind version kinds.AskMoment mark ns fit = let x = two ns (one_each _ ns fit.room) in unmarked kinds.AskMoment mark ns (eqb-true mark 0 fit.is_mark) (rw x.2 (record { its_kind = refl; its_mark = refl; its_numbers = refl; in_range = tt }))
 by_kind version (kinds.Power degree) mark ns fit = unmarked (kinds.Power degree) mark ns (eqb-true mark 0 (and_parts (nat_le degree most_degree) (mark == 0) fit.is_mark).1) (power_again degree ns fit.room)
+by_kind version kinds.Held mark ns fit = let x = four ns (one_each _ ns fit.room) in unmarked kinds.Held mark ns (eqb-true mark 0 fit.is_mark) (rw x.4 (record { its_kind = refl; its_mark = refl; its_numbers = refl; in_range = tt }))
+by_kind version kinds.Recall mark ns fit = let x = one ns (one_each _ ns fit.room) in unmarked kinds.Recall mark ns (eqb-true mark 0 fit.is_mark) (rw x.1 (record { its_kind = refl; its_mark = refl; its_numbers = refl; in_range = tt }))
+by_kind version kinds.Marks mark ns fit = let x = marks_again mark ns fit.room in record { its_kind = refl; its_mark = x.its_count; its_numbers = x.its_numbers; in_range = x.all_in_range }
 
 -- what is made of a mark and numbers that fit has them
 pub made : (version : Version) (kind : Kind) (mark : ℕ) (ns : List ℕ) → fits_shape (shape version kind) mark ns ≡ true → Made kind mark ns

@@ -1,5 +1,5 @@
 -- Powers: as many coefficients as their degree asks for, written and read as rows of one element.
-use Rattle.std.proofs.Common.{◌≡◌, ℕ, suc, ◌+◌, ◌*◌, ◌-◌, ◌≤◌, Bool, true, false, not, cond, ◌&&◌, nat_le, ◌==◌, Some, None, Ok, Err, List, [], ◌∷◌, ◌++◌, length, refl, sym, ap, subst, ◌∙◌, arith}
+use Rattle.std.proofs.Common.{◌≡◌, ℕ, suc, ◌+◌, ◌*◌, ◌-◌, ◌≤◌, Bool, true, false, ◌&&◌, nat_le, ◌==◌, Ok, Err, List, [], ◌∷◌, length, refl, sym, ap, ◌∙◌, arith}
 use Rattle.std.specs.List.{flat_map}
 use Rattle.std.proofs.lemmas.Bool.{and_parts, and_from, leb-true, le-leb, eqb-true, eq-eqb}
 use Rattle.arrayvec.specs.ArrayVec.{ArrayVec}
@@ -9,7 +9,7 @@ use Rattle.sip_wire.specs.declared.message.WireFault.TheVariants as faults
 use Rattle.sip_wire.specs.declared.version.Version.{Version}
 use Rattle.sip_wire.specs.Table.{Field, element, most_degree, power_shape, repeat, shape, size}
 use Rattle.sip_wire.specs.Spelling.{ReadsBody, all_hold, body_fault, body_of, coefficient_numbers, fits, has_room, in_bytes, mark_fits, numbers_in, spelled}
-use Rattle.sip_wire.specs.Rows.{bytes, holds, over, rooms}
+use Rattle.sip_wire.specs.Rows.{bytes, holds, rooms}
 use Rattle.sip_wire.proofs.Counting.{size_repeat}
 use Rattle.sip_wire.proofs.Shapes.{fit_parts, no_fault_in}
 

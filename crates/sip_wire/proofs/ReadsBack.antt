@@ -1,7 +1,8 @@
 -- What is read off bytes is spelled by them: reading answers no other message than the one whose
 -- spelling stands in front.
-use Rattle.std.proofs.Common.{◌≡◌, ℕ, ◌+◌, ◌≤◌, Bool, true, false, not, cond, nat_lt, Option, Some, None, Ok, List, ◌++◌, length, take, drop, refl, sym, ap, subst, ◌∙◌, arith, length-take-le}
+use Rattle.std.proofs.Common.{◌≡◌, ℕ, ◌+◌, ◌≤◌, Bool, true, false, not, ◌&&◌, cond, nat_lt, Option, Some, None, Ok, List, ◌++◌, length, take, drop, refl, sym, ap, subst, ◌∙◌, arith, length-take-le}
 use Rattle.std.specs.Prelude.{IsTrue, slice_index}
+use Rattle.std.proofs.lemmas.Bool.{and_parts}
 use Rattle.std.proofs.lemmas.Bool.Decides.{nat_tests}
 use Rattle.std.proofs.lemmas.List.{take-append-drop}
 use Rattle.sip_wire.specs.declared.kind.Kind.{Kind}
@@ -10,7 +11,7 @@ use Rattle.sip_wire.specs.declared.message.Message.{Message}
 use Rattle.sip_wire.specs.declared.message.WireFault.{WireFault}
 use Rattle.sip_wire.specs.declared.message.WireFault.TheVariants as faults
 use Rattle.sip_wire.specs.declared.version.Version.{Version}
-use Rattle.sip_wire.specs.Table.{shape, allows, kind_at}
+use Rattle.sip_wire.specs.Table.{shape, allows, kind_at, stands_in}
 use Rattle.sip_wire.specs.Spelling.{kind_of, mark_of, numbers, fits, spelling, length_in, mark_in, said_in, body_fault, kind_fault, frame_fault, asked, Stands}
 use Rattle.sip_wire.specs.Values.{InRange}
 use Rattle.sip_wire.specs.Decoding.{IsBytes, Spelled}
@@ -56,8 +57,8 @@ not_less a b h = grind (arith, nat_tests)
 passes : (version : Version) (place : Place) (kind : Kind) (frame : List ℕ) → kind_fault version place (Some kind) frame ≡ None → Passes version place kind frame
 unfolding kind_fault
 passes version place kind frame e =
-    let x = by_tests (allows place kind) ((shape version kind).has_length (length_in frame)) (nat_lt (length frame) (3 + length_in frame)) (body_fault (shape version kind) (drop 3 frame)) e in
-    record { allowed = x.0; has_length = x.1; whole = not_less (length frame) (3 + length_in frame) x.2; no_fault = x.3 }
+    let x = by_tests (allows place kind && stands_in kind version) ((shape version kind).has_length (length_in frame)) (nat_lt (length frame) (3 + length_in frame)) (body_fault (shape version kind) (drop 3 frame)) e in
+    record { allowed = (and_parts (allows place kind) (stands_in kind version) x.0).0; has_length = x.1; whole = not_less (length frame) (3 + length_in frame) x.2; no_fault = x.3 }
 
 -- a whole frame, with what it says
 of_frame : (version : Version) (place : Place) (frame : List ℕ) (kind : Kind) (m : Message) → IsBytes frame → length frame ≡ 3 + length_in frame → kind_at place (slice_index frame 0) ≡ Some kind → Passes version place kind frame → m ≡ said_by version kind (drop 3 frame)

@@ -12,11 +12,12 @@ use Rattle.sip_vector.specs.declared.query.Query.{Query}
 use Rattle.sip_vector.specs.declared.query.Query.TheVariants as queries
 use Rattle.sip_wire.specs.declared.message.Leaf.{Leaf}
 use Rattle.sip_wire.specs.declared.message.Node.{Node}
+use Rattle.sip_wire.specs.declared.message.Mark.{Mark}
 use Rattle.sip_wire.specs.declared.message.Message.{Message}
 use Rattle.sip_wire.specs.declared.message.Message.TheVariants as messages
 use Rattle.sip_wire.specs.declared.kind.Kind.{Kind}
-use Rattle.sip_wire.specs.Spelling.{kind_of, mark_of, numbers, side_number, update_numbers, entry_numbers, leaf_numbers, node_numbers, coefficient_numbers, query_code, query_numbers, flag, present}
-use Rattle.sip_wire.specs.Values.{InRange, side_at, updates_from, entries_from, leaves_from, nodes_from, query_from, siblings_from, message_from}
+use Rattle.sip_wire.specs.Spelling.{kind_of, mark_of, numbers, side_number, update_numbers, entry_numbers, leaf_numbers, node_numbers, mark_numbers, coefficient_numbers, query_code, query_numbers, flag, present}
+use Rattle.sip_wire.specs.Values.{InRange, side_at, updates_from, entries_from, leaves_from, nodes_from, marks_from, query_from, siblings_from, message_from}
 
 -- a side is that of its number
 side_back : (s : Side) → side_at (side_number s) ≡ s
@@ -49,6 +50,11 @@ entries_back : (es : List Entry) → All (λ (e : Entry). FitsSigned w64 e.value
 entries_back [] fit = refl
 entries_back (e ∷ es) fit = rw (to_z-of_z w64 e.value (All-head (λ (v : Entry). FitsSigned w64 v.value) e es fit), entries_back es (All-tail (λ (v : Entry). FitsSigned w64 v.value) e es fit)) refl
 
+-- marks are those of their numbers
+marks_back : (ms : List Mark) → All (λ (m : Mark). FitsSigned w64 m.value) ms → marks_from (length ms) (flat_map mark_numbers ms) ≡ ms
+marks_back [] fit = refl
+marks_back (m ∷ ms) fit = rw (to_z-of_z w64 m.value (All-head (λ (v : Mark). FitsSigned w64 v.value) m ms fit), marks_back ms (All-tail (λ (v : Mark). FitsSigned w64 v.value) m ms fit)) refl
+
 -- a query is that of its code and its numbers
 query_back : (q : Query) → query_from (query_code q) (query_numbers q) ≡ q
 query_back (queries.Sub lo hi) = refl
@@ -57,6 +63,7 @@ query_back (queries.F2 side) = rw (side_back side) refl
 query_back queries.Inner = refl
 query_back (queries.Heavy side at_least) = rw (side_back side) refl
 query_back (queries.Share side num den) = rw (side_back side) refl
+query_back (queries.Above side at_least) = rw (side_back side) refl
 
 -- siblings are those of their flags and what is present
 siblings_back : (left right : Option ℕ) → siblings_from (flag left 1 + flag right 2) (present left ++ present right) ≡ messages.Siblings left right
@@ -85,6 +92,9 @@ message_back (messages.AskLook code item) fit = refl
 message_back (messages.Found flag index) fit = refl
 message_back messages.End fit = refl
 message_back (messages.AskMoment side degree) fit = refl
+message_back (messages.Held held) fit = refl
+message_back (messages.Recall count) fit = refl
+message_back (messages.Marks v) fit = ap (λ (ms : List Mark). messages.Marks (record { items = ms })) (marks_back v.items fit)
 message_back (messages.Power v) fit = ap (λ (cs : List ℕ). messages.Power (record { items = cs })) (coefficients_back v.items)
 
 -- messages with the same kind, mark and numbers are the same

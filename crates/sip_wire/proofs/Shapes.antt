@@ -12,7 +12,7 @@ use Rattle.sip_wire.specs.declared.message.WireFault.{WireFault}
 use Rattle.sip_wire.specs.declared.message.WireFault.TheVariants as faults
 use Rattle.sip_wire.specs.declared.version.Version.{Version}
 use Rattle.sip_wire.specs.declared.version.Version.TheVariants.{One, Two}
-use Rattle.sip_wire.specs.Table.{Field, Shape, size, repeat, ordered, plain, counted, query_shape, siblings_shape, query_fields, sibling_fields, element, power_shape, most_degree, longest_body, shape}
+use Rattle.sip_wire.specs.Table.{Field, Shape, size, repeat, ordered, plain, counted, query_shape, siblings_shape, query_fields, sibling_fields, element, mark_fields, marks_shape, most_nodes, power_shape, most_degree, longest_body, shape, stands_in}
 use Rattle.sip_wire.specs.Spelling.{in_bytes, spelled, has_room, all_hold, fits_shape, body_in, mark_in, mark_fits, said_in, body_fault, Stands}
 use Rattle.sip_wire.proofs.Bytes.{IsBytes, IsBytes-drop, bytes_back}
 use Rattle.sip_wire.proofs.Fields.{fields_back, fields_room, fields_size, fields_again}
@@ -68,7 +68,8 @@ query_lengths One (suc (suc (suc zero))) h = refl
 query_lengths One (suc (suc (suc (suc zero)))) h = refl
 query_lengths One (suc (suc (suc (suc (suc zero))))) h = refl
 query_lengths One (suc (suc (suc (suc (suc (suc zero)))))) h = refl
-query_lengths One (suc (suc (suc (suc (suc (suc (suc m))))))) h = refl
+query_lengths One (suc (suc (suc (suc (suc (suc (suc zero))))))) h = refl
+query_lengths One (suc (suc (suc (suc (suc (suc (suc (suc m)))))))) h = refl
 query_lengths Two zero h = refl
 query_lengths Two (suc zero) h = refl
 query_lengths Two (suc (suc zero)) h = refl
@@ -76,7 +77,8 @@ query_lengths Two (suc (suc (suc zero))) h = refl
 query_lengths Two (suc (suc (suc (suc zero)))) h = refl
 query_lengths Two (suc (suc (suc (suc (suc zero))))) h = refl
 query_lengths Two (suc (suc (suc (suc (suc (suc zero)))))) h = refl
-query_lengths Two (suc (suc (suc (suc (suc (suc (suc m))))))) h = refl
+query_lengths Two (suc (suc (suc (suc (suc (suc (suc zero))))))) h = refl
+query_lengths Two (suc (suc (suc (suc (suc (suc (suc (suc m)))))))) h = refl
 
 -- a code of a query has room in a byte, and its body in a frame
 query_is : (version : Version) → IsShape (query_shape version)
@@ -124,6 +126,15 @@ power_is degree = record {
       omega (arith, leb-true degree most_degree both.0, eqb-true n (8 * (degree + 1)) both.1);
 }
 
+-- marks, where they stand
+marks_is : (stands : Bool) → IsShape (marks_shape stands)
+marks_is true = let is = counted_shape most_nodes mark_fields (omega arith) (omega arith) (omega arith) in record { mark_room = is.mark_room; lengths = is.lengths; short = is.short }
+marks_is false = record {
+  mark_room = λ m h. absurd cc;
+  lengths = λ m h. absurd cc;
+  short = λ n h. absurd cc;
+}
+
 -- each kind's
 pub is_shape : (version : Version) (kind : Kind) → IsShape (shape version kind)
 is_shape version kinds.Open = ordered_shape _ _ (omega arith)
@@ -149,6 +160,9 @@ is_shape version kinds.Found = ordered_shape _ _ (omega arith)
 is_shape version kinds.End = plain_shape _ (omega arith)
 is_shape version kinds.AskMoment = plain_shape _ (omega arith)
 is_shape version (kinds.Power degree) = power_is degree
+is_shape version kinds.Held = plain_shape _ (omega arith)
+is_shape version kinds.Recall = plain_shape _ (omega arith)
+is_shape version kinds.Marks = marks_is (stands_in kinds.Marks version)
 
 -- ---- what fits a shape
 

@@ -75,6 +75,9 @@ says_degree version kinds.Found mark = refl
 says_degree version kinds.End mark = refl
 says_degree version kinds.AskMoment mark = refl
 says_degree version (kinds.Power degree) mark = power_length degree
+says_degree version kinds.Held mark = refl
+says_degree version kinds.Recall mark = refl
+says_degree version kinds.Marks mark = refl
 
 -- the kinds of one byte and one length are the same
 same_kind : (version : Version) (a b : Kind) (m n : ℕ) → byte_of a ≡ byte_of b

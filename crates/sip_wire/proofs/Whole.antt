@@ -13,7 +13,8 @@ use Rattle.sip_wire.specs.declared.message.Message.{Message}
 use Rattle.sip_wire.specs.declared.message.WireFault.{WireFault}
 use Rattle.sip_wire.specs.declared.message.WireFault.TheVariants as faults
 use Rattle.sip_wire.specs.declared.version.Version.{Version}
-use Rattle.sip_wire.specs.Table.{longest_body, Shape, shape, allows, degree_at, kind_at, byte_of, all_kinds, size}
+use Rattle.sip_wire.specs.declared.version.Version.TheVariants.{One, Two}
+use Rattle.sip_wire.specs.Table.{longest_body, Shape, shape, allows, degree_at, kind_at, stands_in, byte_of, all_kinds, size}
 use Rattle.sip_wire.specs.Spelling.{in_bytes, kind_of, mark_of, numbers, fits, body_of, spelling, length_in, body_fault, kind_fault, frame_fault, asked, asked_by, Stands}
 use Rattle.sip_wire.specs.Decoding.{Head}
 use Rattle.sip_wire.specs.Faults.{IsOfBytes}
@@ -53,6 +54,9 @@ kind_by_again kinds.Found = refl
 kind_by_again kinds.End = refl
 kind_by_again kinds.AskMoment = refl
 kind_by_again (kinds.Power k) = refl
+kind_by_again kinds.Held = refl
+kind_by_again kinds.Recall = refl
+kind_by_again kinds.Marks = refl
 
 -- a place that allows a power awaits one of this degree
 its_degree : (place : Place) (degree : ℕ) → allows place (kinds.Power degree) ≡ true → degree ≡ degree_at place
@@ -68,6 +72,9 @@ its_degree places.Nodes degree a = absurd cc
 its_degree places.Found degree a = absurd cc
 its_degree places.AskedLook degree a = absurd cc
 its_degree places.AskedMoment degree a = absurd cc
+its_degree places.AskedQuestion degree a = absurd cc
+its_degree places.Held degree a = absurd cc
+its_degree places.Marks degree a = absurd cc
 
 -- the byte of a kind stands for it at a place that allows the kind
 pub kind_again : (place : Place) (kind : Kind) → allows place kind ≡ true → kind_at place (byte_of kind) ≡ Some kind
@@ -91,6 +98,9 @@ kind_again place kinds.Found a = refl
 kind_again place kinds.End a = refl
 kind_again place kinds.AskMoment a = refl
 kind_again place (kinds.Power degree) a = ap (λ (k : ℕ). kind_by k (byte_of (kinds.Power degree))) (sym (its_degree place degree a)) ∙ kind_by_again (kinds.Power degree)
+kind_again place kinds.Held a = refl
+kind_again place kinds.Recall a = refl
+kind_again place kinds.Marks a = refl
 
 -- and that of a kind that a verifier hears stands for it at every place
 pub heard_again : (place : Place) (kind : Kind) → allows places.ToVerifier kind ≡ true → kind_at place (byte_of kind) ≡ Some kind
@@ -113,6 +123,9 @@ heard_again place kinds.Found a = refl
 heard_again place kinds.End a = refl
 heard_again place kinds.AskMoment a = refl
 heard_again place (kinds.Power degree) a = absurd cc
+heard_again place kinds.Held a = refl
+heard_again place kinds.Recall a = refl
+heard_again place kinds.Marks a = refl
 
 -- one step of a search
 by_test : {X : Type 0} (p : X → Bool) (xs : List X) (x y : X) (b : Bool) → (find p xs ≡ Some x → p x ≡ true) → p y ≡ b → cond b (Some y) (find p xs) ≡ Some x → p x ≡ true
@@ -135,15 +148,49 @@ pub past_length : (version : Version) (place : Place) (bytes : List ℕ) → 3 �
 unfolding frame_fault in_bytes
 past_length version place bytes le = rw (le-ltb (length bytes) 3 le) refl
 
+-- a kind that has a length in a version stands in it
+pub stands_by_length : (version : Version) (kind : Kind) (n : ℕ) → (shape version kind).has_length n ≡ true → stands_in kind version ≡ true
+stands_by_length version kinds.Open n h = refl
+stands_by_length version kinds.Updates n h = refl
+stands_by_length version kinds.EndStream n h = refl
+stands_by_length version kinds.Query n h = refl
+stands_by_length version kinds.Reveal n h = refl
+stands_by_length version kinds.Bye n h = refl
+stands_by_length version kinds.Claim n h = refl
+stands_by_length version kinds.Poly n h = refl
+stands_by_length version kinds.Entries n h = refl
+stands_by_length version kinds.Siblings n h = refl
+stands_by_length version kinds.Leaves n h = refl
+stands_by_length version kinds.Nodes n h = refl
+stands_by_length version kinds.LevelEnd n h = refl
+stands_by_length version kinds.Refuse n h = refl
+stands_by_length version kinds.AskLook n h = refl
+stands_by_length version kinds.Found n h = refl
+stands_by_length version kinds.End n h = refl
+stands_by_length version kinds.AskMoment n h = refl
+stands_by_length version (kinds.Power degree) n h = refl
+stands_by_length version kinds.Held n h = refl
+stands_by_length version kinds.Recall n h = refl
+stands_by_length One kinds.Marks n h = absurd cc
+stands_by_length Two kinds.Marks n h = refl
+
+-- one that does not stand there has none
+pub no_length : (version : Version) (kind : Kind) (n : ℕ) → stands_in kind version ≡ false → (shape version kind).has_length n ≡ false
+no_length version kind n stray = by_test ((shape version kind).has_length n) refl
+  where
+    by_test : (has : Bool) → (shape version kind).has_length n ≡ has → has ≡ false
+    by_test true e = absurd (let stands : false ≡ true = sym stray ∙ stands_by_length version kind n e in cc)
+    by_test false e = refl
+
 -- with a whole body the body decides
 pub past_head : (version : Version) (place : Place) (kind : Kind) (bytes : List ℕ) → allows place kind ≡ true → (shape version kind).has_length (length_in bytes) ≡ true → 3 + length_in bytes ≤ length bytes → kind_fault version place (Some kind) bytes ≡ body_fault (shape version kind) (drop 3 bytes)
 unfolding kind_fault in_bytes
-past_head version place kind bytes a b le = rw (a, b, le-ltb (length bytes) (3 + length_in bytes) le) refl
+past_head version place kind bytes a b le = rw (a, stands_by_length version kind (length_in bytes) b, b, le-ltb (length bytes) (3 + length_in bytes) le) refl
 
 -- with less the frame is cut short
 pub cut_short : (version : Version) (place : Place) (kind : Kind) (bytes : List ℕ) → allows place kind ≡ true → (shape version kind).has_length (length_in bytes) ≡ true → length bytes < 3 + length_in bytes → kind_fault version place (Some kind) bytes ≡ Some faults.Closed
 unfolding kind_fault in_bytes
-cut_short version place kind bytes a b lt = rw (a, b, lt-ltb (length bytes) (3 + length_in bytes) lt) refl
+cut_short version place kind bytes a b lt = rw (a, stands_by_length version kind (length_in bytes) b, b, lt-ltb (length bytes) (3 + length_in bytes) lt) refl
 
 -- fewer than three bytes are cut short
 pub no_head : (version : Version) (place : Place) (bytes : List ℕ) → length bytes < 3 → frame_fault version place bytes ≡ Some faults.Closed

@@ -10,7 +10,7 @@ use Rattle.sip_wire.specs.declared.kind.Kind.TheVariants as kinds
 use Rattle.sip_wire.specs.declared.message.Message.{Message}
 use Rattle.sip_wire.specs.declared.version.Version.{Version}
 use Rattle.sip_wire.specs.declared.version.Version.TheVariants.{One, Two}
-use Rattle.sip_wire.specs.Table.{Field, Shape, counted, entry_fields, index, leaf_fields, most_nodes, most_rows, node_fields, query_fields, query_shape, repeat, shape, side, update_fields}
+use Rattle.sip_wire.specs.Table.{Field, Shape, counted, entry_fields, index, leaf_fields, mark_fields, most_nodes, most_rows, node_fields, query_fields, query_shape, repeat, shape, side, update_fields}
 use Rattle.sip_wire.specs.Spelling.{fits, fits_shape, has_room, all_hold, kind_of, mark_of, numbers}
 
 -- ---- fields
@@ -108,7 +108,8 @@ query_wider (suc (suc (suc zero))) = same_fields (side ∷ [])
 query_wider (suc (suc (suc (suc zero)))) = same_fields []
 query_wider (suc (suc (suc (suc (suc zero))))) = same_fields (query_fields One 5)
 query_wider (suc (suc (suc (suc (suc (suc zero)))))) = same_fields (query_fields One 6)
-query_wider (suc (suc (suc (suc (suc (suc (suc code))))))) = same_fields []
+query_wider (suc (suc (suc (suc (suc (suc (suc zero))))))) = same_fields (query_fields One 7)
+query_wider (suc (suc (suc (suc (suc (suc (suc (suc code)))))))) = same_fields []
 
 shape_wider : (kind : Kind) → IsWider (shape One kind) (shape Two kind)
 shape_wider kinds.Open = same_shape (shape One kinds.Open)
@@ -130,6 +131,9 @@ shape_wider kinds.Found = same_shape (shape One kinds.Found)
 shape_wider kinds.End = same_shape (shape One kinds.End)
 shape_wider kinds.AskMoment = same_shape (shape One kinds.AskMoment)
 shape_wider (kinds.Power degree) = same_shape (shape One (kinds.Power degree))
+shape_wider kinds.Held = same_shape (shape One kinds.Held)
+shape_wider kinds.Recall = same_shape (shape One kinds.Recall)
+shape_wider kinds.Marks = record { marks = λ mark none. absurd cc; fields = λ mark. same_fields (repeat mark mark_fields); order = λ mark ns. refl }
 
 -- a message with a spelling has one in version 2
 pub fits_two : (version : Version) (m : Message) → IsTrue (fits version m) → IsTrue (fits Two m)

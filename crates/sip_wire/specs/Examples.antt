@@ -2,7 +2,7 @@
 -- challenges 2 and 10; then the replies to the queries for the second moment and for the items of
 -- count 4 at least, over the same vector; and the frames of the lookup of the nearest entry at item
 -- 1 or above it, and of the third moment.
-use Rattle.std.specs.Prelude.{◌≡◌, ℕ, pos, IsTrue, List, [], ◌∷◌, ◌++◌, Some, None, Ok, Err}
+use Rattle.std.specs.Prelude.{◌≡◌, ℕ, pos, negsuc, IsTrue, List, [], ◌∷◌, ◌++◌, Some, None, Ok, Err}
 use Rattle.sip_vector.specs.declared.update.Side.TheVariants.{First}
 use Rattle.sip_vector.specs.declared.query.Query.TheVariants as queries
 use Rattle.sip_wire.specs.declared.message.Message.{Message}
@@ -116,6 +116,43 @@ power_frames =
     ∷ example places.AskedMoment messages.End (0x23 ∷ 0 ∷ 0 ∷ [])
     ∷ []
 
+-- a helper that has records of its own: how many it is to hear, and what it then holds; and what
+-- else may be asked there
+abbrev pub recall_frames : List Example
+recall_frames =
+    example places.AskedQuestion (messages.Recall 3)
+    (0x27 ∷ 0 ∷ 8 ∷ 0 ∷ 0 ∷ 0 ∷ 0 ∷ 0 ∷ 0 ∷ 0 ∷ 3 ∷ [])
+    ∷ example places.Held
+    (messages.Held (record {
+      records = 3;
+      first = 9;
+      second = 0;
+      fingerprint = 0xb8261ae7db4fab00;
+    }))
+    (0x26 ∷ 0 ∷ 0x20 ∷ 0 ∷ 0 ∷ 0 ∷ 0 ∷ 0 ∷ 0 ∷ 0 ∷ 3 ∷ 0 ∷ 0 ∷ 0 ∷ 0 ∷ 0 ∷ 0 ∷ 0 ∷ 9 ∷ 0 ∷ 0 ∷ 0 ∷ 0 ∷ 0 ∷ 0 ∷ 0 ∷ 0 ∷ 0xb8 ∷ 0x26 ∷ 0x1a ∷ 0xe7 ∷ 0xdb ∷ 0x4f ∷ 0xab ∷ 0 ∷ [])
+    ∷ example places.AskedQuestion (messages.AskLook 3 1)
+    (0x21 ∷ 0 ∷ 9 ∷ 3 ∷ 0 ∷ 0 ∷ 0 ∷ 0 ∷ 0 ∷ 0 ∷ 0 ∷ 1 ∷ [])
+    ∷ example places.AskedQuestion (messages.AskMoment 0 3) (0x24 ∷ 0 ∷ 2 ∷ 0 ∷ 3 ∷ [])
+    ∷ example places.AskedQuestion (messages.Reveal 2)
+    (0x05 ∷ 0 ∷ 8 ∷ 0 ∷ 0 ∷ 0 ∷ 0 ∷ 0 ∷ 0 ∷ 0 ∷ 2 ∷ [])
+    ∷ example places.AskedQuestion messages.Bye (0x06 ∷ 0 ∷ 0 ∷ [])
+    ∷ []
+
+-- the query for entries of 3 at least, and a mark of -9; these stand in version 2
+abbrev pub above_frames : List Example
+above_frames =
+    example places.AskedQuestion (messages.Query (queries.Above First 3))
+    (0x04 ∷ 0 ∷ 0x0a ∷ 7 ∷ 0 ∷ 0 ∷ 0 ∷ 0 ∷ 0 ∷ 0 ∷ 0 ∷ 0 ∷ 3 ∷ [])
+    ∷ example places.ToHelper (messages.Query (queries.Above First 3))
+    (0x04 ∷ 0 ∷ 0x0a ∷ 7 ∷ 0 ∷ 0 ∷ 0 ∷ 0 ∷ 0 ∷ 0 ∷ 0 ∷ 0 ∷ 3 ∷ [])
+    ∷ example places.Marks
+    (messages.Marks
+    (record { items = record { item = 2; value = negsuc 8; weight = 9 } ∷ [] }))
+    (0x28 ∷ 0 ∷ 0x1a ∷ 0 ∷ 1 ∷ 0 ∷ 0 ∷ 0 ∷ 0 ∷ 0 ∷ 0 ∷ 0 ∷ 2 ∷ 0xff ∷ 0xff ∷ 0xff ∷ 0xff ∷ 0xff ∷ 0xff ∷ 0xff ∷ 0xf7 ∷ 0 ∷ 0 ∷ 0 ∷ 0 ∷ 0 ∷ 0 ∷ 0 ∷ 9 ∷ [])
+    ∷ example places.Marks messages.LevelEnd (0x17 ∷ 0 ∷ 0 ∷ [])
+    ∷ example places.Marks (messages.Refuse 2) (0x18 ∷ 0 ∷ 1 ∷ 2 ∷ [])
+    ∷ []
+
 -- what is asked may be any number: whether it may be asked is no matter of spelling
 abbrev pub any_asks : List Example
 any_asks =
@@ -181,4 +218,50 @@ stray_frames = faulty places.AskedLook (0x24 ∷ 0 ∷ 2 ∷ []) faults.BadKind
     ∷ faulty places.ToVerifier (0x22 ∷ 0 ∷ 9 ∷ []) faults.BadKind
     ∷ faulty places.ToVerifier (0x25 ∷ 0 ∷ 0x20 ∷ []) faults.BadKind
     ∷ faulty places.Poly (0x25 ∷ 0 ∷ 8 ∷ []) faults.BadKind
+    ∷ []
+
+-- each fault where what a helper holds is awaited, and where it is asked
+abbrev pub held_faults : List Faulty
+held_faults = faulty places.Held (0x26 ∷ 0 ∷ 0x20 ∷ []) faults.Closed
+    ∷ faulty places.Held (0x26 ∷ 0 ∷ 0x20 ∷ 0 ∷ 0 ∷ 0 ∷ 0 ∷ 0 ∷ 0 ∷ 0 ∷ 3 ∷ 0 ∷ 0 ∷ 0 ∷ 0 ∷ 0 ∷ 0 ∷ 0 ∷ 9 ∷ 0 ∷ 0 ∷ 0 ∷ 0 ∷ 0 ∷ 0 ∷ 0 ∷ 0 ∷ 0xb8 ∷ 0x26 ∷ 0x1a ∷ 0xe7 ∷ 0xdb ∷ 0x4f ∷ 0xab ∷ []) faults.Closed
+    ∷ faulty places.Held (0x18 ∷ 0 ∷ 1 ∷ 1 ∷ []) faults.BadKind
+    ∷ faulty places.Held (0x27 ∷ 0 ∷ 8 ∷ 0 ∷ 0 ∷ 0 ∷ 0 ∷ 0 ∷ 0 ∷ 0 ∷ 3 ∷ []) faults.BadKind
+    ∷ faulty places.Held (0x26 ∷ 0 ∷ 0x1f ∷ []) faults.BadLength
+    ∷ faulty places.Held (0x26 ∷ 0 ∷ 0x21 ∷ []) faults.BadLength
+    ∷ faulty places.AskedQuestion (0x27 ∷ 0 ∷ 8 ∷ 0 ∷ 0 ∷ 0 ∷ 0 ∷ 0 ∷ 0 ∷ 0 ∷ []) faults.Closed
+    ∷ faulty places.AskedQuestion (0x27 ∷ 0 ∷ 7 ∷ []) faults.BadLength
+    ∷ faulty places.AskedQuestion (0x27 ∷ 0 ∷ 9 ∷ []) faults.BadLength
+    ∷ faulty places.AskedQuestion (0x23 ∷ 0 ∷ 0 ∷ []) faults.BadKind
+    ∷ faulty places.AskedQuestion (0x26 ∷ 0 ∷ 0x20 ∷ []) faults.BadKind
+    ∷ faulty places.AskedQuestion (0x28 ∷ 0 ∷ 0x1a ∷ []) faults.BadKind
+    ∷ faulty places.ToHelper (0x27 ∷ 0 ∷ 8 ∷ []) faults.BadKind
+    ∷ faulty places.ToVerifier (0x26 ∷ 0 ∷ 0x20 ∷ []) faults.BadKind
+    ∷ faulty places.AskedLook (0x27 ∷ 0 ∷ 8 ∷ []) faults.BadKind
+    ∷ faulty places.AskedMoment (0x27 ∷ 0 ∷ 8 ∷ []) faults.BadKind
+    ∷ []
+
+-- each fault where marks are awaited: of none, of 257, of another count, above the bound of a value,
+-- above their weight, or of a weight that is no element
+abbrev pub mark_faults : List Faulty
+mark_faults = faulty places.Marks (0x28 ∷ 0 ∷ 0x1a ∷ []) faults.Closed
+    ∷ faulty places.Marks (0x16 ∷ 0 ∷ 0x1a ∷ []) faults.BadKind
+    ∷ faulty places.Marks (0x28 ∷ 0 ∷ 2 ∷ []) faults.BadLength
+    ∷ faulty places.Marks (0x28 ∷ 0 ∷ 0x19 ∷ []) faults.BadLength
+    ∷ faulty places.Marks (0x28 ∷ 0x18 ∷ 0x1a ∷ []) faults.BadLength
+    ∷ faulty places.Marks (0x28 ∷ 0 ∷ 0x1a ∷ 0 ∷ 0 ∷ 0 ∷ 0 ∷ 0 ∷ 0 ∷ 0 ∷ 0 ∷ 0 ∷ 2 ∷ 0xff ∷ 0xff ∷ 0xff ∷ 0xff ∷ 0xff ∷ 0xff ∷ 0xff ∷ 0xf7 ∷ 0 ∷ 0 ∷ 0 ∷ 0 ∷ 0 ∷ 0 ∷ 0 ∷ 9 ∷ []) faults.BadCount
+    ∷ faulty places.Marks (0x28 ∷ 0 ∷ 0x1a ∷ 0 ∷ 2 ∷ 0 ∷ 0 ∷ 0 ∷ 0 ∷ 0 ∷ 0 ∷ 0 ∷ 2 ∷ 0xff ∷ 0xff ∷ 0xff ∷ 0xff ∷ 0xff ∷ 0xff ∷ 0xff ∷ 0xf7 ∷ 0 ∷ 0 ∷ 0 ∷ 0 ∷ 0 ∷ 0 ∷ 0 ∷ 9 ∷ []) faults.BadCount
+    ∷ faulty places.Marks (0x28 ∷ 0 ∷ 0x1a ∷ 0 ∷ 1 ∷ 0 ∷ 0 ∷ 0 ∷ 0 ∷ 0 ∷ 0 ∷ 0 ∷ 2 ∷ 0x10 ∷ 0 ∷ 0 ∷ 0 ∷ 0 ∷ 0 ∷ 0 ∷ 0 ∷ 0x10 ∷ 0 ∷ 0 ∷ 0 ∷ 0 ∷ 0 ∷ 0 ∷ 0 ∷ []) faults.BadNumber
+    ∷ faulty places.Marks (0x28 ∷ 0 ∷ 0x1a ∷ 0 ∷ 1 ∷ 0 ∷ 0 ∷ 0 ∷ 0 ∷ 0 ∷ 0 ∷ 0 ∷ 2 ∷ 0xff ∷ 0xff ∷ 0xff ∷ 0xff ∷ 0xff ∷ 0xff ∷ 0xff ∷ 0xf7 ∷ 0 ∷ 0 ∷ 0 ∷ 0 ∷ 0 ∷ 0 ∷ 0 ∷ 8 ∷ []) faults.BadNumber
+    ∷ faulty places.Marks (0x28 ∷ 0 ∷ 0x32 ∷ 0 ∷ 2 ∷ 0 ∷ 0 ∷ 0 ∷ 0 ∷ 0 ∷ 0 ∷ 0 ∷ 2 ∷ 0 ∷ 0 ∷ 0 ∷ 0 ∷ 0 ∷ 0 ∷ 0 ∷ 9 ∷ 0 ∷ 0 ∷ 0 ∷ 0 ∷ 0 ∷ 0 ∷ 0 ∷ 9 ∷ 0 ∷ 0 ∷ 0 ∷ 0 ∷ 0 ∷ 0 ∷ 0 ∷ 3 ∷ 0 ∷ 0 ∷ 0 ∷ 0 ∷ 0 ∷ 0 ∷ 0 ∷ 9 ∷ 0 ∷ 0 ∷ 0 ∷ 0 ∷ 0 ∷ 0 ∷ 0 ∷ 8 ∷ []) faults.BadNumber
+    ∷ faulty places.Marks (0x28 ∷ 0 ∷ 0x1a ∷ 0 ∷ 1 ∷ 0 ∷ 0 ∷ 0 ∷ 0 ∷ 0 ∷ 0 ∷ 0 ∷ 2 ∷ 0xff ∷ 0xff ∷ 0xff ∷ 0xff ∷ 0xff ∷ 0xff ∷ 0xff ∷ 0xf7 ∷ 0x1f ∷ 0xff ∷ 0xff ∷ 0xff ∷ 0xff ∷ 0xff ∷ 0xff ∷ 0xff ∷ []) faults.BadNumber
+    ∷ faulty places.ToVerifier (0x28 ∷ 0 ∷ 0x1a ∷ []) faults.BadKind
+    ∷ faulty places.Leaves (0x28 ∷ 0 ∷ 0x1a ∷ []) faults.BadKind
+    ∷ []
+
+-- in version 1 there are no marks, and no query for large entries of any stream
+abbrev pub no_above : List Faulty
+no_above = faulty places.Marks (0x28 ∷ 0 ∷ 0x1a ∷ 0 ∷ 1 ∷ 0 ∷ 0 ∷ 0 ∷ 0 ∷ 0 ∷ 0 ∷ 0 ∷ 2 ∷ 0xff ∷ 0xff ∷ 0xff ∷ 0xff ∷ 0xff ∷ 0xff ∷ 0xff ∷ 0xf7 ∷ 0 ∷ 0 ∷ 0 ∷ 0 ∷ 0 ∷ 0 ∷ 0 ∷ 9 ∷ []) faults.BadKind
+    ∷ faulty places.Marks (0x28 ∷ 0 ∷ 2 ∷ []) faults.BadKind
+    ∷ faulty places.ToHelper (0x04 ∷ 0 ∷ 0x0a ∷ 7 ∷ 0 ∷ 0 ∷ 0 ∷ 0 ∷ 0 ∷ 0 ∷ 0 ∷ 0 ∷ 3 ∷ []) faults.BadCount
+    ∷ faulty places.AskedQuestion (0x04 ∷ 0 ∷ 0x0a ∷ 7 ∷ 0 ∷ 0 ∷ 0 ∷ 0 ∷ 0 ∷ 0 ∷ 0 ∷ 0 ∷ 3 ∷ []) faults.BadCount
     ∷ []

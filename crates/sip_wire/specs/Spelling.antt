@@ -11,6 +11,8 @@ use Rattle.sip_vector.specs.declared.query.Query.{Query}
 use Rattle.sip_vector.specs.declared.query.Query.TheVariants as queries
 use Rattle.sip_wire.specs.declared.message.Leaf.{Leaf}
 use Rattle.sip_wire.specs.declared.message.Node.{Node}
+use Rattle.sip_wire.specs.declared.message.Held.{Held}
+use Rattle.sip_wire.specs.declared.message.Mark.{Mark}
 use Rattle.sip_wire.specs.declared.message.Message.{Message}
 use Rattle.sip_wire.specs.declared.message.Message.TheVariants as messages
 use Rattle.sip_wire.specs.declared.message.WireFault.{WireFault}
@@ -19,7 +21,7 @@ use Rattle.sip_wire.specs.declared.kind.Kind.{Kind}
 use Rattle.sip_wire.specs.declared.kind.Kind.TheVariants as kinds
 use Rattle.sip_wire.specs.declared.kind.Place.{Place}
 use Rattle.sip_wire.specs.declared.version.Version.{Version}
-use Rattle.sip_wire.specs.Table.{Field, size, Shape, shape, query_fields, ends_in_order, kind_at, byte_of, allows}
+use Rattle.sip_wire.specs.Table.{Field, size, Shape, shape, query_fields, ends_in_order, kind_at, byte_of, allows, stands_in}
 use Rattle.sip_wire.specs.Values.{InRange}
 use Rattle.arrayvec.specs.ArrayVec.{ArrayVec}
 
@@ -41,8 +43,15 @@ leaf_numbers l = l.item ∷ l.count ∷ []
 abbrev pub node_numbers : Node → List ℕ
 node_numbers n = n.index ∷ n.hash ∷ n.count ∷ []
 
+abbrev pub mark_numbers : Mark → List ℕ
+mark_numbers m = m.item ∷ cast_unsigned w64 m.value ∷ m.weight ∷ []
+
 abbrev pub coefficient_numbers : ℕ → List ℕ
 coefficient_numbers c = c ∷ []
+
+-- the numbers of what a helper holds
+abbrev pub held_numbers : Held → List ℕ
+held_numbers h = h.records ∷ h.first ∷ h.second ∷ h.fingerprint ∷ []
 
 -- the code of a query
 abbrev pub query_code : Query → ℕ
@@ -52,6 +61,7 @@ query_code (queries.F2 _) = 3
 query_code queries.Inner = 4
 query_code (queries.Heavy _ _) = 5
 query_code (queries.Share _ _ _) = 6
+query_code (queries.Above _ _) = 7
 
 -- the numbers behind it
 abbrev pub query_numbers : Query → List ℕ
@@ -61,6 +71,7 @@ query_numbers (queries.F2 side) = side_number side ∷ []
 query_numbers queries.Inner = []
 query_numbers (queries.Heavy side at_least) = side_number side ∷ at_least ∷ []
 query_numbers (queries.Share side num den) = side_number side ∷ num ∷ den ∷ []
+query_numbers (queries.Above side at_least) = side_number side ∷ at_least ∷ []
 
 -- a bit that says whether a number is there
 abbrev pub flag : Option ℕ → ℕ → ℕ
@@ -93,6 +104,9 @@ kind_of (messages.Found _ _) = kinds.Found
 kind_of messages.End = kinds.End
 kind_of (messages.AskMoment _ _) = kinds.AskMoment
 kind_of (messages.Power v) = kinds.Power (length v.items - 1)
+kind_of (messages.Held _) = kinds.Held
+kind_of (messages.Recall _) = kinds.Recall
+kind_of (messages.Marks _) = kinds.Marks
 
 -- the count, the code or the flags
 abbrev pub mark_of : Message → ℕ
@@ -102,6 +116,7 @@ mark_of (messages.Entries v) = length v.items
 mark_of (messages.Siblings left right) = flag left 1 + flag right 2
 mark_of (messages.Leaves v) = length v.items
 mark_of (messages.Nodes v) = length v.items
+mark_of (messages.Marks v) = length v.items
 mark_of _ = 0
 
 -- the numbers behind the mark
@@ -121,6 +136,9 @@ numbers (messages.AskLook code item) = code ∷ item ∷ []
 numbers (messages.Found flag index) = flag ∷ index ∷ []
 numbers (messages.AskMoment side degree) = side ∷ degree ∷ []
 numbers (messages.Power v) = flat_map coefficient_numbers v.items
+numbers (messages.Held held) = held_numbers held
+numbers (messages.Recall count) = count ∷ []
+numbers (messages.Marks v) = flat_map mark_numbers v.items
 numbers _ = []
 
 -- ---- fields as bytes
@@ -241,7 +259,7 @@ length_in bytes = big_number 2 (drop 1 bytes)
 unfoldable pub kind_fault : Version → Place → Option Kind → List ℕ → Option WireFault
 kind_fault version place None bytes = Some faults.BadKind
 kind_fault version place (Some kind) bytes =
-    if not (allows place kind) then Some faults.BadKind
+    if not (allows place kind && stands_in kind version) then Some faults.BadKind
     else if not ((shape version kind).has_length (length_in bytes)) then Some faults.BadLength
     else if nat_lt (length bytes) (3 + length_in bytes) then Some faults.Closed
     else body_fault (shape version kind) (drop 3 bytes)

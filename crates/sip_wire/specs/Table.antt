@@ -34,6 +34,9 @@ byte_of kinds.Found = 0x22
 byte_of kinds.End = 0x23
 byte_of kinds.AskMoment = 0x24
 byte_of (kinds.Power degree) = 0x25
+byte_of kinds.Held = 0x26
+byte_of kinds.Recall = 0x27
+byte_of kinds.Marks = 0x28
 
 -- each kind, and of the powers that of one degree
 abbrev pub all_kinds : ℕ → List Kind
@@ -41,7 +44,7 @@ all_kinds degree =
     kinds.Open ∷ kinds.Updates ∷ kinds.EndStream ∷ kinds.Query ∷ kinds.Reveal ∷ kinds.Bye
     ∷ kinds.Claim ∷ kinds.Poly ∷ kinds.Entries ∷ kinds.Siblings ∷ kinds.Leaves ∷ kinds.Nodes
     ∷ kinds.LevelEnd ∷ kinds.Refuse ∷ kinds.AskLook ∷ kinds.Found ∷ kinds.End ∷ kinds.AskMoment
-    ∷ kinds.Power degree ∷ []
+    ∷ kinds.Power degree ∷ kinds.Held ∷ kinds.Recall ∷ kinds.Marks ∷ []
 
 -- the degree of the power that is awaited at a place, where one is
 abbrev pub degree_at : Place → ℕ
@@ -52,6 +55,11 @@ degree_at _ = 0
 -- place does.
 abbrev pub kind_at : Place → ℕ → Option Kind
 kind_at place byte = find (λ kind. byte == byte_of kind) (all_kinds (degree_at place))
+
+-- which kinds stand in a version: marks in version 2 alone
+abbrev pub stands_in : Kind → Version → Bool
+stands_in kinds.Marks One = false
+stands_in _ _ = true
 
 -- which kinds may stand at a place
 abbrev pub allows : Place → Kind → Bool
@@ -73,6 +81,9 @@ allows places.ToVerifier kinds.Found = false
 allows places.ToVerifier kinds.End = false
 allows places.ToVerifier kinds.AskMoment = false
 allows places.ToVerifier (kinds.Power degree) = false
+allows places.ToVerifier kinds.Held = false
+allows places.ToVerifier kinds.Recall = false
+allows places.ToVerifier kinds.Marks = false
 allows places.ToVerifier _ = true
 allows places.AskedLook kinds.AskLook = true
 allows places.AskedLook kinds.End = true
@@ -80,6 +91,18 @@ allows places.AskedLook _ = false
 allows places.AskedMoment kinds.AskMoment = true
 allows places.AskedMoment kinds.End = true
 allows places.AskedMoment _ = false
+allows places.AskedQuestion kinds.Open = true
+allows places.AskedQuestion kinds.Updates = true
+allows places.AskedQuestion kinds.EndStream = true
+allows places.AskedQuestion kinds.Query = true
+allows places.AskedQuestion kinds.Reveal = true
+allows places.AskedQuestion kinds.Bye = true
+allows places.AskedQuestion kinds.AskLook = true
+allows places.AskedQuestion kinds.AskMoment = true
+allows places.AskedQuestion kinds.Recall = true
+allows places.AskedQuestion _ = false
+allows places.Held kinds.Held = true
+allows places.Held _ = false
 allows places.Entries kinds.Entries = true
 allows places.Entries kinds.Siblings = true
 allows places.Siblings kinds.Siblings = true
@@ -90,6 +113,8 @@ allows places.Leaves kinds.LevelEnd = true
 allows places.Nodes kinds.Nodes = true
 allows places.Nodes kinds.LevelEnd = true
 allows places.Found kinds.Found = true
+allows places.Marks kinds.Marks = true
+allows places.Marks kinds.LevelEnd = true
 allows (places.Power awaited) (kinds.Power degree) = degree == awaited
 allows _ kinds.Refuse = true
 allows _ _ = false
@@ -108,7 +133,7 @@ most_refusal = 4
 abbrev pub most_rows : ℕ
 most_rows = 512
 
--- how many nodes it has at most
+-- how many nodes or marks it has at most
 abbrev pub most_nodes : ℕ
 most_nodes = 256
 
@@ -187,6 +212,14 @@ found_fields = ranging 1 0 1 ∷ any_number 8 ∷ []
 abbrev pub moment_fields : List Field
 moment_fields = any_number 1 ∷ any_number 1 ∷ []
 
+-- how many records a helper holds, the weight of each side, and their fingerprint
+abbrev pub held_fields : List Field
+held_fields = any_number 8 ∷ any_number 8 ∷ any_number 8 ∷ any_number 8 ∷ []
+
+-- how many records are to be held
+abbrev pub recall_fields : List Field
+recall_fields = any_number 8 ∷ []
+
 -- a record of the stream: its side, its item and its delta
 abbrev pub update_fields : Version → List Field
 update_fields version = side ∷ index version ∷ field 8 (λ n. not (n == 0)) ∷ []
@@ -203,17 +236,21 @@ leaf_fields version = index version ∷ element ∷ []
 abbrev pub node_fields : Version → List Field
 node_fields version = index version ∷ element ∷ element ∷ []
 
+-- an item, its value and its weight
+abbrev pub mark_fields : List Field
+mark_fields = any_number 8 ∷ field 8 is_small ∷ element ∷ []
+
 -- the codes of the queries
 abbrev pub query_codes : Version → List ℕ
 query_codes One = 1 ∷ 2 ∷ 3 ∷ 4 ∷ 5 ∷ []
-query_codes Two = 1 ∷ 2 ∷ 3 ∷ 4 ∷ 5 ∷ 6 ∷ []
+query_codes Two = 1 ∷ 2 ∷ 3 ∷ 4 ∷ 5 ∷ 6 ∷ 7 ∷ []
 
 -- the flags of siblings
 abbrev pub sibling_flags : List ℕ
 sibling_flags = 0 ∷ 1 ∷ 2 ∷ 3 ∷ []
 
 -- the fields behind the code of a query: the sub-vector, the range, the second moment, the inner
--- product, the heavy items, the items of a share
+-- product, the heavy items, the items of a share, the large items of any stream
 abbrev pub query_fields : Version → ℕ → List Field
 query_fields version (suc zero) = index version ∷ index version ∷ []
 query_fields version (suc (suc zero)) = side ∷ index version ∷ index version ∷ []
@@ -221,6 +258,8 @@ query_fields version (suc (suc (suc zero))) = side ∷ []
 query_fields version (suc (suc (suc (suc (suc zero))))) = side ∷ ranging 8 1 most_threshold ∷ []
 query_fields version (suc (suc (suc (suc (suc (suc zero)))))) =
     side ∷ ranging 4 1 most_share ∷ ranging 4 1 most_share ∷ []
+query_fields version (suc (suc (suc (suc (suc (suc (suc zero))))))) =
+    side ∷ ranging 8 1 most_threshold ∷ []
 query_fields version _ = []
 
 -- the fields behind the flags of siblings: the left one at bit 0, the right one at bit 1
@@ -325,6 +364,22 @@ power_shape degree = record {
   has_length = λ n. nat_le degree most_degree && (n == 8 * (degree + 1));
 }
 
+-- the value of each mark is at most its weight
+abbrev pub within_weights : List ℕ → Bool
+within_weights (item ∷ value ∷ weight ∷ ns) =
+    nat_le (nat_abs (cast_signed w64 value)) weight && within_weights ns
+within_weights _ = true
+
+-- a count and that many marks, where marks stand in a version
+abbrev pub marks_shape : Bool → Shape
+marks_shape stands = record {
+  mark_width = 2;
+  is_mark = λ n. stands && (counted most_nodes mark_fields).is_mark n;
+  fields = λ n. repeat n mark_fields;
+  in_order = λ _ ns. within_weights ns;
+  has_length = λ n. stands && (counted most_nodes mark_fields).has_length n;
+}
+
 -- what bodies of each kind look like in a version
 abbrev pub shape : Version → Kind → Shape
 shape version kinds.Open = ordered opening_fields opens
@@ -346,6 +401,9 @@ shape version kinds.Found = ordered found_fields found_in_order
 shape version kinds.End = plain []
 shape version kinds.AskMoment = plain moment_fields
 shape version (kinds.Power degree) = power_shape degree
+shape version kinds.Held = plain held_fields
+shape version kinds.Recall = plain recall_fields
+shape version kinds.Marks = marks_shape (stands_in kinds.Marks version)
 
 -- a body of this kind is so long with some mark
 pub record IsLengthOfMark (version : Version) (kind : Kind) (n : ℕ) : Type 0 where

@@ -9,6 +9,7 @@ use Rattle.sip_vector.specs.declared.query.Query.{Query}
 use Rattle.sip_vector.specs.declared.query.Query.TheVariants as queries
 use Rattle.sip_wire.specs.declared.message.Leaf.{Leaf}
 use Rattle.sip_wire.specs.declared.message.Node.{Node}
+use Rattle.sip_wire.specs.declared.message.Mark.{Mark}
 use Rattle.sip_wire.specs.declared.message.Message.{Message}
 use Rattle.sip_wire.specs.declared.message.Message.TheVariants as messages
 use Rattle.sip_wire.specs.declared.kind.Kind.{Kind}
@@ -19,6 +20,7 @@ abbrev pub InRange : Message → Type 0
 InRange (messages.Updates v) = All (λ (u : Update). FitsSigned w64 u.delta) v.items
 InRange (messages.Entries v) = All (λ (e : Entry). FitsSigned w64 e.value) v.items
 InRange (messages.Claim value) = FitsSigned w64 value
+InRange (messages.Marks v) = All (λ (m : Mark). FitsSigned w64 m.value) v.items
 InRange _ = ⊤
 
 -- the side that a number stands for
@@ -49,6 +51,12 @@ nodes_from zero ns = []
 nodes_from (suc k) (i ∷ h ∷ n ∷ ns) = record { index = i; hash = h; count = n } ∷ nodes_from k ns
 nodes_from (suc k) _ = []
 
+abbrev pub marks_from : ℕ → List ℕ → List Mark
+marks_from zero ns = []
+marks_from (suc k) (i ∷ v ∷ w ∷ ns) =
+    record { item = i; value = cast_signed w64 v; weight = w } ∷ marks_from k ns
+marks_from (suc k) _ = []
+
 -- the query of a code and its numbers
 abbrev pub query_from : ℕ → List ℕ → Query
 query_from (suc zero) (lo ∷ hi ∷ []) = queries.Sub lo hi
@@ -58,6 +66,8 @@ query_from (suc (suc (suc (suc (suc zero))))) (side ∷ at_least ∷ []) =
     queries.Heavy (side_at side) at_least
 query_from (suc (suc (suc (suc (suc (suc zero)))))) (side ∷ num ∷ den ∷ []) =
     queries.Share (side_at side) num den
+query_from (suc (suc (suc (suc (suc (suc (suc zero))))))) (side ∷ at_least ∷ []) =
+    queries.Above (side_at side) at_least
 query_from _ _ = queries.Inner
 
 -- the siblings of these flags
@@ -89,4 +99,13 @@ message_from kinds.Found _ (flag ∷ index ∷ []) = messages.Found flag index
 message_from kinds.End _ _ = messages.End
 message_from kinds.AskMoment _ (side ∷ degree ∷ []) = messages.AskMoment side degree
 message_from (kinds.Power _) _ ns = messages.Power (record { items = ns })
+message_from kinds.Held _ (records ∷ first ∷ second ∷ fingerprint ∷ []) =
+    messages.Held (record {
+      records = records;
+      first = first;
+      second = second;
+      fingerprint = fingerprint;
+    })
+message_from kinds.Recall _ (count ∷ []) = messages.Recall count
+message_from kinds.Marks n ns = messages.Marks (record { items = marks_from n ns })
 message_from _ _ _ = messages.Bye

@@ -1,4 +1,5 @@
--- The versions of a talk's frames. They differ in the width of an item, and in one code of a query.
+-- The versions of a talk's frames. They differ in the width of an item, and in what version 2
+-- alone has: two codes of queries, and a kind of frames.
 use Rattle.std.specs.Prelude.{ℕ, zero, suc, ◌≤◌, Bool, true, false, not, ◌||◌, nat_lt, IsTrue, List, Option, Some, None, if◌then◌else◌}
 use Rattle.std.specs.List.{list_any}
 use Rattle.sip_vector.specs.declared.query.Query.{Query}
@@ -28,14 +29,15 @@ abbrev pub index_width : Version → ℕ
 index_width One = 4
 index_width Two = 8
 
--- the query asks for a share
-abbrev pub is_share : Query → Bool
-is_share (queries.Share _ _ _) = true
-is_share _ = false
+-- the query has a code in version 2 alone
+abbrev pub is_of_two : Query → Bool
+is_of_two (queries.Share _ _ _) = true
+is_of_two (queries.Above _ _) = true
+is_of_two _ = false
 
 -- which queries have a code
 abbrev pub speaks : Version → Query → Bool
-speaks One query = not (is_share query)
+speaks One query = not (is_of_two query)
 speaks Two query = true
 
 -- a query can be asked at a depth
@@ -46,4 +48,4 @@ pub record Speaks (version : Version) (depth : ℕ) (query : Query) : Type 0 whe
 -- the least version in which these queries can be asked at a depth
 abbrev pub needed : ℕ → List Query → Version
 needed depth queries =
-    if nat_lt most_narrow_depth depth || list_any is_share queries then Two else One
+    if nat_lt most_narrow_depth depth || list_any is_of_two queries then Two else One

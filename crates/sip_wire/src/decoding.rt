@@ -29,7 +29,7 @@ pub(crate) fn head_of(
     let Some(kind) = Kind::of(place, bytes[0]) else {
         return Err(WireFault::BadKind);
     };
-    if !place.allows(kind) {
+    if !place.allows(kind) || !kind.stands_in(version) {
         return Err(WireFault::BadKind);
     }
     let (len, _) = take_u16(&bytes[1..]);

@@ -4,7 +4,7 @@
 ghost use Rattle.std.specs.Prelude.{◌≡◌, ℕ, List, [], ◌∷◌, ◌++◌};
 ghost use Rattle.sip_vector.specs.declared.query.Query.TheVariants as queries;
 ghost use Rattle.sip_wire.specs.declared.version.Version.TheVariants.{One, Two};
-ghost use Rattle.sip_wire.specs.Examples.{AreSpelled, HaveFaults, any_asks, found_faults, heavy_replies, items_replies, look_frames, moment_replies, power_faults, power_frames, sent, stray_frames};
+ghost use Rattle.sip_wire.specs.Examples.{AreSpelled, HaveFaults, above_frames, any_asks, found_faults, heavy_replies, held_faults, items_replies, look_frames, mark_faults, moment_replies, no_above, power_faults, power_frames, recall_frames, sent, stray_frames};
 ghost use Rattle.sip_wire.specs.Transcript.{transcript};
 
 /// What the verifier sends in the worked talk is spelled by its bytes, and read back off them.
@@ -43,6 +43,25 @@ pub fn power_frames_are_spelled()
 /// So is whatever is asked, also what no helper answers.
 pub fn any_asks_are_spelled()
     ensures { (rest : List ℕ) → AreSpelled One any_asks rest }
+{}
+
+/// So is what a helper is to recall and what it holds, in both versions.
+pub fn recall_frames_are_spelled()
+    ensures one { (rest : List ℕ) → AreSpelled One recall_frames rest }
+    ensures two { (rest : List ℕ) → AreSpelled Two recall_frames rest }
+{}
+
+/// So is a query for large entries of any stream, and a mark, in version 2.
+pub fn above_frames_are_spelled()
+    ensures { (rest : List ℕ) → AreSpelled Two above_frames rest }
+{}
+
+/// The faults where what a helper holds is awaited, where marks are, and those of marks in version 1.
+pub fn faults_of_held_and_marks()
+    ensures held_one { HaveFaults One held_faults }
+    ensures held_two { HaveFaults Two held_faults }
+    ensures mark { HaveFaults Two mark_faults }
+    ensures no_above { HaveFaults One no_above }
 {}
 
 /// The faults where a Found is awaited, where a power is, and where frames may not stand.

@@ -2,13 +2,14 @@
 #![tactic(auto, unfolding(crate::specs::Spelling::fits, crate::specs::Spelling::has_room, crate::specs::Spelling::all_hold))]
 
 ghost use Rattle.std.specs.Prelude.{◌≡◌, ◌-◌, ◌&&◌, [], ◌∷◌, length};
+ghost use Rattle.std.specs.List.{flat_map};
 ghost use Rattle.sip_wire.specs.declared.message.Message.TheVariants as messages;
-ghost use Rattle.sip_wire.specs.Table.{query_shape, opening_fields, opens, found_fields, found_in_order};
-ghost use Rattle.sip_wire.specs.Spelling.{all_hold, fits, fits_shape, kind_of, query_code, query_numbers};
+ghost use Rattle.sip_wire.specs.Table.{query_shape, opening_fields, opens, found_fields, found_in_order, within_weights};
+ghost use Rattle.sip_wire.specs.Spelling.{all_hold, fits, fits_shape, kind_of, mark_numbers, query_code, query_numbers};
 
 use crate::Version;
 use crate::kind::Kind;
-use crate::message::{MOST_COEFFICIENTS, MOST_REFUSAL, Message};
+use crate::message::{Held, MOST_COEFFICIENTS, MOST_NODES, MOST_REFUSAL, Mark, Message};
 use crate::numbers::{is_element, is_small};
 use crate::rows::rows_fit;
 use arrayvec::ArrayVec;
@@ -46,6 +47,35 @@ fn power_fits(version: Version, coefficients: &ArrayVec<u64, MOST_COEFFICIENTS>)
     !coefficients.is_empty() && rows_fit(version, coefficients)
 }
 
+/// Whether the value of each mark is at most its weight.
+pub fn within_weights(marks: &[Mark]) -> bool
+    ensures { result ≡ within_weights (flat_map mark_numbers marks.now) }
+{
+    for mark in marks {
+        if mark.value.unsigned_abs() > mark.weight {
+            return false;
+        }
+    }
+    true
+}
+
+fn marks_fit(version: Version, marks: &ArrayVec<Mark, MOST_NODES>) -> bool
+    ensures { result ≡ fits version (messages.Marks marks.now) }
+{
+    if !Kind::Marks.stands_in(version) || marks.is_empty() {
+        return false;
+    }
+    rows_fit(version, marks) && within_weights(marks)
+}
+
+/// Each number that a helper can state has room in its field.
+fn held_fits(version: Version, held: Held) -> bool
+    ensures { result ≡ fits version (messages.Held held) }
+{
+    let (_version, _held) = (version, held);
+    true
+}
+
 fn query_fits(version: Version, query: Query) -> bool
     ensures { result ≡ fits_shape (query_shape version) (query_code query) (query_numbers query) }
 {
@@ -54,6 +84,9 @@ fn query_fits(version: Version, query: Query) -> bool
         Query::Range { side: _, lo, hi } => lo <= hi && version.has_room(hi),
         Query::F2 { side: _ } | Query::Inner => true,
         Query::Heavy { side: _, at_least } => 1 <= at_least && at_least <= i64::MAX as u64,
+        Query::Above { side: _, at_least } => {
+            version.speaks(&query) && 1 <= at_least && at_least <= i64::MAX as u64
+        }
         Query::Share { side: _, num, den } => {
             version.speaks(&query) && 1 <= num && num <= den && den <= Query::MOST_SHARE
         }
@@ -87,6 +120,9 @@ impl Message {
             Message::Power(coefficients) => Kind::Power {
                 degree: degree_of(coefficients),
             },
+            Message::Held(_) => Kind::Held,
+            Message::Recall { .. } => Kind::Recall,
+            Message::Marks(_) => Kind::Marks,
         }
     }
 
@@ -121,6 +157,12 @@ impl Message {
             }
             Message::Found { flag, index } => is_found(*flag, *index),
             Message::Power(coefficients) => power_fits(version, coefficients),
+            Message::Held(held) => held_fits(version, *held),
+            Message::Recall { count } => {
+                let _count = *count;
+                true
+            }
+            Message::Marks(marks) => marks_fit(version, marks),
         }
     }
 }

@@ -129,7 +129,12 @@ impl Frame {
     {
         self.has_rows = matches!(
             kind,
-            Kind::Updates | Kind::Entries | Kind::Leaves | Kind::Nodes | Kind::Power { .. }
+            Kind::Updates
+                | Kind::Entries
+                | Kind::Leaves
+                | Kind::Nodes
+                | Kind::Power { .. }
+                | Kind::Marks
         );
         let bytes = &self.buffer[..self.taken];
         if self.has_rows {

@@ -1,10 +1,10 @@
 //! The kinds of message, and where each may stand. A refusal may stand wherever a reply is awaited.
 
 ghost use Rattle.std.specs.Prelude.{◌≡◌, ◌<◌, ◌≤◌, ◌^◌, ◌+◌, IsTrue, ◌*◌, ◌-◌, ◌%◌, ◌==◌, ◌&&◌, nat_le};
-ghost use Rattle.sip_wire.specs.Table.{byte_of, degree_at, kind_at, allows, shape, query_shape, longest_body};
+ghost use Rattle.sip_wire.specs.Table.{byte_of, degree_at, kind_at, allows, stands_in, shape, query_shape, longest_body};
 
 use crate::Version;
-use crate::message::{Leaf, MOST_DEGREE, MOST_NODES, MOST_ROWS, Node};
+use crate::message::{Leaf, MOST_DEGREE, MOST_NODES, MOST_ROWS, Mark, Node};
 use crate::row::Row;
 use sip_vector::{Entry, Update};
 
@@ -30,6 +30,9 @@ pub enum Kind {
     End,
     AskMoment,
     Power { degree: u8 },
+    Held,
+    Recall,
+    Marks,
 }
 
 /// Where a message is awaited, and so which kinds may stand there.
@@ -59,6 +62,12 @@ pub enum Place {
     AskedMoment,
     /// A round polynomial of this degree, which is 8 at the most.
     Power { degree: u8 },
+    /// Whatever goes to a helper that answers questions of every kind.
+    AskedQuestion,
+    /// What a helper holds.
+    Held,
+    /// Entries with their weights, and the end of their level.
+    Marks,
 }
 
 impl Kind {
@@ -86,6 +95,9 @@ impl Kind {
             Kind::End => 0x23,
             Kind::AskMoment => 0x24,
             Kind::Power { .. } => 0x25,
+            Kind::Held => 0x26,
+            Kind::Recall => 0x27,
+            Kind::Marks => 0x28,
         }
     }
 
@@ -115,8 +127,21 @@ impl Kind {
             0x25 => Kind::Power {
                 degree: place.degree(),
             },
+            0x26 => Kind::Held,
+            0x27 => Kind::Recall,
+            0x28 => Kind::Marks,
             _ => return None,
         })
+    }
+
+    /// Whether there are frames of this kind in a version.
+    pub fn stands_in(self, version: Version) -> bool
+        ensures { result ≡ stands_in self version }
+    {
+        match (self, version) {
+            (Kind::Marks, Version::One) => false,
+            _ => true,
+        }
     }
 
     /// Whether a body of this kind may be so long.
@@ -128,7 +153,7 @@ impl Kind {
             Kind::Open => length == 2,
             Kind::Updates => is_counted(length, MOST_ROWS, Update::size(version)),
             Kind::Query => is_query(version, length),
-            Kind::Reveal | Kind::Claim => length == 8,
+            Kind::Reveal | Kind::Claim | Kind::Recall => length == 8,
             Kind::Poly => length == 24,
             Kind::Entries => is_counted(length, MOST_ROWS, Entry::size(version)),
             Kind::Leaves => is_counted(length, MOST_ROWS, Leaf::size(version)),
@@ -141,6 +166,10 @@ impl Kind {
                 degree <= MOST_DEGREE && length == 8 * (degree as usize + 1)
             }
             Kind::EndStream | Kind::Bye | Kind::LevelEnd | Kind::End => length == 0,
+            Kind::Held => length == 32,
+            Kind::Marks => {
+                self.stands_in(version) && is_counted(length, MOST_NODES, Mark::size(version))
+            }
         }
     }
 }
@@ -214,6 +243,20 @@ impl Place {
             (Place::AskedLook, Kind::AskLook | Kind::End) => true,
             (Place::Found, Kind::Found | Kind::Refuse) => true,
             (Place::AskedMoment, Kind::AskMoment | Kind::End) => true,
+            (
+                Place::AskedQuestion,
+                Kind::Open
+                | Kind::Updates
+                | Kind::EndStream
+                | Kind::Query
+                | Kind::Reveal
+                | Kind::Bye
+                | Kind::AskLook
+                | Kind::AskMoment
+                | Kind::Recall,
+            ) => true,
+            (Place::Held, Kind::Held) => true,
+            (Place::Marks, Kind::Marks | Kind::LevelEnd | Kind::Refuse) => true,
             (Place::Power { .. }, Kind::Refuse) => true,
             (Place::Power { degree: awaited }, Kind::Power { degree }) => degree == awaited,
             _ => false,

@@ -65,8 +65,8 @@ pub use encoding::{encode, encode_query, encode_reveal, encode_updates};
 pub use frame::{Frame, LONGEST_FRAME};
 pub use kind::Place;
 pub use message::{
-    Leaf, MOST_COEFFICIENTS, MOST_DEGREE, MOST_NODES, MOST_QUERIES, MOST_ROWS, Message, Node,
-    Reason, WireFault,
+    Held, Leaf, MOST_COEFFICIENTS, MOST_DEGREE, MOST_NODES, MOST_QUERIES, MOST_ROWS, Mark, Message,
+    Node, Reason, WireFault,
 };
 pub use transcript::{put_ask, put_head};
 pub use version::Version;

@@ -10,7 +10,7 @@ pub const MOST_QUERIES: usize = 16;
 /// How many updates, entries or leaves a frame has at most.
 pub const MOST_ROWS: usize = 512;
 
-/// How many nodes a frame has at most.
+/// How many nodes or marks a frame has at most.
 pub const MOST_NODES: usize = 256;
 
 /// The greatest degree of a power.
@@ -42,8 +42,33 @@ pub struct Node {
     pub count: u64,
 }
 
+/// An item, below 2^48, with its value and its weight.
+#[derive(Clone, Copy, Debug, PartialEq, Eq, Default)]
+pub struct Mark {
+    /// The number of the entry that it stands for, from 0, below 2^48.
+    pub item: u64,
+    /// The value of that entry, of absolute value at most 2^60 - 1 and at most the weight.
+    pub value: i64,
+    /// The sum of the absolute deltas of that entry, below 2^61 - 1.
+    pub weight: u64,
+}
+
+/// What a helper holds of a stream: any numbers, which nobody has to trust.
+#[derive(Clone, Copy, Debug, PartialEq, Eq, Default)]
+pub struct Held {
+    /// How many records it has heard.
+    pub records: u64,
+    /// The weight of side `First`: the sum of the absolute deltas.
+    pub first: u64,
+    /// The weight of side `Second`.
+    pub second: u64,
+    /// The fingerprint of the records, modulo 2^64.
+    pub fingerprint: u64,
+}
+
 /// What one frame says. The first six go to the helper, and those up to the refusal come from it.
-/// The last five are of the talks about lookups and moments.
+/// The next five are of the talks about lookups and moments, two are about the records that a
+/// helper has of its own, and the last is of large entries of any stream.
 #[derive(Drop)]
 pub enum Message {
     /// The talk begins, in a version and over 2^depth items.
@@ -112,6 +137,15 @@ pub enum Message {
     /// A round polynomial of a moment, its coefficients from c0 on, by elements of the field. There
     /// is one more of them than the degree, which the place says.
     Power(ArrayVec<u64, MOST_COEFFICIENTS>),
+    /// What the helper holds, behind the records that it was to recall.
+    Held(Held),
+    /// The helper is to hear so many of the records that it has of its own, or all where it has
+    /// fewer.
+    Recall {
+        count: u64,
+    },
+    /// Entries with their weights, one at least. They stand in version 2 alone.
+    Marks(ArrayVec<Mark, MOST_NODES>),
 }
 
 /// Why no message was received, the faults of the bytes in the order in which they are tested.

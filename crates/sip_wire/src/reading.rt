@@ -10,9 +10,9 @@ ghost use Rattle.sip_wire.specs.Filling.{filled};
 ghost use Rattle.sip_wire.specs.Spelling.{ReadsBody, ReadsQuery, mark_fits};
 
 use crate::Version;
-use crate::fitting::{is_found, is_opening};
+use crate::fitting::{is_found, is_opening, within_weights};
 use crate::kind::Kind;
-use crate::message::{MOST_COEFFICIENTS, MOST_REFUSAL, Message, WireFault};
+use crate::message::{Held, MOST_COEFFICIENTS, MOST_NODES, MOST_REFUSAL, Mark, Message, WireFault};
 use crate::numbers::{is_element, is_small, take_index, take_u8, take_u32, take_u64};
 use crate::row::side_of;
 use crate::rows::{fill_counted, fill_rows};
@@ -193,7 +193,7 @@ fn is_query_of(version: Version, code: u8, length: usize) -> bool
         (Version::Two, 2) => length == 18,
         (_, 3) => length == 2,
         (_, 4) => length == 1,
-        (_, 5) | (Version::Two, 6) => length == 10,
+        (_, 5) | (Version::Two, 6 | 7) => length == 10,
         _ => false,
     }
 }
@@ -272,6 +272,21 @@ fn share_of(version: Version, rest: &[u8]) -> Option<Query>
     })
 }
 
+fn above_of(version: Version, rest: &[u8]) -> Option<Query>
+    requires { 9 ≤ length rest.now }
+    ensures { ReadsQuery version 7 rest.now result }
+{
+    let (side, rest) = take_u8(rest);
+    let (at_least, _) = take_u64(rest);
+    if side > 1 || at_least < 1 || at_least > i64::MAX as u64 {
+        return None;
+    }
+    Some(Query::Above {
+        side: side_of(side),
+        at_least,
+    })
+}
+
 /// The query of a code, behind which these bytes stand, if each number is one that its field may
 /// hold.
 fn query_behind(version: Version, code: u8, rest: &[u8]) -> Option<Query>
@@ -284,7 +299,8 @@ fn query_behind(version: Version, code: u8, rest: &[u8]) -> Option<Query>
         3 => moment_of(version, rest),
         4 => Some(Query::Inner),
         5 => heavy_of(version, rest),
-        _ => share_of(version, rest),
+        6 => share_of(version, rest),
+        _ => above_of(version, rest),
     }
 }
 
@@ -468,6 +484,69 @@ fn read_power(
     }
 }
 
+fn read_held(version: Version, body: &[u8], message: &mut Message) -> Result<(), WireFault>
+    requires { length body.now ≡ 32 }
+    ensures { ReadsBody version kinds.Held body.now (filled message.new result) }
+{
+    let (records, rest) = take_u64(body);
+    let (first, rest) = take_u64(rest);
+    let (second, rest) = take_u64(rest);
+    let (fingerprint, _) = take_u64(rest);
+    *message = Message::Held(Held {
+        records,
+        first,
+        second,
+        fingerprint,
+    });
+    Ok(())
+}
+
+fn read_recall(version: Version, body: &[u8], message: &mut Message) -> Result<(), WireFault>
+    requires { length body.now ≡ 8 }
+    ensures { ReadsBody version kinds.Recall body.now (filled message.new result) }
+{
+    let (count, _) = take_u64(body);
+    *message = Message::Recall { count };
+    Ok(())
+}
+
+#[inline(never)]
+fn begin_marks(message: &mut Message)
+    ensures { message.new ≡ messages.Marks (record { items = [] }) }
+{
+    *message = Message::Marks(ArrayVec::new());
+}
+
+/// Reads marks in place of those before.
+fn fill_marks(
+    version: Version,
+    body: &[u8],
+    marks: &mut ArrayVec<Mark, MOST_NODES>,
+) -> Result<(), WireFault>
+    requires { IsTrue ((shape version kinds.Marks).has_length (length body.now)) }
+    ensures { ReadsBody version kinds.Marks body.now (filled (messages.Marks marks.new) result) }
+{
+    match fill_counted(version, body, marks) {
+        Ok(()) if within_weights(marks) => Ok(()),
+        Ok(()) => Err(WireFault::BadNumber),
+        Err(fault) => Err(fault),
+    }
+}
+
+fn read_marks(version: Version, body: &[u8], message: &mut Message) -> Result<(), WireFault>
+    requires { IsTrue ((shape version kinds.Marks).has_length (length body.now)) }
+    ensures { ReadsBody version kinds.Marks body.now (filled message.new result) }
+{
+    if let Message::Marks(marks) = message {
+        return fill_marks(version, body, marks);
+    }
+    begin_marks(message);
+    match message {
+        Message::Marks(marks) => fill_marks(version, body, marks),
+        _ => unreachable!(),
+    }
+}
+
 /// Reads the message of a body that is as long as its kind has it. After a fault `message` is any.
 pub fn read_body(
     version: Version,
@@ -510,5 +589,8 @@ pub fn read_body(
         }
         Kind::AskMoment => read_ask_moment(version, body, message),
         Kind::Power { degree } => read_power(version, degree, body, message),
+        Kind::Held => read_held(version, body, message),
+        Kind::Recall => read_recall(version, body, message),
+        Kind::Marks => read_marks(version, body, message),
     }
 }

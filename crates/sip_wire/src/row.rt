@@ -1,15 +1,15 @@
-//! A row of numbers: an update, an entry, a leaf, a node or a coefficient.
+//! A row of numbers: an update, an entry, a leaf, a node, a mark or a coefficient.
 #![tactic(auto, using(std::proofs::lemmas::Grind::common_steps), unfolding(crate::specs::Spelling::numbers_in, crate::specs::Spelling::all_hold, crate::specs::Spelling::has_room, crate::specs::Spelling::spelled))]
 
 ghost use Rattle.std.specs.Prelude.{◌≡◌, ◌≤◌, refl, ◌^◌, ◌<◌, ◌+◌, ◌++◌, ◌&&◌, ℕ, List, [], ◌∷◌, true, false, length, drop, IfSome, IfNone, FitsSigned, ⊤};
 ghost use Rattle.std.specs.Int.{w64};
 ghost use Rattle.arrayvec.specs.ArrayVec.{array_vec_len};
 ghost use Rattle.sip_wire.specs.declared.version.Version.{Version as AnyVersion};
-ghost use Rattle.sip_wire.specs.Table.{Field, size, longest_frame, update_fields, entry_fields, leaf_fields, node_fields, element};
-ghost use Rattle.sip_wire.specs.Spelling.{numbers_in, all_hold, has_room, spelled, side_number, update_numbers, entry_numbers, leaf_numbers, node_numbers, coefficient_numbers};
+ghost use Rattle.sip_wire.specs.Table.{Field, size, longest_frame, update_fields, entry_fields, leaf_fields, node_fields, mark_fields, element};
+ghost use Rattle.sip_wire.specs.Spelling.{numbers_in, all_hold, has_room, spelled, side_number, update_numbers, entry_numbers, leaf_numbers, node_numbers, mark_numbers, coefficient_numbers};
 
 use crate::Version;
-use crate::message::{Leaf, Node};
+use crate::message::{Leaf, Mark, Node};
 use crate::numbers::{
     Bytes, is_element, is_small, put_index, put_u8, put_u64, take_index, take_u8, take_u64,
 };
@@ -224,6 +224,50 @@ impl Row for Node {
         put_index(version, out, self.index);
         put_u64(out, self.hash);
         put_u64(out, self.count);
+    }
+}
+
+/// A mark, whose item has eight bytes in each version that it stands in. That its value is at most
+/// its weight is asked of all rows together.
+impl Row for Mark {
+    ghost layout = { λ _. mark_fields };
+
+    ghost said = { mark_numbers };
+
+    ghost in_range = { λ x. FitsSigned w64 x.value };
+
+    ghost one_each = { λ v x. refl };
+
+    fn size(_version: Version) -> usize {
+        24
+    }
+
+    fn take(_version: Version, bytes: &[u8]) -> Option<(Self, &[u8])> {
+        let (item, rest) = take_u64(bytes);
+        let (value, rest) = take_u64(rest);
+        let (weight, rest) = take_u64(rest);
+        if !is_small(value) || !is_element(weight) {
+            return None;
+        }
+        Some((
+            Mark {
+                item,
+                value: value.cast_signed(),
+                weight,
+            },
+            rest,
+        ))
+    }
+
+    fn fits(&self, _version: Version) -> bool {
+        let _item = self.item;
+        is_small(self.value.cast_unsigned()) && is_element(self.weight)
+    }
+
+    fn put(&self, _version: Version, out: &mut Bytes) {
+        put_u64(out, self.item);
+        put_u64(out, self.value.cast_unsigned());
+        put_u64(out, self.weight);
     }
 }
 

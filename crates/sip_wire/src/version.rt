@@ -2,7 +2,7 @@
 
 ghost use Rattle.std.specs.Prelude.{◌≡◌, ◌≤◌, ◌<◌, ◌^◌, length, nat_lt};
 ghost use Rattle.std.specs.List.{list_any};
-ghost use Rattle.sip_wire.specs.Versions.{number_of, version_at, deepest, index_width, is_share, speaks, needed};
+ghost use Rattle.sip_wire.specs.Versions.{number_of, version_at, deepest, index_width, is_of_two, speaks, needed};
 
 use sip_vector::{Depth, Query};
 
@@ -11,7 +11,8 @@ use sip_vector::{Depth, Query};
 pub enum Version {
     /// Items of four bytes, for depths from 1 to 32.
     One,
-    /// Items of eight bytes, for depths from 1 to 48; a share can be asked for.
+    /// Items of eight bytes, for depths from 1 to 48; a share can be asked for, and the large
+    /// entries of any stream.
     Two,
 }
 
@@ -52,7 +53,7 @@ impl Version {
         ensures { result ≡ speaks self query.now }
     {
         match self {
-            Version::One => !is_share(query),
+            Version::One => !is_of_two(query),
             Version::Two => true,
         }
     }
@@ -61,7 +62,7 @@ impl Version {
     pub fn needed(depth: Depth, queries: &[Query]) -> Version
         ensures { result ≡ needed depth queries.now }
     {
-        if depth.get() > Depth::MOST_NARROW || has_share(queries) {
+        if depth.get() > Depth::MOST_NARROW || any_of_two(queries) {
             Version::Two
         } else {
             Version::One
@@ -89,14 +90,15 @@ impl Version {
     }
 }
 
-fn is_share(query: &Query) -> bool
-    ensures { result ≡ is_share query.now }
+/// Whether the query has a code in version 2 alone.
+fn is_of_two(query: &Query) -> bool
+    ensures { result ≡ is_of_two query.now }
 {
-    matches!(query, Query::Share { .. })
+    matches!(query, Query::Share { .. } | Query::Above { .. })
 }
 
-fn has_share(queries: &[Query]) -> bool
-    ensures { result ≡ list_any is_share queries.now }
+fn any_of_two(queries: &[Query]) -> bool
+    ensures { result ≡ list_any is_of_two queries.now }
 {
-    queries.iter().any(|query| is_share(query))
+    queries.iter().any(|query| is_of_two(query))
 }

@@ -10,7 +10,7 @@ ghost use Rattle.sip_wire.specs.Spelling.{flag, present, body_in, body_of, fits,
 
 use crate::Version;
 use crate::fitting::degree_of;
-use crate::message::{Leaf, Message, Node};
+use crate::message::{Leaf, Mark, Message, Node};
 use crate::numbers::{Bytes, put_index, put_u8, put_u32, put_u64};
 use crate::row::{Row, number_of};
 use crate::rows::{put_counted, put_rows};
@@ -24,7 +24,7 @@ pub fn query_len(version: Version, query: Query) -> usize
     match query {
         Query::Sub { .. } => 1 + 2 * version.index_width(),
         Query::Range { .. } => 2 + 2 * version.index_width(),
-        Query::Heavy { .. } | Query::Share { .. } => 10,
+        Query::Heavy { .. } | Query::Share { .. } | Query::Above { .. } => 10,
         Query::F2 { .. } => 2,
         Query::Inner => 1,
     }
@@ -51,7 +51,7 @@ pub fn body_len(version: Version, message: &Message) -> usize
         Message::Updates(rows) => 2 + Update::size(version) * rows.len(),
         Message::EndStream | Message::Bye | Message::LevelEnd | Message::End => 0,
         Message::Query(query) => query_len(version, *query),
-        Message::Reveal { .. } | Message::Claim { .. } => 8,
+        Message::Reveal { .. } | Message::Claim { .. } | Message::Recall { .. } => 8,
         Message::Poly { .. } => 24,
         Message::Entries(rows) => 2 + Entry::size(version) * rows.len(),
         Message::Siblings { left, right } => match (left, right) {
@@ -65,6 +65,8 @@ pub fn body_len(version: Version, message: &Message) -> usize
         Message::AskLook { .. } | Message::Found { .. } => 9,
         Message::AskMoment { .. } => 2,
         Message::Power(coefficients) => 8 * (degree_of(coefficients) as usize + 1),
+        Message::Held(_) => 32,
+        Message::Marks(rows) => 2 + Mark::size(version) * rows.len(),
     }
 }
 
@@ -103,6 +105,11 @@ pub fn put_query<const ROOM: usize>(version: Version, query: Query, out: &mut Ar
             put_u8(out, number_of(side));
             put_u32(out, num);
             put_u32(out, den);
+        }
+        Query::Above { side, at_least } => {
+            put_u8(out, 7);
+            put_u8(out, number_of(side));
+            put_u64(out, at_least);
         }
     }
 }
@@ -184,5 +191,13 @@ pub fn put_body(version: Version, message: &Message, out: &mut Bytes)
             put_u8(out, *degree);
         }
         Message::Power(coefficients) => put_rows(version, coefficients, out),
+        Message::Held(held) => {
+            put_u64(out, held.records);
+            put_u64(out, held.first);
+            put_u64(out, held.second);
+            put_u64(out, held.fingerprint);
+        }
+        Message::Recall { count } => put_u64(out, *count),
+        Message::Marks(rows) => put_counted(version, rows, out),
     }
 }

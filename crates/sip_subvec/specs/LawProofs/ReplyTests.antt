@@ -87,6 +87,9 @@ sub_tests asked s (messages.AskLook code item) reason e = wrong_kind {X = More �
 sub_tests asked s (messages.Found flag index) reason e = wrong_kind {X = More × Stated} reason e
 sub_tests asked s messages.End reason e = wrong_kind {X = More × Stated} reason e
 sub_tests asked s (messages.AskMoment side degree) reason e = wrong_kind {X = More × Stated} reason e
+sub_tests asked s (messages.Held held) reason e = wrong_kind {X = More × Stated} reason e
+sub_tests asked s (messages.Recall count) reason e = wrong_kind {X = More × Stated} reason e
+sub_tests asked s (messages.Marks v) reason e = wrong_kind {X = More × Stated} reason e
 sub_tests asked s (messages.Power v) reason e = wrong_kind {X = More × Stated} reason e
 
 -- ---- the test behind the last reply

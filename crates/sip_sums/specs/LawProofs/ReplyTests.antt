@@ -56,6 +56,9 @@ sum_tests asked s (messages.AskLook code item) reason e = wrong_kind {X = More �
 sum_tests asked s (messages.Found flag index) reason e = wrong_kind {X = More × SumState} reason e
 sum_tests asked s messages.End reason e = wrong_kind {X = More × SumState} reason e
 sum_tests asked s (messages.AskMoment side degree) reason e = wrong_kind {X = More × SumState} reason e
+sum_tests asked s (messages.Held held) reason e = wrong_kind {X = More × SumState} reason e
+sum_tests asked s (messages.Recall count) reason e = wrong_kind {X = More × SumState} reason e
+sum_tests asked s (messages.Marks v) reason e = wrong_kind {X = More × SumState} reason e
 sum_tests asked s (messages.Power v) reason e = wrong_kind {X = More × SumState} reason e
 sum_tests asked s (messages.Siblings left right) reason e =
     wrong_kind {X = More × SumState} reason e

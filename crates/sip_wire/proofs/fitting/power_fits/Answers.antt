@@ -1,4 +1,4 @@
-use Rattle.std.proofs.Common.{◌≡◌, ◌≤◌, ◌∙◌, ◌&&◌, ℕ, List, [], ◌∷◌, ap, arith, length, tests}
+use Rattle.std.proofs.Common.{◌≤◌, ◌∙◌, ◌&&◌, ℕ, List, [], ◌∷◌, ap, arith, length, tests}
 use Rattle.sip_wire.specs.Rows.{holds, rooms}
 use Rattle.sip_wire.specs.Spelling.{coefficient_numbers}
 use Rattle.sip_wire.specs.Table.{element}
