@@ -1,4 +1,5 @@
 pub mod DeskLemmas
 pub mod FaultLemmas
+pub mod RetryLemmas
 pub mod Steps
 pub mod TalkLemmas

@@ -4,3 +4,4 @@ pub mod Edge
 pub mod Memory
 pub mod Ports
 pub mod ReadAhead
+pub mod Retried

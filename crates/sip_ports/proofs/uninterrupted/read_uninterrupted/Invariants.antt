@@ -1,8 +1,0 @@
--- The buffer keeps its length, and an interrupted read took nothing.
-use Rattle.std.proofs.Common.{◌≡◌, length}
-use Rattle.std.specs.Io.KnownBytes.{Keeps}
-use Rattle.sip_ports.proofs.uninterrupted.read_uninterrupted.Given as goal
-
-abbrev pub invariant-tries : goal.invariant-tries
-invariant-tries g l =
-    record { room : length l.buf ≡ length l.initial.buf; kept : Keeps (g.R.Read.remaining l.initial.reader) (g.R.Read.remaining l.reader) }

@@ -1,6 +1,0 @@
--- An interrupted write left nothing behind.
-use Rattle.std.specs.Io.KnownBytes.{Keeps}
-use Rattle.sip_ports.proofs.uninterrupted.write_uninterrupted.Given as goal
-
-abbrev pub invariant-tries : goal.invariant-tries
-invariant-tries g l = Keeps (g.W.Write.contents l.initial.writer) (g.W.Write.contents l.writer)
