@@ -1,8 +1,8 @@
 -- Blocks of updates: the weights that tables of products give, and what a root stands for after
 -- each update.
-use Rattle.std.proofs.Common.{◌≡◌, ℕ, ◌+◌, ◌*◌, ◌/◌, ◌%◌, ◌^◌, ◌<◌, ◌==◌, if◌then◌else◌, ℤ, ◌+ℤ◌, List, [], ◌∷◌, length, get_or, take, refl, sym, ◌∙◌, ap, subst}
+use Rattle.std.proofs.Common.{◌≡◌, ℕ, ◌+◌, ◌-◌, ◌*◌, ◌/◌, ◌%◌, ◌^◌, ◌<◌, ◌≤◌, ◌==◌, if◌then◌else◌, ℤ, ◌+ℤ◌, List, [], ◌∷◌, length, get_or, take, fold, refl, sym, ◌∙◌, ap, subst, arith}
 use Rattle.std.specs.Prelude.{All}
-use Rattle.std.proofs.Math.Nat.{add-mod-mod, mod-add-mod}
+use Rattle.std.proofs.Math.Nat.{mod-mod, mod-eq_of_lt}
 use Rattle.std.proofs.lemmas.List.Elements.{All-head, All-tail}
 use Rattle.std.proofs.lemmas.List.Sums.{fold_more}
 use Rattle.sip_field.specs.Residue.{residue}
@@ -10,16 +10,42 @@ use Rattle.sip_field.specs.Products.{zero_factor, bits_product}
 use Rattle.sip_field.specs.declared.factors.Factors.TheVariants.{Tree}
 use Rattle.sip_vector.specs.Weights.{raised_numbers, numbers_after, node_weight, hash_weight}
 use Rattle.sip_vector.specs.declared.update.Update.{Update}
+use Rattle.sip_vector.proofs.TreeResidues.{mod_plus}
 use Rattle.sip_tree.specs.Blocks.{root_after, hash_after, total_after}
 use Rattle.sip_tree.specs.StandsFor.{RootStandsFor, AugRootStandsFor}
 use Rattle.sip_tree.proofs.StandsLemmas.{root_stands, augroot_stands}
 
--- a sum whose residue is taken at its end, and one product more
-pub sum_more : (p sum x d weight : ℕ) → x % p ≡ (d * weight) % p
-    → (sum + x) % p ≡ (sum % p + d * weight) % p
-sum_more p sum x d weight is =
-    sym (add-mod-mod sum x p) ∙ ap (λ y. (sum + y) % p) is
-    ∙ sym (mod-add-mod sum p ((d * weight) % p)) ∙ add-mod-mod (sum % p) (d * weight) p
+-- a sum that keeps the residue of a number: how it begins, and how it grows by numbers of 64 bits
+pub sum_begins : (p sum x : ℕ) → sum ≡ x → x < p → p ≤ 2 ^ 61 - 1 → (sum < (0 + 1) * 2 ^ 64) × (sum % p ≡ x)
+sum_begins p sum x is small most = (omega (arith, is, small, most), ap (λ y. y % p) is ∙ mod-eq_of_lt small)
+
+pub sum_grows : (n k sum x : ℕ) → k < n → n < 2 ^ 64 → sum < (k + 1) * 2 ^ 64 → x < 2 ^ 64 → (sum + x < 2 ^ 128) × (sum + x < (k + 1 + 1) * 2 ^ 64)
+sum_grows n k sum x here short most more = (omega (arith, here, short, most, more), omega (arith, most, more))
+
+-- a number to which each update adds its term
+module _ (p : ℕ) (term : Update → ℕ) where
+  abbrev pub after : ℕ → List Update → ℕ
+  after value updates = fold (λ v u. (v + term u) % p) value updates
+
+  -- one update more
+  pub one_more : (value : ℕ) (updates : List Update) (k : ℕ) (d : Update) (old new : ℕ) → k < length updates →
+      old ≡ after value (take k updates) → new ≡ (old + term (get_or updates k d)) % p → new ≡ after value (take (k + 1) updates)
+  one_more value updates k d old new within before is =
+      let add : ℕ → Update → ℕ = λ v u. (v + term u) % p in
+      is ∙ ap (λ v. add v (get_or updates k d)) before ∙ sym (fold_more add value updates k d within)
+
+  -- and one more of a sum that keeps the number's residue
+  pub sum_more : (value : ℕ) (updates : List Update) (k : ℕ) (d : Update) (sum x : ℕ) → k < length updates →
+      sum % p ≡ after value (take k updates) → x % p ≡ term (get_or updates k d) % p → (sum + x) % p ≡ after value (take (k + 1) updates)
+  sum_more value updates k d sum x within before is =
+      one_more value updates k d (sum % p) ((sum + x) % p) within before (mod_plus p sum (sum % p) x (term (get_or updates k d)) (sym (mod-mod sum p)) is)
+
+-- the terms of a root and of an augmented root
+abbrev pub root_term : ℕ → List ℕ → Update → ℕ
+root_term p challenges u = residue p u.delta * node_weight p u.item challenges
+
+abbrev pub hash_term : ℕ → List ℕ → Update → ℕ
+hash_term p challenges u = residue p u.delta * hash_weight p u.item challenges
 
 -- a node's weight is a product over the bits of its index
 pub weight_is_product : (p i : ℕ) (challenges : List ℕ) → bits_product p (zero_factor p Tree) i challenges ≡ node_weight p i challenges
@@ -37,15 +63,6 @@ module _ (p : ℕ) (challenges : List ℕ) where
       (All-tail (λ v. v.item < 2 ^ length challenges) u updates within) is
       (root_stands p challenges u.item u.delta some (All-head (λ v. v.item < 2 ^ length challenges) u updates within) old next numbers refl h)
 
-  -- one update more
-  pub one_root : (value : ℕ) (updates : List Update) (k : ℕ) (d : Update) (sum new : ℕ) → k < length updates →
-      sum ≡ root_after p challenges value (take k updates) →
-      new ≡ (sum + residue p (get_or updates k d).delta * node_weight p (get_or updates k d).item challenges) % p →
-      new ≡ root_after p challenges value (take (k + 1) updates)
-  one_root value updates k d sum new within before is =
-      let add : ℕ → Update → ℕ = λ v u. (v + residue p u.delta * node_weight p u.item challenges) % p in
-      is ∙ ap (λ v. add v (get_or updates k d)) before ∙ sym (fold_more add value updates k d within)
-
   -- likewise for an augmented root
   pub augroot_stands_after : 0 < p → (updates : List Update) (old new : ℕ) (before after : ℤ) (numbers : List ℤ) → All (λ u. u.item < 2 ^ length challenges) updates →
       new ≡ hash_after p challenges old updates → after ≡ total_after before updates →
@@ -57,14 +74,6 @@ module _ (p : ℕ) (challenges : List ℕ) where
       augroot_stands_after some updates next new (before +ℤ u.delta) after (raised_numbers numbers u.item u.delta)
       (All-tail (λ v. v.item < 2 ^ length challenges) u updates within) is also
       (augroot_stands p challenges u.item u.delta some (All-head (λ v. v.item < 2 ^ length challenges) u updates within) old next before (before +ℤ u.delta) numbers refl refl h)
-
-  pub one_hash : (value : ℕ) (updates : List Update) (k : ℕ) (d : Update) (sum new : ℕ) → k < length updates →
-      sum ≡ hash_after p challenges value (take k updates) →
-      new ≡ (sum + residue p (get_or updates k d).delta * hash_weight p (get_or updates k d).item challenges) % p →
-      new ≡ hash_after p challenges value (take (k + 1) updates)
-  one_hash value updates k d sum new within before is =
-      let add : ℕ → Update → ℕ = λ v u. (v + residue p u.delta * hash_weight p u.item challenges) % p in
-      is ∙ ap (λ v. add v (get_or updates k d)) before ∙ sym (fold_more add value updates k d within)
 
 pub one_total : (total : ℤ) (updates : List Update) (k : ℕ) (d : Update) (sum : ℤ) → k < length updates →
     sum ≡ total_after total (take k updates) → sum +ℤ (get_or updates k d).delta ≡ total_after total (take (k + 1) updates)

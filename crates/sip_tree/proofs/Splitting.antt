@@ -65,13 +65,9 @@ term_is p item challenges delta x some is =
 
 -- ---- many updates
 
-pub one_split : (p : ℕ) (challenges : List ℕ) (value : ℕ) (updates : List Update) (k : ℕ) (d : Update) (sum new : ℕ) → k < length updates →
-    sum ≡ split_after p challenges value (take k updates) →
-    new ≡ (sum + split_term p challenges (get_or updates k d).item (get_or updates k d).delta) % p →
-    new ≡ split_after p challenges value (take (k + 1) updates)
-one_split p challenges value updates k d sum new within before is =
-    let add : ℕ → Update → ℕ = λ v u. (v + split_term p challenges u.item u.delta) % p in
-    is ∙ ap (λ v. add v (get_or updates k d)) before ∙ sym (fold_more add value updates k d within)
+-- the term of an update
+abbrev pub signed_term : ℕ → List ℕ → Update → ℕ
+signed_term p challenges u = split_term p challenges u.item u.delta
 
 pub one_weight : (weight : ℕ) (updates : List Update) (k : ℕ) (d : Update) (sum : ℕ) → k < length updates →
     sum ≡ weight_after weight (take k updates) → sum + nat_abs (get_or updates k d).delta ≡ weight_after weight (take (k + 1) updates)

@@ -1,5 +1,4 @@
 use Rattle.std.proofs.Common.{rules, ◌≡◌, ℕ, List, pos, FitsSigned, w64, to_z, of_z, ◌*◌, ◌%◌, ◌^◌, ◌<◌, length, get_or, sym, ◌∙◌, ap, arith}
-use Rattle.std.proofs.Math.Nat.{mod-eq_of_lt}
 use Rattle.std.proofs.lemmas.Int.{to_z-of_z}
 use Rattle.std.proofs.lemmas.List.{take_all}
 use Rattle.std.proofs.lemmas.List.Elements.{All-get_or}
@@ -9,7 +8,7 @@ use Rattle.sip_vector.specs.Weights.{hash_weight}
 use Rattle.sip_vector.specs.declared.update.Side.TheVariants.{First}
 use Rattle.sip_vector.specs.declared.update.Update.{Update}
 use Rattle.sip_tree.specs.Blocks.{hash_after}
-use Rattle.sip_tree.proofs.Blocks.{one_hash, sum_more}
+use Rattle.sip_tree.proofs.Blocks.{hash_term, sum_begins, sum_grows, sum_more}
 use Rattle.sip_tree.proofs.hashing.hashed.Goals as goal
 
 -- one past the end of a slice
@@ -18,17 +17,14 @@ none = record { side = First; item = 0; delta = pos 0 }
 
 pub loop-update-init : goal.loop-update-init
 loop-update-init g c =
-    let start : c.from-sum.result ≡ g.F.Field.number c.args.hash = c.from-sum.ensures ∙ c.number.ensures in
-    record {
-      most = omega (arith, start, g.met.F.Field.below c.args.hash, g.met.F.Field.at_most);
-      is = λ challenges are long within. ap (λ x. x % g.F.Field.MODULUS) start ∙ mod-eq_of_lt (g.met.F.Field.below c.args.hash);
-    }
+    let begins = sum_begins g.F.Field.MODULUS _ _ (c.from-sum.ensures ∙ c.number.ensures) (g.met.F.Field.below c.args.hash) g.met.F.Field.at_most in
+    record { most = begins.0; is = λ challenges are long within. begins.1 }
 
 pub overflow_add-sum : goal.overflow_add-sum
 overflow_add-sum g c =
     let short : length c.args.updates.now < 2 ^ 64 = search rules in
     let more : c.from-sum-in-loop-update.result < 2 ^ 64 = omega (arith, c.from-sum-in-loop-update.ensures, c.loose_times.type_inv) in
-    omega (arith, short, more, c.loop-update.invariant.most, c.loop-update-test.true)
+    omega (arith, (sum_grows _ _ _ _ c.loop-update-test.true short c.loop-update.invariant.most more).0)
 
 pub loop-update-preserved : goal.loop-update-preserved
 loop-update-preserved g c =
@@ -55,8 +51,7 @@ loop-update-preserved g c =
           ∙ ap (λ y. (y * d) % p) (c.loosely_by_steps-weight.ensures.weight challenges are long within_here)
           ∙ ap (λ y. (weight * y) % p) delta
           ∙ ap (λ y. y % p) (let same : weight * residue p u.delta ≡ residue p u.delta * weight = omega arith in same) in
-          one_hash p challenges (g.F.Field.number c.args.hash) updates k none (v % p) _ here (c.loop-update.invariant.is challenges are long within)
-          (sum_more p v x (residue p u.delta) weight weighed);
+          sum_more p (hash_term p challenges) (g.F.Field.number c.args.hash) updates k none v x here (c.loop-update.invariant.is challenges are long within) weighed;
     }
 
 pub returns : goal.returns

@@ -1,5 +1,4 @@
 use Rattle.std.proofs.Common.{rules, ◌≡◌, ℕ, List, pos, nat_abs, FitsSigned, w64, to_z, of_z, ◌*◌, ◌%◌, ◌^◌, ◌<◌, length, get_or, sym, ◌∙◌, ap, arith}
-use Rattle.std.proofs.Math.Nat.{mod-eq_of_lt}
 use Rattle.std.proofs.lemmas.Int.{to_z-of_z}
 use Rattle.std.proofs.lemmas.List.{take_all}
 use Rattle.std.proofs.lemmas.List.Elements.{All-get_or}
@@ -10,9 +9,8 @@ use Rattle.sip_vector.specs.declared.update.Side.TheVariants.{First}
 use Rattle.sip_vector.specs.declared.update.Update.{Update}
 use Rattle.sip_tree.specs.Blocks.{split_after}
 use Rattle.sip_tree.specs.Steps.{sign}
-use Rattle.sip_tree.proofs.Splitting.{one_split, term_is}
-use Rattle.sip_vector.proofs.TreeResidues.{mod_plus}
-use Rattle.std.proofs.Math.Nat.{mod-mod}
+use Rattle.sip_tree.proofs.Blocks.{sum_begins, sum_grows, sum_more}
+use Rattle.sip_tree.proofs.Splitting.{signed_term, term_is}
 use Rattle.sip_tree.proofs.hashing.split_hashed.Goals as goal
 
 -- one past the end of a slice
@@ -21,17 +19,14 @@ none = record { side = First; item = 0; delta = pos 0 }
 
 pub loop-update-init : goal.loop-update-init
 loop-update-init g c =
-    let start : c.from-sum.result ≡ g.F.Field.number c.args.hash = c.from-sum.ensures ∙ c.number.ensures in
-    record {
-      most = omega (arith, start, g.met.F.Field.below c.args.hash, g.met.F.Field.at_most);
-      is = λ challenges are long within. ap (λ x. x % g.F.Field.MODULUS) start ∙ mod-eq_of_lt (g.met.F.Field.below c.args.hash);
-    }
+    let begins = sum_begins g.F.Field.MODULUS _ _ (c.from-sum.ensures ∙ c.number.ensures) (g.met.F.Field.below c.args.hash) g.met.F.Field.at_most in
+    record { most = begins.0; is = λ challenges are long within. begins.1 }
 
 pub overflow_add-sum : goal.overflow_add-sum
 overflow_add-sum g c =
     let short : length c.args.updates.now < 2 ^ 64 = search rules in
     let more : c.from-sum-in-loop-update.result < 2 ^ 64 = omega (arith, c.from-sum-in-loop-update.ensures, c.loose_times.type_inv) in
-    omega (arith, short, more, c.loop-update.invariant.most, c.loop-update-test.true)
+    omega (arith, (sum_grows _ _ _ _ c.loop-update-test.true short c.loop-update.invariant.most more).0)
 
 pub loop-update-preserved : goal.loop-update-preserved
 loop-update-preserved g c =
@@ -62,8 +57,8 @@ loop-update-preserved g c =
           ∙ ap (λ z. hash_weight_from p (residue p (sign z)) u.item challenges) kept)
           ∙ ap (λ y. (h * y) % p) small ∙ mul-mod_second h n p
           ∙ ap (λ y. y % p) (let same : h * n ≡ n * h = omega arith in same) in
-          one_split p challenges (g.F.Field.number c.args.hash) updates k none (v % p) _ here (c.loop-update.invariant.is challenges are long within)
-          (mod_plus p v (v % p) x _ (sym (mod-mod v p)) (term_is p u.item challenges u.delta x some weighed));
+          sum_more p (signed_term p challenges) (g.F.Field.number c.args.hash) updates k none v x here (c.loop-update.invariant.is challenges are long within)
+          (term_is p u.item challenges u.delta x some weighed);
     }
 
 pub returns : goal.returns

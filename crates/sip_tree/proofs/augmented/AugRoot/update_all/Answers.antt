@@ -12,7 +12,7 @@ use Rattle.sip_vector.specs.declared.update.Update.{Update}
 use Rattle.sip_tree.specs.Blocks.{hash_after, total_after}
 use Rattle.sip_tree.specs.StandsFor.{AugRootStandsFor}
 use Rattle.sip_tree.specs.Steps.{no_step, IsBelow}
-use Rattle.sip_tree.proofs.Blocks.{one_hash, one_total, augroot_stands_after}
+use Rattle.sip_tree.proofs.Blocks.{one_more, hash_term, one_total, augroot_stands_after}
 use Rattle.sip_tree.proofs.augmented.AugRoot.update_all.Goals as goal
 
 pub loop-update-init : goal.loop-update-init
@@ -57,7 +57,7 @@ loop-update-preserved g c =
     let kept : to_z w64 (of_z w64 u.delta) ≡ u.delta = to_z-of_z w64 u.delta fits in
     record {
       seat = c.update.ensures.seat ∙ c.loop-update.invariant.seat;
-      hash = one_hash p seat c.args.self.now.hash updates k none v _ c.loop-update-test.true c.loop-update.invariant.hash
+      hash = one_more p (hash_term p seat) c.args.self.now.hash updates k none v _ c.loop-update-test.true c.loop-update.invariant.hash
           (c.update.ensures.hash ∙ ap (λ d. (v + residue p d * hash_weight p u.item c.loop-update.self.seat) % p) kept
           ∙ ap (λ rs. (v + residue p u.delta * hash_weight p u.item rs) % p) c.loop-update.invariant.seat);
       total = c.update.ensures.total ∙ ap (λ d. t +ℤ d) kept

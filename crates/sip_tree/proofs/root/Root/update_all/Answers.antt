@@ -9,7 +9,7 @@ use Rattle.sip_vector.specs.declared.update.Side.TheVariants.{First}
 use Rattle.sip_vector.specs.declared.update.Update.{Update}
 use Rattle.sip_tree.specs.Blocks.{root_after}
 use Rattle.sip_tree.specs.StandsFor.{RootStandsFor}
-use Rattle.sip_tree.proofs.Blocks.{one_root, root_stands_after}
+use Rattle.sip_tree.proofs.Blocks.{one_more, root_term, root_stands_after}
 use Rattle.sip_tree.proofs.root.Root.update_all.Goals as goal
 
 pub loop-update-init : goal.loop-update-init
@@ -38,7 +38,7 @@ loop-update-preserved g c =
     let kept : to_z w64 (of_z w64 u.delta) ≡ u.delta = to_z-of_z w64 u.delta fits in
     record {
       seat = c.update.ensures.seat ∙ c.loop-update.invariant.seat;
-      value = one_root p seat c.args.self.now.value updates k none v _ c.loop-update-test.true c.loop-update.invariant.value
+      value = one_more p (root_term p seat) c.args.self.now.value updates k none v _ c.loop-update-test.true c.loop-update.invariant.value
           (c.update.ensures.value ∙ ap (λ d. (v + residue p d * node_weight p u.item c.loop-update.self.seat) % p) kept
           ∙ ap (λ rs. (v + residue p u.delta * node_weight p u.item rs) % p) c.loop-update.invariant.seat);
     }

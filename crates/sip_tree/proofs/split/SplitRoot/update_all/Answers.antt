@@ -12,7 +12,8 @@ use Rattle.sip_vector.specs.declared.update.Update.{Update}
 use Rattle.sip_tree.specs.Blocks.{split_term, split_after, weight_after}
 use Rattle.sip_tree.specs.StandsFor.{SplitRootStandsFor}
 use Rattle.sip_tree.specs.Steps.{no_step, IsBelow}
-use Rattle.sip_tree.proofs.Splitting.{one_split, one_weight, front_is_light, split_root_stands_after}
+use Rattle.sip_tree.proofs.Blocks.{one_more}
+use Rattle.sip_tree.proofs.Splitting.{signed_term, one_weight, front_is_light, split_root_stands_after}
 use Rattle.sip_tree.proofs.split.SplitRoot.update_all.Goals as goal
 
 pub loop-update-init : goal.loop-update-init
@@ -55,7 +56,7 @@ loop-update-preserved g c =
     let kept : to_z w64 (of_z w64 u.delta) ≡ u.delta = to_z-of_z w64 u.delta fits in
     record {
       seat = c.update.ensures.seat ∙ c.loop-update.invariant.seat;
-      hash = one_split p seat c.args.self.now.hash updates k none v _ c.loop-update-test.true c.loop-update.invariant.hash
+      hash = one_more p (signed_term p seat) c.args.self.now.hash updates k none v _ c.loop-update-test.true c.loop-update.invariant.hash
           (c.update.ensures.hash ∙ ap (λ d. (v + split_term p c.loop-update.self.seat u.item d) % p) kept
           ∙ ap (λ rs. (v + split_term p rs u.item u.delta) % p) c.loop-update.invariant.seat);
       weight = c.update.ensures.weight ∙ ap (λ d. w + nat_abs d) kept
