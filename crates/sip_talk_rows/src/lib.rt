@@ -28,6 +28,8 @@ mod heavy_check_tests;
 #[cfg(test)]
 mod helper_tests;
 #[cfg(test)]
+mod late_tests;
+#[cfg(test)]
 mod list_tests;
 #[cfg(test)]
 mod look_ends_tests;
