@@ -1,29 +1,28 @@
 -- The joint count of a panel's seats: where the line of an attempt has a wrong answer, the
 -- challenges of all seats are among the vectors that are counted.
-use Rattle.std.proofs.Common.{◌≡◌, ◌≢◌, ◌⊎◌, ℕ, zero, suc, ◌+◌, ◌-◌, ◌*◌, ◌^◌, ◌<◌, ◌≤◌, ◌==◌, Bool, true, false, Option, List, [], ◌∷◌, ◌++◌, length, map, take, drop, All, Some, None, inl, inr, if◌then◌else◌, refl, sym, ap, subst, ◌∙◌, arith}
-use Rattle.std.specs.Prelude.{⊤, slice_get, slice_index_or}
+use Rattle.std.proofs.Common.{◌≡◌, ℕ, suc, ◌+◌, ◌-◌, ◌*◌, ◌^◌, ◌<◌, ◌≤◌, ◌==◌, Bool, true, false, Option, List, [], ◌∷◌, length, map, All, Some, None, inl, inr, if◌then◌else◌, refl, sym, ap, subst, ◌∙◌, arith}
+use Rattle.std.specs.Prelude.{slice_get, slice_index_or}
 use Rattle.std.specs.List.{enumerate_from, zip}
-use Rattle.std.proofs.lemmas.Bool.{eqb-true, or_left, or_right}
+use Rattle.std.proofs.lemmas.Bool.{eqb-true}
 use Rattle.std.proofs.lemmas.Option.{same_Some}
-use Rattle.std.proofs.lemmas.List.Elements.{All-cons, All-nil, All-head, All-tail, All-weaker}
+use Rattle.std.proofs.lemmas.List.Elements.{All-head, All-tail}
 use Rattle.sip_field.specs.Moduli.{m61_modulus}
 use Rattle.sip_stream.proofs.LegalRecords.{records_legal}
 use Rattle.sip_vector.specs.declared.query.Query.{Query}
 use Rattle.sip_vector.specs.declared.update.Update.{Update}
-use Rattle.sip_vector.specs.Answers.{Fits, answer}
-use Rattle.sip_vector.specs.Pieces.{cut, pieces}
+use Rattle.sip_vector.specs.Answers.{Fits}
+use Rattle.sip_vector.specs.Pieces.{cut}
 use Rattle.sip_vector.specs.Streams.{IsLegal}
-use Rattle.sip_counts.specs.Joint.{Asked, after, is_misled, misled, bounds}
-use Rattle.sip_counts.specs.Strategies.{Strategy, IsOfBytes, takes_wrong}
+use Rattle.sip_counts.specs.Joint.{misled, bounds}
+use Rattle.sip_counts.specs.Strategies.{Strategy, IsOfBytes}
 use Rattle.sip_wire.specs.declared.version.Version.{Version}
-use Rattle.sip_verifier.specs.CountClause.{accepts_in, Written, questions_written}
+use Rattle.sip_verifier.specs.CountClause.{Written}
 use Rattle.sip_verifier.specs.Draws.{drawn}
 use Rattle.sip_verifier.specs.Exchanges.{Exchange}
 use Rattle.sip_verifier.specs.Gathering.{legal}
 use Rattle.sip_verifier.specs.Inquiries.{Inquiry}
-use Rattle.sip_verifier.specs.JointClause.{asked_by, all_asked, RepliesSo, JointClause}
-use Rattle.sip_verifier.specs.Kinds.{kind_row, OfKind}
-use Rattle.sip_verifier.specs.Questions.{Accepts}
+use Rattle.sip_verifier.specs.JointClause.{all_asked, JointClause}
+use Rattle.sip_verifier.specs.Kinds.{OfKind}
 use Rattle.sip_verifier.specs.Tasks.{CanBeDone, version_of}
 use Rattle.sip_verifier.specs.declared.status.Status.TheVariants as statuses
 use Rattle.sip_verifier.specs.declared.task.Task.{Task}
@@ -51,7 +50,8 @@ module _ (version : Version) (depth : ℕ) (stream : List Update) (legal : IsLeg
     Asks n q b a = seat_at helpers a.turn ≡ n → (a.question.query ≡ q) × (a.question.block ≡ b)
 
     abbrev Line : Query → List ℕ → Written → Type 0
-    Line q b w = (w.question.query ≡ q) × (w.question.block ≡ b) × Right version depth stream legal w
+    Line q b w =
+        (w.question.query ≡ q) × (w.question.block ≡ b) × Right version depth stream legal w
 
     by_outcome : (n : ℕ) (q : Query) (b : List ℕ) (a : Attempt) → Asks n q b a
         → seat_at helpers a.turn ≡ n → (o : Outcome) → IsJudged version depth stream a.question o
@@ -88,7 +88,8 @@ module _ (version : Version) (depth : ℕ) (stream : List Update) (legal : IsLeg
         (blocks : List (List ℕ))
         → ((k : ℕ) (q : Query) (b : List ℕ) → slice_get queries k ≡ Some q
         → slice_get blocks k ≡ Some b → At attempts (from + k) q b)
-        → Fine version depth stream legal (map (λ s. written_at helpers s.0 (unwritten depth stream s.1) attempts)
+        → Fine version depth stream legal
+        (map (λ s. written_at helpers s.0 (unwritten depth stream s.1) attempts)
         (enumerate_from from (zip queries blocks))) queries blocks
     lines_fine attempts from [] blocks at = tt
     lines_fine attempts from (q ∷ queries) [] at = tt

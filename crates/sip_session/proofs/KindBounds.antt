@@ -1,8 +1,6 @@
 -- Each kind of query has few vectors of challenges, modulo any prime.
-use Rattle.std.proofs.Common.{◌≡◌, ℕ, ◌*◌, ◌-◌, ◌^◌, ◌/◌, ◌<◌, ◌≤◌, List, [], ◌∷◌, length, All, pos, nat_abs, cond, refl, subst, arith}
+use Rattle.std.proofs.Common.{◌≡◌, ℕ, ◌*◌, ◌-◌, ◌^◌, ◌/◌, ◌<◌, ◌≤◌, List, length, All, pos, nat_abs, cond, refl, arith}
 use Rattle.std.specs.Prelude.{slice_index_or}
-use Rattle.std.proofs.lemmas.List.{length-map}
-use Rattle.std.proofs.lemmas.List.Elements.{All-head, All-tail}
 use Rattle.std.proofs.lemmas.List.FromFn.{length-map-range_with_len}
 use Rattle.sip_field.specs.Moduli.{m61_modulus}
 use Rattle.sip_field.specs.Prime.{IsPrime}
@@ -15,7 +13,7 @@ use Rattle.sip_vector.specs.Extensions.{ones}
 use Rattle.sip_vector.specs.Streams.{int_sum, vector, IsLegal}
 use Rattle.sip_vector.specs.Thresholds.{share_of}
 use Rattle.sip_vector.proofs.Sides.{length-vector}
-use Rattle.sip_counts.specs.Joint.{Asked, IsBounded, bounds, misled}
+use Rattle.sip_counts.specs.Joint.{Asked, IsBounded, bounds}
 use Rattle.sip_counts.specs.Strategies.{Strategy, IsOfBytes}
 use Rattle.sip_counts.proofs.Joint.{few_misled_of}
 use Rattle.sip_wire.specs.declared.version.Version.{Version}
