@@ -12,6 +12,8 @@ mod facts;
 #[cfg(test)]
 mod heavy_check_tests;
 #[cfg(test)]
+mod late_tests;
+#[cfg(test)]
 mod list_tests;
 #[cfg(test)]
 mod sum_check_tests;

@@ -6,4 +6,6 @@ pub mod Differences
 pub mod Talks
 pub mod WrongClaims
 pub mod Walks
+pub mod AnyOrder
 pub mod Joint
+pub mod Guesses

@@ -1,5 +1,5 @@
 -- Sums and counts over the numbers below p.
-use Rattle.std.proofs.Common.{◌≡◌, ℕ, zero, suc, ◌+◌, ◌*◌, ◌<◌, ◌≤◌, Bool, true, false, cond, eqb, ◌⊎◌, inl, inr, refl, arith}
+use Rattle.std.proofs.Common.{◌≡◌, ℕ, zero, suc, ◌+◌, ◌*◌, ◌<◌, ◌≤◌, Bool, true, false, cond, eqb, ◌⊎◌, inl, inr, refl, sym, arith}
 use Rattle.std.proofs.lemmas.Bool.{cases_Bool, cases_eq, eqb-true, ne_eqb}
 use Rattle.sip_counts.specs.Counts.{sum_below, count_below}
 
@@ -52,6 +52,18 @@ pub sum_below-times : (p k : ℕ) (f : ℕ → ℕ) → sum_below p (λ x. f x *
 unfolding sum_below
 sum_below-times zero k f = omega arith
 sum_below-times (suc n) k f = omega (arith, sum_below-times n k f)
+
+-- a sum of nothing
+sum_below-none : (p : ℕ) → sum_below p (λ x. 0) ≡ 0
+unfolding sum_below
+sum_below-none zero = refl
+sum_below-none (suc n) = omega (arith, sum_below-none n)
+
+-- sums may change places
+pub sum_below-swap : (p q : ℕ) (f : ℕ → ℕ → ℕ) → sum_below p (λ x. sum_below q (f x)) ≡ sum_below q (λ y. sum_below p (λ x. f x y))
+unfolding sum_below
+sum_below-swap zero q f = sym (sum_below-none q)
+sum_below-swap (suc n) q f = omega (arith, sum_below-swap n q f, sum_below-add q (λ y. sum_below n (λ x. f x y)) (f n))
 
 -- ---- counts
 

@@ -1,5 +1,5 @@
 -- Replies of strategies.
-use Rattle.std.proofs.Common.{◌≡◌, ℕ, zero, suc, ◌+◌, ◌<◌, All, Bool, true, false, Option, Some, None, not, List, [], ◌∷◌, length, map, take, get_or, eqb, inl, inr, subst, refl, ap, ◌∙◌, arith}
+use Rattle.std.proofs.Common.{◌≡◌, ℕ, zero, suc, ◌+◌, ◌<◌, ◌≤◌, All, Bool, true, false, Option, Some, None, not, List, [], ◌∷◌, length, map, take, get_or, eqb, inl, inr, subst, refl, ap, ◌∙◌, arith}
 use Rattle.std.specs.List.{range_with_len}
 use Rattle.std.specs.Cmp.Lexicographic.{pointwise}
 use Rattle.std.proofs.lemmas.List.{length-map}
@@ -48,6 +48,26 @@ of_bytes_at (b ∷ taken) all (suc i) reply e = of_bytes_at taken (All-tail (λ 
 pub talk_strategy : (block : List ℕ) (taken : List (List ℕ)) → length taken ≡ length block → All (λ (reply : List ℕ). All (λ b. b < 256) reply) taken → (strategy : Strategy) × IsOfBytes strategy × (replies strategy block ≡ map Some taken)
 talk_strategy block taken len all =
     (λ v. get_or (map Some taken) (length v) None, λ v reply e. of_bytes_at taken all (length v) reply e, replies-one_by_one (map Some taken) block None (length-map taken Some ∙ len))
+
+-- the same of replies that are fewer than the challenges, as far as they go
+replies-front : {R : Type 0} (all : List R) (r : List ℕ) (d : R) → length all ≤ length r
+    → take (length all) (replies (λ v. get_or all (length v) d) r) ≡ all
+replies-front [] r d e = refl
+replies-front (b ∷ all) [] d e = absurd (omega arith)
+replies-front (b ∷ all) (x ∷ r) d e =
+    ap (take (suc (length all))) (replies-more (λ v. get_or (b ∷ all) (length v) d) x r)
+    ∙ ap (λ k. b ∷ k) (replies-front all r d (omega arith))
+
+pub front_strategy : (block : List ℕ) (taken : List (List ℕ)) → length taken ≤ length block
+    → All (λ (reply : List ℕ). All (λ b. b < 256) reply) taken
+    → (strategy : Strategy) × IsOfBytes strategy
+    × (take (length taken) (replies strategy block) ≡ map Some taken)
+front_strategy block taken few all = (
+  λ v. get_or (map Some taken) (length v) None,
+  λ v reply e. of_bytes_at taken all (length v) reply e,
+  rw (length-map taken Some) at (replies-front (map Some taken) block None
+      (omega (arith, length-map taken Some))),
+)
 
 -- ---- finite maps
 

@@ -1,10 +1,10 @@
 -- The count of vectors by their first challenge, and what follows from it.
-use Rattle.std.proofs.Common.{◌≡◌, ℕ, zero, suc, ◌+◌, ◌*◌, ◌^◌, ◌<◌, ◌≤◌, Bool, true, false, cond, ◌||◌, List, [], ◌∷◌, ◌++◌, length, take, refl, ap, ◌∙◌, arith, inl, inr, add-suc, add-zero}
+use Rattle.std.proofs.Common.{◌≡◌, ℕ, zero, suc, ◌+◌, ◌*◌, ◌^◌, ◌<◌, ◌≤◌, Bool, true, false, cond, ◌||◌, List, [], ◌∷◌, ◌++◌, length, take, drop, refl, ap, ◌∙◌, arith, inl, inr, add-suc, add-zero}
 use Rattle.std.proofs.Math.Nat.{pow-zero, pow-suc, mul_comm}
 use Rattle.std.proofs.lemmas.Bool.{cases_Bool}
 use Rattle.std.specs.List.{AllByRecursion}
 use Rattle.sip_counts.specs.Counts.{sum_below, counted_from, counted}
-use Rattle.sip_counts.proofs.Sums.{sum_below-same, sum_below-le, sum_below-at_most, sum_below-add, sum_below-times}
+use Rattle.sip_counts.proofs.Sums.{sum_below-same, sum_below-le, sum_below-at_most, sum_below-add, sum_below-swap}
 
 -- how many vectors of d challenges pass, summed over the first challenge
 unfoldable pub by_first : ℕ → (List ℕ → Bool) → ℕ → ℕ
@@ -71,24 +71,49 @@ by_first-or p s t (suc d) =
 
 -- ---- vectors in two parts
 
--- a test of the first d challenges alone
-pub by_first-front : (p : ℕ) (s : List ℕ → Bool) (d n : ℕ) → by_first p (λ v. s (take d v)) (n + d) ≤ by_first p s d * p ^ n
+-- the sum over the vectors of n challenges
+unfoldable pub over : ℕ → (List ℕ → ℕ) → ℕ → ℕ
+over p f zero = f []
+over p f (suc n) = sum_below p (λ x. over p (λ v. f (x ∷ v)) n)
+
+over-swap : (p q n : ℕ) (f : ℕ → List ℕ → ℕ) → sum_below q (λ x. over p (f x) n) ≡ over p (λ w. sum_below q (λ x. f x w)) n
+unfolding over
+over-swap p q zero f = refl
+over-swap p q (suc n) f =
+    sum_below-swap q p (λ x y. over p (λ v. f x (y ∷ v)) n)
+    ∙ sum_below-same p (λ y. sum_below q (λ x. over p (λ v. f x (y ∷ v)) n)) (λ y. over p (λ w. sum_below q (λ x. f x (y ∷ w))) n)
+    (λ y. over-swap p q n (λ x v. f x (y ∷ v)))
+
+pub over-at_most : (p m n : ℕ) (f : List ℕ → ℕ) → ((w : List ℕ) → length w ≡ n → AllByRecursion (λ x. x < p) w → f w ≤ m) → over p f n ≤ p ^ n * m
+unfolding over
+over-at_most p m zero f h = let k = h [] refl tt in rw pow-zero (omega arith)
+over-at_most p m (suc n) f h =
+    let each = sum_below-at_most p (λ x. over p (λ v. f (x ∷ v)) n) (p ^ n * m)
+    (λ x lt. over-at_most p m n (λ v. f (x ∷ v)) (λ w e a. h (x ∷ w) (ap suc e) (lt, a))) in
+    rw pow-suc (omega arith)
+
+by_first-over : (p n : ℕ) (t : List ℕ → Bool) → by_first p t n ≡ over p (λ w. cond (t w) 1 0) n
+unfolding over by_first
+by_first-over p zero t = refl
+by_first-over p (suc n) t = sum_below-same p (λ x. by_first p (λ v. t (x ∷ v)) n) (λ x. over p (λ w. cond (t (x ∷ w)) 1 0) n) (λ x. by_first-over p n (λ v. t (x ∷ v)))
+
+-- a test of the first d challenges and of the n others: what the first ones count, summed over the
+-- others
+pub by_first-others : (p d n : ℕ) (t : List ℕ → List ℕ → Bool) → by_first p (λ v. t (take d v) (drop d v)) (n + d) ≡ over p (λ w. by_first p (λ u. t u w) d) n
 unfolding by_first
-by_first-front p s zero n =
-    elim (cases_Bool (s [])) [
-      | inl e ↦ rw (add-zero, e) (omega (arith, by_first-pow p (λ v. true) n))
-      | inr e ↦ rw (add-zero, e) (omega (arith, by_first-none p n (λ v. false) (λ v _. refl)))
-    ]
-by_first-front p s (suc d) n =
-    let each = sum_below-le p (λ x. by_first p (λ v. s (x ∷ take d v)) (n + d)) (λ x. by_first p (λ v. s (x ∷ v)) d * p ^ n) (λ x _. by_first-front p (λ v. s (x ∷ v)) d n) in
-    rw add-suc (omega (arith, sum_below-times p (p ^ n) (λ x. by_first p (λ v. s (x ∷ v)) d)))
+by_first-others p zero n t = rw add-zero (by_first-over p n (t []))
+by_first-others p (suc d) n t =
+    rw add-suc (sum_below-same p (λ x. by_first p (λ v. t (x ∷ take d v) (drop d v)) (n + d)) (λ x. over p (λ w. by_first p (λ u. t (x ∷ u) w) d) n)
+    (λ x. by_first-others p d n (λ u w. t (x ∷ u) w))
+    ∙ over-swap p p n (λ x w. by_first p (λ u. t (x ∷ u) w) d))
 
 -- a bound that holds after each first d challenges
-pub by_first-back : (p m : ℕ) (s : List ℕ → Bool) (d n : ℕ) → ((u : List ℕ) → length u ≡ d → by_first p (λ v. s (u ++ v)) n ≤ m) → by_first p s (n + d) ≤ p ^ d * m
+pub by_first-back : (p m : ℕ) (s : List ℕ → Bool) (d n : ℕ) → ((u : List ℕ) → length u ≡ d → AllByRecursion (λ x. x < p) u → by_first p (λ v. s (u ++ v)) n ≤ m) → by_first p s (n + d) ≤ p ^ d * m
 unfolding by_first
-by_first-back p m s zero n h = let k = h [] refl in rw (add-zero, pow-zero) (omega arith)
+by_first-back p m s zero n h = let k = h [] refl tt in rw (add-zero, pow-zero) (omega arith)
 by_first-back p m s (suc d) n h =
-    let each = sum_below-at_most p (λ x. by_first p (λ v. s (x ∷ v)) (n + d)) (p ^ d * m) (λ x _. by_first-back p m (λ v. s (x ∷ v)) d n (λ u e. h (x ∷ u) (ap suc e))) in
+    let each = sum_below-at_most p (λ x. by_first p (λ v. s (x ∷ v)) (n + d)) (p ^ d * m)
+    (λ x lt. by_first-back p m (λ v. s (x ∷ v)) d n (λ u e a. h (x ∷ u) (ap suc e) (lt, a))) in
     rw (add-suc, pow-suc) (omega arith)
 
 -- ---- the same of the count

@@ -1,11 +1,12 @@
 //! Counts worked out one by one. These functions do nothing: each contract holds by computation.
-#![tactic(auto, unfolding(crate::specs::Counts::sum_below, crate::specs::Counts::count_below, crate::specs::Counts::counted_from, crate::specs::Counts::counted, crate::specs::Joint::is_misled, crate::specs::Strategies::takes_wrong))]
+#![tactic(auto, unfolding(crate::specs::Counts::sum_below, crate::specs::Counts::count_below, crate::specs::Counts::counted_from, crate::specs::Counts::counted, crate::specs::Joint::is_misled, crate::specs::Late::some_fooled, crate::specs::Strategies::takes_wrong))]
 
-ghost use Rattle.std.specs.Prelude.{◌≡◌, ℕ, ◌+◌, ◌*◌, ◌%◌, ◌==◌, not, true, false, Some, List, [], ◌∷◌};
+ghost use Rattle.std.specs.Prelude.{◌≡◌, ℕ, ◌+◌, ◌*◌, ◌-◌, ◌^◌, ◌%◌, ◌==◌, not, true, false, Some, List, [], ◌∷◌, Any};
 ghost use Rattle.sip_field.specs.Polynomial.{polynomial};
 ghost use Rattle.sip_counts.specs.Counts.{count_below, counted, counted_from};
-ghost use Rattle.sip_counts.specs.Examples.{all_above_one, guess_query, is_one_two, one_is_one, two_replies, zero_query};
+ghost use Rattle.sip_counts.specs.Examples.{all_above_one, crossed, guess_query, is_one_two, one_is_one, replies_by, said_two, two_replies, used_at_zero, zero_query};
 ghost use Rattle.sip_counts.specs.Joint.{misled};
+ghost use Rattle.sip_counts.specs.Late.{AreWithin, HasTakenWrong, LedTo, fooled_late, plan_bounds, seats_at};
 ghost use Rattle.sip_counts.specs.Strategies.{replies, fooled};
 
 /// Counts by hand: (1 - r_1)·(1 - r_2) is 0 modulo 31 at 31 + 31 - 1 of the 961 vectors; (1, 2) is
@@ -46,4 +47,28 @@ pub fn joint_counts_by_hand()
     ensures apart { misled 5 1 (λ v. Some v) (zero_query ∷ zero_query ∷ []) ≡ 9 }
     ensures guess { misled 5 1 (λ v. Some v) (guess_query ∷ guess_query ∷ []) ≡ 5 }
     ensures both { misled 5 1 (λ v. Some v) (zero_query ∷ guess_query ∷ []) ≡ 9 }
+{}
+
+/// Two seats, each of which is fooled by one of five challenges. Used in their order, the second
+/// guesses by the first's challenge: 25 - 4·4 joint vectors are counted. Used in the other order
+/// they are as many. Where each knows the other's challenge they are 10, which is the bound, and
+/// the plans are such as the bound asks for. At (2, 2) the first of these has a wrong answer
+/// accepted.
+pub fn seats_by_hand()
+    ensures in_order { fooled_late 5 1 (replies_by (λ other. 0) ∷ replies_by (λ other. other) ∷ [])
+        ≡ 9 }
+    ensures other_order { fooled_late 5 1
+        (replies_by (λ other. other) ∷ replies_by (λ other. 0) ∷ []) ≡ 9 }
+    ensures crossed { fooled_late 5 1 crossed ≡ 10 }
+    ensures bound { plan_bounds crossed * 5 ^ (2 * 1 - 1) ≡ 10 }
+    ensures within { AreWithin 5 1 crossed }
+    ensures happened { Any (λ s. LedTo said_two s × HasTakenWrong said_two s.block)
+        (seats_at 1 crossed [] (2 ∷ 2 ∷ [])) }
+{}
+
+/// A question may be chosen by what was revealed. Of two seats that are each used only where the
+/// other's challenge is 0, and then fooled at 0, one is fooled at (0, 0) alone.
+pub fn late_questions_by_hand()
+    ensures chosen { fooled_late 5 1 (used_at_zero ∷ used_at_zero ∷ []) ≡ 1 }
+    ensures alone { fooled_late 5 1 (used_at_zero ∷ []) ≡ 1 }
 {}

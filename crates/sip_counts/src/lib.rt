@@ -10,7 +10,8 @@
 //! |---|---|
 //! | `Counts` | sums and counts over the numbers below p; how many of the p^d vectors of d challenges pass a test |
 //! | `Strategies` | what a helper may do; its replies at a vector; the test that it has a wrong answer accepted there; how many vectors are such |
-//! | `Joint` | the same for several queries in turn, whose helper sees the earlier blocks of challenges |
+//! | `Late` | seats that are used in any order: what a plan may know, and where some seat is fooled |
+//! | `Joint` | queries in turn, whose helper sees the earlier blocks of challenges: seats whose questions are fixed |
 //! | `Clauses` | what a call that writes an answer promises of a helper that lies |
 //! | `Rounds` | the rounds of a sum-check of any degree: when stated polynomials add up, and which are true |
 //!
@@ -35,11 +36,15 @@
 //! - [`rounds`]: at degree k no more than k·d·p^(d - 1) vectors lead a wrong claim to the right
 //!   value, whatever round polynomials are stated. The checks of sums are sum-checks of degree 2.
 //! - [`strategies`]: talks and finite maps as strategies, and the joint count.
+//! - [`late`]: the count that does not mind the order. Each seat's question may be chosen, and be
+//!   replied to, by the challenges of all other seats, those before it and those behind it. The
+//!   joint count is that of seats whose questions are fixed.
 //! - [`examples`]: counts worked out one by one.
 #![tactic(auto)]
 
 pub mod counting;
 pub mod examples;
+pub mod late;
 pub mod polynomials;
 pub mod rounds;
 pub mod strategies;

@@ -1,33 +1,32 @@
 -- The joint count of a panel's seats: where the line of an attempt has a wrong answer, the
 -- challenges of all seats are among the vectors that are counted.
-use Rattle.std.proofs.Common.{◌≡◌, ◌≢◌, ◌⊎◌, ℕ, zero, suc, ◌+◌, ◌-◌, ◌*◌, ◌^◌, ◌<◌, ◌≤◌, ◌==◌, Bool, true, false, Option, List, [], ◌∷◌, ◌++◌, length, map, take, drop, All, Some, None, inl, inr, if◌then◌else◌, refl, sym, ap, subst, ◌∙◌, arith}
-use Rattle.std.specs.Prelude.{⊤, slice_get, slice_index_or}
+use Rattle.std.proofs.Common.{◌≡◌, ℕ, suc, ◌+◌, ◌-◌, ◌*◌, ◌^◌, ◌<◌, ◌≤◌, ◌==◌, Bool, true, false, Option, List, [], ◌∷◌, length, map, All, Some, None, inl, inr, if◌then◌else◌, refl, sym, ap, subst, ◌∙◌, arith}
+use Rattle.std.specs.Prelude.{slice_get, slice_index_or}
 use Rattle.std.specs.List.{enumerate_from, zip}
-use Rattle.std.proofs.lemmas.Bool.{eqb-true, or_left, or_right}
+use Rattle.std.proofs.lemmas.Bool.{eqb-true}
 use Rattle.std.proofs.lemmas.Option.{same_Some}
-use Rattle.std.proofs.lemmas.List.Elements.{All-cons, All-nil, All-head, All-tail, All-weaker}
+use Rattle.std.proofs.lemmas.List.Elements.{All-head, All-tail}
 use Rattle.sip_field.specs.Moduli.{m61_modulus}
 use Rattle.sip_stream.proofs.LegalRecords.{records_legal}
 use Rattle.sip_vector.specs.declared.query.Query.{Query}
 use Rattle.sip_vector.specs.declared.update.Update.{Update}
-use Rattle.sip_vector.specs.Answers.{Fits, answer}
-use Rattle.sip_vector.specs.Pieces.{cut, pieces}
+use Rattle.sip_vector.specs.Answers.{Fits}
+use Rattle.sip_vector.specs.Pieces.{cut}
 use Rattle.sip_vector.specs.Streams.{IsLegal}
-use Rattle.sip_counts.specs.Joint.{Asked, after, is_misled, misled, bounds}
-use Rattle.sip_counts.specs.Strategies.{Strategy, IsOfBytes, takes_wrong}
+use Rattle.sip_counts.specs.Joint.{misled, bounds}
+use Rattle.sip_counts.specs.Strategies.{Strategy, IsOfBytes}
 use Rattle.sip_wire.specs.declared.version.Version.{Version}
-use Rattle.sip_verifier.specs.CountClause.{accepts_in, Written, questions_written}
+use Rattle.sip_verifier.specs.CountClause.{Written}
 use Rattle.sip_verifier.specs.Draws.{drawn}
 use Rattle.sip_verifier.specs.Exchanges.{Exchange}
 use Rattle.sip_verifier.specs.Gathering.{legal}
 use Rattle.sip_verifier.specs.Inquiries.{Inquiry}
-use Rattle.sip_verifier.specs.JointClause.{asked_by, all_asked, RepliesSo, JointClause}
-use Rattle.sip_verifier.specs.Kinds.{kind_row, OfKind}
-use Rattle.sip_verifier.specs.Questions.{Accepts}
+use Rattle.sip_verifier.specs.JointClause.{all_asked, JointClause}
+use Rattle.sip_verifier.specs.Kinds.{OfKind}
 use Rattle.sip_verifier.specs.Tasks.{CanBeDone, version_of}
 use Rattle.sip_verifier.specs.declared.status.Status.TheVariants as statuses
 use Rattle.sip_verifier.specs.declared.task.Task.{Task}
-use Rattle.sip_verifier.proofs.JointReports.{task_counted, taken_wrongly}
+use Rattle.sip_verifier.proofs.JointReports.{Fine, Right, misled_by, task_counted}
 use Rattle.sip_session.specs.inside.Beginning.{task_of_seats}
 use Rattle.sip_session.specs.PanelCounts.{JointCountOnPanel, seats_written, unwritten, written_at, written_or}
 use Rattle.sip_session.specs.PanelExchanges.{PanelExchange}
@@ -36,90 +35,23 @@ use Rattle.sip_session.specs.Panels.{Attempt, AreAttempts, IsJudged, Outcome, in
 use Rattle.sip_session.proofs.Begun.{wide_done}
 use Rattle.sip_session.proofs.Seats.{All-seats, get_seat, needed-seats}
 
--- ---- lines in turn
+-- ---- the lines of seats
 
 module _ (version : Version) (depth : ℕ) (stream : List Update) (legal : IsLegal depth stream) where
-  -- what the count asks of the stream for a query
-  abbrev Can : Query → Type 0
-  Can query = OfKind version depth stream query (λ kind. kind.CanBeCounted)
-
-  -- the query as one of several
-  abbrev Row : Query → Asked
-  Row query = asked_by accepts_in depth (kind_row version depth stream query)
-
-  -- a line is that of replies that are accepted, or its answer is right
-  abbrev Right : Written → Type 0
-  Right w =
-      Accepts version depth stream w.question w.answer
-      ⊎ (w.answer ≡ answer depth stream w.question.query)
-
-  -- lines of the first queries, each at its own block, are so
-  abbrev Fine : List Written → List Query → List (List ℕ) → Type 0
-  Fine [] queries blocks = ⊤
-  Fine (w ∷ ws) [] blocks = ⊥
-  Fine (w ∷ ws) (q ∷ queries) [] = ⊥
-  Fine (w ∷ ws) (q ∷ queries) (b ∷ blocks) =
-      (w.question.query ≡ q) × (w.question.block ≡ b) × Right w × Fine ws queries blocks
-
-  module _ (strategy : Strategy) where
-    -- where this line has a wrong answer, the strategy has one accepted at these challenges,
-    -- behind those
-    abbrev Misled : List Query → List ℕ → List ℕ → Written → Type 0
-    Misled queries earlier v w =
-        (w.question.replies ≡ [] → Can w.question.query)
-        → w.answer ≢ answer depth stream w.question.query
-        → is_misled depth strategy (all_asked version depth stream queries) earlier v ≡ true
-
-    misled_by : (ws : List Written) (queries : List Query) (earlier v : List ℕ) (k : ℕ)
-        → Fine ws queries (pieces depth k v) → All (Fits depth) queries
-        → RepliesSo strategy earlier (questions_written ws) → All (Misled queries earlier v) ws
-    unfolding is_misled
-    misled_by [] queries earlier v k fine fits talk = All-nil (Misled queries earlier v)
-    misled_by (w ∷ ws) [] earlier v k fine fits talk = absurd fine
-    misled_by (w ∷ ws) (q ∷ queries) earlier v zero fine fits talk = absurd fine
-    misled_by (w ∷ ws) (q ∷ queries) earlier v (suc k) fine fits talk =
-        let query : w.question.query ≡ q = fine.0 in
-        let block : w.question.block ≡ take depth v = fine.1 in
-        let first : List ℕ → Query → Bool =
-        λ b u. takes_wrong (Row u).accepts (Row u).is_right (after earlier strategy) b in
-        let others : Bool =
-        is_misled depth strategy (all_asked version depth stream queries)
-        (earlier ++ take depth v) (drop depth v) in
-        let fit : Fits depth w.question.query =
-        subst (Fits depth) (sym query) (All-head (Fits depth) q queries fits) in
-        let rest =
-        misled_by ws queries (earlier ++ take depth v) (drop depth v) k fine.3
-        (All-tail (Fits depth) q queries fits)
-        (subst (λ (b : List ℕ). RepliesSo strategy (earlier ++ b) (questions_written ws)) block
-        talk.1) in
-        All-cons (Misled (q ∷ queries) earlier v) w ws
-        (λ can wrong. or_left (first (take depth v) q) others (elim fine.2 [
-          | inl came ↦ subst (λ (u : Query). first (take depth v) u ≡ true) query
-              (subst (λ (b : List ℕ). first b w.question.query ≡ true) block
-              (taken_wrongly version depth stream legal (after earlier strategy)
-              w.question.block w.question.replies w.answer talk.0 w.question.query fit came can
-              wrong))
-          | inr right ↦ absurd (wrong right)
-        ]))
-        (All-weaker (Misled queries (earlier ++ take depth v) (drop depth v))
-        (Misled (q ∷ queries) earlier v)
-        (λ w is can wrong. or_right (first (take depth v) q) others (is can wrong)) ws rest)
-
-  -- ---- the lines of seats
-
   module _ (helpers : ℕ) where
     -- the line of a seat
     abbrev At : List Attempt → ℕ → Query → List ℕ → Type 0
     At attempts n q b =
         let w : Written = written_at helpers n (unwritten depth stream (q, b)) attempts in
-        (w.question.query ≡ q) × (w.question.block ≡ b) × Right w
+        (w.question.query ≡ q) × (w.question.block ≡ b) × Right version depth stream legal w
 
     -- an attempt at this seat asks its query at its block
     abbrev Asks : ℕ → Query → List ℕ → Attempt → Type 0
     Asks n q b a = seat_at helpers a.turn ≡ n → (a.question.query ≡ q) × (a.question.block ≡ b)
 
     abbrev Line : Query → List ℕ → Written → Type 0
-    Line q b w = (w.question.query ≡ q) × (w.question.block ≡ b) × Right w
+    Line q b w =
+        (w.question.query ≡ q) × (w.question.block ≡ b) × Right version depth stream legal w
 
     by_outcome : (n : ℕ) (q : Query) (b : List ℕ) (a : Attempt) → Asks n q b a
         → seat_at helpers a.turn ≡ n → (o : Outcome) → IsJudged version depth stream a.question o
@@ -156,7 +88,8 @@ module _ (version : Version) (depth : ℕ) (stream : List Update) (legal : IsLeg
         (blocks : List (List ℕ))
         → ((k : ℕ) (q : Query) (b : List ℕ) → slice_get queries k ≡ Some q
         → slice_get blocks k ≡ Some b → At attempts (from + k) q b)
-        → Fine (map (λ s. written_at helpers s.0 (unwritten depth stream s.1) attempts)
+        → Fine version depth stream legal
+        (map (λ s. written_at helpers s.0 (unwritten depth stream s.1) attempts)
         (enumerate_from from (zip queries blocks))) queries blocks
     lines_fine attempts from [] blocks at = tt
     lines_fine attempts from (q ∷ queries) [] at = tt

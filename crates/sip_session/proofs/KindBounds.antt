@@ -1,8 +1,6 @@
 -- Each kind of query has few vectors of challenges, modulo any prime.
-use Rattle.std.proofs.Common.{◌≡◌, ℕ, ◌*◌, ◌-◌, ◌^◌, ◌/◌, ◌<◌, ◌≤◌, List, [], ◌∷◌, length, All, pos, nat_abs, cond, refl, subst, arith}
-use Rattle.std.specs.List.{AllByRecursion}
-use Rattle.std.proofs.lemmas.List.{length-map}
-use Rattle.std.proofs.lemmas.List.Elements.{All-head, All-tail}
+use Rattle.std.proofs.Common.{◌≡◌, ℕ, ◌*◌, ◌-◌, ◌^◌, ◌/◌, ◌<◌, ◌≤◌, List, length, All, pos, nat_abs, cond, refl, arith}
+use Rattle.std.specs.Prelude.{slice_index_or}
 use Rattle.std.proofs.lemmas.List.FromFn.{length-map-range_with_len}
 use Rattle.sip_field.specs.Moduli.{m61_modulus}
 use Rattle.sip_field.specs.Prime.{IsPrime}
@@ -15,9 +13,9 @@ use Rattle.sip_vector.specs.Extensions.{ones}
 use Rattle.sip_vector.specs.Streams.{int_sum, vector, IsLegal}
 use Rattle.sip_vector.specs.Thresholds.{share_of}
 use Rattle.sip_vector.proofs.Sides.{length-vector}
-use Rattle.sip_counts.specs.Joint.{Asked, IsBounded, bounds, misled}
+use Rattle.sip_counts.specs.Joint.{Asked, IsBounded, bounds}
 use Rattle.sip_counts.specs.Strategies.{Strategy, IsOfBytes}
-use Rattle.sip_counts.proofs.Joint.{few_misled}
+use Rattle.sip_counts.proofs.Joint.{few_misled_of}
 use Rattle.sip_wire.specs.declared.version.Version.{Version}
 use Rattle.sip_wire.specs.Table.{most_claim}
 use Rattle.sip_subvec.proofs.FewFooled as subs
@@ -38,7 +36,7 @@ module _ (version : Version) (p depth : ℕ) (stream : List Update) (prime : IsP
   abbrev Row : Query → Asked
   Row query = asked_by (λ kind. kind.accepts_small) depth (kind_row_over version p depth stream query)
 
-  bounded : (query : Query) → CanBeCountedOver version p depth stream query → IsBounded p depth (Row query)
+  pub bounded : (query : Query) → CanBeCountedOver version p depth stream query → IsBounded p depth (Row query)
   bounded (Sub lo hi) can = λ strategy bytes.
       let few = subs.few_fooled_small version p depth lo hi (vector depth stream First) strategy prime
       (length-vector depth stream First) can.0.0 can.0.1 can.1.1 in
@@ -61,23 +59,13 @@ module _ (version : Version) (p depth : ℕ) (stream : List Update) (prime : IsP
 
   -- ---- queries in turn
 
-  all_bounded : (queries : List Query) → All (CanBeCountedOver version p depth stream) queries
-      → AllByRecursion (IsBounded p depth) (asked_over version p depth stream queries)
-  all_bounded [] can = tt
-  all_bounded (q ∷ queries) can = (
-    bounded q (All-head (CanBeCountedOver version p depth stream) q queries can),
-    all_bounded queries (All-tail (CanBeCountedOver version p depth stream) q queries can),
-  )
-
   pub joint_bound : (queries : List Query) (strategy : Strategy) → 0 < depth
       → All (CanBeCountedOver version p depth stream) queries → IsOfBytes strategy
       → misled_over version p depth stream queries strategy
       ≤ bounds (asked_over version p depth stream queries) * p ^ (length queries * depth - 1)
   joint_bound queries strategy some can bytes =
-      let asked : List Asked = asked_over version p depth stream queries in
-      let size : length asked ≡ length queries = length-map queries _ in
-      subst (λ n. misled p depth strategy asked ≤ bounds asked * p ^ (n * depth - 1)) size
-      (few_misled p depth strategy asked some bytes (all_bounded queries can))
+      few_misled_of p depth strategy Row queries some bytes
+      (λ k d less. bounded (slice_index_or queries k d) (can k d less))
 
 -- ---- legal streams
 

@@ -1,6 +1,6 @@
 //! Joint counts worked out one by one. These functions do nothing: each contract holds by
 //! computation.
-#![tactic(auto, unfolding(sip_counts::specs::Counts::sum_below, sip_counts::specs::Counts::counted_from, sip_counts::specs::Counts::counted, sip_counts::specs::Joint::is_misled, sip_counts::specs::Strategies::takes_wrong, sip_replies::specs::Replies::run_from, sip_replies::specs::Replies::read_from, sip_wire::specs::Reading::read_frame, sip_wire::specs::Spelling::frame_fault, sip_wire::specs::Spelling::kind_fault, sip_wire::specs::Spelling::body_fault, sip_wire::specs::Spelling::asked, sip_wire::specs::Spelling::numbers_in, sip_wire::specs::Spelling::all_hold))]
+#![tactic(auto, unfolding(sip_counts::specs::Counts::sum_below, sip_counts::specs::Counts::counted_from, sip_counts::specs::Counts::counted, sip_counts::specs::Joint::is_misled, sip_counts::specs::Late::some_fooled, sip_counts::specs::Strategies::takes_wrong, sip_replies::specs::Replies::run_from, sip_replies::specs::Replies::read_from, sip_wire::specs::Reading::read_frame, sip_wire::specs::Spelling::frame_fault, sip_wire::specs::Spelling::kind_fault, sip_wire::specs::Spelling::body_fault, sip_wire::specs::Spelling::asked, sip_wire::specs::Spelling::numbers_in, sip_wire::specs::Spelling::all_hold))]
 
 ghost use Rattle.std.specs.Prelude.{◌≡◌, ◌+◌, ◌*◌, ◌-◌, ◌^◌, Some, [], ◌∷◌};
 ghost use Rattle.sip_counts.specs.Joint.{bounds};

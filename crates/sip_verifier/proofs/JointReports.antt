@@ -1,6 +1,6 @@
 -- A report that keeps to the clause of verdicts is counted for all of its queries together.
-use Rattle.std.proofs.Common.{◌≡◌, ◌≢◌, ℕ, zero, suc, ◌-◌, ◌*◌, ◌^◌, ◌<◌, ◌≤◌, Bool, true, false, pos, List, [], ◌∷◌, ◌++◌, length, map, take, drop, All, Some, None, inl, inr, if◌then◌else◌, refl, sym, ap, subst, ◌∙◌, arith}
-use Rattle.std.specs.Prelude.{nat_le, option_to_list, ◌≤ℤ◌}
+use Rattle.std.proofs.Common.{◌≡◌, ◌≢◌, ◌⊎◌, ℕ, zero, suc, ◌-◌, ◌*◌, ◌^◌, ◌<◌, ◌≤◌, Bool, true, false, pos, List, [], ◌∷◌, ◌++◌, length, map, take, drop, All, Some, None, inl, inr, if◌then◌else◌, refl, sym, ap, subst, ◌∙◌, arith}
+use Rattle.std.specs.Prelude.{⊤, nat_le, option_to_list, slice_index_or, ◌≤ℤ◌}
 use Rattle.std.specs.List.{AllByRecursion}
 use Rattle.std.proofs.Math.Nat.{mul_comm}
 use Rattle.std.proofs.Math.Seq.{take-length}
@@ -17,9 +17,10 @@ use Rattle.sip_vector.specs.Pieces.{pieces, cut}
 use Rattle.sip_vector.specs.Streams.{int_sum, vector, IsLegal, IsStrict}
 use Rattle.sip_vector.specs.Thresholds.{share_of}
 use Rattle.sip_vector.specs.Trees.{augroot}
+use Rattle.sip_counts.specs.Late.{some_fooled}
 use Rattle.sip_counts.specs.Joint.{Asked, after, is_misled, misled, bounds, IsBounded}
 use Rattle.sip_counts.specs.Strategies.{Strategy, IsOfBytes, replies, takes_wrong, fooled}
-use Rattle.sip_counts.proofs.Joint.{few_misled}
+use Rattle.sip_counts.proofs.Joint.{few_misled_of}
 use Rattle.sip_counts.proofs.Talks.{replies-length}
 use Rattle.sip_replies.specs.Protocols.{Protocol}
 use Rattle.sip_replies.specs.Replies as general
@@ -140,12 +141,21 @@ module _ (version : Version) (depth : ℕ) (stream : List Update) (legal : IsLeg
 
   -- no strategy has wrong answers to one of these queries alone accepted at more blocks than its bound
   all_bounded : (queries : List Query) → All (CanBeAsked depth) queries → All Can queries
-      → AllByRecursion (IsBounded m61_modulus depth) (all_asked version depth stream queries)
-  all_bounded [] asked can = tt
-  all_bounded (q ∷ queries) asked can = (
-    row_bounded (kind_row version depth stream q) depth (few_wrong version depth stream q (All-head (CanBeAsked depth) q queries asked) legal) (All-head Can q queries can),
-    all_bounded queries (All-tail (CanBeAsked depth) q queries asked) (All-tail Can q queries can),
-  )
+      → All (λ q. IsBounded m61_modulus depth (Row q)) queries
+  all_bounded queries asked can = λ k d less.
+      let q : Query = slice_index_or queries k d in
+      row_bounded (kind_row version depth stream q) depth (few_wrong version depth stream q (asked k d less) legal) (can k d less)
+
+  -- a line is that of replies that are accepted, or its answer is right
+  abbrev pub Right : Written → Type 0
+  Right w = Accepts version depth stream w.question w.answer ⊎ (w.answer ≡ answer depth stream w.question.query)
+
+  -- lines of the first queries, each at its own block, are so
+  abbrev pub Fine : List Written → List Query → List (List ℕ) → Type 0
+  Fine [] queries blocks = ⊤
+  Fine (w ∷ ws) [] blocks = ⊥
+  Fine (w ∷ ws) (q ∷ queries) [] = ⊥
+  Fine (w ∷ ws) (q ∷ queries) (b ∷ blocks) = (w.question.query ≡ q) × (w.question.block ≡ b) × Right w × Fine ws queries blocks
 
   module _ (strategy : Strategy) where
     -- where this line has a wrong answer, the strategy has one accepted at these challenges, behind those
@@ -153,43 +163,58 @@ module _ (version : Version) (depth : ℕ) (stream : List Update) (legal : IsLeg
     Misled queries earlier v w = (w.question.replies ≡ [] → Can w.question.query) → w.answer ≢ answer depth stream w.question.query
         → is_misled depth strategy (all_asked version depth stream queries) earlier v ≡ true
 
-    -- accepted answers, their questions, and their lines
-    abbrev Answered : Type 0
-    Answered = List (Accepted version depth stream)
-
-    abbrev questions : Answered → List Question
-    questions done = map (λ a. a.question) done
-
-    abbrev written_as : Accepted version depth stream → Written
-    written_as a = record { question = a.question; answer = a.answer }
-
-    -- accepted answers to the first queries, each at its own piece of the challenges
-    misled_by : (done : Answered) (more : List Question) (queries : List Query) (earlier v : List ℕ) (n k : ℕ)
-        → map (λ (q : Question). q.query) (questions done ++ more) ≡ take n queries
-        → map (λ (q : Question). q.block) (questions done ++ more) ≡ take n (pieces depth k v)
-        → All (Fits depth) queries
-        → RepliesSo strategy earlier (questions_written (map written_as done))
-        → All (Misled queries earlier v) (map written_as done)
-    unfolding is_misled
-    misled_by [] more queries earlier v n k qs bs fits talk = All-nil (Misled queries earlier v)
-    misled_by (a ∷ done) more queries earlier v zero k qs bs fits talk = absurd cc
-    misled_by (a ∷ done) more [] earlier v (suc n) k qs bs fits talk = absurd cc
-    misled_by (a ∷ done) more (q ∷ queries) earlier v (suc n) zero qs bs fits talk = absurd cc
-    misled_by (a ∷ done) more (q ∷ queries) earlier v (suc n) (suc k) qs bs fits talk =
-        let query : a.question.query ≡ q = cc in
-        let block : a.question.block ≡ take depth v = cc in
-        let more_queries : map (λ (q : Question). q.query) (questions done ++ more) ≡ take n queries = cc in
-        let more_blocks : map (λ (q : Question). q.block) (questions done ++ more) ≡ take n (pieces depth k (drop depth v)) = cc in
+    pub misled_by : (ws : List Written) (queries : List Query) (earlier v : List ℕ) (k : ℕ)
+        → Fine ws queries (pieces depth k v) → All (Fits depth) queries
+        → RepliesSo strategy earlier (questions_written ws) → All (Misled queries earlier v) ws
+    unfolding is_misled some_fooled
+    misled_by [] queries earlier v k fine fits talk = All-nil (Misled queries earlier v)
+    misled_by (w ∷ ws) [] earlier v k fine fits talk = absurd fine
+    misled_by (w ∷ ws) (q ∷ queries) earlier v zero fine fits talk = absurd fine
+    misled_by (w ∷ ws) (q ∷ queries) earlier v (suc k) fine fits talk =
+        let query : w.question.query ≡ q = fine.0 in
+        let block : w.question.block ≡ take depth v = fine.1 in
         let first : List ℕ → Query → Bool = λ b u. takes_wrong (Row u).accepts (Row u).is_right (after earlier strategy) b in
         let others : Bool = is_misled depth strategy (all_asked version depth stream queries) (earlier ++ take depth v) (drop depth v) in
-        let fit : Fits depth a.question.query = subst (Fits depth) (sym query) (All-head (Fits depth) q queries fits) in
-        let rest = misled_by done more queries (earlier ++ take depth v) (drop depth v) n k more_queries more_blocks (All-tail (Fits depth) q queries fits)
-        (subst (λ (b : List ℕ). RepliesSo strategy (earlier ++ b) (questions_written (map written_as done))) block talk.1) in
-        All-cons (Misled (q ∷ queries) earlier v) (written_as a) (map written_as done)
-        (λ can wrong. or_left (first (take depth v) q) others
-        (subst (λ (u : Query). first (take depth v) u ≡ true) query (subst (λ (b : List ℕ). first b a.question.query ≡ true) block (taken_wrongly (after earlier strategy) a.question.block a.question.replies a.answer talk.0 a.question.query fit a.accepts can wrong))))
+        let fit : Fits depth w.question.query = subst (Fits depth) (sym query) (All-head (Fits depth) q queries fits) in
+        let rest = misled_by ws queries (earlier ++ take depth v) (drop depth v) k fine.3 (All-tail (Fits depth) q queries fits)
+        (subst (λ (b : List ℕ). RepliesSo strategy (earlier ++ b) (questions_written ws)) block talk.1) in
+        All-cons (Misled (q ∷ queries) earlier v) w ws
+        (λ can wrong. or_left (first (take depth v) q) others (elim fine.2 [
+          | inl came ↦ subst (λ (u : Query). first (take depth v) u ≡ true) query
+              (subst (λ (b : List ℕ). first b w.question.query ≡ true) block
+              (taken_wrongly (after earlier strategy) w.question.block w.question.replies w.answer talk.0 w.question.query fit came can wrong))
+          | inr right ↦ absurd (wrong right)
+        ]))
         (All-weaker (Misled queries (earlier ++ take depth v) (drop depth v)) (Misled (q ∷ queries) earlier v)
-        (λ w is can wrong. or_right (first (take depth v) q) others (is can wrong)) (map written_as done) rest)
+        (λ w is can wrong. or_right (first (take depth v) q) others (is can wrong)) ws rest)
+
+  -- ---- accepted answers
+
+  -- accepted answers, their questions, and their lines
+  abbrev Answered : Type 0
+  Answered = List (Accepted version depth stream)
+
+  abbrev questions : Answered → List Question
+  questions done = map (λ a. a.question) done
+
+  abbrev written_as : Accepted version depth stream → Written
+  written_as a = record { question = a.question; answer = a.answer }
+
+  -- accepted answers to the first queries, each at its own block, have such lines
+  done_fine : (done : Answered) (more : List Question) (queries : List Query) (blocks : List (List ℕ)) (n : ℕ)
+      → map (λ (q : Question). q.query) (questions done ++ more) ≡ take n queries
+      → map (λ (q : Question). q.block) (questions done ++ more) ≡ take n blocks
+      → Fine (map written_as done) queries blocks
+  done_fine [] more queries blocks n qs bs = tt
+  done_fine (a ∷ done) more queries blocks zero qs bs = absurd cc
+  done_fine (a ∷ done) more [] blocks (suc n) qs bs = absurd cc
+  done_fine (a ∷ done) more (q ∷ queries) [] (suc n) qs bs = absurd cc
+  done_fine (a ∷ done) more (q ∷ queries) (b ∷ blocks) (suc n) qs bs =
+      let query : a.question.query ≡ q = cc in
+      let block : a.question.block ≡ b = cc in
+      let more_queries : map (λ (q : Question). q.query) (questions done ++ more) ≡ take n queries = cc in
+      let more_blocks : map (λ (q : Question). q.block) (questions done ++ more) ≡ take n blocks = cc in
+      (query, block, inl a.accepts, done_fine done more queries blocks n more_queries more_blocks)
 
 -- ---- a run
 
@@ -219,10 +244,8 @@ module _ (i : Inquiry) (x : Exchange) (can : All (CanBeAsked i.depth) i.queries)
       → misled m61_modulus i.depth strategy (all_asked i.version i.depth (updates i x) i.queries)
       ≤ bounds (all_asked i.version i.depth (updates i x) i.queries) * m61_modulus ^ (length i.queries * i.depth - 1)
   few counted strategy bytes =
-      let asked : List Asked = all_asked i.version i.depth (updates i x) i.queries in
-      let size : length asked ≡ length i.queries = length-map i.queries _ in
-      subst (λ n. misled m61_modulus i.depth strategy asked ≤ bounds asked * m61_modulus ^ (n * i.depth - 1)) size
-      (few_misled m61_modulus i.depth strategy asked some bytes (all_bounded i.version i.depth (updates i x) all_legal i.queries can counted))
+      few_misled_of m61_modulus i.depth strategy (Row i.version i.depth (updates i x) all_legal) i.queries some bytes
+      (all_bounded i.version i.depth (updates i x) all_legal i.queries can counted)
 
   -- each line of accepted questions that the talk has
   misled_lines : (done : Done i x) (challenges : List ℕ) → i.challenges ≡ Some challenges → (strategy : Strategy)
@@ -235,7 +258,8 @@ module _ (i : Inquiry) (x : Exchange) (can : All (CanBeAsked i.depth) i.queries)
       let same : are.challenges ≡ challenges = same_list are.challenges challenges (sym are.drawn ∙ is) in
       let blocks = subst (λ (cs : List ℕ). map (λ (q : Question). q.block) (questions_of i x done ++ option_to_list next)
       ≡ take (length (questions_of i x done ++ option_to_list next)) (cut i.depth cs)) same are.blocks in
-      misled_by i.version i.depth (updates i x) all_legal strategy done (option_to_list next) i.queries [] challenges _ _ are.queries blocks fit talk
+      misled_by i.version i.depth (updates i x) all_legal strategy (written_of i x can done) i.queries [] challenges _
+      (done_fine i.version i.depth (updates i x) all_legal done (option_to_list next) i.queries (cut i.depth challenges) _ are.queries blocks) fit talk
 
   -- both clauses hold of the same lines
   pub counted_jointly : (status : Status) → VerdictClause i x status → IsListed status → (count : CountClause i x) × JointClause i x count.lines
