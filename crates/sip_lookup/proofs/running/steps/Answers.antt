@@ -1,11 +1,13 @@
 -- At each end of the steps the facts of the calls before it are handed to the lemma of that end.
-use Rattle.std.proofs.Common.{◌≤◌, ℕ, None, List, [], refl, ◌∙◌, arith}
+use Rattle.std.proofs.Common.{◌≤◌, ℕ, None, List, [], length, refl, sym, ap, ◌∙◌, arith}
+use Rattle.std.proofs.lemmas.List.{length-map, length-replicate}
+use Rattle.sip_verifier.specs.QuerySeats.{Seated}
 use Rattle.std.proofs.lemmas.Result.{err_from_is_err_and}
 use Rattle.sip_ports.proofs.TalkLemmas.{GoesOn-refl, GoesOn-trans}
 use Rattle.sip_vector.specs.Limits.{most_depth}
 use Rattle.sip_verifier.specs.declared.status.Status.TheVariants as statuses
 use Rattle.sip_verifier.specs.Exchanges.{Exchange}
-use Rattle.sip_verifier.specs.Snapshots.{port}
+use Rattle.sip_verifier.specs.Snapshots.{no_port, port}
 use Rattle.sip_verifier.specs.runs.Runs.{updates}
 use Rattle.sip_verifier.proofs.GatheredRuns.{after_gather, after_stream}
 use Rattle.sip_verifier.proofs.KeptRuns.{talk_moves}
@@ -30,6 +32,26 @@ new-requires-clause-rooted g c =
     let keeps = c.gather.ensures.keeps report report in
     let was = c.in_ok-seats.was in
     seats_rooted _ _ ((rw was at keeps.seated).1 ∙ c.rooted.ensures.queries)
+
+pub new-requires-clause-levels : goal.new-requires-clause-levels
+new-requires-clause-levels g c =
+    let was = c.in_ok-seats.was in
+    (rw was at (c.gather.ensures.keeps no_port no_port).seated).0 ∙ c.rooted.ensures.depth
+
+pub new-requires-clause-each : goal.new-requires-clause-each
+new-requires-clause-each g c =
+    let was = c.in_ok-seats.was in
+    let asked = (rw was at (c.gather.ensures.keeps no_port no_port).seated).1 ∙ c.rooted.ensures.queries in
+    sym (length-map c.in_ok-seats.seats.seats (λ (s : Seated). s.query)) ∙ ap length asked ∙ length-replicate _ _
+
+pub returns-in_err-seats-clause-seed : goal.returns-in_err-seats-clause-seed
+returns-in_err-seats-clause-seed g c = (c.gather.ensures.keeps no_port no_port).seed
+
+pub returns-in_err-looker-clause-seed : goal.returns-in_err-looker-clause-seed
+returns-in_err-looker-clause-seed g c = (c.gather.ensures.keeps no_port no_port).seed
+
+pub returns-clause-seed : goal.returns-clause-seed
+returns-clause-seed g c = (c.gather.ensures.keeps no_port no_port).seed
 
 pub conclude_run-requires-clause-most : goal.conclude_run-requires-clause-most
 conclude_run-requires-clause-most g c =

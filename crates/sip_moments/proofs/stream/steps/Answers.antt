@@ -5,7 +5,7 @@ use Rattle.sip_ports.proofs.TalkLemmas.{GoesOn-refl, GoesOn-trans}
 use Rattle.sip_verifier.specs.Draws.{blocks}
 use Rattle.sip_verifier.specs.Gathering.{legal}
 use Rattle.sip_verifier.specs.Inquiries.{run_over}
-use Rattle.sip_verifier.specs.Snapshots.{port}
+use Rattle.sip_verifier.specs.Snapshots.{no_port, port}
 use Rattle.sip_verifier.specs.Weights.{AreWeights}
 use Rattle.sip_verifier.proofs.GatheredRuns.{after_gather, after_stream}
 use Rattle.sip_verifier.proofs.KeptRuns.{talk_moves}
@@ -22,13 +22,25 @@ use Rattle.sip_moments.specs.Tasks.{squares_of}
 use Rattle.sip_moments.proofs.MomentRuns.{asked_stops, begun, gathering_listed, goes_behind, kept, squares_done, they_stand, too_high}
 use Rattle.sip_moments.proofs.stream.steps.Goals as goal
 
-pub gather-requires : goal.gather-requires
-gather-requires g c = rw c.squares.ensures (squares_done c.args.task.now c.requires)
+pub gather-weights-requires : goal.gather-weights-requires
+gather-weights-requires g c = rw c.squares.ensures (squares_done c.args.task.now c.requires)
+
+pub returns-in_err-seats-clause-seed : goal.returns-in_err-seats-clause-seed
+returns-in_err-seats-clause-seed g c = (c.gather-weights.ensures.keeps no_port no_port).seed
+
+pub returns-in-Some-clause-seed : goal.returns-in-Some-clause-seed
+returns-in-Some-clause-seed g c = (c.gather-weights.ensures.keeps no_port no_port).seed
+
+pub returns-in_default-new-clause-seed : goal.returns-in_default-new-clause-seed
+returns-in_default-new-clause-seed g c = (c.gather-weights.ensures.keeps no_port no_port).seed
+
+pub returns-clause-seed : goal.returns-clause-seed
+returns-clause-seed g c = (c.gather-weights.ensures.keeps no_port no_port).seed
 
 pub returns-in_err-seats-clause-keeps : goal.returns-in_err-seats-clause-keeps
 returns-in_err-seats-clause-keeps g c =
     let report = port g.K.Sink.talk g.K.Sink.faults c.args.report.now in
-    let keeps = c.gather.ensures.keeps report report in
+    let keeps = c.gather-weights.ensures.keeps report report in
     let p = err_from_is_err_and c.from_residual.result c.from_residual.ensures.1 in
     let task = c.args.task.now in
     let some : 1 ≤ task.depth = omega (arith, c.get-levels.ensures.same, c.get-levels.ensures.some) in
@@ -47,14 +59,14 @@ returns-in_err-seats-clause-keeps g c =
 pub returns-in-Some-clause-keeps : goal.returns-in-Some-clause-keeps
 returns-in-Some-clause-keeps g c =
     let report = port g.K.Sink.talk g.K.Sink.faults c.args.report.now in
-    let keeps = c.gather.ensures.keeps report report in
+    let keeps = c.gather-weights.ensures.keeps report report in
     let task = c.args.task.now in
     let some : 1 ≤ task.depth = omega (arith, c.get-levels.ensures.same, c.get-levels.ensures.some) in
     let was = c.in_ok-seats.was in
     kept task some
     (λ x t.
     let gathered = rw (was, c.squares.ensures) at keeps.gathers x.stream x.seed t.stream t.seed in
-    let weights = subst (λ (k : Task). AreWeights (legal k x.stream) c.gather.result) c.squares.ensures (rw was at keeps.weights x.stream t.stream) in
+    let weights = subst (λ (k : Task). AreWeights (legal k x.stream) c.gather-weights.result) c.squares.ensures (rw was at keeps.weights x.stream t.stream) in
     too_high task x _ _ c.in-Some.query (gathered.challenges, gathered.draws) gathered.passed.to_end
     (said_is _ _ _ _ gathered.passed.talk t.talk) (nothing_reported _ _ t.report)
     (ap (first_high (legal (squares_of task) x.stream)) (sym c.deref.ensures.0) ∙ sym (c.in-Some.ensures (legal (squares_of task) x.stream) weights)))
@@ -68,7 +80,7 @@ returns-in-Some-clause-keeps g c =
 pub returns-in_default-new-clause-keeps : goal.returns-in_default-new-clause-keeps
 returns-in_default-new-clause-keeps g c =
     let report = port g.K.Sink.talk g.K.Sink.faults c.args.report.now in
-    let keeps = c.gather.ensures.keeps report report in
+    let keeps = c.gather-weights.ensures.keeps report report in
     let task = c.args.task.now in
     let some : 1 ≤ task.depth = omega (arith, c.get-levels.ensures.same, c.get-levels.ensures.some) in
     let was = c.in_ok-seats.was in
@@ -91,14 +103,14 @@ new-questions-requires-clause-degrees g c =
 pub new-questions-requires-clause-same : goal.new-questions-requires-clause-same
 new-questions-requires-clause-same g c =
     let report = port g.K.Sink.talk g.K.Sink.faults c.args.report.now in
-    let keeps = c.gather.ensures.keeps report report in
+    let keeps = c.gather-weights.ensures.keeps report report in
     let seated = rw c.in_ok-seats.was at keeps.seated in
     seated.1 ∙ ap (λ (t : Task). t.queries.items) c.squares.ensures ∙ ap (map square_of) (sym c.moments_of.ensures.same)
 
 pub conclude_run-requires-clause-most : goal.conclude_run-requires-clause-most
 conclude_run-requires-clause-most g c =
     let report = port g.K.Sink.talk g.K.Sink.faults c.args.report.now in
-    let keeps = c.gather.ensures.keeps report report in
+    let keeps = c.gather-weights.ensures.keeps report report in
     let seated = rw c.in_ok-seats.was at keeps.seated in
     let same = seated.1 ∙ ap (λ (t : Task). t.queries.items) c.squares.ensures ∙ ap (map square_of) (sym c.moments_of.ensures.same) in
     rw c.new-questions.ensures
@@ -107,7 +119,7 @@ conclude_run-requires-clause-most g c =
 pub returns-clause-keeps : goal.returns-clause-keeps
 returns-clause-keeps g c =
     let report = port g.K.Sink.talk g.K.Sink.faults c.args.report.now in
-    let keeps = c.gather.ensures.keeps report report in
+    let keeps = c.gather-weights.ensures.keeps report report in
     let task = c.args.task.now in
     let some : 1 ≤ task.depth = omega (arith, c.get-levels.ensures.same, c.get-levels.ensures.some) in
     let was = c.in_ok-seats.was in
@@ -115,11 +127,11 @@ returns-clause-keeps g c =
     let begins : c.new-questions.result ≡ begun task seats = c.new-questions.ensures
     ∙ ap (λ (v : Version). record (begun task seats) { version = v; moments = c.moments_of.result.items }) c.needed-version.ensures
     ∙ ap (λ (l : List Moment). record (begun task seats) { moments = l }) c.moments_of.ensures.same in
-    let stops = asked_stops _ _ _ _ _ _ _ _ _ c.conclude_run.result c.gather.ensures.peer.later (c.conclude_run.ensures.fault _ _ _ _) in
+    let stops = asked_stops _ _ _ _ _ _ _ _ _ c.conclude_run.result c.gather-weights.ensures.peer.later (c.conclude_run.ensures.fault _ _ _ _) in
     kept task some
     (λ x t.
     let gathered = rw (was, c.squares.ensures) at keeps.gathers x.stream x.seed t.stream t.seed in
-    let weights = subst (λ (k : Task). AreWeights (legal k x.stream) c.gather.result) c.squares.ensures (rw was at keeps.weights x.stream t.stream) in
+    let weights = subst (λ (k : Task). AreWeights (legal k x.stream) c.gather-weights.result) c.squares.ensures (rw was at keeps.weights x.stream t.stream) in
     let low : first_high (legal (squares_of task) x.stream) task.moments.items ≡ None =
     ap (first_high (legal (squares_of task) x.stream)) (sym c.deref.ensures.0)
     ∙ sym (c.first_high.ensures (legal (squares_of task) x.stream) weights) ∙ c.in_default.is in
