@@ -11,7 +11,7 @@ use Rattle.sip_verifier.specs.Concluding.{Ended}
 use Rattle.sip_verifier.specs.Exchanges.{Exchange, Tells}
 use Rattle.sip_verifier.specs.Inquiries.{inquiry_of}
 use Rattle.sip_verifier.specs.KeepClause.{Keeps}
-use Rattle.sip_verifier.specs.Snapshots.{PortState, Snapshot, snapshot, tells}
+use Rattle.sip_verifier.specs.Snapshots.{PortState, Snapshot, snapshot, telling}
 use Rattle.sip_verifier.specs.Promises.{Promises}
 use Rattle.sip_verifier.specs.RunClause.{RunClause}
 use Rattle.sip_verifier.specs.Tasks.{CanBeDone}
@@ -72,5 +72,5 @@ none_of_play words n refused task name spells = spelled_not_refused words (Play 
 
 -- a link on which nothing has happened tells no event
 pub tells_on : {items : List TalkEvent} → items ≡ [] → {first second : PortState ℕ} {report keep : PortState TalkEvent} {now : Snapshot} {x : Exchange}
-    → Tells (snapshot first second (tells []) report keep) now x → Tells (snapshot first second (tells items) report keep) now x
+    → Tells (snapshot first second (telling []) report keep) now x → Tells (snapshot first second (telling items) report keep) now x
 tells_on none t = record { stream = t.stream; unread = t.unread; seed = t.seed; talk = (t.talk.0, ap Some none ∙ t.talk.1, t.talk.2); report = t.report; kept = t.kept }

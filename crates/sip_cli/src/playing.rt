@@ -6,7 +6,7 @@ ghost use Rattle.sip_duel.specs.Told.{told};
 ghost use Rattle.sip_helper.specs.Turns.{fresh};
 ghost use Rattle.sip_verifier.specs.declared.task.Task.{Task as AnyTask};
 ghost use Rattle.sip_verifier.specs.Exchanges.{TakesAtMost};
-ghost use Rattle.sip_verifier.specs.Snapshots.{port, snapshot, tells};
+ghost use Rattle.sip_verifier.specs.Snapshots.{port, snapshot, telling};
 ghost use Rattle.sip_verifier.specs.Tasks.{CanBeDone};
 ghost use Rattle.sip_cli.specs.declared.command.Command.{Command as AnyCommand};
 ghost use Rattle.sip_cli.specs.declared.helper_name.HelperName.{HelperName as AnyName};
@@ -52,11 +52,11 @@ fn play_boxed<A: Source, B: Source, K: Sink, C: Sink>(
     requires named { name ≡ HelperName.Honest → honest_state helper ≡ Some fresh }
     ensures played { IfOk result (PlayClause task.now (name ≡ HelperName.Honest)
         (snapshot (port A.left A.faults first.old) (port B.left B.faults second.old)
-        (tells []) (port K.talk K.faults report.old)
+        (telling []) (port K.talk K.faults report.old)
         (port C.talk C.faults keep.old))
         (λ talk. snapshot (port A.left A.faults first.new)
         (port B.left B.faults second.new)
-        (tells talk) (port K.talk K.faults report.new)
+        (telling talk) (port K.talk K.faults report.new)
         (port C.talk C.faults keep.new))) }
     ensures unbegun { OnErr result ((first.new ≡ first.old) × (second.new ≡ second.old)
         × (report.new ≡ report.old) × (keep.new ≡ keep.old)) }
@@ -84,11 +84,11 @@ fn play_named<A: Source, B: Source, K: Sink, C: Sink>(
     requires { CanBeDone task.now }
     ensures played { IfOk result (PlayClause task.now (name ≡ HelperName.Honest)
         (snapshot (port A.left A.faults first.old) (port B.left B.faults second.old)
-        (tells []) (port K.talk K.faults report.old)
+        (telling []) (port K.talk K.faults report.old)
         (port C.talk C.faults keep.old))
         (λ talk. snapshot (port A.left A.faults first.new)
         (port B.left B.faults second.new)
-        (tells talk) (port K.talk K.faults report.new)
+        (telling talk) (port K.talk K.faults report.new)
         (port C.talk C.faults keep.new))) }
     ensures unbegun { OnErr result ((first.new ≡ first.old) × (second.new ≡ second.old)
         × (report.new ≡ report.old) × (keep.new ≡ keep.old)) }
@@ -166,11 +166,11 @@ pub fn play_words<A: Source, B: Source, K: Sink, C: Sink>(
         × Spells words.now (Command.Play task name)
         × PlayClause task (name ≡ HelperName.Honest)
         (snapshot (port A.left A.faults first.old) (port B.left B.faults second.old)
-        (tells []) (port K.talk K.faults report.old)
+        (telling []) (port K.talk K.faults report.old)
         (port C.talk C.faults keep.old))
         (λ talk. snapshot (port A.left A.faults first.new)
         (port B.left B.faults second.new)
-        (tells talk) (port K.talk K.faults report.new)
+        (telling talk) (port K.talk K.faults report.new)
         (port C.talk C.faults keep.new)) status) }
     ensures untouched { result ≡ None → (first.new ≡ first.old) × (second.new ≡ second.old)
         × (report.new ≡ report.old) × (keep.new ≡ keep.old) }

@@ -4,7 +4,7 @@ ghost use Rattle.std.specs.Prelude.{◌≡◌, ◌≢◌, ◌≤◌, None, Some,
 ghost use Rattle.std.specs.Option.{option_and_then};
 ghost use Rattle.sip_ports.specs.Ports.{Lasts};
 ghost use Rattle.sip_verifier.specs.Exchanges.{Exchange as AnyExchange, Tells, TakesAtMost};
-ghost use Rattle.sip_verifier.specs.Snapshots.{counts, port, snapshot};
+ghost use Rattle.sip_verifier.specs.Snapshots.{counts, port, snapshot, telling};
 ghost use Rattle.sip_verifier.specs.RunClause.{RunClause};
 ghost use Rattle.sip_verifier.specs.Tasks.{CanBeDone};
 ghost use Rattle.sip_duel.specs.Accepting.{DuelAccepts};
@@ -37,10 +37,10 @@ pub fn play<A: Source, B: Source, K: Sink, C: Sink>(
     requires { CanBeDone task.now }
     ensures keeps { RunClause task.now
         (snapshot (port A.left A.faults first.old) (port B.left B.faults second.old)
-        (Some link.old.kept.talk.items) 0 (port K.talk K.faults report.old)
+        (telling link.old.kept.talk.items) (port K.talk K.faults report.old)
         (port C.talk C.faults keep.old))
         (snapshot (port A.left A.faults first.new) (port B.left B.faults second.new)
-        (Some link.new.kept.talk.items) 0 (port K.talk K.faults report.new)
+        (telling link.new.kept.talk.items) (port K.talk K.faults report.new)
         (port C.talk C.faults keep.new))
         result }
     ensures peer { result ≢ Status.PeerFault }
@@ -50,10 +50,10 @@ pub fn play<A: Source, B: Source, K: Sink, C: Sink>(
         → link.old.kept.talk.items ≡ [] → (x : AnyExchange)
         → Tells
         (snapshot (port A.left A.faults first.old) (port B.left B.faults second.old)
-        (Some link.old.kept.talk.items) 0 (port K.talk K.faults report.old)
+        (telling link.old.kept.talk.items) (port K.talk K.faults report.old)
         (port C.talk C.faults keep.old))
         (snapshot (port A.left A.faults first.new) (port B.left B.faults second.new)
-        (Some link.new.kept.talk.items) 0 (port K.talk K.faults report.new)
+        (telling link.new.kept.talk.items) (port K.talk K.faults report.new)
         (port C.talk C.faults keep.new)) x
         → DuelAccepts task.now x
         (counts (A.faults first.old) (B.faults second.old) 0 (K.faults report.old)

@@ -31,8 +31,8 @@ abbrev pub port : {P T : Type 0} → (P → Option (List T)) → (P → ℕ) →
 port told faults it = record { told = told it; faults = faults it }
 
 -- that of a port which tells this and has not failed
-abbrev pub tells : {T : Type 0} → List T → PortState T
-tells told = record { told = Some told; faults = 0 }
+abbrev pub telling : {T : Type 0} → List T → PortState T
+telling told = record { told = Some told; faults = 0 }
 
 -- that of a port which is not there
 abbrev pub no_port : {T : Type 0} → PortState T
