@@ -1,11 +1,9 @@
 -- A report that keeps to the clause of verdicts is counted for all of its queries together.
 use Rattle.std.proofs.Common.{◌≡◌, ◌≢◌, ◌⊎◌, ℕ, zero, suc, ◌-◌, ◌*◌, ◌^◌, ◌<◌, ◌≤◌, Bool, true, false, pos, List, [], ◌∷◌, ◌++◌, length, map, take, drop, All, Some, None, inl, inr, if◌then◌else◌, refl, sym, ap, subst, ◌∙◌, arith}
 use Rattle.std.specs.Prelude.{⊤, nat_le, option_to_list, slice_index_or, ◌≤ℤ◌}
-use Rattle.std.specs.List.{AllByRecursion}
 use Rattle.std.proofs.Math.Nat.{mul_comm}
 use Rattle.std.proofs.Math.Seq.{take-length}
 use Rattle.std.proofs.lemmas.Bool.{cases_Bool, leb-false, lt-leb, or_left, or_right}
-use Rattle.std.proofs.lemmas.List.{length-map}
 use Rattle.std.proofs.lemmas.List.Elements.{All-cons, All-nil, All-head, All-tail, All-weaker, recursion_from_All}
 use Rattle.sip_field.specs.Moduli.{m61_modulus}
 use Rattle.sip_vector.specs.declared.query.Query.{Query}
