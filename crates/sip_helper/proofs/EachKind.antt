@@ -1,10 +1,10 @@
 -- The kinds of query, a line for each: what fits, and which refusals the rows have.
-use Rattle.std.proofs.Common.{◌≡◌, ℕ, ◌^◌, ◌<◌, Bool, true, false, Some, None, List, ℤ, if◌then◌else◌, arith}
+use Rattle.std.proofs.Common.{◌≡◌, ℕ, ◌^◌, ◌<◌, Bool, true, false, Some, None, List, ℤ, if◌then◌else◌, refl, arith}
 use Rattle.std.specs.Prelude.{IsTrue, IfSome}
 use Rattle.std.proofs.lemmas.Bool.{ltb-true}
 use Rattle.std.proofs.lemmas.Bool.Decides.{nat_tests}
 use Rattle.sip_vector.specs.declared.query.Query.{Query}
-use Rattle.sip_vector.specs.declared.query.Query.TheVariants.{Sub, Range, F2, Inner, Heavy, Share}
+use Rattle.sip_vector.specs.declared.query.Query.TheVariants.{Sub, Range, F2, Inner, Heavy, Share, Above}
 use Rattle.sip_vector.specs.Answers.{Fits}
 use Rattle.sip_vector.specs.declared.update.Side.{Side}
 use Rattle.sip_vector.specs.Built.{is_built}
@@ -32,6 +32,8 @@ fits_below version depth Inner h below = tt
 fits_below version depth (Heavy side at_least) h below = (grind (arith, nat_tests), grind (arith, nat_tests))
 fits_below One depth (Share side num den) h below = absurd cc
 fits_below Two depth (Share side num den) h below = (grind (arith, nat_tests), grind (arith, nat_tests), grind (arith, nat_tests))
+fits_below One depth (Above side at_least) h below = absurd cc
+fits_below Two depth (Above side at_least) h below = (grind (arith, nat_tests), grind (arith, nat_tests))
 
 -- ---- rows
 
@@ -59,8 +61,9 @@ built_row (F2 _) v is = tt
 built_row Inner v is = tt
 built_row (Heavy side at_least) v is = hitters_row side (least.Count at_least) v
 built_row (Share side num den) v is = hitters_row side (least.Share num den) v
+built_row (Above _ _) v is = absurd cc
 
--- no kind is left that is not built
+-- and that of a kind that is not built is that of a message out of turn
 pub other_row : (q : Query) (v : Vectors) → is_built q ≡ false → (help_row q).refused_by v ≡ Some out_of_turn
 other_row (Sub lo hi) v is = absurd cc
 other_row (Range _ _ _) v is = absurd cc
@@ -68,3 +71,4 @@ other_row (F2 _) v is = absurd cc
 other_row Inner v is = absurd cc
 other_row (Heavy _ _) v is = absurd cc
 other_row (Share _ _ _) v is = absurd cc
+other_row (Above _ _) v is = refl

@@ -138,6 +138,9 @@ step_left version s memory (messages.AskLook code item) deep fit allowed other =
 step_left version s memory (messages.Found flag index) deep fit allowed other = absurd cc
 step_left version s memory messages.End deep fit allowed other = absurd cc
 step_left version s memory (messages.AskMoment side degree) deep fit allowed other = absurd cc
+step_left version s memory (messages.Held held) deep fit allowed other = absurd cc
+step_left version s memory (messages.Recall count) deep fit allowed other = absurd cc
+step_left version s memory (messages.Marks v) deep fit allowed other = absurd cc
 step_left version s memory (messages.Power v) deep fit allowed other = absurd cc
 
 -- where no farewell may come, any other message may as where one may
@@ -160,6 +163,9 @@ hears_as s (messages.AskLook code item) other = refl
 hears_as s (messages.Found flag index) other = refl
 hears_as s messages.End other = refl
 hears_as s (messages.AskMoment _ _) other = refl
+hears_as s (messages.Held _) other = refl
+hears_as s (messages.Recall _) other = refl
+hears_as s (messages.Marks _) other = refl
 hears_as s (messages.Power v) other = refl
 
 -- a message that may come and is no farewell leaves fewer turns, where it was heard

@@ -130,6 +130,9 @@ others_out s (messages.AskLook code item) a b c d e f = refl
 others_out s (messages.Found flag index) a b c d e f = refl
 others_out s messages.End a b c d e f = refl
 others_out s (messages.AskMoment side degree) a b c d e f = refl
+others_out s (messages.Held held) a b c d e f = refl
+others_out s (messages.Recall count) a b c d e f = refl
+others_out s (messages.Marks v) a b c d e f = refl
 others_out s (messages.Power v) a b c d e f = refl
 
 -- the open query changed, and still stands

@@ -6,7 +6,7 @@ use Rattle.std.specs.Option.{option_and_then, option_map}
 use Rattle.std.proofs.lemmas.Bool.Decides.{nat_tests}
 use Rattle.std.proofs.lemmas.List.Sums.{fold-append}
 use Rattle.sip_vector.specs.declared.query.Query.{Query}
-use Rattle.sip_vector.specs.declared.query.Query.TheVariants.{Sub, Range, F2, Inner, Heavy, Share}
+use Rattle.sip_vector.specs.declared.query.Query.TheVariants.{Sub, Range, F2, Inner, Heavy, Share, Above}
 use Rattle.sip_vector.specs.declared.update.Update.{Update}
 use Rattle.sip_vector.specs.declared.update.Side.TheVariants.{First, Second}
 use Rattle.sip_vector.specs.Vectors.{with_update}
@@ -21,7 +21,7 @@ use Rattle.sip_subvec.specs.Honest.{honest_messages as sub_messages}
 use Rattle.sip_sums.specs.Honest.{honest_messages as sum_messages}
 use Rattle.sip_helper.specs.declared.heard.Heard.TheVariants.{Whole}
 use Rattle.sip_helper.specs.Kinds.{help_row}
-use Rattle.sip_helper.specs.KindRows.{HelpRow, refusal, reply_by, want_of_memory}
+use Rattle.sip_helper.specs.KindRows.{HelpRow, out_of_turn, refusal, reply_by, want_of_memory}
 use Rattle.sip_helper.specs.Streams.{challenges_heard, query_heard, stream_heard, updates_heard, vectors_of}
 use Rattle.sip_helper.specs.Turns.{HelperState, OpenQuery, after_answer, after_reply, depth_of, fresh, is_refused, owed, owes, reply_to, step, version_opened, with_challenge, with_updates, zero_vectors}
 use Rattle.sip_helper.specs.Vectors.{Vectors}
@@ -163,6 +163,7 @@ row_says (F2 side) v revealed = ends_in_one _ _
 row_says Inner v revealed = ends_in_one _ _
 row_says (Heavy side n) v revealed = ends_in_one _ _
 row_says (Share side n d) v revealed = ends_in_one _ _
+row_says (Above side n) v revealed = one_alone out_of_turn
 
 reply_says : (refused : Option ℕ) (row : HelpRow) (v : Vectors) (revealed : List ℕ) → row.honest v revealed ≢ [] → row.refused_by v ≡ refused → reply_by row v revealed ≢ []
 reply_says (Some code) row v revealed some e = subst (λ r. elim r as (λ _. List Message) [ Some c ↦ refusal c | None ↦ row.honest v revealed ] ≢ []) (sym e) (one_alone code)

@@ -24,7 +24,7 @@ use Rattle.sip_helper.specs.inside.OneTurn.{StopsTurn, Taken}
 use Rattle.sip_helper.specs.KindRows.{out_of_turn}
 use Rattle.sip_helper.specs.Rules.{IsMessageBy, IsTurnBy, Rules, Turn, heard_by}
 use Rattle.sip_helper.specs.Statuses.{status_of_fault, status_of_stop}
-use Rattle.sip_helper.specs.Turns.{HelperState, OpenQuery, after_answer, after_reply, depth_of, is_known, is_refused, owed, owes, reply_to, step}
+use Rattle.sip_helper.specs.Turns.{HelperState, OpenQuery, after_answer, after_reply, depth_of, is_refused, owed, owes, reply_to, step}
 
 -- a message that came in the version of a state, at the place that is awaited
 pub in_version : {S : Type 0} (r : Rules S) (s : S) (version : Version) (place : Place) (old mid : Option (List TalkEvent)) (before now : ℕ) (got : List ℕ) (came : Result Message WireFault) → version ≡ r.version s → place ≡ r.place s → Decodes version place old mid before now got came → Decodes (r.version s) (r.place s) old mid before now got came
@@ -69,29 +69,21 @@ module _ {S : Type 0} (r : Rules S) (s : S) (old mid : Option (List TalkEvent)) 
     pub received : GoesOn old mid (ins (spelling (r.version s) m))
     received = subst (GoesOn old mid) (append-nil (ins got) ∙ ap ins did.answer.spelled) did.heard
 
-    -- it is a query that is not answered
-    pub unknown : (at : ℕ) → is_known m ≡ false → StopsTurn r old mid s at (BadFrame at)
-    unknown at out = record {
-      rest = ins (spelling (r.version s) m);
-      talk = received;
-      ends = (refl, inr (inl (record { message = m; is = came; unknown = out; said = refl })));
-    }
-
     -- it may not come, and the refusal went out
-    pub refused : (new : Option (List TalkEvent)) (at : ℕ) → IsTrue (is_known m) → r.is_allowed s m ≡ false → GoesOn mid new (outs (spelling (r.version s) (messages.Refuse out_of_turn))) → StopsTurn r old new s at (BadFrame at)
-    refused new at known out went = record {
+    pub refused : (new : Option (List TalkEvent)) (at : ℕ) → r.is_allowed s m ≡ false → GoesOn mid new (outs (spelling (r.version s) (messages.Refuse out_of_turn))) → StopsTurn r old new s at (BadFrame at)
+    refused new at out went = record {
       rest = ins (spelling (r.version s) m) ++ outs (spelling (r.version s) (messages.Refuse out_of_turn));
       talk = GoesOn-trans old mid new _ _ received went;
-      ends = (refl, inr (inr (record { message = m; is = came; known = known; out = out; said = refl })));
+      ends = (refl, inr (record { message = m; is = came; out = out; said = refl }));
     }
 
     -- a part of it went out
-    pub refusal_cut : (new : Option (List TalkEvent)) (at : ℕ) (stop : PortStop) → IsTrue (is_known m) → r.is_allowed s m ≡ false → SendsWhole {T = Unit {0}} mid new (Err stop) (spelling (r.version s) (messages.Refuse out_of_turn)) → StopsTurn r old new s at (status_of_stop stop)
-    refusal_cut new at stop known out went = by_stop stop
+    pub refusal_cut : (new : Option (List TalkEvent)) (at : ℕ) (stop : PortStop) → r.is_allowed s m ≡ false → SendsWhole {T = Unit {0}} mid new (Err stop) (spelling (r.version s) (messages.Refuse out_of_turn)) → StopsTurn r old new s at (status_of_stop stop)
+    refusal_cut new at stop out went = by_stop stop
       where
         by_stop : (stop : PortStop) → StopsTurn r old new s at (status_of_stop stop)
-        by_stop stops.Failed = record { rest = _; talk = GoesOn-trans old mid new _ _ received went.2; ends = inr (inr (record { message = m; is = came; known = known; out = out; sent = went.0; short = went.1; said = refl })) }
-        by_stop stops.OutOfMemory = record { rest = _; talk = GoesOn-trans old mid new _ _ received went.2; ends = inr (inr (record { message = m; is = came; known = known; out = out; sent = went.0; short = went.1; said = refl })) }
+        by_stop stops.Failed = record { rest = _; talk = GoesOn-trans old mid new _ _ received went.2; ends = inr (inr (record { message = m; is = came; out = out; sent = went.0; short = went.1; said = refl })) }
+        by_stop stops.OutOfMemory = record { rest = _; talk = GoesOn-trans old mid new _ _ received went.2; ends = inr (inr (record { message = m; is = came; out = out; sent = went.0; short = went.1; said = refl })) }
 
     -- it was heard
     module _ (allowed : IsTrue (r.is_allowed s m)) (memory : Bool) where
@@ -146,6 +138,9 @@ only_bye s memory (messages.AskLook code item) going done = absurd (both_ways s.
 only_bye s memory (messages.Found flag index) going done = absurd (both_ways s.done going done)
 only_bye s memory messages.End going done = absurd (both_ways s.done going done)
 only_bye s memory (messages.AskMoment side degree) going done = absurd (both_ways s.done going done)
+only_bye s memory (messages.Held held) going done = absurd (both_ways s.done going done)
+only_bye s memory (messages.Recall count) going done = absurd (both_ways s.done going done)
+only_bye s memory (messages.Marks v) going done = absurd (both_ways s.done going done)
 only_bye s memory (messages.Power v) going done = absurd (both_ways s.done going done)
 
 stays : (s : HelperState) (q : Option OpenQuery) → s.open_query ≡ q → option_and_then (after_reply (depth_of s.heard) s.vectors) q ≡ q → after_answer s ≡ s

@@ -28,6 +28,13 @@ pub record HelpRow : Type 0 where
   pub refused_by : Vectors → Option ℕ
   pub honest : Vectors → List ℕ → List Message
 
+-- the row of a kind that is not built: it refuses, whatever the vectors are
+abbrev pub missing_row : HelpRow
+missing_row = record {
+  refused_by = λ _. Some out_of_turn;
+  honest = λ _ _. refusal out_of_turn;
+}
+
 -- the messages of a reply by a row
 abbrev pub reply_by : HelpRow → Vectors → List ℕ → List Message
 reply_by row v revealed =

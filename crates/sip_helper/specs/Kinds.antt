@@ -1,13 +1,13 @@
 -- The kinds of query, a line for each: its items, its row, and its prover.
 use Rattle.std.specs.Prelude.{ℕ, ◌^◌, Bool, true, nat_lt, List}
 use Rattle.sip_vector.specs.declared.query.Query.{Query}
-use Rattle.sip_vector.specs.declared.query.Query.TheVariants.{Sub, Range, F2, Inner, Heavy, Share}
+use Rattle.sip_vector.specs.declared.query.Query.TheVariants.{Sub, Range, F2, Inner, Heavy, Share, Above}
 use Rattle.sip_helper.specs.declared.kinds.KindProver.{KindProver}
 use Rattle.sip_helper.specs.declared.kinds.KindProver.TheVariants as provers
 use Rattle.sip_helper.specs.declared.hitters.Least.TheVariants as least
 use Rattle.sip_helper.specs.declared.sums.SumQuery.TheVariants as sums
 use Rattle.sip_helper.specs.Vectors.{Vectors}
-use Rattle.sip_helper.specs.KindRows.{HelpRow}
+use Rattle.sip_helper.specs.KindRows.{HelpRow, missing_row}
 use Rattle.sip_helper.specs.Hitters.{HasNodes, heavy_row, hitters_query}
 use Rattle.sip_helper.specs.SubVectors.{HasLevel, sub_query, sub_row}
 use Rattle.sip_helper.specs.Sums.{HasFolded, sum_query, sum_row}
@@ -20,6 +20,7 @@ is_below depth (F2 _) = true
 is_below depth Inner = true
 is_below depth (Heavy _ _) = true
 is_below depth (Share _ _ _) = true
+is_below depth (Above _ _) = true
 
 -- the row of a query
 abbrev pub help_row : Query → HelpRow
@@ -29,6 +30,7 @@ help_row (F2 side) = sum_row (sums.F2 side)
 help_row Inner = sum_row sums.Inner
 help_row (Heavy side at_least) = heavy_row side (least.Count at_least)
 help_row (Share side num den) = heavy_row side (least.Share num den)
+help_row (Above _ _) = missing_row
 
 -- the query of a prover
 abbrev pub query_proved : KindProver → Query

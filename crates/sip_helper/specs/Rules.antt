@@ -3,8 +3,8 @@
 --
 -- It takes one message after another: the spelling of a message that may come is received, and the
 -- reply that is owed then is sent, before more is received. It stops at a farewell, at bytes that
--- are no frame, at a query of a kind that it does not answer, at a message out of turn, at the end
--- of the link, or where the link fails or memory runs out.
+-- are no frame, at a message out of turn, at the end of the link, or where the link fails or memory
+-- runs out.
 use Rattle.std.specs.Prelude.{◌≡◌, ◌≢◌, ◌⊎◌, ℕ, ◌<◌, Bool, false, IsTrue, List, [], ◌∷◌, ◌++◌, length, take, Option, Err}
 use Rattle.sip_ports.specs.declared.port.TalkEvent.{TalkEvent}
 use Rattle.sip_ports.specs.declared.port.TalkEvent.TheVariants.{Ended}
@@ -23,7 +23,6 @@ use Rattle.sip_wire.specs.Values.{InRange}
 use Rattle.sip_helper.specs.declared.status.HelpStatus.{HelpStatus}
 use Rattle.sip_helper.specs.declared.status.HelpStatus.TheVariants.{Served, BadFrame, PeerClosed, PeerFault, OutOfMemory}
 use Rattle.sip_helper.specs.KindRows.{out_of_turn}
-use Rattle.sip_helper.specs.Turns.{is_known}
 
 -- ---- rules
 
@@ -109,19 +108,10 @@ module _ {S : Type 0} (r : Rules S) where
 
   -- ---- how it stops; `rest` is what happens behind the turns
 
-  -- a query of a kind that is not answered, wherever it stands: nothing is sent, as where the bytes
-  -- are no frame
-  pub record IsUnknownBy (s : S) (rest : List TalkEvent) : Type 0 where
-    pub message : Message
-    pub is : IsMessageBy s message
-    pub unknown : is_known message ≡ false
-    pub said : rest ≡ ins (spelling (r.version s) message)
-
-  -- a message that is known and may not come, and the refusal
+  -- a message that may not come, and the refusal
   pub record IsRefusedBy (s : S) (rest : List TalkEvent) : Type 0 where
     pub message : Message
     pub is : IsMessageBy s message
-    pub known : IsTrue (is_known message)
     pub out : r.is_allowed s message ≡ false
     pub said : rest ≡ ins (spelling (r.version s) message)
         ++ outs (spelling (r.version s) (messages.Refuse out_of_turn))
@@ -135,11 +125,10 @@ module _ {S : Type 0} (r : Rules S) where
     pub said : rest ≡ ins (spelling (r.version s) turn.message)
         ++ outs (take sent (r.owed (heard_by s turn)))
 
-  -- the refusal of a message that is known and may not come is cut short
+  -- the refusal of a message that may not come is cut short
   pub record IsRefusalCutBy (s : S) (rest : List TalkEvent) : Type 0 where
     pub message : Message
     pub is : IsMessageBy s message
-    pub known : IsTrue (is_known message)
     pub out : r.is_allowed s message ≡ false
     pub sent : ℕ
     pub short : sent < length (spelling (r.version s) (messages.Refuse out_of_turn))
@@ -155,8 +144,7 @@ module _ {S : Type 0} (r : Rules S) where
   abbrev pub EndsAs : S → ℕ → List TalkEvent → HelpStatus → Type 0
   EndsAs s at rest Served = rest ≡ ins (spelling (r.version s) r.farewell)
   EndsAs s at rest (BadFrame offset) =
-      (offset ≡ at) × (IsNoFrameAt (r.place s) (r.version s) rest ⊎ IsUnknownBy s rest
-      ⊎ IsRefusedBy s rest)
+      (offset ≡ at) × (IsNoFrameAt (r.place s) (r.version s) rest ⊎ IsRefusedBy s rest)
   EndsAs s at rest PeerClosed = IsFramePartAt (r.place s) (r.version s) (Ended ∷ []) rest
   EndsAs s at rest PeerFault = IsCutShortBy s rest
   EndsAs s at rest OutOfMemory = IsCutShortBy s rest

@@ -8,7 +8,7 @@ use Rattle.sip_wire.specs.declared.message.Message.{Message}
 use Rattle.sip_wire.specs.declared.message.Message.TheVariants as messages
 use Rattle.sip_wire.specs.declared.version.Version.{Version}
 use Rattle.sip_helper.specs.declared.status.HelpStatus.{HelpStatus}
-use Rattle.sip_helper.specs.Rules.{AreTurnsBy, EndsAs, IsCutShortBy, IsFramePartAt, IsMessageAt, IsNoFrameAt, IsRefusalCutBy, IsRefusedBy, IsReplyCutBy, IsTurnBy, IsUnknownBy, Rules, ServesBy, after_turn_by, heard_by, state_after_by, turn_talk_by, turns_talk_by}
+use Rattle.sip_helper.specs.Rules.{AreTurnsBy, EndsAs, IsCutShortBy, IsFramePartAt, IsMessageAt, IsNoFrameAt, IsRefusalCutBy, IsRefusedBy, IsReplyCutBy, IsTurnBy, Rules, ServesBy, after_turn_by, heard_by, state_after_by, turn_talk_by, turns_talk_by}
 use Rattle.sip_helper.specs.Turns.{HelperState, after_answer, fresh, is_allowed, owed, step}
 pub use Rattle.sip_helper.specs.Rules.{Turn}
 
@@ -55,9 +55,6 @@ AreTurns = AreTurnsBy helper_rules
 
 abbrev pub IsNoFrame : Version → List TalkEvent → Type 0
 IsNoFrame = IsNoFrameAt places.ToHelper
-
-abbrev pub IsUnknown : HelperState → List TalkEvent → Type 0
-IsUnknown = IsUnknownBy helper_rules
 
 abbrev pub IsRefused : HelperState → List TalkEvent → Type 0
 IsRefused = IsRefusedBy helper_rules

@@ -113,12 +113,7 @@ stays_legal depth w us =
 
 -- ---- which message may come next
 
--- the messages that a helper knows, which are all but the queries of a kind that is not built
-abbrev pub is_known : Message → Bool
-is_known (messages.Query q) = is_built q
-is_known _ = true
-
--- a query may be asked of a stream of this depth
+-- a query may be asked of a stream of this depth; one of a kind that is not built may not
 abbrev pub may_ask : ℕ → HelperState → Query → Bool
 may_ask depth s q =
     is_none s.open_query && nat_lt s.queries most_queries && is_built q && is_below depth q

@@ -10,7 +10,7 @@ ghost use Rattle.sip_vector.specs.Limits.{most_depth};
 ghost use Rattle.sip_wire.specs.Spelling.{spelling};
 ghost use Rattle.sip_wire.specs.Versions.{deepest};
 ghost use Rattle.sip_helper.specs.Vectors.{Vectors as AnyVectors};
-ghost use Rattle.sip_helper.specs.Turns.{after_reply, is_known, may_reveal, reply_to, with_challenge};
+ghost use Rattle.sip_helper.specs.Turns.{after_reply, may_reveal, reply_to, with_challenge};
 ghost use Rattle.sip_helper.specs.inside.Answering.{query_of, open_of, IsReady, CanReply};
 ghost use Rattle.sip_helper.specs.inside.Legal.{HaveDepth};
 
@@ -144,15 +144,5 @@ impl Asked {
         let mut asked = self;
         asked.given = true;
         Some(asked)
-    }
-}
-
-/// Whether a helper knows the message: it knows no query of a kind that is not built.
-pub(crate) fn is_known(message: &Message) -> bool
-    ensures { result ≡ is_known message.now }
-{
-    match message {
-        Message::Query(query) => query.is_built(),
-        _ => true,
     }
 }

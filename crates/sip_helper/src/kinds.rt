@@ -9,6 +9,7 @@ ghost use Rattle.sip_helper.specs.Sums.{asked_for};
 
 use crate::hitters::{HittersProver, Least};
 use crate::prover::{NotStarted, Prover};
+use crate::refusal::OUT_OF_TURN;
 use crate::sub_vector::SubVectorProver;
 use crate::sums::{SumQuery, SumsProver};
 use crate::vectors::Vectors;
@@ -53,6 +54,8 @@ impl KindProver {
             Query::Share { side, num, den } => {
                 KindProver::start_hitters(alloc, vectors, side, Least::Share { num, den })
             }
+            // It is not built, so no turn comes to it.
+            Query::Above { .. } => Err(NotStarted::Refused(OUT_OF_TURN)),
         }
     }
 

@@ -13,19 +13,18 @@
 //! - Behind a stream in any pieces and a query that is not refused, the honest reply over the stream's own vectors is owed, whatever was
 //!   revealed; no reply to a challenge is a refusal, and no reply that is owed is empty (`turn_laws`).
 //! - `serve` takes turns, each of them a message that may come and then its reply, and stops at a Bye, a frame that has no spelling,
-//!   a query of a kind that is not answered, a message out of turn, the end of the link, or a fault of it; its status says at
-//!   which, and a frame's offset is exact (`Serves`). It ends, whatever comes.
+//!   a message out of turn, the end of the link, or a fault of it; its status says at which, and a frame's offset is exact
+//!   (`Serves`). It ends, whatever comes.
 //!
 //! # The definitions to read
 //!
 //! `specs/Turns.antt` has the state, which message may come next, what it does, and the reply that is owed. The queries that are
-//! answered are those of `is_built`; `hear` refuses another one as out of turn, and `serve` does not come to it: it ends there as
-//! at bytes without a spelling (`is_known`, `IsUnknownBy`). `specs/Rules.antt` says what a talk on a link is, by its status, for any rules of
+//! answered are those of `is_built`; another one is out of turn. `specs/Rules.antt` says what a talk on a link is, by its status, for any rules of
 //! turns, and `specs/Serving.antt` has those of queries.
 //!
 //! What a kind of query means to a helper is a row (`specs/KindRows.antt`): which refusal applies to it
 //! over the two vectors, and the honest reply behind the challenges so far. `specs/Kinds.antt` has the
-//! row of each kind. Heavy hitters and shares have one, by the threshold that they come to (`specs/Hitters.antt`): a negative
+//! row of each kind; that of a kind that is not built refuses as out of turn. Heavy hitters and shares have one, by the threshold that they come to (`specs/Hitters.antt`): a negative
 //! entry refuses before an answer that may be too wide.
 //!
 //! # How other questions are answered

@@ -9,7 +9,6 @@ ghost use Rattle.sip_helper.specs.inside.Measures.{most_turns};
 ghost use Rattle.sip_helper.specs.inside.OneTurn.{TakesTurn};
 ghost use Rattle.sip_helper.specs.Rules.{ServesBy};
 
-use crate::asked::is_known;
 use crate::refusal::OUT_OF_TURN;
 use crate::{HelpStatus, OutOfTurn};
 use sip_ports::{Link, PortStop, Sink};
@@ -132,9 +131,6 @@ fn take_turn<H: Helps, L: Link>(
         return Err(HelpStatus::of_fault(fault, offset));
     }
     let message = frame.message();
-    if !is_known(message) {
-        return Err(HelpStatus::BadFrame { offset });
-    }
     if helper.take(message).is_err() {
         refuse(version, link)?;
         return Err(HelpStatus::BadFrame { offset });
@@ -151,8 +147,8 @@ fn take_turn<H: Helps, L: Link>(
 /// Hears a talk and answers, until a farewell.
 ///
 /// Each reply that is owed goes out before the next frame is taken. A message out of turn is answered by a refusal, and ends the
-/// talk; a frame without a spelling ends it with no answer, and so does a query of a kind that is not answered, wherever it
-/// stands. The loop ends, since each turn but a farewell leaves fewer turns.
+/// talk, and so is a query of a kind that is not built; a frame without a spelling ends it with no answer. The loop ends, since
+/// each turn but a farewell leaves fewer turns.
 ///
 /// The memory for the frame is taken first. Where that is refused the link is left alone; from then on `OutOfMemory` comes only
 /// where the link's count of wants rose, since want of memory for an answer is an answer to the verifier.

@@ -4,7 +4,7 @@ use Rattle.sip_wire.specs.declared.version.Version.{Version}
 use Rattle.sip_field.specs.LawProofs.Primes.{m61_prime}
 use Rattle.sip_field.specs.Moduli.{m61_modulus}
 use Rattle.sip_vector.specs.declared.query.Query.{Query}
-use Rattle.sip_vector.specs.declared.query.Query.TheVariants.{Sub, Range, F2, Inner, Heavy, Share}
+use Rattle.sip_vector.specs.declared.query.Query.TheVariants.{Sub, Range, F2, Inner, Heavy, Share, Above}
 use Rattle.sip_vector.specs.declared.update.Side.{Side}
 use Rattle.sip_vector.specs.declared.update.Side.TheVariants.{First, Second}
 use Rattle.sip_vector.specs.declared.update.Entry.{Entry}
@@ -221,6 +221,7 @@ few_wrong version depth stream (F2 side) can legal = λ _. sum_few version depth
 few_wrong version depth stream Inner can legal = λ _. sum_few version depth stream Inner
     (lists (vector depth stream First) (vector depth stream Second)) refl legal
 few_wrong version depth stream (Heavy side at_least) can legal = heavy_few version depth stream side at_least legal
+few_wrong version depth stream (Above side at_least) can legal = absurd (let no : false ≡ true = can.0 in cc)
 few_wrong version depth stream (Share side num den) can legal =
     heavy_few version depth stream side (share_of num den (int_sum (vector depth stream side))) legal
 
@@ -242,5 +243,6 @@ question_counts version depth stream Inner block taken written fits legal accept
     legal block taken written accepted
 question_counts version depth stream (Heavy side at_least) block taken written fits legal accepted =
     heavy_counts version depth stream side at_least legal block taken written accepted
+question_counts version depth stream (Above side at_least) block taken written fits legal accepted = absurd accepted
 question_counts version depth stream (Share side num den) block taken written fits legal accepted =
     share_counts version depth stream side num den (omega (arith, fits.0, fits.1)) legal block taken written accepted

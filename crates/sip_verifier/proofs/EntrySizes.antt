@@ -74,6 +74,9 @@ module _ (version : Version) (lo hi : ℕ) where
   heard_entries kinds.Found a = absurd cc
   heard_entries kinds.End a = absurd cc
   heard_entries kinds.AskMoment a = absurd cc
+  heard_entries kinds.Held a = absurd cc
+  heard_entries kinds.Recall a = absurd cc
+  heard_entries kinds.Marks a = absurd cc
   heard_entries (kinds.Power degree) a = absurd cc
 
   heard_siblings : (kind : Kind) → allows places.Siblings kind ≡ true → allows places.ToVerifier kind ≡ true
@@ -95,6 +98,9 @@ module _ (version : Version) (lo hi : ℕ) where
   heard_siblings kinds.Found a = absurd cc
   heard_siblings kinds.End a = absurd cc
   heard_siblings kinds.AskMoment a = absurd cc
+  heard_siblings kinds.Held a = absurd cc
+  heard_siblings kinds.Recall a = absurd cc
+  heard_siblings kinds.Marks a = absurd cc
   heard_siblings (kinds.Power degree) a = absurd cc
 
   heard_sub : (xs : List Siblings) (kind : Kind) → allows (place_of xs) kind ≡ true → allows places.ToVerifier kind ≡ true
@@ -140,6 +146,9 @@ module _ (version : Version) (lo hi : ℕ) where
   due es xs t (messages.Found flag index) bytes rest h read e = absurd cc
   due es xs t messages.End bytes rest h read e = absurd cc
   due es xs t (messages.AskMoment side degree) bytes rest h read e = absurd cc
+  due es xs t (messages.Held held) bytes rest h read e = absurd cc
+  due es xs t (messages.Recall count) bytes rest h read e = absurd cc
+  due es xs t (messages.Marks v) bytes rest h read e = absurd cc
   due es xs t (messages.Power v) bytes rest h read e = absurd cc
 
   none_left : (xs : List Siblings) (x : Siblings) (count : ℕ) → left_of version lo hi (xs ++ x ∷ []) count ≤ 0
@@ -176,6 +185,9 @@ module _ (version : Version) (lo hi : ℕ) where
   complete es xs t (messages.Found flag index) bytes rest h read e = absurd cc
   complete es xs t messages.End bytes rest h read e = absurd cc
   complete es xs t (messages.AskMoment side degree) bytes rest h read e = absurd cc
+  complete es xs t (messages.Held held) bytes rest h read e = absurd cc
+  complete es xs t (messages.Recall count) bytes rest h read e = absurd cc
+  complete es xs t (messages.Marks v) bytes rest h read e = absurd cc
   complete es xs t (messages.Power v) bytes rest h read e = absurd cc
 
   cut : (xs : List Siblings) (bytes : List ℕ) (fault : WireFault) → read_frame version (place_of xs) bytes ≡ Err fault → reason_of fault ≡ reasons.Closed

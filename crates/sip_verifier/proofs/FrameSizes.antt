@@ -13,14 +13,14 @@ use Rattle.sip_wire.specs.declared.message.Message.{Message}
 use Rattle.sip_wire.specs.declared.message.WireFault.{WireFault}
 use Rattle.sip_wire.specs.declared.message.WireFault.TheVariants as faults
 use Rattle.sip_wire.specs.declared.version.Version.{Version}
-use Rattle.sip_wire.specs.Table.{Field, Shape, allows, entry_fields, kind_at, leaf_fields, node_fields, repeat, shape, sibling_fields, siblings_shape, size}
+use Rattle.sip_wire.specs.Table.{Field, Shape, allows, entry_fields, kind_at, leaf_fields, node_fields, repeat, shape, sibling_fields, siblings_shape, size, stands_in}
 use Rattle.sip_wire.specs.Spelling.{asked, asked_by, body_fault, frame_fault, kind_fault, kind_of, length_in, mark_in, mark_of, numbers_in, said_in}
 use Rattle.sip_wire.specs.Values.{entries_from, leaves_from, message_from, nodes_from}
 use Rattle.sip_wire.specs.Faults.{IsOfBytes}
 use Rattle.sip_wire.specs.Reading.{read_frame, read_of, said_by}
 use Rattle.sip_wire.proofs.Lengths.{length_of_mark}
 use Rattle.sip_wire.proofs.ReadingLaws.{asked-append, asked-least, first_of, read_frame-rest, same_answer}
-use Rattle.sip_wire.proofs.Whole.{asked_whole, of_body, past_length}
+use Rattle.sip_wire.proofs.Whole.{asked_whole, of_body, past_length, stands_by_length}
 
 -- ---- what is made of so many numbers
 
@@ -118,6 +118,9 @@ made_marked version kinds.AskLook mark ns a is e = absurd cc
 made_marked version kinds.Found mark ns a is e = absurd cc
 made_marked version kinds.End mark ns a is e = absurd cc
 made_marked version kinds.AskMoment mark ns a is e = absurd cc
+made_marked version kinds.Held mark ns a is e = absurd cc
+made_marked version kinds.Recall mark ns a is e = absurd cc
+made_marked version kinds.Marks mark ns a is e = absurd cc
 made_marked version (kinds.Power degree) mark ns a is e = absurd cc
 
 -- ---- a frame, whole or not
@@ -139,6 +142,16 @@ record Tested (version : Version) (place : Place) (kind : Kind) (frame : List �
   has_length : (shape version kind).has_length (length_in frame) ≡ true
   same : kind_fault version place (Some kind) frame ≡ body_fault (shape version kind) (drop 3 frame)
 
+-- a length that the kind does not have is a fault, and so is a kind that does not stand in the version
+no_such : (version : Version) (place : Place) (kind : Kind) (frame : List ℕ) → allows place kind ≡ true → (shape version kind).has_length (length_in frame) ≡ false
+    → (f : WireFault) × IsOfBytes f × (kind_fault version place (Some kind) frame ≡ Some f)
+unfolding kind_fault
+no_such version place kind frame ea eb = by_version (stands_in kind version) refl
+  where
+    by_version : (stands : Bool) → stands_in kind version ≡ stands → (f : WireFault) × IsOfBytes f × (kind_fault version place (Some kind) frame ≡ Some f)
+    by_version true es = (faults.BadLength, tt, rw (ea, es, eb) refl)
+    by_version false es = (faults.BadKind, tt, rw (ea, es) refl)
+
 -- a frame that is whole has the fault of its body, or one of its kind and length
 by_tests : (version : Version) (place : Place) (kind : Kind) (frame : List ℕ) (a b c : Bool)
     → allows place kind ≡ a → (shape version kind).has_length (length_in frame) ≡ b → nat_lt (length frame) (3 + length_in frame) ≡ c
@@ -146,12 +159,12 @@ by_tests : (version : Version) (place : Place) (kind : Kind) (frame : List ℕ) 
     → ((f : WireFault) × IsOfBytes f × (kind_fault version place (Some kind) frame ≡ Some f)) ⊎ Tested version place kind frame
 unfolding kind_fault
 by_tests version place kind frame false b c ea eb ec n k = inl (faults.BadKind, tt, rw ea refl)
-by_tests version place kind frame true false c ea eb ec n k = inl (faults.BadLength, tt, rw (ea, eb) refl)
+by_tests version place kind frame true false c ea eb ec n k = inl (no_such version place kind frame ea eb)
 by_tests version place kind frame true true true ea eb ec n k = absurd (
     let long = asked_whole version place frame kind k ea eb in
     let short : length frame < 3 + length_in frame = grind (arith, nat_tests) in
     omega (arith, long, short, n))
-by_tests version place kind frame true true false ea eb ec n k = inr (record { allowed = ea; has_length = eb; same = rw (ea, eb, ec) refl })
+by_tests version place kind frame true true false ea eb ec n k = inr (record { allowed = ea; has_length = eb; same = rw (ea, stands_by_length version kind (length_in frame) eb, eb, ec) refl })
 
 -- a whole frame, of a kind that may stand at its place, has the fault of its body
 record IsWhole (version : Version) (place : Place) (bytes frame : List ℕ) : Type 0 where

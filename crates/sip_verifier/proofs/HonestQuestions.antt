@@ -8,7 +8,7 @@ use Rattle.std.specs.List.{flat_map}
 use Rattle.sip_wire.specs.declared.version.Version.{Version}
 use Rattle.sip_field.specs.Moduli.{m61_modulus}
 use Rattle.sip_vector.specs.declared.query.Query.{Query}
-use Rattle.sip_vector.specs.declared.query.Query.TheVariants.{Sub, Range, F2, Inner, Heavy, Share}
+use Rattle.sip_vector.specs.declared.query.Query.TheVariants.{Sub, Range, F2, Inner, Heavy, Share, Above}
 use Rattle.sip_vector.specs.declared.update.Side.{Side}
 use Rattle.sip_vector.specs.declared.update.Side.TheVariants.{First, Second}
 use Rattle.sip_vector.proofs.Sides.{total-is}
@@ -221,6 +221,7 @@ module _ (version : Version) (depth : ℕ) (stream : List Update) (some : 1 ≤ 
       replies written b a accepts agree
   question_done (Heavy side at_least) block replies written b a fits speaks few at accepts agree =
       heavy_done version depth stream side at_least fits.0 some speaks.shallow legal few.0 block at.size replies written b a accepts agree
+  question_done (Above side least) block replies written b a fits speaks few at accepts agree = absurd accepts
   question_done (Share side num den) block replies written b a fits speaks few at accepts agree =
       let at_least : ℕ = share_of num den (int_sum (vector depth stream side)) in
       let least : 1 ≤ at_least = share_least num den (int_sum (vector depth stream side)) fits.0 fits.1 in
@@ -248,6 +249,7 @@ module _ (version : Version) (depth : ℕ) (stream : List Update) (some : 1 ≤ 
       replies fault b a faulty other agree
   question_faulty (Heavy side at_least) block replies fault b a fits speaks few at faulty other agree =
       heavy_faulty version depth stream side at_least fits.0 some speaks.shallow legal few.0 block at.size replies fault b a faulty other agree
+  question_faulty (Above side least) block replies fault b a fits speaks few at faulty other agree = absurd faulty
   question_faulty (Share side num den) block replies fault b a fits speaks few at faulty other agree =
       let at_least : ℕ = share_of num den (int_sum (vector depth stream side)) in
       let least : 1 ≤ at_least = share_least num den (int_sum (vector depth stream side)) fits.0 fits.1 in

@@ -7,7 +7,7 @@ use Rattle.std.proofs.lemmas.Bool.{cases_Bool, leb-false, lt-leb, or_left, or_ri
 use Rattle.std.proofs.lemmas.List.Elements.{All-cons, All-nil, All-head, All-tail, All-weaker, recursion_from_All}
 use Rattle.sip_field.specs.Moduli.{m61_modulus}
 use Rattle.sip_vector.specs.declared.query.Query.{Query}
-use Rattle.sip_vector.specs.declared.query.Query.TheVariants.{Sub, Range, F2, Inner, Heavy, Share}
+use Rattle.sip_vector.specs.declared.query.Query.TheVariants.{Sub, Range, F2, Inner, Heavy, Share, Above}
 use Rattle.sip_vector.specs.declared.update.Side.{Side}
 use Rattle.sip_vector.specs.declared.update.Update.{Update}
 use Rattle.sip_vector.specs.Answers.{Answer, Fits, answer, number, pairs}
@@ -129,6 +129,7 @@ module _ (version : Version) (depth : ℕ) (stream : List Update) (legal : IsLeg
         (question_counts version depth stream Inner block taken written fits legal accepted tt).counts strategy written (all_said accepted.all) refl wrong
     taken_wrongly (Heavy side t) fits accepted can wrong =
         heavy_taken side t (answer depth stream (Heavy side t)) (λ reached. refl) (λ below nothing. below_none side t block (can nothing) below) accepted wrong
+    taken_wrongly (Above side t) fits accepted can wrong = absurd accepted
     taken_wrongly (Share side num den) fits accepted can wrong =
         let t : ℕ = share_of num den (int_sum (vector depth stream side)) in
         let some : 1 ≤ den = omega (arith, fits.0, fits.1) in

@@ -89,6 +89,9 @@ heard_leaves kinds.AskLook a = absurd cc
 heard_leaves kinds.Found a = absurd cc
 heard_leaves kinds.End a = absurd cc
 heard_leaves kinds.AskMoment a = absurd cc
+heard_leaves kinds.Held a = absurd cc
+heard_leaves kinds.Recall a = absurd cc
+heard_leaves kinds.Marks a = absurd cc
 heard_leaves (kinds.Power degree) a = absurd cc
 
 heard_nodes : (kind : Kind) → allows places.Nodes kind ≡ true → allows places.ToVerifier kind ≡ true
@@ -110,6 +113,9 @@ heard_nodes kinds.AskLook a = absurd cc
 heard_nodes kinds.Found a = absurd cc
 heard_nodes kinds.End a = absurd cc
 heard_nodes kinds.AskMoment a = absurd cc
+heard_nodes kinds.Held a = absurd cc
+heard_nodes kinds.Recall a = absurd cc
+heard_nodes kinds.Marks a = absurd cc
 heard_nodes (kinds.Power degree) a = absurd cc
 
 heard_at : (first : Bool) (kind : Kind) → allows (place_at first) kind ≡ true → allows places.ToVerifier kind ≡ true
@@ -173,6 +179,9 @@ module _ (version : Version) (p : ℕ) (q : Asked) where
   due first s t (messages.Found flag index) bytes rest f h read e = absurd cc
   due first s t messages.End bytes rest f h read e = absurd cc
   due first s t (messages.AskMoment side degree) bytes rest f h read e = absurd cc
+  due first s t (messages.Held held) bytes rest f h read e = absurd cc
+  due first s t (messages.Recall count) bytes rest f h read e = absurd cc
+  due first s t (messages.Marks v) bytes rest f h read e = absurd cc
   due first s t (messages.Power v) bytes rest f h read e = absurd cc
 
   -- a level's end completes it, and of the next level nothing was received
@@ -203,6 +212,9 @@ module _ (version : Version) (p : ℕ) (q : Asked) where
   complete first s t (messages.Found flag index) bytes rest read e = absurd cc
   complete first s t messages.End bytes rest read e = absurd cc
   complete first s t (messages.AskMoment side degree) bytes rest read e = absurd cc
+  complete first s t (messages.Held held) bytes rest read e = absurd cc
+  complete first s t (messages.Recall count) bytes rest read e = absurd cc
+  complete first s t (messages.Marks v) bytes rest read e = absurd cc
   complete first s t (messages.Power v) bytes rest read e = absurd cc
 
   cut : (first : Bool) (bytes : List ℕ) (fault : WireFault) → read_frame version (place_at first) bytes ≡ Err fault → reason_of fault ≡ reasons.Closed

@@ -84,6 +84,9 @@ at_entries version kinds.AskLook mark a is = absurd cc
 at_entries version kinds.Found mark a is = absurd cc
 at_entries version kinds.End mark a is = absurd cc
 at_entries version kinds.AskMoment mark a is = absurd cc
+at_entries version kinds.Held mark a is = absurd cc
+at_entries version kinds.Recall mark a is = absurd cc
+at_entries version kinds.Marks mark a is = absurd cc
 at_entries version (kinds.Power degree) mark a is = absurd cc
 
 -- at the place of siblings alone
@@ -106,6 +109,9 @@ at_siblings version kinds.AskLook mark a is = absurd cc
 at_siblings version kinds.Found mark a is = absurd cc
 at_siblings version kinds.End mark a is = absurd cc
 at_siblings version kinds.AskMoment mark a is = absurd cc
+at_siblings version kinds.Held mark a is = absurd cc
+at_siblings version kinds.Recall mark a is = absurd cc
+at_siblings version kinds.Marks mark a is = absurd cc
 at_siblings version (kinds.Power degree) mark a is = absurd cc
 
 -- of a claim
@@ -128,6 +134,9 @@ at_claim version kinds.AskLook mark a is = absurd cc
 at_claim version kinds.Found mark a is = absurd cc
 at_claim version kinds.End mark a is = absurd cc
 at_claim version kinds.AskMoment mark a is = absurd cc
+at_claim version kinds.Held mark a is = absurd cc
+at_claim version kinds.Recall mark a is = absurd cc
+at_claim version kinds.Marks mark a is = absurd cc
 at_claim version (kinds.Power degree) mark a is = absurd cc
 
 -- of a polynomial
@@ -150,6 +159,9 @@ at_poly version kinds.AskLook mark a is = absurd cc
 at_poly version kinds.Found mark a is = absurd cc
 at_poly version kinds.End mark a is = absurd cc
 at_poly version kinds.AskMoment mark a is = absurd cc
+at_poly version kinds.Held mark a is = absurd cc
+at_poly version kinds.Recall mark a is = absurd cc
+at_poly version kinds.Marks mark a is = absurd cc
 at_poly version (kinds.Power degree) mark a is = absurd cc
 
 -- of leaves and of nodes none is longer than one of leaves in full
@@ -173,6 +185,9 @@ at_leaves version kinds.AskLook mark a is = absurd cc
 at_leaves version kinds.Found mark a is = absurd cc
 at_leaves version kinds.End mark a is = absurd cc
 at_leaves version kinds.AskMoment mark a is = absurd cc
+at_leaves version kinds.Held mark a is = absurd cc
+at_leaves version kinds.Recall mark a is = absurd cc
+at_leaves version kinds.Marks mark a is = absurd cc
 at_leaves version (kinds.Power degree) mark a is = absurd cc
 
 pub at_nodes : (version : Version) → IsMost version places.Nodes (5 + 512 * size (leaf_fields version))
@@ -195,4 +210,7 @@ at_nodes version kinds.AskLook mark a is = absurd cc
 at_nodes version kinds.Found mark a is = absurd cc
 at_nodes version kinds.End mark a is = absurd cc
 at_nodes version kinds.AskMoment mark a is = absurd cc
+at_nodes version kinds.Held mark a is = absurd cc
+at_nodes version kinds.Recall mark a is = absurd cc
+at_nodes version kinds.Marks mark a is = absurd cc
 at_nodes version (kinds.Power degree) mark a is = absurd cc

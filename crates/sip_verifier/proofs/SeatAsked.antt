@@ -7,7 +7,7 @@ use Rattle.sip_wire.specs.declared.version.Version.{Version}
 use Rattle.sip_field.specs.Moduli.{m61_modulus}
 use Rattle.sip_ports.specs.declared.port.TalkEvent.{TalkEvent}
 use Rattle.sip_vector.specs.declared.query.Query.{Query}
-use Rattle.sip_vector.specs.declared.query.Query.TheVariants.{Sub, Range, F2, Inner, Heavy, Share}
+use Rattle.sip_vector.specs.declared.query.Query.TheVariants.{Sub, Range, F2, Inner, Heavy, Share, Above}
 use Rattle.sip_vector.specs.declared.update.Entry.{Entry}
 use Rattle.sip_vector.specs.declared.update.Side.{Side}
 use Rattle.sip_vector.specs.declared.update.Side.TheVariants.{First, Second}
@@ -76,6 +76,7 @@ sub_is_protocol version depth stream (F2 side) block lo hi value is stands = abs
 sub_is_protocol version depth stream Inner block lo hi value is stands = absurd stands
 sub_is_protocol version depth stream (Heavy side at_least) block lo hi value is stands = absurd stands
 sub_is_protocol version depth stream (Share side num den) block lo hi value is stands = absurd stands
+sub_is_protocol version depth stream (Above side least) block lo hi value is stands = absurd stands
 
 pub sub_asks : (version : Version) (depth : ℕ) (stream : List Update) (s : Seated) (lo hi value : ℕ)
     (block at : List ℕ) (old new before now : Option (List TalkEvent)) (places : List Entry)
@@ -135,6 +136,7 @@ sum_is_protocol version depth stream Inner block l product is same =
     })
 sum_is_protocol version depth stream (Heavy side at_least) block l product is same = absurd cc
 sum_is_protocol version depth stream (Share side num den) block l product is same = absurd cc
+sum_is_protocol version depth stream (Above side least) block l product is same = absurd cc
 
 pub sum_asks : (version : Version) (depth : ℕ) (stream : List Update) (s : Seated) (l : Lists) (product : ℕ)
     (at : List ℕ) (old new before now : Option (List TalkEvent)) (places : List Entry)
@@ -223,6 +225,7 @@ heavy_is_protocol version depth stream (Heavy own least) block side at_least has
       waits = λ replies w. w;
     })
 heavy_is_protocol version depth stream (Share own num den) block side at_least hash sum is stands = absurd cc
+heavy_is_protocol version depth stream (Above own least) block side at_least hash sum is stands = absurd stands
 
 -- likewise for a share, by the count that it comes to
 share_is_protocol : (version : Version) (depth : ℕ) (stream : List Update) (query : Query) (block : List ℕ)
@@ -233,6 +236,7 @@ share_is_protocol version depth stream (Sub lo hi) block side num den at_least h
 share_is_protocol version depth stream (Range own lo hi) block side num den at_least hash sum is least stands = absurd stands
 share_is_protocol version depth stream (F2 own) block side num den at_least hash sum is least stands = absurd stands
 share_is_protocol version depth stream Inner block side num den at_least hash sum is least stands = absurd stands
+share_is_protocol version depth stream (Above own count) block side num den at_least hash sum is least stands = absurd stands
 share_is_protocol version depth stream (Heavy own count) block side num den at_least hash sum is least stands = absurd cc
 share_is_protocol version depth stream (Share own over under) block side num den at_least hash sum is least stands =
     let same_num : over ≡ num = cc in

@@ -1,7 +1,7 @@
 -- A seat that stands for a stream has a challenge for each level.
 use Rattle.std.proofs.Common.{◌≡◌, ℕ, List, length, sym, ◌∙◌}
 use Rattle.sip_vector.specs.declared.query.Query.{Query}
-use Rattle.sip_vector.specs.declared.query.Query.TheVariants.{Sub, Range, F2, Inner, Heavy, Share}
+use Rattle.sip_vector.specs.declared.query.Query.TheVariants.{Sub, Range, F2, Inner, Heavy, Share, Above}
 use Rattle.sip_vector.specs.declared.update.Side.TheVariants.{First}
 use Rattle.sip_vector.specs.declared.update.Update.{Update}
 use Rattle.sip_vector.proofs.Sides.{length-vector}
@@ -31,6 +31,7 @@ runs_levels depth stream (Heavy side t) block (root_is v) r = absurd r
 runs_levels depth stream (Heavy side t) block (point_is v) r = absurd r
 runs_levels depth stream (Heavy side t) block (points_are v w) r = absurd r
 runs_levels depth stream (Share side n m) block (aug_root_is v k) r = same_power (length block) depth (sym r.whole ∙ length-vector depth stream side)
+runs_levels depth stream (Above side least) block running r = absurd r
 runs_levels depth stream (Share side n m) block (root_is v) r = absurd r
 runs_levels depth stream (Share side n m) block (point_is v) r = absurd r
 runs_levels depth stream (Share side n m) block (points_are v w) r = absurd r

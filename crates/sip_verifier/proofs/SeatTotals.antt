@@ -9,7 +9,7 @@ use Rattle.sip_field.specs.Moduli.{m61_modulus}
 use Rattle.sip_tree.specs.Blocks.{total_after}
 use Rattle.sip_tree.specs.StandsFor.{AugRootStandsFor}
 use Rattle.sip_vector.specs.declared.query.Query.{Query}
-use Rattle.sip_vector.specs.declared.query.Query.TheVariants.{Sub, Range, F2, Inner, Heavy, Share}
+use Rattle.sip_vector.specs.declared.query.Query.TheVariants.{Sub, Range, F2, Inner, Heavy, Share, Above}
 use Rattle.sip_vector.specs.declared.update.Side.{Side}
 use Rattle.sip_vector.specs.declared.update.Side.TheVariants.{First, Second}
 use Rattle.sip_vector.specs.declared.update.Update.{Update}
@@ -99,6 +99,7 @@ seat_total depth stream s side hash sum below stands heavy is =
     by_query Inner own runs = absurd runs
     by_query (Heavy side' least) own runs = by_side side' own runs
     by_query (Share side' num den) own runs = by_side side' own runs
+    by_query (Above side' least) own runs = absurd runs
 
 -- seats have room for what a legal stream goes on with
 pub legal_room : (depth : ℕ) (queries : List Query) (blocks : List (List ℕ)) (stream updates : List Update) (s : Seating)

@@ -7,7 +7,7 @@ use Rattle.sip_field.specs.Moduli.{m61_modulus}
 use Rattle.sip_mle.specs.StandsFor.{PointStandsFor}
 use Rattle.sip_tree.specs.StandsFor.{RootStandsFor, AugRootStandsFor}
 use Rattle.sip_vector.specs.declared.query.Query.{Query}
-use Rattle.sip_vector.specs.declared.query.Query.TheVariants.{Sub, Range, F2, Inner, Heavy, Share}
+use Rattle.sip_vector.specs.declared.query.Query.TheVariants.{Sub, Range, F2, Inner, Heavy, Share, Above}
 use Rattle.sip_vector.specs.declared.update.Side.{Side}
 use Rattle.sip_vector.specs.declared.update.Side.TheVariants.{First, Second}
 use Rattle.sip_vector.specs.declared.update.Update.{Update}
@@ -105,6 +105,7 @@ module _ (depth : ℕ) (stream updates : List Update) (block : List ℕ) where
   root_further side Inner block' value value' all is raised stands = absurd stands
   root_further side (Heavy own least) block' value value' all is raised stands = absurd stands
   root_further side (Share own num den) block' value value' all is raised stands = absurd stands
+  root_further side (Above own least) block' value value' all is raised stands = absurd stands
 
   -- or its extension
   pub point_further : (side : Side) (query : Query) (block' : List ℕ) (value value' : ℕ)
@@ -119,6 +120,7 @@ module _ (depth : ℕ) (stream updates : List Update) (block : List ℕ) where
   point_further side Inner block' value value' all is raised stands = absurd stands
   point_further side (Heavy own least) block' value value' all is raised stands = absurd stands
   point_further side (Share own num den) block' value value' all is raised stands = absurd stands
+  point_further side (Above own least) block' value value' all is raised stands = absurd stands
 
   -- or its two extensions, each by the updates of its side
   pub points_further : (query : Query) (block' : List ℕ) (first second first' second' : ℕ)
@@ -134,6 +136,7 @@ module _ (depth : ℕ) (stream updates : List Update) (block : List ℕ) where
   )
   points_further (Heavy own least) block' first second first' second' one other stands = absurd stands
   points_further (Share own num den) block' first second first' second' one other stands = absurd stands
+  points_further (Above own least) block' first second first' second' one other stands = absurd stands
 
   -- or its augmented root
   pub aug_root_further : (side : Side) (query : Query) (block' : List ℕ) (hash hash' : ℕ) (total total' : ℤ)
@@ -146,6 +149,7 @@ module _ (depth : ℕ) (stream updates : List Update) (block : List ℕ) where
   aug_root_further side Inner block' hash hash' total total' all is raised stands = absurd stands
   aug_root_further side (Heavy own least) block' hash hash' total total' all is raised stands =
       subst (AugRootStandsFor m61_modulus block' hash' total') (sym (vector_own depth stream updates side own all is)) (raised _ stands)
+  aug_root_further side (Above own least) block' hash hash' total total' all is raised stands = absurd stands
   aug_root_further side (Share own num den) block' hash hash' total total' all is raised stands =
       subst (AugRootStandsFor m61_modulus block' hash' total') (sym (vector_own depth stream updates side own all is)) (raised _ stands)
 
@@ -174,6 +178,7 @@ module _ (depth : ℕ) (stream updates : List Update) (block : List ℕ) where
   runs_on side (Heavy own least) (points_are first second) all other stands = absurd stands
   runs_on side (Heavy own least) (aug_root_is hash total) all other stands =
       subst (AugRootStandsFor m61_modulus block hash total) (sym (vector_other depth stream updates side own all other)) stands
+  runs_on side (Above own least) running all other stands = absurd stands
   runs_on side (Share own num den) (root_is value) all other stands = absurd stands
   runs_on side (Share own num den) (point_is value) all other stands = absurd stands
   runs_on side (Share own num den) (points_are first second) all other stands = absurd stands
@@ -205,6 +210,7 @@ same_runs depth one other block (Heavy own least) (root_is value) same stands = 
 same_runs depth one other block (Heavy own least) (point_is value) same stands = absurd stands
 same_runs depth one other block (Heavy own least) (points_are first second) same stands = absurd stands
 same_runs depth one other block (Heavy own least) (aug_root_is hash total) same stands = subst (AugRootStandsFor m61_modulus block hash total) (same own) stands
+same_runs depth one other block (Above own least) running same stands = absurd stands
 same_runs depth one other block (Share own num den) (root_is value) same stands = absurd stands
 same_runs depth one other block (Share own num den) (point_is value) same stands = absurd stands
 same_runs depth one other block (Share own num den) (points_are first second) same stands = absurd stands

@@ -11,7 +11,7 @@ use Rattle.sip_field.specs.Moduli.{m61_modulus}
 use Rattle.sip_mle.specs.StandsFor.{PointStandsFor}
 use Rattle.sip_tree.specs.StandsFor.{RootStandsFor, AugRootStandsFor}
 use Rattle.sip_vector.specs.declared.query.Query.{Query}
-use Rattle.sip_vector.specs.declared.query.Query.TheVariants.{Sub, Range, F2, Inner, Heavy, Share}
+use Rattle.sip_vector.specs.declared.query.Query.TheVariants.{Sub, Range, F2, Inner, Heavy, Share, Above}
 use Rattle.sip_vector.specs.declared.update.Side.{Side}
 use Rattle.sip_vector.specs.declared.update.Side.TheVariants.{First, Second}
 use Rattle.sip_vector.specs.Answers.{Fits}
@@ -44,6 +44,7 @@ module _ (depth : ℕ) (block : List ℕ) (size : length block ≡ depth) where
   new_root Inner value kept stands = absurd cc
   new_root (Heavy side least) value kept stands = absurd cc
   new_root (Share side num den) value kept stands = absurd cc
+  new_root (Above side least) value kept stands = absurd cc
 
   pub new_point : (query : Query) (value : ℕ) → IsTrue (keeps query (point_is value))
       → PointStandsFor m61_modulus block value (replicate (2 ^ length block) (pos 0)) → RunsOn depth [] query block (point_is value)
@@ -53,6 +54,7 @@ module _ (depth : ℕ) (block : List ℕ) (size : length block ≡ depth) where
   new_point Inner value kept stands = absurd cc
   new_point (Heavy side least) value kept stands = absurd cc
   new_point (Share side num den) value kept stands = absurd cc
+  new_point (Above side least) value kept stands = absurd cc
 
   pub new_points : (query : Query) (first second : ℕ) → IsTrue (keeps query (points_are first second))
       → PointStandsFor m61_modulus block first (replicate (2 ^ length block) (pos 0))
@@ -63,6 +65,7 @@ module _ (depth : ℕ) (block : List ℕ) (size : length block ≡ depth) where
   new_points Inner first second kept one other = (point_of_none first First one, point_of_none second Second other)
   new_points (Heavy side least) first second kept one other = absurd cc
   new_points (Share side num den) first second kept one other = absurd cc
+  new_points (Above side least) first second kept one other = absurd cc
 
   aug_root_of_none : (hash : ℕ) (total : ℤ) (side : Side)
       → AugRootStandsFor m61_modulus block hash total (replicate (2 ^ length block) (pos 0))
@@ -78,6 +81,7 @@ module _ (depth : ℕ) (block : List ℕ) (size : length block ≡ depth) where
   new_aug_root (F2 side) hash total kept stands = absurd cc
   new_aug_root Inner hash total kept stands = absurd cc
   new_aug_root (Heavy side least) hash total kept stands = aug_root_of_none hash total side stands
+  new_aug_root (Above side least) hash total kept stands = absurd cc
   new_aug_root (Share side num den) hash total kept stands = aug_root_of_none hash total side stands
 
 -- a query that fits passes the test
@@ -87,6 +91,7 @@ fits-does depth (Range side lo hi) fits = and_from _ _ (le-leb lo hi fits.0) (lt
 fits-does depth (F2 side) fits = refl
 fits-does depth Inner fits = refl
 fits-does depth (Heavy side least) fits = and_from _ _ (le-leb 1 least fits.0) (lt-ltb least (2 ^ 63) fits.1)
+fits-does depth (Above side least) fits = and_from _ _ (le-leb 1 least fits.0) (lt-ltb least (2 ^ 63) fits.1)
 fits-does depth (Share side num den) fits =
     and_from _ _ (le-leb 1 num fits.0) (and_from _ _ (le-leb num den fits.1) (le-leb den most_share fits.2))
 

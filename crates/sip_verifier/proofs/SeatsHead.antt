@@ -8,7 +8,7 @@ use Rattle.std.proofs.lemmas.List.Elements.{All-head, All-tail}
 use Rattle.std.proofs.lemmas.List.Concat.{flat_map-append}
 use Rattle.sip_wire.specs.declared.version.Version.{Version}
 use Rattle.sip_vector.specs.declared.query.Query.{Query}
-use Rattle.sip_vector.specs.declared.query.Query.TheVariants.{Sub, Range, F2, Inner, Heavy, Share}
+use Rattle.sip_vector.specs.declared.query.Query.TheVariants.{Sub, Range, F2, Inner, Heavy, Share, Above}
 use Rattle.sip_vector.specs.declared.update.Update.{Update}
 use Rattle.sip_vector.specs.Answers.{Fits}
 use Rattle.sip_vector.specs.Built.{is_built}
@@ -49,6 +49,7 @@ does-fit depth (Range side lo hi) does = let both = and_parts (nat_le lo hi) (na
 does-fit depth (F2 side) does = tt
 does-fit depth Inner does = tt
 does-fit depth (Heavy side least) does = let both = and_parts (nat_le 1 least) (nat_lt least (2 ^ 63)) does in (leb-true 1 least both.0, ltb-true least (2 ^ 63) both.1)
+does-fit depth (Above side least) does = let both = and_parts (nat_le 1 least) (nat_lt least (2 ^ 63)) does in (leb-true 1 least both.0, ltb-true least (2 ^ 63) both.1)
 does-fit depth (Share side num den) does =
     let both = and_parts (nat_le 1 num) (nat_le num den && nat_le den most_share) does in
     let rest = and_parts (nat_le num den) (nat_le den most_share) both.1 in

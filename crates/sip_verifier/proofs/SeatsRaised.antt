@@ -6,7 +6,7 @@ use Rattle.std.proofs.Math.Seq.{take-append_seam}
 use Rattle.std.proofs.lemmas.Bool.{and_from, and_parts}
 use Rattle.std.proofs.lemmas.List.Elements.{All-nil, All-cons, All-head, All-tail}
 use Rattle.sip_vector.specs.declared.query.Query.{Query}
-use Rattle.sip_vector.specs.declared.query.Query.TheVariants.{Sub, Range, F2, Inner, Heavy, Share}
+use Rattle.sip_vector.specs.declared.query.Query.TheVariants.{Sub, Range, F2, Inner, Heavy, Share, Above}
 use Rattle.sip_vector.specs.declared.update.Side.{Side}
 use Rattle.sip_vector.specs.declared.update.Side.TheVariants.{First, Second}
 use Rattle.sip_vector.specs.declared.update.Update.{Update}
@@ -98,6 +98,7 @@ heavy_alone (F2 own) side hash total concerned kept = absurd cc
 heavy_alone Inner side hash total concerned kept = absurd cc
 heavy_alone (Heavy own least) side hash total concerned kept = concerned
 heavy_alone (Share own num den) side hash total concerned kept = concerned
+heavy_alone (Above own least) side hash total concerned kept = absurd cc
 
 -- so there is room where there was room before
 pub raised-room : (side : Side) (updates : List Update) (k depth : ℕ) (old new : List Seated) (d : Seated) → RaisedTo side updates k old new → k < length new
@@ -134,6 +135,7 @@ not_first (Heavy First least) heavy = absurd cc
 not_first (Heavy Second least) heavy = refl
 not_first (Share First num den) heavy = absurd cc
 not_first (Share Second num den) heavy = refl
+not_first (Above side least) heavy = absurd cc
 
 -- after the updates of the first side there is still room for those of the second
 pub room-left : (updates : List Update) (old new : List Seated) → AreLeft First old new → HaveRoom old updates Second → HaveRoom new updates Second

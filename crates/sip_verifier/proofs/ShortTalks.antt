@@ -6,7 +6,7 @@ use Rattle.sip_ports.specs.declared.port.TalkEvent.{TalkEvent}
 use Rattle.sip_ports.specs.Ports.{GoesOn, heard}
 use Rattle.sip_ports.proofs.TalkLemmas.{heard-append}
 use Rattle.sip_vector.specs.declared.query.Query.{Query}
-use Rattle.sip_vector.specs.declared.query.Query.TheVariants.{Sub, Range, F2, Inner, Heavy, Share}
+use Rattle.sip_vector.specs.declared.query.Query.TheVariants.{Sub, Range, F2, Inner, Heavy, Share, Above}
 use Rattle.sip_vector.specs.declared.update.Entry.{Entry}
 use Rattle.sip_vector.specs.declared.update.Update.{Update}
 use Rattle.sip_vector.specs.Answers.{Answer, number, pairs}
@@ -72,10 +72,11 @@ module _ {S : Type 0} (P : Protocol S) (request : Message) (block : List ℕ) (o
       ([], subst (GoesOn old new) (ap (λ (o : Option Answer). asked_unless o P.rules.version request block replies) is) talk, omega arith)
 
 module _ (query : Query) (block : List ℕ) (old new : Option (List TalkEvent)) (most : ℕ) where
-  -- replies of a query's kind are no longer
+  -- replies of a query's kind are no longer; of a kind that is not built none is taken
   abbrev ShortRow : KindRow → Type 0
-  ShortRow row = Holds (λ kind. (replies : List (List ℕ)) → (kind.protocol block).unasked ≡ None → AreTaken (kind.protocol block).rules block replies
-      → length (joined replies) ≤ most) row
+  ShortRow (built kind) = (replies : List (List ℕ)) → (kind.protocol block).unasked ≡ None → AreTaken (kind.protocol block).rules block replies
+      → length (joined replies) ≤ most
+  ShortRow missing = Unit {0}
 
   row_answered : (row : KindRow) → ShortRow row → (replies : List (List ℕ)) (answer : Answer) → GoesOn old new (said_by_kind row (question_of query block replies))
       → Holds (λ kind. general.IsAccepted (kind.protocol block) block replies answer) row → HearsAtMost most old new
@@ -118,6 +119,7 @@ module _ (version : Version) (depth : ℕ) (stream : List Update) (block : List 
   row_short (Heavy side at_least) = λ replies due taken.
       nodes_bound version depth (asked_over depth at_least (vector depth stream side)) block replies size
       (reaches_asked (pairs []) (reaches (asked_over depth at_least (vector depth stream side))) due) taken
+  row_short (Above side at_least) = tt
   row_short (Share side num den) = λ replies due taken.
       let t = share_of num den (int_sum (vector depth stream side)) in
       nodes_bound version depth (asked_over depth t (vector depth stream side)) block replies size

@@ -55,6 +55,9 @@ heard_claim kinds.AskLook a = absurd cc
 heard_claim kinds.Found a = absurd cc
 heard_claim kinds.End a = absurd cc
 heard_claim kinds.AskMoment a = absurd cc
+heard_claim kinds.Held a = absurd cc
+heard_claim kinds.Recall a = absurd cc
+heard_claim kinds.Marks a = absurd cc
 heard_claim (kinds.Power degree) a = absurd cc
 
 heard_poly : (kind : Kind) → allows places.Poly kind ≡ true → allows places.ToVerifier kind ≡ true
@@ -76,6 +79,9 @@ heard_poly kinds.AskLook a = absurd cc
 heard_poly kinds.Found a = absurd cc
 heard_poly kinds.End a = absurd cc
 heard_poly kinds.AskMoment a = absurd cc
+heard_poly kinds.Held a = absurd cc
+heard_poly kinds.Recall a = absurd cc
+heard_poly kinds.Marks a = absurd cc
 heard_poly (kinds.Power degree) a = absurd cc
 
 module _ (version : Version) (p : ℕ) where
@@ -111,6 +117,9 @@ module _ (version : Version) (p : ℕ) where
   due c expected last t (messages.Found flag index) bytes rest read e = absurd cc
   due c expected last t messages.End bytes rest read e = absurd cc
   due c expected last t (messages.AskMoment side degree) bytes rest read e = absurd cc
+  due c expected last t (messages.Held held) bytes rest read e = absurd cc
+  due c expected last t (messages.Recall count) bytes rest read e = absurd cc
+  due c expected last t (messages.Marks v) bytes rest read e = absurd cc
   due c expected last t (messages.Power v) bytes rest read e = absurd cc
 
   -- a polynomial completes, and then no claim comes
@@ -141,6 +150,9 @@ module _ (version : Version) (p : ℕ) where
   complete c expected last t (messages.Found flag index) bytes rest read e = absurd cc
   complete c expected last t messages.End bytes rest read e = absurd cc
   complete c expected last t (messages.AskMoment side degree) bytes rest read e = absurd cc
+  complete c expected last t (messages.Held held) bytes rest read e = absurd cc
+  complete c expected last t (messages.Recall count) bytes rest read e = absurd cc
+  complete c expected last t (messages.Marks v) bytes rest read e = absurd cc
   complete c expected last t (messages.Power v) bytes rest read e = absurd cc
 
   cut : (c : Option ℤ) (bytes : List ℕ) (fault : WireFault) → read_frame version (place_at c) bytes ≡ Err fault → reason_of fault ≡ reasons.Closed → length bytes < 27

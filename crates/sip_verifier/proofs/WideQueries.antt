@@ -2,7 +2,7 @@
 use Rattle.std.proofs.Common.{◌≡◌, ℕ, ◌<◌, ◌^◌, ◌∙◌, false, None, List, [], ◌∷◌, All, refl, ap}
 use Rattle.std.proofs.lemmas.List.Elements.{All-head, All-tail}
 use Rattle.sip_vector.specs.declared.query.Query.{Query}
-use Rattle.sip_vector.specs.declared.query.Query.TheVariants.{Sub, Range, F2, Inner, Heavy, Share}
+use Rattle.sip_vector.specs.declared.query.Query.TheVariants.{Sub, Range, F2, Inner, Heavy, Share, Above}
 use Rattle.sip_vector.specs.declared.update.Update.{Update}
 use Rattle.sip_vector.specs.Streams.{total}
 use Rattle.sip_vector.specs.Thresholds.{is_wide, share_of}
@@ -17,6 +17,7 @@ few_narrow version depth stream (Range side lo hi) below few = refl
 few_narrow version depth stream (F2 side) below few = refl
 few_narrow version depth stream Inner below few = refl
 few_narrow version depth stream (Heavy side at_least) below few = few.1
+few_narrow version depth stream (Above side at_least) below few = refl
 few_narrow version depth stream (Share side num den) below few =
     ap (λ n. is_wide (share_of num den n) (total stream side)) (total-is depth stream side below) ∙ few.1
 

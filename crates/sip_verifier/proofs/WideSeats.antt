@@ -9,7 +9,7 @@ use Rattle.std.proofs.Math.Nat.{le-div_iff_mul-le, le-mul_of_pos_right}
 use Rattle.std.proofs.Math.Seq.{drop-cons}
 use Rattle.sip_field.specs.Moduli.{m61_modulus}
 use Rattle.sip_vector.specs.declared.query.Query.{Query}
-use Rattle.sip_vector.specs.declared.query.Query.TheVariants.{Sub, Range, F2, Inner, Heavy, Share}
+use Rattle.sip_vector.specs.declared.query.Query.TheVariants.{Sub, Range, F2, Inner, Heavy, Share, Above}
 use Rattle.sip_vector.specs.declared.update.Update.{Update}
 use Rattle.sip_vector.specs.Streams.{vector}
 use Rattle.sip_vector.specs.Thresholds.{is_wide, share_of}
@@ -98,6 +98,7 @@ seat_width depth stream (Heavy side least) block (point_is value) below runs = a
 seat_width depth stream (Heavy side least) block (points_are first second) below runs = absurd runs
 seat_width depth stream (Heavy side least) block (aug_root_is hash sum) below runs =
     ap (is_wide least) (root_total m61_modulus block hash sum (vector depth stream side) runs ∙ sym (total-is depth stream side below))
+seat_width depth stream (Above side least) block running below runs = absurd runs
 seat_width depth stream (Share side num den) block (root_is value) below runs = absurd runs
 seat_width depth stream (Share side num den) block (point_is value) below runs = absurd runs
 seat_width depth stream (Share side num den) block (points_are first second) below runs = absurd runs

@@ -3,7 +3,7 @@
 use Rattle.std.specs.Prelude.{◌≡◌, ◌<◌, ◌≤◌, ℕ, ◌-◌, ◌/◌, ℤ, nat_abs, Bool, false, nat_le, ⊤, List, [], length, All, if◌then◌else◌}
 use Rattle.sip_field.specs.Moduli.{m61_modulus}
 use Rattle.sip_vector.specs.declared.query.Query.{Query}
-use Rattle.sip_vector.specs.declared.query.Query.TheVariants.{Sub, Range, F2, Inner, Heavy, Share}
+use Rattle.sip_vector.specs.declared.query.Query.TheVariants.{Sub, Range, F2, Inner, Heavy, Share, Above}
 use Rattle.sip_vector.specs.declared.update.Side.{Side}
 use Rattle.sip_vector.specs.declared.update.Side.TheVariants.{First, Second}
 use Rattle.sip_vector.specs.declared.update.Update.{Update}
@@ -118,6 +118,7 @@ kind_row_over version p depth stream (Heavy side at_least) =
 kind_row_over version p depth stream (Share side num den) =
     built (heavy_kind_over version p depth stream side
     (share_of num den (int_sum (vector depth stream side))))
+kind_row_over version p depth stream (Above side at_least) = missing
 
 -- ---- the kinds of a run
 

@@ -5,7 +5,7 @@ use Rattle.sip_mle.specs.StandsFor.{PointStandsFor}
 use Rattle.sip_tree.specs.Blocks.{total_after}
 use Rattle.sip_tree.specs.StandsFor.{RootStandsFor, AugRootStandsFor}
 use Rattle.sip_vector.specs.declared.query.Query.{Query}
-use Rattle.sip_vector.specs.declared.query.Query.TheVariants.{Sub, Range, F2, Inner, Heavy, Share}
+use Rattle.sip_vector.specs.declared.query.Query.TheVariants.{Sub, Range, F2, Inner, Heavy, Share, Above}
 use Rattle.sip_vector.specs.declared.update.Side.{Side}
 use Rattle.sip_vector.specs.declared.update.Side.TheVariants.{First, Second}
 use Rattle.sip_vector.specs.declared.update.Update.{Update}
@@ -38,6 +38,7 @@ does_fit depth (F2 side) = true
 does_fit depth Inner = true
 does_fit depth (Heavy side at_least) = nat_le 1 at_least && nat_lt at_least (2 ^ 63)
 does_fit depth (Share side num den) = nat_le 1 num && (nat_le num den && nat_le den most_share)
+does_fit depth (Above side at_least) = nat_le 1 at_least && nat_lt at_least (2 ^ 63)
 
 -- the query is of a kind whose check stands here, and fits the depth
 abbrev pub can_be_asked : ℕ → Query → Bool
@@ -66,6 +67,7 @@ concerns (F2 own) side = same_side side own
 concerns Inner side = true
 concerns (Heavy own at_least) side = same_side side own
 concerns (Share own num den) side = same_side side own
+concerns (Above own at_least) side = same_side side own
 
 -- the running numbers of a query, at its block, are those of the stream
 abbrev pub RunsOn : ℕ → List Update → Query → List ℕ → RunningNumbers → Type 0

@@ -6,7 +6,7 @@ use Rattle.std.specs.Prelude.{ℕ, ◌+◌, ◌*◌, ◌≤◌, List, length, Op
 use Rattle.sip_ports.specs.declared.port.TalkEvent.{TalkEvent}
 use Rattle.sip_ports.specs.Ports.{GoesOn, heard}
 use Rattle.sip_vector.specs.declared.query.Query.{Query}
-use Rattle.sip_vector.specs.declared.query.Query.TheVariants.{Sub, Range, F2, Inner, Heavy, Share}
+use Rattle.sip_vector.specs.declared.query.Query.TheVariants.{Sub, Range, F2, Inner, Heavy, Share, Above}
 use Rattle.sip_vector.specs.declared.update.Update.{Update}
 use Rattle.sip_vector.specs.Streams.{int_sum, vector}
 use Rattle.sip_vector.specs.Thresholds.{share_of}
@@ -40,7 +40,7 @@ most_node_bytes version depth q =
     + rows_frame (leaf_fields version) most_rows
     else 0
 
--- by the query, and for heavy hitters by the side's total
+-- by the query, and for heavy hitters by the side's total; none of a kind that is not built
 abbrev pub most_bytes : Version → ℕ → List Update → Query → ℕ
 most_bytes version depth stream (Sub lo hi) = most_entry_bytes version depth lo hi
 most_bytes version depth stream (Range side lo hi) = most_sum_bytes depth
@@ -52,6 +52,7 @@ most_bytes version depth stream (Share side num den) =
     most_node_bytes version depth
     (asked_over depth (share_of num den (int_sum (vector depth stream side)))
     (vector depth stream side))
+most_bytes version depth stream (Above side at_least) = 0
 
 -- a talk that is told went on, and no more bytes than these were received in it
 abbrev pub HearsAtMost : ℕ → Option (List TalkEvent) → Option (List TalkEvent) → Type 0

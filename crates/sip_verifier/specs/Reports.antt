@@ -6,7 +6,7 @@ use Rattle.sip_vector.specs.declared.update.Entry.{Entry}
 use Rattle.sip_vector.specs.declared.update.Side.{Side}
 use Rattle.sip_vector.specs.declared.update.Side.TheVariants.{First, Second}
 use Rattle.sip_vector.specs.declared.query.Query.{Query}
-use Rattle.sip_vector.specs.declared.query.Query.TheVariants.{Sub, Range, F2, Inner, Heavy, Share}
+use Rattle.sip_vector.specs.declared.query.Query.TheVariants.{Sub, Range, F2, Inner, Heavy, Share, Above}
 use Rattle.sip_vector.specs.declared.update.Update.{Update}
 use Rattle.sip_vector.specs.Answers.{Answer, answer, pairs, number}
 use Rattle.sip_wire.specs.declared.message.Reason.{Reason}
@@ -29,6 +29,7 @@ query_word Inner = codes "inner"
 query_word (Heavy side at_least) = codes "heavy" ++ side_parameter side ++ parameter at_least
 query_word (Share side num den) =
     codes "share" ++ side_parameter side ++ parameter num ++ parameter den
+query_word (Above side at_least) = codes "above" ++ side_parameter side ++ parameter at_least
 
 abbrev pub pair_text : Entry → List ℕ
 pair_text e = decimal e.index ++ codes ":" ++ signed_decimal e.value

@@ -89,6 +89,11 @@ pub fn query_word(query: &Query) -> ArrayVec<u8, ROOM>
             put_parameter(&mut gathered, *num as u64);
             put_parameter(&mut gathered, *den as u64);
         }
+        Query::Above { side, at_least } => {
+            put(&mut gathered, b"above");
+            put_side(&mut gathered, *side);
+            put_parameter(&mut gathered, *at_least);
+        }
     }
     gathered
 }

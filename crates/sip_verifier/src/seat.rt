@@ -6,6 +6,7 @@ ghost use Rattle.sip_vector.specs.declared.query.Query.{Query as AnyQuery};
 ghost use Rattle.sip_verifier.specs.QuerySeats.{HasRoom, StandsFor, concerns, is_seat, keeps};
 ghost use Rattle.sip_verifier.specs.inside.Running.{RunsFor, block_of, numbers_of};
 ghost use Rattle.sip_vector.specs.Answers.{Fits};
+ghost use Rattle.sip_vector.specs.Built.{is_built};
 ghost use Rattle.sip_vector.specs.Limits.{most_depth};
 ghost use Rattle.sip_vector.specs.Streams.{most_weight};
 ghost use Rattle.sip_heavy.specs.Protocol.{count_of};
@@ -39,14 +40,18 @@ impl Running {
     // Those of a query before any update.
     fn begin(query: &Query, block: Seat<M61, CAP>) -> Running
         ensures block { block_of result ≡ block }
-        ensures keeps { IsTrue (keeps query.now (numbers_of result)) }
-        ensures runs { (depth : ℕ) → length block ≡ depth → RunsFor depth [] query.now result }
+        ensures keeps { IsTrue (is_built query.now)
+            → IsTrue (keeps query.now (numbers_of result)) }
+        ensures runs { IsTrue (is_built query.now)
+            → (depth : ℕ) → length block ≡ depth → RunsFor depth [] query.now result }
     {
         match query {
             Query::Sub { .. } => Running::Root(Root::new(block)),
             Query::Range { .. } | Query::F2 { .. } => Running::Point(Point::new(block)),
             Query::Inner => Running::Points(Points::new(block)),
             Query::Heavy { .. } | Query::Share { .. } => Running::AugRoot(AugRoot::new(block)),
+            // It is not built, and so never asked.
+            Query::Above { .. } => Running::AugRoot(AugRoot::new(block)),
         }
     }
 
@@ -86,7 +91,9 @@ fn concerns(query: &Query, side: Side) -> bool
     match query {
         Query::Sub { .. } => side == Side::First,
         Query::Range { side: own, .. } | Query::F2 { side: own } => side == *own,
-        Query::Heavy { side: own, .. } | Query::Share { side: own, .. } => side == *own,
+        Query::Heavy { side: own, .. }
+        | Query::Share { side: own, .. }
+        | Query::Above { side: own, .. } => side == *own,
         Query::Inner => true,
     }
 }

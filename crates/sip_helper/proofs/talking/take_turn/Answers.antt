@@ -1,11 +1,10 @@
--- A message came: it is known or not, it may come or not, and its reply goes out whole or not.
+-- A message came: it may come or not, and its reply goes out whole or not.
 use Rattle.std.proofs.Common.{◌≡◌, Bool, true, false, List, ℕ, rules, sym, ap, subst, ◌∙◌}
 use Rattle.std.specs.Prelude.{is_err, Err}
 use Rattle.std.proofs.lemmas.Result.{err_from_is_err_and}
 use Rattle.sip_ports.specs.Ports.{GoesOn, SendsWhole, outs}
 use Rattle.sip_ports.proofs.TalkLemmas.{GoesOn-refl}
 use Rattle.sip_wire.proofs.Wider.{fits_two}
-use Rattle.sip_helper.specs.Turns.{is_known}
 use Rattle.sip_helper.proofs.Turning.{in_version, refused, refusal_cut, reply_cut, given, not_allowed, is_allowed_by, on_ok_holds}
 use Rattle.sip_helper.proofs.talking.take_turn.Goals as goal
 
@@ -19,17 +18,15 @@ returns-in_err-refuse-clause-turn g c =
     let did = rw (← c.message-message.ensures) at c.in_default.ensures.did in
     let failed : is_err c.take.result ≡ true = search rules in
     let out = not_allowed c.take.result (g.H.Helps.rules.is_allowed c.args.helper.now c.message-message.result.now) c.take.ensures.turn failed in
-    let known : is_known c.message-message.result.now ≡ true = search rules in
     let p = err_from_is_err_and c.from_residual.result c.from_residual.ensures.1 in
-    rw (p.1, p.2) (refusal_cut g.H.Helps.rules c.args.helper.now _ _ _ _ _ c.message-message.result.now (in_version g.H.Helps.rules c.args.helper.now _ _ _ _ _ _ _ _ c.version_due-version.ensures c.place_due-place.ensures did) _ c.args.offset c.in_err-refuse.field-0.0 known out (rw c.version_due-version.ensures at c.in_err-refuse.ensures.talk))
+    rw (p.1, p.2) (refusal_cut g.H.Helps.rules c.args.helper.now _ _ _ _ _ c.message-message.result.now (in_version g.H.Helps.rules c.args.helper.now _ _ _ _ _ _ _ _ c.version_due-version.ensures c.place_due-place.ensures did) _ c.args.offset c.in_err-refuse.field-0.0 out (rw c.version_due-version.ensures at c.in_err-refuse.ensures.talk))
 
 pub returns-then-is_err-clause-turn : goal.returns-then-is_err-clause-turn
 returns-then-is_err-clause-turn g c =
     let did = rw (← c.message-message.ensures) at c.in_default.ensures.did in
     let failed : is_err c.take.result ≡ true = search rules in
     let out = not_allowed c.take.result (g.H.Helps.rules.is_allowed c.args.helper.now c.message-message.result.now) c.take.ensures.turn failed in
-    let known : is_known c.message-message.result.now ≡ true = search rules in
-    refused g.H.Helps.rules c.args.helper.now _ _ _ _ _ c.message-message.result.now (in_version g.H.Helps.rules c.args.helper.now _ _ _ _ _ _ _ _ c.version_due-version.ensures c.place_due-place.ensures did) _ c.args.offset known out (rw c.version_due-version.ensures at c.in_ok-refuse.ensures.talk)
+    refused g.H.Helps.rules c.args.helper.now _ _ _ _ _ c.message-message.result.now (in_version g.H.Helps.rules c.args.helper.now _ _ _ _ _ _ _ _ c.version_due-version.ensures c.place_due-place.ensures did) _ c.args.offset out (rw c.version_due-version.ensures at c.in_ok-refuse.ensures.talk)
 
 pub returns-in_err-send_reply-clause-turn : goal.returns-in_err-send_reply-clause-turn
 returns-in_err-send_reply-clause-turn g c =

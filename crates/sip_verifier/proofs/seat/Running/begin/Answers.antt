@@ -6,22 +6,22 @@ use Rattle.sip_verifier.proofs.SeatsGiven.{new_root, new_point, new_points, new_
 use Rattle.sip_verifier.proofs.seat.Running.begin.Goals as goal
 
 pub returns-in-Sub-clause-runs : goal.returns-in-Sub-clause-runs
-returns-in-Sub-clause-runs c = λ depth size.
+returns-in-Sub-clause-runs c = λ built depth size.
     let kept : IsTrue (keeps c.args.query.now (root_is c.new.result.value)) = search rules in
     record { runs = new_root depth c.new.result.seat (ap length c.new.ensures.seat ∙ size) c.args.query.now _ kept (rw (sym c.new.ensures.seat) at c.new.ensures.stands) }
 
 pub returns-in-Inner-clause-runs : goal.returns-in-Inner-clause-runs
-returns-in-Inner-clause-runs c = λ depth size.
+returns-in-Inner-clause-runs c = λ built depth size.
     let points = c.new-in-Inner.result in
     let kept : IsTrue (keeps c.args.query.now (points_are points.first.value (m61_number points.second))) = search rules in
     record { runs = new_points depth points.first.seat (ap length c.new-in-Inner.ensures.seat ∙ size) c.args.query.now _ _ kept (rw (sym c.new-in-Inner.ensures.seat) at c.new-in-Inner.ensures.first) (rw (sym c.new-in-Inner.ensures.seat) at c.new-in-Inner.ensures.second) }
 
 pub returns-in-Range-clause-runs : goal.returns-in-Range-clause-runs
-returns-in-Range-clause-runs c = λ depth size.
+returns-in-Range-clause-runs c = λ built depth size.
     let kept : IsTrue (keeps c.args.query.now (point_is c.new-in-Range.result.value)) = search rules in
     record { runs = new_point depth c.new-in-Range.result.seat (ap length c.new-in-Range.ensures.seat ∙ size) c.args.query.now _ kept (rw (sym c.new-in-Range.ensures.seat) at c.new-in-Range.ensures.stands) }
 
 pub returns-in-Heavy-clause-runs : goal.returns-in-Heavy-clause-runs
-returns-in-Heavy-clause-runs c = λ depth size.
+returns-in-Heavy-clause-runs c = λ built depth size.
     let kept : IsTrue (keeps c.args.query.now (aug_root_is c.new-in-Heavy.result.hash c.new-in-Heavy.result.total)) = search rules in
     record { runs = new_aug_root depth c.new-in-Heavy.result.seat (ap length c.new-in-Heavy.ensures.seat ∙ size) c.args.query.now _ _ kept (rw (sym c.new-in-Heavy.ensures.seat) at c.new-in-Heavy.ensures.stands) }
