@@ -1,6 +1,5 @@
 // The case of a table at which a test fails.
 
-use sip_ports::TalkEvent;
 use sip_verifier::Status;
 use std::process::Abort;
 
@@ -27,10 +26,5 @@ impl Case<'_> {
     pub fn writes(self, rt: &impl Abort, bytes: &[u8], want: &[u8]) {
         let Case { name, number } = self;
         assert_eq!(rt; bytes, want, "{name}, {number}");
-    }
-
-    pub fn says(self, rt: &impl Abort, talk: &[TalkEvent], want: &[TalkEvent]) {
-        let Case { name, number } = self;
-        assert_eq!(rt; talk, want, "{name}, {number}");
     }
 }
