@@ -4,6 +4,8 @@
 #![tactic(auto)]
 
 #[cfg(test)]
+mod desk_tests;
+#[cfg(test)]
 mod extension_tests;
 #[cfg(test)]
 mod facts;
