@@ -6,6 +6,8 @@
 #[cfg(test)]
 mod absorb_tests;
 #[cfg(test)]
+mod desk_tests;
+#[cfg(test)]
 mod extension_tests;
 #[cfg(test)]
 mod facts;
