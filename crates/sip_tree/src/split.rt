@@ -61,9 +61,11 @@ impl<F: Field, const CAP: usize> SplitRoot<F, CAP> {
             self.new.hash ≡ (self.old.hash + term) % F.MODULUS }
         ensures weight { self.new.weight ≡ self.old.weight + nat_abs delta }
         ensures stands { (values weights : List ℤ)
-            → SplitRootStandsFor F.MODULUS self.old.seat self.old.hash self.old.weight values weights
+            → SplitRootStandsFor F.MODULUS self.old.seat self.old.hash self.old.weight
+            values weights
             → SplitRootStandsFor F.MODULUS self.new.seat self.new.hash self.new.weight
-            (raised_numbers values index delta) (raised_numbers weights index (pos (nat_abs delta))) }
+            (raised_numbers values index delta)
+            (raised_numbers weights index (pos (nat_abs delta))) }
     {
         let size = delta.unsigned_abs();
         let weight = hash_weighted(sign_of::<F>(delta), &self.seat, index);
@@ -86,7 +88,8 @@ impl<F: Field, const CAP: usize> SplitRoot<F, CAP> {
             ≡ split_after F.MODULUS self.old.seat self.old.hash updates.now }
         ensures weight { self.new.weight ≡ weight_after self.old.weight updates.now }
         ensures stands { (values weights : List ℤ)
-            → SplitRootStandsFor F.MODULUS self.old.seat self.old.hash self.old.weight values weights
+            → SplitRootStandsFor F.MODULUS self.old.seat self.old.hash self.old.weight
+            values weights
             → SplitRootStandsFor F.MODULUS self.new.seat self.new.hash self.new.weight
             (numbers_after values updates.now) (numbers_after weights (map absolute updates.now)) }
     {
@@ -118,8 +121,10 @@ impl<F: Field, const CAP: usize> SplitRoot<F, CAP> {
         ensures hash { self.new.hash ≡ (self.old.hash + other.now.hash) % F.MODULUS }
         ensures weight { self.new.weight ≡ self.old.weight + other.now.weight }
         ensures stands { (values others weights more : List ℤ)
-            → SplitRootStandsFor F.MODULUS self.old.seat self.old.hash self.old.weight values weights
-            → SplitRootStandsFor F.MODULUS other.now.seat other.now.hash other.now.weight others more
+            → SplitRootStandsFor F.MODULUS self.old.seat self.old.hash self.old.weight
+            values weights
+            → SplitRootStandsFor F.MODULUS other.now.seat other.now.hash other.now.weight
+            others more
             → SplitRootStandsFor F.MODULUS self.new.seat self.new.hash self.new.weight
             (added_numbers values others) (added_numbers weights more) }
         ensures joins { (depth : ℕ) (stream more : List AnyUpdate) (side : AnySide)

@@ -204,11 +204,14 @@ pub fn split_tree_of_four()
         ≡ pos 0 ∷ pos 5 ∷ negsuc 8 ∷ pos 3 ∷ [] }
     ensures weights { weights 2 credits sides.First ≡ pos 0 ∷ pos 5 ∷ pos 9 ∷ pos 5 ∷ [] }
     ensures weight { weight credits sides.First ≡ 19 }
-    ensures first { splittree p (vector 2 credits sides.First) (weights 2 credits sides.First) (2 ∷ [])
+    ensures first { let values = vector 2 credits sides.First in
+        splittree p values (weights 2 credits sides.First) (2 ∷ [])
         ≡ record { hash = 60; count = pos 5 } ∷ record { hash = 61; count = pos 14 } ∷ [] }
-    ensures top { splittop p (vector 2 credits sides.First) (weights 2 credits sides.First) (2 ∷ 10 ∷ [])
+    ensures top { let values = vector 2 credits sides.First in
+        splittop p values (weights 2 credits sides.First) (2 ∷ 10 ∷ [])
         ≡ record { hash = 20210; count = pos 19 } }
-    ensures of_four { splittop p (vector 2 stream sides.First) (weights 2 stream sides.First) (2 ∷ 10 ∷ [])
+    ensures of_four { let values = vector 2 stream sides.First in
+        splittop p values (weights 2 stream sides.First) (2 ∷ 10 ∷ [])
         ≡ record { hash = 8739; count = pos 9 } }
     ensures value_factors { map (λ i. value_factor p i (2 ∷ 10 ∷ [])) (0 ∷ 1 ∷ 2 ∷ 3 ∷ [])
         ≡ 1 ∷ 4 ∷ 100 ∷ 400 ∷ [] }
