@@ -11,7 +11,7 @@ use Rattle.sip_vector.specs.Answers.{Answer, Fits, answer}
 use Rattle.sip_vector.specs.Built.{is_built}
 use Rattle.sip_vector.specs.Streams.{IsLegal}
 use Rattle.sip_vector.specs.declared.query.Query.{Query}
-use Rattle.sip_vector.specs.declared.query.Query.TheVariants.{Sub, Range, F2, Inner, Heavy, Share}
+use Rattle.sip_vector.specs.declared.query.Query.TheVariants.{Sub, Range, F2, Inner, Heavy, Share, Above}
 use Rattle.sip_vector.specs.declared.update.Update.{Update}
 use Rattle.sip_wire.specs.declared.message.Message.TheVariants as messages
 use Rattle.sip_wire.specs.declared.version.Version.{Version}
@@ -58,6 +58,7 @@ fits_below depth (F2 side) fits = refl
 fits_below depth Inner fits = refl
 fits_below depth (Heavy side t) fits = refl
 fits_below depth (Share side num den) fits = refl
+fits_below depth (Above side t) fits = refl
 
 -- ---- rounds of a question
 

@@ -166,6 +166,9 @@ stepped_version s refused (messages.AskLook code item) = refl
 stepped_version s refused (messages.Found flag index) = refl
 stepped_version s refused messages.End = refl
 stepped_version s refused (messages.AskMoment side degree) = refl
+stepped_version s refused (messages.Held held) = refl
+stepped_version s refused (messages.Recall count) = refl
+stepped_version s refused (messages.Marks v) = refl
 stepped_version s refused (messages.Power v) = refl
 
 -- a spelling that was taken is a message to the helper

@@ -16,7 +16,7 @@ use Rattle.sip_vector.specs.Extensions.{ones}
 use Rattle.sip_vector.specs.Streams.{int_sum, vector, IsLegal, IsStrict}
 use Rattle.sip_vector.specs.Thresholds.{is_wide, share_of}
 use Rattle.sip_vector.specs.declared.query.Query.{Query}
-use Rattle.sip_vector.specs.declared.query.Query.TheVariants.{Sub, Range, F2, Inner, Heavy, Share}
+use Rattle.sip_vector.specs.declared.query.Query.TheVariants.{Sub, Range, F2, Inner, Heavy, Share, Above}
 use Rattle.sip_vector.specs.declared.update.Side.{Side}
 use Rattle.sip_vector.specs.declared.update.Side.TheVariants.{First, Second}
 use Rattle.sip_vector.specs.declared.update.Update.{Update}
@@ -157,6 +157,7 @@ module _ (v : Version) (depth : ℕ) (stream : List Update) where
     })
     asked_or_known (Heavy First t) block fits speaks few at = heavy_asked First t (Heavy First t) block fits.0 speaks.shallow few.0 at refl (replies_are _ [] block)
     asked_or_known (Heavy Second t) block fits speaks few at = heavy_asked Second t (Heavy Second t) block fits.0 speaks.shallow few.0 at refl (replies_are _ [] block)
+    asked_or_known (Above side t) block fits speaks few at = absurd few
     asked_or_known (Share First num den) block fits speaks few at =
         heavy_asked First (share_of num den (int_sum (vector depth stream First))) (Share First num den) block (share_least num den (int_sum (vector depth stream First)) fits.0 fits.1) speaks.shallow few.0 at (share_answer depth stream First num den (omega (arith, fits.0, fits.1)) legal few.0) (replies_are _ [] block)
     asked_or_known (Share Second num den) block fits speaks few at =
@@ -170,6 +171,7 @@ module _ (v : Version) (depth : ℕ) (stream : List Update) where
     not_refused Inner few = refl
     not_refused (Heavy First t) few = strict_row t (vector depth stream First) few.0 (ap (is_wide t) (sym (total-is depth stream First legal.items)) ∙ few.1)
     not_refused (Heavy Second t) few = strict_row t (vector depth stream Second) few.0 (ap (is_wide t) (sym (total-is depth stream Second legal.items)) ∙ few.1)
+    not_refused (Above side t) few = absurd few
     not_refused (Share First num den) few =
         let n = int_sum (vector depth stream First) in strict_row (share_of num den n) (vector depth stream First) few.0 (ap (is_wide (share_of num den n)) (sym (total-is depth stream First legal.items)) ∙ few.1)
     not_refused (Share Second num den) few =

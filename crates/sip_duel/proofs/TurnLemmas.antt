@@ -123,6 +123,9 @@ allowed_settled s (messages.AskLook code item) behind may = absurd cc
 allowed_settled s (messages.Found flag index) behind may = absurd cc
 allowed_settled s messages.End behind may = absurd cc
 allowed_settled s (messages.AskMoment side degree) behind may = absurd cc
+allowed_settled s (messages.Held held) behind may = absurd cc
+allowed_settled s (messages.Recall count) behind may = absurd cc
+allowed_settled s (messages.Marks v) behind may = absurd cc
 allowed_settled s (messages.Power v) behind may = absurd cc
 
 -- ---- turns
@@ -196,6 +199,9 @@ behind_heard s (messages.AskLook code item) refused behind may = behind
 behind_heard s (messages.Found flag index) refused behind may = behind
 behind_heard s messages.End refused behind may = behind
 behind_heard s (messages.AskMoment side degree) refused behind may = behind
+behind_heard s (messages.Held held) refused behind may = behind
+behind_heard s (messages.Recall count) refused behind may = behind
+behind_heard s (messages.Marks v) refused behind may = behind
 behind_heard s (messages.Power v) refused behind may = behind
 
 open_before : (depth : ℕ) (vectors : Option Vectors) (q : Option OpenQuery) (o : OpenQuery) → option_and_then (after_reply depth vectors) q ≡ Some o → (p : OpenQuery) × (q ≡ Some p)

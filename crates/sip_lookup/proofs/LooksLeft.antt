@@ -9,7 +9,7 @@ use Rattle.std.proofs.lemmas.List.Elements.{All-drop, All-head}
 use Rattle.sip_field.specs.Moduli.{m61_modulus}
 use Rattle.sip_tree.specs.StandsFor.{RootStandsFor}
 use Rattle.sip_vector.specs.declared.query.Query.{Query}
-use Rattle.sip_vector.specs.declared.query.Query.TheVariants.{Sub, Range, F2, Inner, Heavy, Share}
+use Rattle.sip_vector.specs.declared.query.Query.TheVariants.{Sub, Range, F2, Inner, Heavy, Share, Above}
 use Rattle.sip_vector.specs.declared.update.Side.TheVariants.{First}
 use Rattle.sip_vector.specs.declared.update.Update.{Update}
 use Rattle.sip_vector.specs.Streams.{vector}
@@ -38,6 +38,7 @@ root_runs depth stream (F2 side) block value runs = absurd runs
 root_runs depth stream Inner block value runs = absurd runs
 root_runs depth stream (Heavy side least) block value runs = absurd runs
 root_runs depth stream (Share side num den) block value runs = absurd runs
+root_runs depth stream (Above side least) block value runs = absurd runs
 
 -- the pair at a place, and those behind it
 zip-drop : (lookups : List Lookup) (seats : List Seated) (n : ℕ) (seat : Seated) (d : Lookup) → n < length lookups → slice_get seats n ≡ Some seat

@@ -12,7 +12,7 @@ use Rattle.sip_vector.specs.declared.query.Query.{Query}
 use Rattle.sip_vector.specs.declared.query.Query.TheVariants.{Sub}
 use Rattle.sip_vector.specs.Limits.{most_depth, most_narrow_depth}
 use Rattle.sip_wire.specs.declared.version.Version.TheVariants.{One, Two}
-use Rattle.sip_wire.specs.Versions.{Speaks, is_share, needed}
+use Rattle.sip_wire.specs.Versions.{Speaks, is_of_two, needed}
 use Rattle.sip_wire.proofs.Asking.{needed-speaks}
 use Rattle.sip_verifier.specs.declared.task.Task.{Task}
 use Rattle.sip_verifier.specs.Draws.{challenges_of}
@@ -33,11 +33,11 @@ rooted_query = Sub 0 0
 
 -- ---- the version
 
-none_shared : (n : ℕ) → list_any is_share (replicate n rooted_query) ≡ false
-none_shared n = list_any_none is_share (replicate n rooted_query) (All-replicate (λ k. is_share k ≡ false) n rooted_query refl)
+none_of_two : (n : ℕ) → list_any is_of_two (replicate n rooted_query) ≡ false
+none_of_two n = list_any_none is_of_two (replicate n rooted_query) (All-replicate (λ k. is_of_two k ≡ false) n rooted_query refl)
 
 pub same_version : (depth n : ℕ) → needed depth (replicate n rooted_query) ≡ needed depth []
-same_version depth n = ap (λ (b : Bool). if nat_lt most_narrow_depth depth || b then Two else One) (none_shared n)
+same_version depth n = ap (λ (b : Bool). if nat_lt most_narrow_depth depth || b then Two else One) (none_of_two n)
 
 -- any sub-vector can be asked for in it
 pub any_speaks : (depth lo hi : ℕ) → depth ≤ most_depth → Speaks (needed depth []) depth (Sub lo hi)

@@ -91,7 +91,7 @@ ask-wide head asks i query block says lt is =
     let count = asks-long head asks says in
     let most = deepest-most head.version in
     let one = subst (IsAsk head.version head.depth) is (All-get_or (IsAsk head.version head.depth) asks i (query, block) (omega (arith, lt, count)) says.is_run.each) in (
-      fits_two head.version (messages.Query query) (query-fits head.version head.depth query one.speaks one.fits),
+      fits_two head.version (messages.Query query) (query-fits head.version head.depth query one.speaks one.fits.1),
       omega (arith, one.levels, says.is_run.shallow, most),
     )
 

@@ -5,7 +5,7 @@ use Rattle.std.specs.Prelude.{slice_index}
 use Rattle.std.specs.Io.KnownBytes.{Consumes}
 use Rattle.std.proofs.lemmas.Bool.Decides.{nat_tests}
 use Rattle.std.proofs.lemmas.List.{append-nil}
-use Rattle.sip_vector.specs.Answers.{Fits}
+use Rattle.sip_verifier.specs.Tasks.{CanBeAsked}
 use Rattle.sip_vector.specs.declared.query.Query.{Query}
 use Rattle.sip_wire.specs.declared.kind.Kind.{Kind}
 use Rattle.sip_wire.specs.declared.kind.Kind.TheVariants as kinds
@@ -213,6 +213,16 @@ no_query kinds.AskMoment mark (a ∷ []) other = refl
 no_query kinds.AskMoment mark (a ∷ b ∷ []) other = refl
 no_query kinds.AskMoment mark (a ∷ b ∷ d ∷ ns) other = refl
 no_query (kinds.Power degree) mark ns other = refl
+no_query kinds.Held mark [] other = refl
+no_query kinds.Held mark (a ∷ []) other = refl
+no_query kinds.Held mark (a ∷ b ∷ []) other = refl
+no_query kinds.Held mark (a ∷ b ∷ d ∷ []) other = refl
+no_query kinds.Held mark (a ∷ b ∷ d ∷ e ∷ []) other = refl
+no_query kinds.Held mark (a ∷ b ∷ d ∷ e ∷ f ∷ ns) other = refl
+no_query kinds.Recall mark [] other = refl
+no_query kinds.Recall mark (a ∷ []) other = refl
+no_query kinds.Recall mark (a ∷ b ∷ ns) other = refl
+no_query kinds.Marks mark ns other = refl
 
 -- a frame of another kind asks nothing
 no_query_of : (version : Version) (depth : ℕ) (kind : Option Kind) (fault : Option WireFault) (frame rest : List ℕ) → (kind ≡ Some kinds.Query → ⊥) → by_read version depth (read_of version kind fault frame rest) ≡ None
@@ -258,8 +268,8 @@ asks-none version depth frame (Err f) read closed none rest all =
     fault_at : WireFault → Result Message WireFault
     fault_at g = Err g
 
--- a query that does not fit
-pub unfit : (depth : ℕ) (query : Query) → (Fits depth query → ⊥) → if_fits depth (Some query) ≡ None
+-- a query that cannot be asked
+pub unfit : (depth : ℕ) (query : Query) → (CanBeAsked depth query → ⊥) → if_fits depth (Some query) ≡ None
 unfit depth query other = by_test (fits_at depth query) refl
   where
     by_test : (b : Bool) → fits_at depth query ≡ b → if_fits depth (Some query) ≡ None
@@ -286,10 +296,13 @@ query_of-message (messages.AskLook code item) query e = absurd cc
 query_of-message (messages.Found flag index) query e = absurd cc
 query_of-message messages.End query e = absurd cc
 query_of-message (messages.AskMoment side degree) query e = absurd cc
+query_of-message (messages.Held held) query e = absurd cc
+query_of-message (messages.Recall count) query e = absurd cc
+query_of-message (messages.Marks v) query e = absurd cc
 query_of-message (messages.Power v) query e = absurd cc
 
 -- a frame that asks a query that fits
-pub asks-query : (version : Version) (depth : ℕ) (frame : List ℕ) (m : Message) (query : Query) → Took version ToHelper frame m → query_of m ≡ Some query → Fits depth query → Took version ToHelper frame (messages.Query query) × Fits depth query
+pub asks-query : (version : Version) (depth : ℕ) (frame : List ℕ) (m : Message) (query : Query) → Took version ToHelper frame m → query_of m ≡ Some query → CanBeAsked depth query → Took version ToHelper frame (messages.Query query) × CanBeAsked depth query
 asks-query version depth frame m query took is fit = (subst (λ (x : Message). Took version ToHelper frame x) (query_of-message m query is) took, fit)
 
 -- a query that fits was taken, as it is spelled

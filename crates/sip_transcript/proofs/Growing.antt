@@ -235,7 +235,7 @@ begun-more version depth count k o m n head after deep begun took = record {
   challenges = took.challenges ∙ ap (λ (l : List ℕ). l ++ took.ask.1) begun.challenges ∙ flat_map_more (λ (x : Ask). x.1) [] begun.asks took.ask;
   room = ap length took.challenges ∙ omega (arith, length-append head.challenges.items took.ask.1, begun.room, is.levels);
   size = omega (arith, long, begun.size, ap length (flat_map_more (bytes_of version) [] begun.asks took.ask), length-append (flat_map (bytes_of version) begun.asks) (bytes_of version took.ask));
-  near = omega (arith, long, begun.near, ask-length version depth took.ask deep is (query-fits version depth took.ask.0 is.speaks is.fits));
+  near = omega (arith, long, begun.near, ask-length version depth took.ask deep is (query-fits version depth took.ask.0 is.speaks is.fits.1));
   taken = subst (λ (l : List ℕ). Consumes o n l) (flat_map_more (bytes_of version) (head_bytes version depth count) begun.asks took.ask)
       (Consumes-trans o m n (head_bytes version depth count ++ flat_map (bytes_of version) begun.asks) (bytes_of version took.ask) begun.taken taken);
 }

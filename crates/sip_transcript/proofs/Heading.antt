@@ -39,14 +39,6 @@ use Rattle.sip_transcript.proofs.Asks.{blocks-long, deepest-most}
 
 -- ---- the head as a task
 
-built : (query : Query) → IsTrue (is_built query)
-built (Sub lo hi) = refl
-built (Range side lo hi) = refl
-built (F2 side) = refl
-built Inner = refl
-built (Heavy side at_least) = refl
-built (Share side num den) = refl
-
 abbrev IsEl : ℕ → Type 0
 IsEl x = IsTrue (is_element x)
 
@@ -69,7 +61,7 @@ module _ (version : Version) (task : Task) (challenges : List ℕ) (asks : List 
   pub can_be_asked : All (CanBeAsked task.depth) task.queries.items
   can_be_asked =
       subst (All (CanBeAsked task.depth)) (sym is.queries) (All-map (CanBeAsked task.depth) (λ (ask : Ask). ask.0) asks
-      (All-weaker (IsAsk version task.depth) (λ (ask : Ask). CanBeAsked task.depth ask.0) (λ ask one. (built ask.0, one.fits)) asks is.is_run.each))
+      (All-weaker (IsAsk version task.depth) (λ (ask : Ask). CanBeAsked task.depth ask.0) (λ ask one. one.fits) asks is.is_run.each))
 
   speak : All (Speaks version task.depth) task.queries.items
   speak =

@@ -10,6 +10,8 @@ use Rattle.std.proofs.lemmas.List.Elements.{All-head, All-tail}
 use Rattle.byteorder.specs.Endian.{big_number}
 use Rattle.byteorder.specs.Numbers.{big_number-reads_back, length-bytes_high_first}
 use Rattle.sip_vector.specs.Answers.{Fits}
+use Rattle.sip_vector.specs.Built.{is_built}
+use Rattle.sip_verifier.specs.Tasks.{CanBeAsked}
 use Rattle.sip_vector.specs.declared.query.Query.{Query}
 use Rattle.sip_vector.specs.declared.query.Query.TheVariants as queries
 use Rattle.sip_wire.specs.declared.kind.Place.TheVariants.{ToHelper}
@@ -147,23 +149,28 @@ block-passes (x ∷ xs) are after at more =
 
 -- ---- queries
 
--- a query that fits passes the test
-pub fits_at-true : (depth : ℕ) (query : Query) → Fits depth query → fits_at depth query ≡ true
-fits_at-true depth (queries.Sub lo hi) fit = grind (arith, nat_tests)
-fits_at-true depth (queries.Range side lo hi) fit = grind (arith, nat_tests)
-fits_at-true depth (queries.F2 side) fit = refl
-fits_at-true depth queries.Inner fit = refl
-fits_at-true depth (queries.Heavy side at_least) fit = grind (arith, nat_tests)
-fits_at-true depth (queries.Share side num den) fit = grind (arith, nat_tests)
+-- a query of a kind that is built, which fits, passes the test
+fits_so : (depth : ℕ) (query : Query) → IsTrue (is_built query) → Fits depth query → fits_at depth query ≡ true
+fits_so depth (queries.Sub lo hi) built fit = grind (arith, nat_tests)
+fits_so depth (queries.Range side lo hi) built fit = grind (arith, nat_tests)
+fits_so depth (queries.F2 side) built fit = refl
+fits_so depth queries.Inner built fit = refl
+fits_so depth (queries.Heavy side at_least) built fit = grind (arith, nat_tests)
+fits_so depth (queries.Share side num den) built fit = grind (arith, nat_tests)
+fits_so depth (queries.Above side at_least) built fit = absurd cc
 
--- and one that passes it fits
-pub fits_at-fits : (depth : ℕ) (query : Query) → fits_at depth query ≡ true → Fits depth query
-fits_at-fits depth (queries.Sub lo hi) is = grind (arith, nat_tests)
-fits_at-fits depth (queries.Range side lo hi) is = grind (arith, nat_tests)
-fits_at-fits depth (queries.F2 side) is = tt
-fits_at-fits depth queries.Inner is = tt
-fits_at-fits depth (queries.Heavy side at_least) is = grind (arith, nat_tests)
-fits_at-fits depth (queries.Share side num den) is = grind (arith, nat_tests)
+pub fits_at-true : (depth : ℕ) (query : Query) → CanBeAsked depth query → fits_at depth query ≡ true
+fits_at-true depth query can = fits_so depth query can.0 can.1
+
+-- and one that passes it is such a query
+pub fits_at-fits : (depth : ℕ) (query : Query) → fits_at depth query ≡ true → CanBeAsked depth query
+fits_at-fits depth (queries.Sub lo hi) is = (refl, grind (arith, nat_tests))
+fits_at-fits depth (queries.Range side lo hi) is = (refl, grind (arith, nat_tests))
+fits_at-fits depth (queries.F2 side) is = (refl, tt)
+fits_at-fits depth queries.Inner is = (refl, tt)
+fits_at-fits depth (queries.Heavy side at_least) is = (refl, grind (arith, nat_tests))
+fits_at-fits depth (queries.Share side num den) is = (refl, grind (arith, nat_tests))
+fits_at-fits depth (queries.Above side at_least) is = absurd cc
 
 -- a query that has a spelling has a code
 pub has_code : (version : Version) (query : Query) → IsTrue (fits version (messages.Query query)) → IsTrue (speaks version query)
@@ -175,6 +182,7 @@ has_code One (queries.F2 side) fit = refl
 has_code One queries.Inner fit = refl
 has_code One (queries.Heavy side at_least) fit = refl
 has_code One (queries.Share side num den) fit = absurd (let no : false ≡ true = fit in cc)
+has_code One (queries.Above side at_least) fit = absurd (let no : false ≡ true = fit in cc)
 
 -- what the field of a query answers by the query that is read
 abbrev pub by_query : Version → Option Query → Option ℕ
@@ -185,7 +193,7 @@ abbrev pub by_fit : Query → Bool → Option Query
 by_fit query passes = cond passes (Some query) None
 
 -- the frame of a query that fits is there
-pub query-there : (version : Version) (depth : ℕ) (query : Query) (more : List ℕ) → IsTrue (fits version (messages.Query query)) → Fits depth query
+pub query-there : (version : Version) (depth : ℕ) (query : Query) (more : List ℕ) → IsTrue (fits version (messages.Query query)) → CanBeAsked depth query
     → query_field version depth (spelling version (messages.Query query) ++ more) ≡ Some (length (spelling version (messages.Query query)))
 query-there version depth query more spelled fit =
     ap (λ (r : Result (Message × List ℕ) WireFault). by_query version (asked_at depth r)) (read_frame-spelling version ToHelper (messages.Query query) more spelled refl tt)
@@ -199,7 +207,7 @@ unfolding ask_bytes
 ask-passes version depth ask is after at more =
     let q = ask.0 in
     let frame = spelling version (messages.Query q) in
-    let spelled = query-fits version depth q is.speaks is.fits in
+    let spelled = query-fits version depth q is.speaks is.fits.1 in
     ap (λ (n : ℕ). first_fault ((query_field version depth ∷ times n (element_field ∷ [])) ++ after) at ((frame ++ flat_map (in_bytes 8) ask.1) ++ more)) (sym is.levels)
     ∙ passes-join (query_field version depth ∷ []) (times (length ask.1) (element_field ∷ [])) frame (flat_map (in_bytes 8) ask.1)
     (passes-one (query_field version depth) frame (λ rest. query-there version depth q rest spelled is.fits))

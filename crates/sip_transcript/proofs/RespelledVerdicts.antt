@@ -8,7 +8,7 @@ use Rattle.sip_vector.specs.Extensions.{ones}
 use Rattle.sip_vector.specs.Streams.{int_sum, vector}
 use Rattle.sip_vector.specs.Thresholds.{share_of}
 use Rattle.sip_vector.specs.declared.query.Query.{Query}
-use Rattle.sip_vector.specs.declared.query.Query.TheVariants.{Sub, Range, F2, Inner, Heavy, Share}
+use Rattle.sip_vector.specs.declared.query.Query.TheVariants.{Sub, Range, F2, Inner, Heavy, Share, Above}
 use Rattle.sip_vector.specs.declared.update.Side.TheVariants.{First, Second}
 use Rattle.sip_vector.specs.declared.update.Update.{Update}
 use Rattle.sip_wire.specs.declared.message.Message.{Message}
@@ -40,6 +40,7 @@ row_alike v w depth stream Inner block xs ys one other b a ms are p q f g e d =
 row_alike v w depth stream (Heavy side at_least) block xs ys one other b a ms are p q f g e d =
     let P = (heavy_kind v depth stream side at_least).protocol block in
     one_alike P w block xs ys one other b a ms P.unasked refl are p q f g e d
+row_alike v w depth stream (Above side at_least) block xs ys one other b a ms are p q f g e d = absurd p
 row_alike v w depth stream (Share side num den) block xs ys one other b a ms are p q f g e d =
     let P = (heavy_kind v depth stream side (share_of num den (int_sum (vector depth stream side)))).protocol block in
     one_alike P w block xs ys one other b a ms P.unasked refl are p q f g e d

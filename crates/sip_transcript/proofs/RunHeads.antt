@@ -11,7 +11,6 @@ use Rattle.std.proofs.lemmas.List.Elements.{All-cons, All-head, All-nil, All-tai
 use Rattle.std.proofs.lemmas.List.Folds.{flat_map-map}
 use Rattle.std.proofs.lemmas.Slice.Zip.{firsts-zip, seconds-zip}
 use Rattle.sip_field.specs.Moduli.{m61_modulus}
-use Rattle.sip_vector.specs.Answers.{Fits}
 use Rattle.sip_vector.specs.Limits.{most_depth}
 use Rattle.sip_vector.specs.Pieces.{cut, pieces}
 use Rattle.sip_vector.specs.declared.query.Query.{Query}
@@ -45,18 +44,18 @@ pieces_count k (suc n) xs = ap suc (pieces_count k n (drop k xs))
 elements_below : (block : List ℕ) → All (λ r. r < m61_modulus) block → All (λ r. IsTrue (is_element r)) block
 elements_below block below = All-weaker (λ (r : ℕ). r < m61_modulus) (λ (r : ℕ). IsTrue (is_element r)) (λ r less. grind (arith, nat_tests, less)) block below
 
-asks_each : (version : Version) (depth : ℕ) (queries : List Query) (blocks : List (List ℕ)) → All (Fits depth) queries → All (Speaks version depth) queries → All (IsBlock depth) blocks
+asks_each : (version : Version) (depth : ℕ) (queries : List Query) (blocks : List (List ℕ)) → All (CanBeAsked depth) queries → All (Speaks version depth) queries → All (IsBlock depth) blocks
     → All (IsAsk version depth) (zip queries blocks)
 asks_each version depth [] blocks fit speak are = All-nil (IsAsk version depth)
 asks_each version depth (q ∷ queries) [] fit speak are = All-nil (IsAsk version depth)
 asks_each version depth (q ∷ queries) (b ∷ blocks) fit speak are =
     let block = All-head (IsBlock depth) b blocks are in
     All-cons (IsAsk version depth) (q, b) (zip queries blocks) (record {
-      fits = All-head (Fits depth) q queries fit;
+      fits = All-head (CanBeAsked depth) q queries fit;
       speaks = All-head (Speaks version depth) q queries speak;
       levels = block.size;
       elements = elements_below b block.below;
-    }) (asks_each version depth queries blocks (All-tail (Fits depth) q queries fit) (All-tail (Speaks version depth) q queries speak) (All-tail (IsBlock depth) b blocks are))
+    }) (asks_each version depth queries blocks (All-tail (CanBeAsked depth) q queries fit) (All-tail (Speaks version depth) q queries speak) (All-tail (IsBlock depth) b blocks are))
 
 first_shallow : (version : Version) (depth : ℕ) (queries : List Query) → 0 < length queries → All (Speaks version depth) queries → depth ≤ deepest version
 first_shallow version depth [] some speak = absurd (omega (arith, some))
@@ -97,11 +96,10 @@ module _ (task : Task) (seed challenges : List ℕ) (deep : 1 ≤ task.depth) (c
   run_of shallow most =
       let some = can.some in
       let speak = needed-speaks task.depth queries shallow in
-      let fit = All-weaker (CanBeAsked task.depth) (Fits task.depth) (λ q one. one.1) queries can.asked in
       let asks = sym (length-map (asks_of task challenges) (λ (ask : Ask). ask.0)) ∙ ap length asks_queries in record {
         deep = deep;
         shallow = first_shallow (version_of task) task.depth queries some speak;
         some = omega (arith, asks, some);
         most = omega (arith, asks, most);
-        each = asks_each (version_of task) task.depth queries (cut task.depth challenges) fit speak (are_blocks task seed challenges deep is);
+        each = asks_each (version_of task) task.depth queries (cut task.depth challenges) can.asked speak (are_blocks task seed challenges deep is);
       }

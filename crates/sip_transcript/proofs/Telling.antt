@@ -80,7 +80,7 @@ asks-back version depth (ask ∷ asks) more are =
 
     asked : asked_at depth (read_frame version ToHelper (frame ++ behind)) ≡ Some ask.0
     asked =
-        ap (asked_at depth) (read_frame-spelling version ToHelper (messages.Query ask.0) behind (query-fits version depth ask.0 is.speaks is.fits) refl tt)
+        ap (asked_at depth) (read_frame-spelling version ToHelper (messages.Query ask.0) behind (query-fits version depth ask.0 is.speaks is.fits.1) refl tt)
         ∙ ap (by_fit ask.0) (fits_at-true depth ask.0 is.fits)
 
     rest : drop (8 * depth) behind ≡ after

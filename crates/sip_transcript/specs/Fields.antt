@@ -50,7 +50,7 @@ is_depth version b = nat_le 1 b && nat_le b (deepest version)
 abbrev pub is_count : ℕ → Bool
 is_count b = nat_le 1 b && nat_le b most_queries
 
--- whether a query can be asked at a depth
+-- whether a query can be asked at a depth, which one of a kind that is not built cannot
 abbrev pub fits_at : ℕ → Query → Bool
 fits_at depth (queries.Sub lo hi) = nat_le lo hi && nat_lt hi (2 ^ depth)
 fits_at depth (queries.Range side lo hi) = nat_le lo hi && nat_lt hi (2 ^ depth)
@@ -59,6 +59,7 @@ fits_at depth queries.Inner = true
 fits_at depth (queries.Heavy side at_least) = nat_le 1 at_least && nat_lt at_least (2 ^ 63)
 fits_at depth (queries.Share side num den) =
     nat_le 1 num && (nat_le num den && nat_le den most_share)
+fits_at depth (queries.Above side at_least) = false
 
 -- the query that a message asks, if it asks one
 abbrev pub query_of : Message → Option Query

@@ -2,7 +2,7 @@
 use Rattle.std.specs.Prelude.{◌≡◌, ℕ, ◌+◌, ◌≤◌, ⊤, All, IsTrue, List, [], length, map, Option, Some, Result, Ok, Err}
 use Rattle.std.specs.Io.KnownBytes.{Consumes}
 use Rattle.std.specs.List.{flat_map}
-use Rattle.sip_vector.specs.Answers.{Fits}
+use Rattle.sip_verifier.specs.Tasks.{CanBeAsked}
 use Rattle.sip_vector.specs.declared.query.Query.{Query}
 use Rattle.sip_wire.specs.declared.version.Version.{Version}
 use Rattle.sip_wire.specs.Table.{is_element, most_queries}
@@ -20,7 +20,7 @@ Ask = Query × List ℕ
 
 -- the query can be asked at this depth in this version, and has an element for each level
 pub record IsAsk (version : Version) (depth : ℕ) (ask : Ask) : Type 0 where
-  pub fits : Fits depth ask.0
+  pub fits : CanBeAsked depth ask.0
   pub speaks : Speaks version depth ask.0
   pub levels : length ask.1 ≡ depth
   pub elements : All (λ x. IsTrue (is_element x)) ask.1

@@ -55,6 +55,9 @@ message_name (messages.AskLook _ _) = codes "AskLook"
 message_name (messages.Found _ _) = codes "Found"
 message_name messages.End = codes "End"
 message_name (messages.AskMoment _ _) = codes "AskMoment"
+message_name (messages.Held _) = codes "Held"
+message_name (messages.Recall _) = codes "Recall"
+message_name (messages.Marks _) = codes "Marks"
 message_name (messages.Power _) = codes "Power"
 
 -- a body in hexadecimal, and a dash for none

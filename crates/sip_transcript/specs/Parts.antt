@@ -3,7 +3,7 @@ use Rattle.std.specs.Prelude.{◌≡◌, ℕ, ◌+◌, ⊤, All, IsTrue, List, [
 use Rattle.std.specs.Io.KnownBytes.{Consumes}
 use Rattle.std.specs.List.{flat_map}
 use Rattle.sip_ports.specs.declared.port.PortStop.{PortStop}
-use Rattle.sip_vector.specs.Answers.{Fits}
+use Rattle.sip_verifier.specs.Tasks.{CanBeAsked}
 use Rattle.sip_vector.specs.declared.query.Query.{Query}
 use Rattle.sip_wire.specs.declared.message.Message.TheVariants as messages
 use Rattle.sip_wire.specs.declared.kind.Place.TheVariants.{ToHelper}
@@ -60,14 +60,14 @@ pub record TakesAsk (old new : Option (List ℕ)) (before after : Head) : Type 0
 -- the query can be asked, and its frame has so many bytes
 abbrev pub MayAsk : Version → ℕ → Query × ℕ → Type 0
 MayAsk version depth asked =
-    IsTrue (fits version (messages.Query asked.0)) × Fits depth asked.0
+    IsTrue (fits version (messages.Query asked.0)) × CanBeAsked depth asked.0
     × (asked.1 ≡ length (spelling version (messages.Query asked.0)))
 
--- What a frame asks: a query that it spells, which fits; or none, whatever follows the frame, and
+-- What a frame asks: a query that it spells, which can be asked; or none, whatever follows the frame, and
 -- nothing where it isn't whole.
 abbrev pub AsksIn : Version → ℕ → List ℕ → Option Query → Type 0
 AsksIn version depth frame (Some query) =
-    Took version ToHelper frame (messages.Query query) × Fits depth query
+    Took version ToHelper frame (messages.Query query) × CanBeAsked depth query
 AsksIn version depth frame None =
     (rest : List ℕ) → (length frame < asked version ToHelper frame → rest ≡ [])
     → query_field version depth (frame ++ rest) ≡ None

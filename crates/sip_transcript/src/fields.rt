@@ -1,7 +1,7 @@
 //! The fields of a transcript's head, one at a time: `None` where the source has no value of the
 //! field in front, or ends in it.
 
-ghost use Rattle.std.specs.Prelude.{◌≡◌, ◌≤◌, IsTrue, [], ◌∷◌, length, IfOk, IfSome, IsSome};
+ghost use Rattle.std.specs.Prelude.{◌≡◌, ◌≤◌, ◌↔◌, IsTrue, [], ◌∷◌, length, IfOk, IfSome, IsSome};
 ghost use Rattle.std.specs.Int.{w32, w64, to_be_bytes};
 ghost use Rattle.sip_ports.specs.Ports.{HasCause};
 ghost use Rattle.sip_wire.specs.Spelling.{asked, in_bytes, spelling};
@@ -10,6 +10,7 @@ ghost use Rattle.sip_wire.specs.Table.{is_element};
 ghost use Rattle.sip_wire.specs.Transcript.{magic};
 ghost use Rattle.sip_wire.specs.Versions.{number_of};
 ghost use Rattle.sip_wire.specs.declared.message.Message.TheVariants as messages;
+ghost use Rattle.sip_verifier.specs.Tasks.{CanBeAsked};
 ghost use Rattle.sip_transcript.specs.Fields.{text_field, byte_field, query_field, element_field, is_version, is_depth, is_count, query_of};
 ghost use Rattle.sip_transcript.specs.Heads.{longest_field};
 ghost use Rattle.sip_transcript.specs.Parts.{AsksIn, ReadsField, MayAsk};
@@ -115,6 +116,13 @@ fn query_of(message: &Message) -> Option<Query>
     }
 }
 
+/// Whether a query can be asked at this depth.
+fn can_be_asked(query: &Query, depth: Depth) -> bool
+    ensures { IsTrue result ↔ CanBeAsked depth query.now }
+{
+    query.is_built() && query.fits(depth)
+}
+
 /// The query that a frame asks, if it asks one that can be asked at this depth.
 fn query_in(version: Version, depth: Depth, frame: &[u8]) -> Option<Query>
     requires { length frame.now ≤ asked version ToHelper frame.now }
@@ -128,7 +136,7 @@ fn query_in(version: Version, depth: Depth, frame: &[u8]) -> Option<Query>
     let question = query_of(&message);
     match question {
         Some(query) => {
-            if query.fits(depth) {
+            if can_be_asked(&query, depth) {
                 return Some(query);
             }
             None

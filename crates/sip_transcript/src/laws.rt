@@ -6,7 +6,6 @@ ghost use Rattle.sip_ports.specs.Ports.{HearsWhole, ReadsWhole, heard, outs};
 ghost use Rattle.sip_ports.specs.declared.port.PortStop.{PortStop as AnyStop};
 ghost use Rattle.sip_ports.specs.declared.port.TalkEvent.{TalkEvent as AnyEvent};
 ghost use Rattle.sip_stream.specs.declared.form.Form.{Form as AnyForm};
-ghost use Rattle.sip_vector.specs.Answers.{Fits};
 ghost use Rattle.sip_vector.specs.declared.query.Query.{Query as AnyQuery};
 ghost use Rattle.sip_wire.specs.Spelling.{spelling};
 ghost use Rattle.sip_wire.specs.Transcript.{transcript};
@@ -15,6 +14,7 @@ ghost use Rattle.sip_wire.specs.declared.version.Version.{Version as AnyVersion}
 ghost use Rattle.sip_wire.specs.declared.version.Version.TheVariants.{Two};
 ghost use Rattle.sip_verifier.specs.Exchanges.{Exchange as AnyExchange};
 ghost use Rattle.sip_verifier.specs.Inquiries.{Inquiry as AnyInquiry};
+ghost use Rattle.sip_verifier.specs.Tasks.{CanBeAsked};
 ghost use Rattle.sip_verifier.specs.VerdictClause.{AllWritten};
 ghost use Rattle.sip_verifier.specs.Snapshots.{Counts as AnyCounts};
 ghost use Rattle.sip_verifier.specs.declared.status.Status.{Status as AnyStatus};
@@ -123,7 +123,8 @@ pub fn converted_audits_agree()
 
 /// The test of a query at a depth is whether it can be asked there.
 pub fn queries_that_fit()
-    ensures { (depth : ℕ) (query : AnyQuery) → IsTrue (fits_at depth query) ↔ Fits depth query }
+    ensures { (depth : ℕ) (query : AnyQuery) → IsTrue (fits_at depth query)
+        ↔ CanBeAsked depth query }
 {}
 
 /// A head by hand has no fault. Without its last byte it has one where the second challenge begins,

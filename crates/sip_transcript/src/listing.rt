@@ -115,6 +115,9 @@ fn name(message: &Message) -> &'static str
         Message::End => "End",
         Message::AskMoment { .. } => "AskMoment",
         Message::Power(_) => "Power",
+        Message::Held(_) => "Held",
+        Message::Recall { .. } => "Recall",
+        Message::Marks(_) => "Marks",
     }
 }
 
