@@ -3,7 +3,6 @@ ghost use Rattle.std.specs.Prelude.{◌≡◌, ◌≢◌, ◌<◌, ◌≤◌, le
 ghost use Rattle.std.specs.Io.{ReadsAtMost, WritesAtMost};
 ghost use Rattle.sip_ports.specs.Ports.{HasCause, Hears, Sends, StandsStill};
 ghost use Rattle.sip_ports.specs.Desk.{CountsDeskFaults, CountsDeskWants};
-ghost use Rattle.std.proofs.Common.{rules};
 
 use crate::count::Count;
 use crate::file::FileSource;

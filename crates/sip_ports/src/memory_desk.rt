@@ -1,10 +1,10 @@
 // A desk over memory: calls of chosen numbers fail, and a replacement that fails stops in mid-step.
-ghost use Rattle.std.specs.Prelude.{◌≡◌, ◌≢◌, ◌↔◌, ◌⊎◌, ℕ, ◌<◌, ◌≤◌, ◌+◌, ◌++◌, [], min, length};
+ghost use Rattle.std.specs.Prelude.{◌≡◌, ◌≢◌, ◌↔◌, ◌⊎◌, ◌<◌, ◌≤◌, ◌+◌, ◌++◌, [], min, length};
 ghost use Rattle.std.specs.Prelude.{take, true, false, None, Some, option_map, IfOk, IfSome};
 ghost use Rattle.std.specs.Prelude.{MatchResult, IsErrOf, OnOk, OnErr};
 ghost use Rattle.std.specs.Option.{option_or};
 ghost use Rattle.std.specs.Io.{ReadsAtMost, WritesAtMost};
-ghost use Rattle.sip_ports.specs.Ports.{Sends, Hears, GoesOn, CountsWants};
+ghost use Rattle.sip_ports.specs.Ports.{Sends, Hears, CountsWants};
 ghost use Rattle.sip_ports.specs.Desk.{CountsDeskWants, Loads, Replaces, holds_now, loaded, steps};
 ghost use Rattle.sip_ports.specs.Calls.{MakesCall, failed_of-fits, failed_of-sure};
 
