@@ -110,6 +110,9 @@ list_tests asked s (messages.AskLook code item) reason e = kind reason e
 list_tests asked s (messages.Found flag index) reason e = kind reason e
 list_tests asked s messages.End reason e = kind reason e
 list_tests asked s (messages.AskMoment side degree) reason e = kind reason e
+list_tests asked s (messages.Held held) reason e = kind reason e
+list_tests asked s (messages.Recall count) reason e = kind reason e
+list_tests asked s (messages.Marks v) reason e = kind reason e
 list_tests asked s (messages.Power v) reason e = kind reason e
 
 open_ended : (is : Bool) (said : List Entry) (reason : Reason) → list_ended is said ≡ Err reason

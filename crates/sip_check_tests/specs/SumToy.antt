@@ -133,6 +133,9 @@ sum_tests asked s (messages.AskLook code item) reason e = kind {X = More × SumS
 sum_tests asked s (messages.Found flag index) reason e = kind {X = More × SumState} reason e
 sum_tests asked s messages.End reason e = kind {X = More × SumState} reason e
 sum_tests asked s (messages.AskMoment side degree) reason e = kind {X = More × SumState} reason e
+sum_tests asked s (messages.Held held) reason e = kind {X = More × SumState} reason e
+sum_tests asked s (messages.Recall count) reason e = kind {X = More × SumState} reason e
+sum_tests asked s (messages.Marks v) reason e = kind {X = More × SumState} reason e
 sum_tests asked s (messages.Power v) reason e = kind {X = More × SumState} reason e
 
 open_ended : (claim : Option ℤ) (is : Bool) (reason : Reason) → sum_ended claim is ≡ Err reason

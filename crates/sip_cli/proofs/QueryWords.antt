@@ -8,7 +8,7 @@ use Rattle.std.proofs.lemmas.Str.Parse.{not_in_digits}
 use Rattle.sip_vector.specs.declared.update.Side.{Side}
 use Rattle.sip_vector.specs.declared.update.Side.TheVariants.{First, Second}
 use Rattle.sip_vector.specs.declared.query.Query.{Query}
-use Rattle.sip_vector.specs.declared.query.Query.TheVariants.{Sub, Range, F2, Inner, Heavy, Share}
+use Rattle.sip_vector.specs.declared.query.Query.TheVariants.{Sub, Range, F2, Inner, Heavy, Share, Above}
 use Rattle.sip_vector.specs.Answers.{Fits}
 use Rattle.sip_vector.specs.Built.{is_built}
 use Rattle.sip_vector.specs.Limits.{most_depth}
@@ -84,6 +84,13 @@ unlike word other apart same = apart (ap letter same)
 
 -- a word is that of one query
 pub query_word_once : (query other : Query) → IsRead query → IsRead other → query_word query ≡ query_word other → query ≡ other
+query_word_once (Above side t) other read also same = absurd read
+query_word_once (Sub lo hi) (Above side' t') read also same = absurd also
+query_word_once (Range side lo hi) (Above side' t') read also same = absurd also
+query_word_once (F2 side) (Above side' t') read also same = absurd also
+query_word_once Inner (Above side' t') read also same = absurd also
+query_word_once (Heavy side t) (Above side' t') read also same = absurd also
+query_word_once (Share side num den) (Above side' t') read also same = absurd also
 query_word_once (Sub lo hi) (Sub lo' hi') (low, high) (low', high') same =
     let one = same_bounds lo hi lo' hi' low high low' high' (ap (drop 4) same) in
     rw (one.0, one.1) refl
@@ -137,6 +144,7 @@ is_read depth (F2 side) deep built fits = cc
 is_read depth Inner deep built fits = cc
 is_read depth (Heavy side at_least) deep built fits = omega (arith, fits.1)
 is_read depth (Share side num den) deep built fits = (omega (arith, fits.1, fits.2), omega (arith, fits.2))
+is_read depth (Above side at_least) deep built fits = absurd cc
 
 -- a word asks one query
 pub query_once : (depth : ℕ) (query other : Query) (word : List ℕ) → depth ≤ most_depth → Asks depth query word → Asks depth other word → query ≡ other

@@ -75,7 +75,11 @@ fn is_read_and_written(
 }
 
 // What `read` answers to bytes that are no more than a frame has.
-fn at_hand(version: Version, place: Place, bytes: &[u8]) -> Option<Result<Message, WireFault>> {
+pub(crate) fn at_hand(
+    version: Version,
+    place: Place,
+    bytes: &[u8],
+) -> Option<Result<Message, WireFault>> {
     if bytes.len() < 3 || frame_length(place, version, bytes) < bytes.len() {
         return None;
     }
@@ -104,7 +108,7 @@ fn read_back(alloc: Global, version: Version, place: Place, bytes: &[u8]) -> Opt
 
 // Whether the frame is not whole yet without its last byte, and with it is read as the message that
 // it is the encoding of.
-fn is_read_at_hand(alloc: Global, version: Version, place: Place, bytes: &[u8]) -> bool {
+pub(crate) fn is_read_at_hand(alloc: Global, version: Version, place: Place, bytes: &[u8]) -> bool {
     match (bytes, read_back(alloc, version, place, bytes)) {
         ([front @ .., _], Some(sink)) => {
             let is_cut = has_fault_at_hand(version, place, front, WireFault::Closed);

@@ -236,7 +236,7 @@ pub(crate) const WIDE_FAULTS: [(Place, &[u8], WireFault, usize); 17] = [
     ),
     (
         Place::ToHelper,
-        b"\x04\0\x0a\x07\0\0\0\0\x01\0\0\0\x01",
+        b"\x04\0\x0a\x08\0\0\0\0\x01\0\0\0\x01",
         WireFault::BadCount,
         13,
     ),

@@ -22,6 +22,8 @@ mod frame_tests;
 #[cfg(test)]
 mod frames;
 #[cfg(test)]
+mod held_tests;
+#[cfg(test)]
 mod made_tests;
 #[cfg(test)]
 mod pending_tests;

@@ -12,7 +12,7 @@ use Rattle.sip_ports.proofs.TalkLemmas.{GoesOn-trans}
 use Rattle.sip_stream.proofs.LegalRecords.{records_legal}
 use Rattle.sip_vector.specs.declared.update.Update.{Update}
 use Rattle.sip_vector.specs.Limits.{most_narrow_depth}
-use Rattle.sip_wire.specs.Versions.{is_share}
+use Rattle.sip_wire.specs.Versions.{is_of_two}
 use Rattle.sip_wire.specs.declared.version.Version.{Version}
 use Rattle.sip_wire.specs.declared.version.Version.TheVariants.{One, Two}
 use Rattle.sip_verifier.specs.declared.status.Port.TheVariants as ports
@@ -63,15 +63,15 @@ squares_done task can = record {
         All-cons (tasks.CanBeAsked task.depth) (square_of m) (map square_of moments) (refl, tt)
         (each moments)
 
--- none of these is a share, so the version is that of the depth
-none_shared : (moments : List Moment) → list_any is_share (map square_of moments) ≡ false
-none_shared [] = refl
-none_shared (m ∷ moments) = none_shared moments
+-- each of these has a code in version 1, so the version is that of the depth
+none_of_two : (moments : List Moment) → list_any is_of_two (map square_of moments) ≡ false
+none_of_two [] = refl
+none_of_two (m ∷ moments) = none_of_two moments
 
 pub same_version : (task : MomentTask) → version_of task ≡ tasks.version_of (squares_of task)
 same_version task =
     ap (λ (b : Bool). if nat_lt most_narrow_depth task.depth || b then Two else One)
-    (sym (none_shared task.moments.items))
+    (sym (none_of_two task.moments.items))
 
 -- and the run is the same
 pub same_run : (task : MomentTask) (x : Exchange)

@@ -105,6 +105,9 @@ module _ (version : Version) (p k : ℕ) where
     by_message next rest (messages.Found flag index) t h = absurd (cc)
     by_message next rest messages.End t h = absurd (cc)
     by_message next rest (messages.AskMoment side degree) t h = absurd (cc)
+    by_message next rest (messages.Held held) t h = absurd (cc)
+    by_message next rest (messages.Recall count) t h = absurd (cc)
+    by_message next rest (messages.Marks v) t h = absurd (cc)
 
     by_frame : (next : Next) (r : Result (Message × List ℕ) WireFault) (t : MomentState)
         → frame_says R next (known claim expected last) r ≡ Ok t
@@ -146,6 +149,9 @@ module _ (version : Version) (p k : ℕ) where
   first_message rest (messages.Found flag index) t h = absurd (cc)
   first_message rest messages.End t h = absurd (cc)
   first_message rest (messages.AskMoment side degree) t h = absurd (cc)
+  first_message rest (messages.Held held) t h = absurd (cc)
+  first_message rest (messages.Recall count) t h = absurd (cc)
+  first_message rest (messages.Marks v) t h = absurd (cc)
   first_message rest (messages.Power v) t h = absurd (cc)
 
   first_frame : (r : Result (Message × List ℕ) WireFault) (t : MomentState)

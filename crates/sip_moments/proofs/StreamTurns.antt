@@ -37,6 +37,9 @@ heard_before s refused (messages.AskLook _ _) none may = absurd cc
 heard_before s refused (messages.Found _ _) none may = absurd cc
 heard_before s refused messages.End none may = absurd cc
 heard_before s refused (messages.AskMoment _ _) none may = absurd cc
+heard_before s refused (messages.Held _) none may = absurd cc
+heard_before s refused (messages.Recall _) none may = absurd cc
+heard_before s refused (messages.Marks _) none may = absurd cc
 heard_before s refused (messages.Power _) none may = absurd cc
 
 pub heard_on : {E : Type 0} (result : Result Unit E) (s : MomentHelper) (next : HelperState)

@@ -5,7 +5,7 @@ use Rattle.std.specs.List.{list_all}
 use Rattle.std.proofs.lemmas.Bool.{and_parts}
 use Rattle.std.proofs.lemmas.List.Elements.{All-nil, All-cons}
 use Rattle.sip_vector.specs.declared.query.Query.{Query}
-use Rattle.sip_vector.specs.declared.query.Query.TheVariants.{Sub, Range, F2, Inner, Heavy, Share}
+use Rattle.sip_vector.specs.declared.query.Query.TheVariants.{Sub, Range, F2, Inner, Heavy, Share, Above}
 use Rattle.sip_vector.specs.declared.update.Side.{Side}
 use Rattle.sip_vector.specs.declared.update.Update.{Update}
 use Rattle.sip_verifier.specs.QuerySeats.{Seated, is_heavy_of}
@@ -23,6 +23,7 @@ never_heavy (F2 own) side is = refl
 never_heavy Inner side is = refl
 never_heavy (Heavy own least) side is = absurd cc
 never_heavy (Share own num den) side is = absurd cc
+never_heavy (Above own least) side is = refl
 
 none_heavy : (seats : List Seated) (side : Side) → IsTrue (list_all not_heavy (map (λ (s : Seated). s.query) seats)) → All (λ s. is_heavy_of s.query side ≡ false) seats
 none_heavy [] side none = All-nil (λ (s : Seated). is_heavy_of s.query side ≡ false)

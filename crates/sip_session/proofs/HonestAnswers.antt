@@ -167,7 +167,7 @@ module _ (helpers : ℕ) (task : Task) (x : PanelExchange) (some : 1 ≤ task.de
         let earlier : List TalkEvent = flat_map (said_for v task.depth U) (map (λ (d : Accepted v task.depth U). d.question) own.done) in
         let asked : said_for v task.depth U a.question ≡ exchange v tail =
         sym (append-nil (said_for v task.depth U a.question))
-        ∙ said_accepted v task.depth U some legal q a.question.block put (kind_row v task.depth U q) a.question.replies given [] (askable_or_known v task.depth U q a.question.block) accepts
+        ∙ said_accepted v task.depth U some legal q a.question.block put (kind_row v task.depth U q) a.question.replies given [] (askable_or_known v task.depth U q a.question.block put.built) accepts
         ∙ ap (λ l. exchange v (question_rounds q a.question.block l [])) taken in
         (honest_holds v task.depth U some legal (shallow helpers task x some most room can attempts are judged said) (λ _ _. C) own.done tail own.put (omega (arith, less)) (λ t m least rest. walk t m rest (omega (arith, least, less)))
         (earlier ++ said_for v task.depth U a.question) (ap (λ l. earlier ++ l) asked) (slice_index_or x.talks (a.turn.helper - 1) []) (behind_replies a.outcome ++ heard.0) heard.1
@@ -175,7 +175,7 @@ module _ (helpers : ℕ) (task : Task) (x : PanelExchange) (some : 1 ≤ task.de
 
     -- its answer is the stream's own
     pub own_answer : given ≡ answer task.depth U q
-    own_answer = elim (few_or_barred v task.depth U legal q put.narrow) [
+    own_answer = elim (few_or_barred v task.depth U legal q put.built put.narrow) [
       | inl few ↦ elim (taken_or_known v task.depth U some legal q a.question.block put a.question.replies given few accepts) [
         | inl t ↦ by_rounds (given ≡ answer task.depth U q) t.0 t.1 t.2
             (λ s n rest less. walk_answer v task.depth U some legal q a.question.block put few t.0 t.1 given s n rest less

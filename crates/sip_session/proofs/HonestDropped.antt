@@ -168,7 +168,7 @@ module _ (helpers : ℕ) (task : Task) (x : PanelExchange) (some : 1 ≤ task.de
             let tail : List Round = question_rounds q.query q.block (b ∷ bs) [] in
             let asked : said_for v task.depth stream q ≡ exchange v tail =
             ap (λ l. said_for v task.depth stream (record { query = q.query; block = q.block; replies = l })) taken ∙ sym (append-nil (said_for v task.depth stream (record { query = q.query; block = q.block; replies = b ∷ bs })))
-            ∙ said_faulty v task.depth stream some legally q.query q.block is_put (kind_row v task.depth stream q.query) b bs fault [] (askable_or_known v task.depth stream q.query q.block) found in
+            ∙ said_faulty v task.depth stream some legally q.query q.block is_put (kind_row v task.depth stream q.query) b bs fault [] (askable_or_known v task.depth stream q.query q.block is_put.built) found in
             let heard : List TalkEvent = flat_map (said_for v task.depth stream) (map (λ (d : Accepted v task.depth stream). d.question) mine.done) ++ said_for v task.depth stream q in
             let on : (t : HelperState) (m : ℕ) → m ≤ length mine.done → IsAtRest v task.depth (vectors_of task.depth stream) t m → Walk Last v t tail =
             λ t m least rest. walk_fault v task.depth stream some legally q.query q.block is_put b bs fault found t m rest (omega (arith, least, more_room)) in

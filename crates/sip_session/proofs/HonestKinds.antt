@@ -5,7 +5,8 @@ use Rattle.std.proofs.lemmas.Bool.{cases_Bool, cases_lt, lt-ltb}
 use Rattle.std.proofs.lemmas.Int.{ints}
 use Rattle.std.proofs.lemmas.List.Sums.{AllPass-from_list_all}
 use Rattle.sip_vector.specs.declared.query.Query.{Query}
-use Rattle.sip_vector.specs.declared.query.Query.TheVariants.{Sub, Range, F2, Inner, Heavy, Share}
+use Rattle.sip_vector.specs.Built.{is_built}
+use Rattle.sip_vector.specs.declared.query.Query.TheVariants.{Sub, Range, F2, Inner, Heavy, Share, Above}
 use Rattle.sip_vector.specs.declared.update.Side.{Side}
 use Rattle.sip_vector.specs.declared.update.Side.TheVariants.{First, Second}
 use Rattle.sip_vector.specs.declared.update.Update.{Update}
@@ -74,8 +75,8 @@ module _ (v : Version) (depth : ℕ) (stream : List Update) where
     share_narrow side num den narrow = ap (λ n. is_wide (share_of num den n) (total stream side)) (sym (total-is depth stream side legal.items)) ∙ narrow
 
     -- a query whose answer is not too wide can be answered, or it is refused
-    pub few_or_barred : (q : Query) → is_too_wide stream q ≡ false → HasFewEntries v depth stream q ⊎ IsBarred q
-    few_or_barred (Sub lo hi) narrow =
+    pub few_or_barred : (q : Query) → IsTrue (is_built q) → is_too_wide stream q ≡ false → HasFewEntries v depth stream q ⊎ IsBarred q
+    few_or_barred (Sub lo hi) built narrow =
         let n : ℕ = length (nonzero_within lo hi (vector depth stream First)) in
         elim (cases_lt most_entries n) [
           | inl more ↦ inr (record {
@@ -87,18 +88,18 @@ module _ (v : Version) (depth : ℕ) (stream : List Update) where
           })
           | inr most ↦ inl most
         ]
-    few_or_barred (Range side lo hi) narrow = inl tt
-    few_or_barred (F2 side) narrow = inl tt
-    few_or_barred Inner narrow = inl tt
-    few_or_barred (Heavy First t) narrow = elim (strict_or_not (vector depth stream First)) [
+    few_or_barred (Range side lo hi) built narrow = inl tt
+    few_or_barred (F2 side) built narrow = inl tt
+    few_or_barred Inner built narrow = inl tt
+    few_or_barred (Heavy First t) built narrow = elim (strict_or_not (vector depth stream First)) [
       | inl strict ↦ inl (strict, narrow)
       | inr other ↦ inr (record { code = not_strict; least = omega arith; most = omega arith; refused = strict_barred (vector depth stream First) t other.0; why = inr (refl, other.1) })
     ]
-    few_or_barred (Heavy Second t) narrow = elim (strict_or_not (vector depth stream Second)) [
+    few_or_barred (Heavy Second t) built narrow = elim (strict_or_not (vector depth stream Second)) [
       | inl strict ↦ inl (strict, narrow)
       | inr other ↦ inr (record { code = not_strict; least = omega arith; most = omega arith; refused = strict_barred (vector depth stream Second) t other.0; why = inr (refl, other.1) })
     ]
-    few_or_barred (Share First num den) narrow = elim (strict_or_not (vector depth stream First)) [
+    few_or_barred (Share First num den) built narrow = elim (strict_or_not (vector depth stream First)) [
       | inl strict ↦ inl (strict, share_narrow First num den narrow)
       | inr other ↦ inr (record {
         code = not_strict;
@@ -108,7 +109,7 @@ module _ (v : Version) (depth : ℕ) (stream : List Update) where
         why = inr (refl, other.1);
       })
     ]
-    few_or_barred (Share Second num den) narrow = elim (strict_or_not (vector depth stream Second)) [
+    few_or_barred (Share Second num den) built narrow = elim (strict_or_not (vector depth stream Second)) [
       | inl strict ↦ inl (strict, share_narrow Second num den narrow)
       | inr other ↦ inr (record {
         code = not_strict;
@@ -118,6 +119,7 @@ module _ (v : Version) (depth : ℕ) (stream : List Update) where
         why = inr (refl, other.1);
       })
     ]
+    few_or_barred (Above side t) built narrow = absurd cc
 
     -- one that can be answered is refused for want of memory alone
     few_right : (q : Query) → HasFewEntries v depth stream q → (code : ℕ) → IsRight depth stream q (reasons.Refused code) → code ≡ 1
@@ -128,12 +130,14 @@ module _ (v : Version) (depth : ℕ) (stream : List Update) where
     few_right Inner few code (inr (inl long)) = absurd long.1
     few_right (Heavy side t) few code (inr (inl long)) = absurd long.1
     few_right (Share side num den) few code (inr (inl long)) = absurd long.1
+    few_right (Above side t) few code (inr (inl long)) = absurd long.1
     few_right (Sub lo hi) few code (inr (inr other)) = absurd (other.1 tt)
     few_right (Range side lo hi) few code (inr (inr other)) = absurd (other.1 tt)
     few_right (F2 side) few code (inr (inr other)) = absurd (other.1 tt)
     few_right Inner few code (inr (inr other)) = absurd (other.1 tt)
     few_right (Heavy side t) few code (inr (inr other)) = absurd (other.1 few.0)
     few_right (Share side num den) few code (inr (inr other)) = absurd (other.1 few.0)
+    few_right (Above side t) few code (inr (inr other)) = absurd (other.1 tt)
 
     pub few_reason : (q : Query) → HasFewEntries v depth stream q → (reason : Reason) → IsRight depth stream q reason → reason ≡ reasons.Refused want_of_memory
     few_reason q few (reasons.Refused code) right = ap reasons.Refused (few_right q few code right)
@@ -166,14 +170,16 @@ module _ (v : Version) (depth : ℕ) (stream : List Update) where
   long_askable Inner block long = absurd long
   long_askable (Heavy side t) block long = absurd long
   long_askable (Share side num den) block long = absurd long
+  long_askable (Above side t) block long = absurd long
 
-  pub askable_or_known : (q : Query) (block : List ℕ) → Holds (AskableOrKnown block) (kind_row v depth stream q)
-  askable_or_known (Sub lo hi) block = inl (record { asked = refl; version = refl; refuses = λ code. refl; place = refl })
-  askable_or_known (Range side lo hi) block = inl (record { asked = refl; version = refl; refuses = λ code. refl; place = refl })
-  askable_or_known (F2 side) block = inl (record { asked = refl; version = refl; refuses = λ code. refl; place = refl })
-  askable_or_known Inner block = inl (record { asked = refl; version = refl; refuses = λ code. refl; place = refl })
-  askable_or_known (Heavy side t) block = heavy_askable side t block
-  askable_or_known (Share side num den) block = heavy_askable side (share_of num den (int_sum (vector depth stream side))) block
+  pub askable_or_known : (q : Query) (block : List ℕ) → IsTrue (is_built q) → Holds (AskableOrKnown block) (kind_row v depth stream q)
+  askable_or_known (Sub lo hi) block built = inl (record { asked = refl; version = refl; refuses = λ code. refl; place = refl })
+  askable_or_known (Range side lo hi) block built = inl (record { asked = refl; version = refl; refuses = λ code. refl; place = refl })
+  askable_or_known (F2 side) block built = inl (record { asked = refl; version = refl; refuses = λ code. refl; place = refl })
+  askable_or_known Inner block built = inl (record { asked = refl; version = refl; refuses = λ code. refl; place = refl })
+  askable_or_known (Heavy side t) block built = heavy_askable side t block
+  askable_or_known (Share side num den) block built = heavy_askable side (share_of num den (int_sum (vector depth stream side))) block
+  askable_or_known (Above side t) block built = absurd cc
 
 -- ---- how a refusal is read
 

@@ -155,12 +155,12 @@ module _ (v : Version) (depth : ℕ) (stream : List Update) (some : 1 ≤ depth)
     -- a fault of an honest helper's replies is one for which it may be dropped
     pub walk_fault : (b : List ℕ) (bs : List (List ℕ)) (fault : Fault) → IsFaulty v depth stream (record { query = q; block = block; replies = b ∷ bs }) fault
         → (s : HelperState) (n : ℕ) → IsAtRest v depth (vectors_of depth stream) s n → n < most_queries → Walk (RightLast v depth stream q fault.reason) v s (question_rounds q block (b ∷ bs) [])
-    walk_fault b bs fault faulty s n rest less = elim (few_or_barred v depth stream legal q put.narrow) [
+    walk_fault b bs fault faulty s n rest less = elim (few_or_barred v depth stream legal q put.built put.narrow) [
       | inl few ↦
           let is = posed q block put few in
           walk_weaker (FaultLast fault.reason) (RightLast v depth stream q fault.reason) right v s (question_rounds q block (b ∷ bs) [])
           (fault_row v depth stream some legal q block is (kind_row v depth stream q) b bs fault (how v depth stream some legal q block is) faulty s n rest less)
-      | inr barred ↦ barred_fault (kind_row v depth stream q) b bs fault (askable_or_known v depth stream q block) faulty barred s n rest less
+      | inr barred ↦ barred_fault (kind_row v depth stream q) b bs fault (askable_or_known v depth stream q block put.built) faulty barred s n rest less
     ]
       where
         right : (c o : List ℕ) → FaultLast fault.reason c o → RightLast v depth stream q fault.reason c o
@@ -181,7 +181,7 @@ module _ (v : Version) (depth : ℕ) (stream : List Update) (some : 1 ≤ depth)
       let here = All-head Put t later put in
       append_assoc (said_for v depth stream t) (flat_map (said_for v depth stream) later) (exchange v tail)
       ∙ ap (λ l. said_for v depth stream t ++ l) (said_own done tail (All-tail Put t later put))
-      ∙ said_accepted t.query t.block here (kind_row v depth stream t.query) t.replies a.answer (done_rounds v depth stream some legal done tail) (askable_or_known v depth stream t.query t.block) a.accepts
+      ∙ said_accepted t.query t.block here (kind_row v depth stream t.query) t.replies a.answer (done_rounds v depth stream some legal done tail) (askable_or_known v depth stream t.query t.block here.built) a.accepts
 
   -- replies that were accepted leave the helper at rest
   pub walk_own : (Last : List ℕ → List ℕ → Type 0) (done : List (Accepted v depth stream)) (tail : List Round) → All Put (map (λ (a : Accepted v depth stream). a.question) done)
@@ -193,14 +193,14 @@ module _ (v : Version) (depth : ℕ) (stream : List Update) (some : 1 ≤ depth)
       let later : List Question = map (λ (x : Accepted v depth stream). x.question) done in
       let here = All-head Put t later put in
       let others = All-tail Put t later put in
-      elim (few_or_barred v depth stream legal t.query here.narrow) [
+      elim (few_or_barred v depth stream legal t.query here.built here.narrow) [
         | inl few ↦
             let is = posed t.query t.block here few in
             walk_done v depth stream some legal Last (a ∷ []) (done_rounds v depth stream some legal done tail) (All-cons (Posed v depth stream some legal) t [] is (All-nil (Posed v depth stream some legal)))
             s n rest (let fits : n + 1 ≤ most_queries = omega (arith, room) in fits)
             (λ u m most at lines. walk_own Last done tail others u m at (omega (arith, room, most)) (λ w k less again. on w k (omega (arith, less, most)) again))
         | inr barred ↦
-            barred_row t.query t.block here (kind_row v depth stream t.query) t.replies a.answer (askable_or_known v depth stream t.query t.block) a.accepts barred Last (done_rounds v depth stream some legal done tail)
+            barred_row t.query t.block here (kind_row v depth stream t.query) t.replies a.answer (askable_or_known v depth stream t.query t.block here.built) a.accepts barred Last (done_rounds v depth stream some legal done tail)
             s n rest (omega (arith, room)) (walk_own Last done tail others s n rest (omega (arith, room)) (λ w k less again. on w k (omega (arith, less)) again))
       ]
 

@@ -1,11 +1,12 @@
 -- Each kind of query has few vectors of challenges, modulo any prime.
-use Rattle.std.proofs.Common.{◌≡◌, ℕ, ◌*◌, ◌-◌, ◌^◌, ◌/◌, ◌<◌, ◌≤◌, List, length, All, pos, nat_abs, cond, refl, arith}
+use Rattle.std.proofs.Common.{◌≡◌, ℕ, ◌*◌, ◌-◌, ◌^◌, ◌/◌, ◌<◌, ◌≤◌, List, length, All, IsTrue, pos, nat_abs, cond, refl, arith}
 use Rattle.std.specs.Prelude.{slice_index_or}
 use Rattle.std.proofs.lemmas.List.FromFn.{length-map-range_with_len}
 use Rattle.sip_field.specs.Moduli.{m61_modulus}
 use Rattle.sip_field.specs.Prime.{IsPrime}
 use Rattle.sip_vector.specs.declared.query.Query.{Query}
-use Rattle.sip_vector.specs.declared.query.Query.TheVariants.{Sub, Range, F2, Inner, Heavy, Share}
+use Rattle.sip_vector.specs.Built.{is_built}
+use Rattle.sip_vector.specs.declared.query.Query.TheVariants.{Sub, Range, F2, Inner, Heavy, Share, Above}
 use Rattle.sip_vector.specs.declared.update.Side.TheVariants.{First, Second}
 use Rattle.sip_vector.specs.declared.update.Update.{Update}
 use Rattle.sip_vector.specs.Answers.{is_within}
@@ -53,6 +54,7 @@ module _ (version : Version) (p depth : ℕ) (stream : List Update) (prime : IsP
       (length-vector depth stream First) (length-vector depth stream Second) can.1.1
   bounded (Heavy side t) can = λ strategy bytes.
       few_fooled_by_bytes version p depth t (vector depth stream side) strategy prime (length-vector depth stream side) can.1.0 can.1.1
+  bounded (Above side t) can = absurd can.1
   bounded (Share side num den) can = λ strategy bytes.
       few_fooled_by_bytes version p depth (share_of num den (int_sum (vector depth stream side))) (vector depth stream side) strategy prime
       (length-vector depth stream side) can.1.0 can.1.1
@@ -73,17 +75,18 @@ module _ (version : Version) (p depth : ℕ) (stream : List Update) (prime : IsP
 claim_small : (n : ℕ) → n ≤ most_claim → n ≤ (m61_modulus - 1) / 2
 claim_small n le = let half : (m61_modulus - 1) / 2 ≡ most_claim = refl in omega arith
 
-pub are_small : (version : Version) (depth : ℕ) (stream : List Update) (query : Query) → IsLegal depth stream
+pub are_small : (version : Version) (depth : ℕ) (stream : List Update) (query : Query) → IsTrue (is_built query) → IsLegal depth stream
     → Holds (λ kind. kind.AreSmall) (kind_row_over version m61_modulus depth stream query)
-are_small version depth stream (Sub lo hi) legal = vector-small depth stream legal
-are_small version depth stream (Range side lo hi) legal =
+are_small version depth stream (Sub lo hi) built legal = vector-small depth stream legal
+are_small version depth stream (Range side lo hi) built legal =
     claim_small (nat_abs (total (vector depth stream side) (ones depth lo hi)))
     (legal_small depth stream (Range side lo hi) (lists (vector depth stream side) (ones depth lo hi)) legal refl).fits
-are_small version depth stream (F2 side) legal =
+are_small version depth stream (F2 side) built legal =
     claim_small (nat_abs (total (vector depth stream side) (vector depth stream side)))
     (legal_small depth stream (F2 side) (lists (vector depth stream side) (vector depth stream side)) legal refl).fits
-are_small version depth stream Inner legal =
+are_small version depth stream Inner built legal =
     claim_small (nat_abs (total (vector depth stream First) (vector depth stream Second)))
     (legal_small depth stream Inner (lists (vector depth stream First) (vector depth stream Second)) legal refl).fits
-are_small version depth stream (Heavy side t) legal = legal_sum depth stream side legal
-are_small version depth stream (Share side num den) legal = legal_sum depth stream side legal
+are_small version depth stream (Heavy side t) built legal = legal_sum depth stream side legal
+are_small version depth stream (Share side num den) built legal = legal_sum depth stream side legal
+are_small version depth stream (Above side t) built legal = absurd cc

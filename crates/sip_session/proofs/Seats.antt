@@ -12,7 +12,7 @@ use Rattle.sip_vector.specs.declared.query.Query.{Query}
 use Rattle.sip_vector.specs.declared.update.Update.{Update}
 use Rattle.sip_vector.specs.Limits.{most_narrow_depth}
 use Rattle.sip_wire.specs.declared.version.Version.TheVariants.{One, Two}
-use Rattle.sip_wire.specs.Versions.{is_share, needed}
+use Rattle.sip_wire.specs.Versions.{is_of_two, needed}
 use Rattle.sip_verifier.specs.Widths.{first_true, first_wide, is_too_wide}
 use Rattle.sip_session.specs.Panels.{seat_queries}
 
@@ -105,7 +105,7 @@ pub needed-seats : (depth h : ℕ) (queries : List Query) → 0 < h
     → needed depth (seat_queries h queries) ≡ needed depth queries
 needed-seats depth h queries some =
     ap (λ (b : Bool). if nat_lt most_narrow_depth depth || b then Two else One)
-    (any_seats is_share h queries some)
+    (any_seats is_of_two h queries some)
 
 -- ---- the first query that may be too wide
 

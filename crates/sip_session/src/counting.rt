@@ -1,7 +1,7 @@
 //! How many vectors of all challenges of a run a helper can win by. These functions do nothing:
 //! each contract is a fact that holds.
 
-ghost use Rattle.std.specs.Prelude.{◌≡◌, ℕ, ◌*◌, ◌-◌, ◌^◌, ◌<◌, ◌≤◌, true, pos, List, [], length, map, All};
+ghost use Rattle.std.specs.Prelude.{◌≡◌, ℕ, ◌*◌, ◌-◌, ◌^◌, ◌<◌, ◌≤◌, true, pos, List, [], length, map, All, IsTrue};
 ghost use Rattle.sip_field.specs.Moduli.{m61_modulus};
 ghost use Rattle.sip_field.specs.Prime.{IsPrime};
 ghost use Rattle.sip_vector.specs.declared.query.Query.{Query as AnyQuery};
@@ -9,6 +9,7 @@ ghost use Rattle.sip_vector.specs.declared.query.Query.TheVariants.{Heavy, Share
 ghost use Rattle.sip_vector.specs.declared.update.Side.{Side as AnySide};
 ghost use Rattle.sip_vector.specs.declared.update.Update.{Update as AnyUpdate};
 ghost use Rattle.sip_vector.specs.Answers.{Fits, answer, pairs};
+ghost use Rattle.sip_vector.specs.Built.{is_built};
 ghost use Rattle.sip_vector.specs.Streams.{int_sum, vector, IsLegal, IsStrict};
 ghost use Rattle.sip_vector.specs.Thresholds.{share_of};
 ghost use Rattle.sip_counts.specs.Joint.{bounds};
@@ -43,11 +44,11 @@ pub fn few_joint_vectors_mislead()
         * p ^ (length queries * depth - 1) }
 {}
 
-/// Modulo 2^61 - 1 every legal stream is as the bound asks, but that a side that is asked for heavy
-/// entries may have a negative one.
+/// Modulo 2^61 - 1 every legal stream is as the bound asks of a query of a kind that is built, but
+/// that a side that is asked for heavy entries may have a negative one.
 pub fn legal_streams_are_small()
     ensures { (version : AnyVersion) (depth : ℕ) (stream : List AnyUpdate) (query : AnyQuery)
-        → IsLegal depth stream
+        → IsTrue (is_built query) → IsLegal depth stream
         → Holds (λ kind. kind.AreSmall) (kind_row_over version m61_modulus depth stream query) }
 {}
 

@@ -65,6 +65,12 @@ moment_tests asked s (messages.Found flag index) reason e =
 moment_tests asked s messages.End reason e = wrong_kind {X = More × MomentState} reason e
 moment_tests asked s (messages.AskMoment side degree) reason e =
     wrong_kind {X = More × MomentState} reason e
+moment_tests asked s (messages.Held held) reason e =
+    wrong_kind {X = More × MomentState} reason e
+moment_tests asked s (messages.Recall count) reason e =
+    wrong_kind {X = More × MomentState} reason e
+moment_tests asked s (messages.Marks v) reason e =
+    wrong_kind {X = More × MomentState} reason e
 moment_tests asked s (messages.Siblings left right) reason e =
     wrong_kind {X = More × MomentState} reason e
 moment_tests asked s (messages.Leaves v) reason e = wrong_kind {X = More × MomentState} reason e
