@@ -32,6 +32,8 @@ mod port_tests;
 #[cfg(test)]
 mod reader_tests;
 #[cfg(test)]
+mod resumed_tests;
+#[cfg(test)]
 mod tree_tests;
 #[cfg(test)]
 mod vector_calls;

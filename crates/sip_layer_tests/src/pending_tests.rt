@@ -1,7 +1,7 @@
 // What a vector shows while additions are pending, and after memory was refused to it.
 
 use crate::facts::expect;
-use crate::vector_calls::{added, count_between, first_entry, number_at, zeros};
+use crate::vector_calls::{added, count_between, final_entry, first_entry, number_at, zeros};
 use sip_vector::{Depth, Entry, Vector};
 use std::alloc::Global;
 use std::process::Abort;
@@ -181,4 +181,41 @@ fn a_large_delta_is_added_whole_or_not_at_all(rt: HostRuntime) -> Result<(), Fai
     pair.shows(&rt);
     pair.lends(&rt)?;
     pair.shares(&rt)
+}
+
+// How many entries the vector of the next test has, at each third index.
+const MANY: u64 = 20_000;
+
+fn many(alloc: Global) -> Result<Vector, Fail> {
+    let mut vector = zeros(alloc, Depth::new(16).ok_or(())?)?;
+    for delta in [3, -1] {
+        for place in 0..MANY {
+            let index = (MANY - 1 - place) * 3;
+            if !added(&mut vector, index, delta)? && !added(&mut vector, index, delta)? {
+                return Err("memory is refused once")?;
+            }
+        }
+    }
+    Ok(vector)
+}
+
+// Where the merge is refused memory, a walk finds each entry without it, and soon: it takes some
+// steps for each, and not a look at all that is pending.
+#[test]
+fn a_walk_wants_no_merge(rt: HostRuntime) -> Result<(), Fail> {
+    let mut vector = many(rt.alloc())?;
+    let _ = vector.settle();
+    let last = (1u64 << 16) - 1;
+    let entry = |index| Some(Entry { index, value: 2 });
+    let facts = [
+        vector.is_strict(),
+        count_between(&vector, 0, last) == Some(MANY),
+        count_between(&vector, 4, 12) == Some(3),
+        first_entry(&vector, 4, last) == entry(6),
+        final_entry(&vector, 0, last) == entry(MANY * 3 - 3),
+        first_entry(&vector, MANY * 3 - 2, last).is_none(),
+        number_at(&vector, 7) == Some(0),
+    ];
+    expect(&rt, 0, &facts);
+    Ok(())
 }

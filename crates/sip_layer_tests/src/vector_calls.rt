@@ -21,6 +21,13 @@ pub(crate) fn first_entry(vector: &Vector, from: u64, hi: u64) -> Option<Entry> 
     None
 }
 
+pub(crate) fn final_entry(vector: &Vector, lo: u64, to: u64) -> Option<Entry> {
+    if lo <= to && to < 1 << vector.depth().get() {
+        return vector.last_entry(lo, to);
+    }
+    None
+}
+
 pub(crate) fn count_between(vector: &Vector, lo: u64, hi: u64) -> Option<u64> {
     if lo <= hi && hi < 1 << vector.depth().get() {
         return Some(vector.count_in(lo, hi));
