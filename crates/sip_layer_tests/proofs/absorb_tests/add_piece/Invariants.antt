@@ -1,5 +1,5 @@
 use Rattle.std.proofs.Common.{◌≡◌}
-use Rattle.sip_layer_rows.proofs.absorb_tests.add_piece.Given as goal
+use Rattle.sip_layer_tests.proofs.absorb_tests.add_piece.Given as goal
 
 -- for the same challenges
 abbrev pub invariant-loop : goal.invariant-loop

@@ -1,5 +1,5 @@
 use Rattle.std.proofs.Common.{◌≡◌}
-use Rattle.sip_layer_rows.proofs.absorb_tests.pieces_add_up.Given as goal
+use Rattle.sip_layer_tests.proofs.absorb_tests.pieces_add_up.Given as goal
 
 -- all stand for the same challenges
 abbrev pub invariant-loop-number : goal.invariant-loop-number
