@@ -31,8 +31,8 @@ PLACES = {
     "Power": {"Power", "Refuse"},
 }
 
-# The kinds of query by their codes.
-QUERIES = {1: "sub", 2: "range", 3: "f2", 4: "inner", 5: "heavy", 6: "share"}
+# The kinds of query by their codes. The last one is not built: it has a spelling, and no answer.
+QUERIES = {1: "sub", 2: "range", 3: "f2", 4: "inner", 5: "heavy", 6: "share", 7: "above"}
 
 # The bytes of an item, by the version.
 ITEM = {1: 4, 2: 8}
@@ -77,11 +77,11 @@ def query_body(question, version):
     kind = question.kind
     code = next(code for code, name in QUERIES.items() if name == kind)
     body = bytes([code])
-    if kind in ("range", "f2", "heavy", "share"):
+    if kind in ("range", "f2", "heavy", "share", "above"):
         body += low(question.side, 1)
     if kind in ("sub", "range"):
         body += low(question.lo, item) + low(question.hi, item)
-    if kind == "heavy":
+    if kind in ("heavy", "above"):
         body += low(question.at_least, 8)
     if kind == "share":
         body += low(question.num, 4) + low(question.den, 4)
@@ -132,7 +132,7 @@ def query_length(kind, version):
     item = ITEM[version]
     lengths = {"sub": 1 + 2 * item, "range": 2 + 2 * item, "f2": 2, "inner": 1, "heavy": 10}
     if version == 2:
-        lengths["share"] = 10
+        lengths["share"] = lengths["above"] = 10
     return lengths.get(kind)
 
 
@@ -178,7 +178,7 @@ def question_of(body, version):
         return Question(kind, body[1], whole(body[2 : 2 + item]), whole(body[2 + item :]))
     if kind == "f2":
         return Question(kind, body[1])
-    if kind == "heavy":
+    if kind in ("heavy", "above"):
         return Question(kind, body[1], at_least=whole(body[2:]))
     if kind == "share":
         return Question(kind, body[1], num=whole(body[2:6]), den=whole(body[6:]))
@@ -209,7 +209,7 @@ def is_question(question):
         return False
     if question.kind in ("sub", "range"):
         return question.lo <= question.hi
-    if question.kind == "heavy":
+    if question.kind in ("heavy", "above"):
         return 1 <= question.at_least <= 2**63 - 1
     if question.kind == "share":
         return 1 <= question.num <= question.den <= 1_000_000

@@ -33,6 +33,10 @@ class Question(NamedTuple):
             "moment": f"moment:{self.side}:{self.degree}",
         }.get(self.kind, f"{self.kind}:{self.item}")
 
+    def is_built(self):
+        """Whether it can be asked: the large entries of any stream have a spelling alone."""
+        return self.kind != "above"
+
     def message(self):
         """What the verifier asks it by."""
         if self.kind in LOOKUPS:

@@ -42,7 +42,9 @@ def asked(data, at, version, depth):
         (name, *fields), end = read(data, at, "ToHelper", version)
     except Fault:
         raise Bad(at) from None
-    if name != "Query" or fields[0].kind in ("sub", "range") and fields[0].hi >= 2**depth:
+    if name != "Query" or not fields[0].is_built():
+        raise Bad(at)
+    if fields[0].kind in ("sub", "range") and fields[0].hi >= 2**depth:
         raise Bad(at)
     return fields[0], end
 

@@ -71,7 +71,7 @@ class Talk:
         return []
 
     def hear_query(self, question):
-        if not self.both or self.open or self.queries == QUERIES:
+        if not self.both or self.open or self.queries == QUERIES or not question.is_built():
             return None
         if question.kind in ("sub", "range") and question.hi >= 2**self.depth:
             return None

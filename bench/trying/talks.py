@@ -162,6 +162,7 @@ def stray(chance, depth):
                     "share", chance.randrange(2), num=1, den=chance.choice((1, 10**6, 10**6 + 1))
                 ),
             ),
+            ("Query", Question("above", chance.randrange(2), at_least=chance.choice((0, 1)))),
             ("AskLook", chance.randrange(5), chance.choice((0, last, last + 1))),
             ("AskMoment", chance.randrange(3), chance.randint(2, 9)),
             ("Reveal", chance.number()),
