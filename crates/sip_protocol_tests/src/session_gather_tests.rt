@@ -77,9 +77,18 @@ impl Row<'_> {
         let fails = vec![in alloc; self.fails.2].expect(rt, "memory");
         let mut peer = MemoryLink::new(alloc, Vec::new(alloc), chunk, fails);
         let mut keep = MemorySink::new(alloc, 10, Vec::new(alloc));
-        let refused = gather(&task, &mut first, &mut second, &mut peer, &mut keep).err();
+        // Nothing is gathered yet.
+        let mut gathered = Err(Status::SeedSpent);
+        gather(
+            &task,
+            &mut first,
+            &mut second,
+            &mut peer,
+            &mut keep,
+            &mut gathered,
+        );
         let facts = [
-            refused == self.want,
+            gathered.err() == self.want,
             was_sent(&peer, self.sent),
             keep.bytes().len() == self.kept(),
         ];
