@@ -39,7 +39,7 @@ pub(crate) fn task(depth: u8, form: Form, queries: &[Query]) -> Result<Task, Fai
     let depth = Depth::new(depth).ok_or("a depth")?;
     let mut list = ArrayVec::new();
     for query in queries {
-        if !query.fits(depth) || list.try_push(*query).is_err() {
+        if !query.is_built() || !query.fits(depth) || list.try_push(*query).is_err() {
             return Err("a query that fits")?;
         }
     }
